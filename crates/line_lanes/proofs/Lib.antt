@@ -1,0 +1,7 @@
+pub mod MaskBits
+pub mod Masked
+pub mod EachHalf
+pub mod EachLane
+pub mod LaneBytes
+pub mod LaneTests
+pub mod Placing

@@ -1,0 +1,3 @@
+pub mod Mask
+pub mod Line
+pub mod Lane

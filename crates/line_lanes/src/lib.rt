@@ -1,0 +1,16 @@
+//! Lines of 64 bytes, masks of their bytes, and the kernels that work on them, two vectors of 32 bytes at a time.
+#![tactic(auto)]
+
+mod compare;
+mod half;
+mod lanes;
+mod line;
+mod write;
+
+pub use compare::{agrees, changed};
+pub use lanes::{add_lanes, lane, lane_sum, with_lane};
+pub use line::{Line64, Mask};
+pub use write::{merge, placed};
+
+#[cfg(test)]
+mod tests;

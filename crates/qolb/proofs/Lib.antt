@@ -1,0 +1,4 @@
+pub mod InTurn
+pub mod Allowed
+pub mod Tallying
+pub mod Replayed

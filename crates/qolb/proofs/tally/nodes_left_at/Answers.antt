@@ -1,0 +1,27 @@
+use Rattle.std.proofs.Common.{rules, arith, ◌≡◌, ℕ, suc, ◌+◌, ◌-◌, ◌<◌, ◌||◌, Bool, true, false, sym, ap, ◌∙◌}
+use Rattle.qolb_model.specs.OneOwner.{LineState, state_of}
+use Rattle.qolb_model.specs.Plain.{Agrees}
+use Rattle.qolb_script.specs.Reply.{nodes_left, is_queued, is_holding}
+use Rattle.qolb.specs.Tallies.{one_if}
+use Rattle.qolb.proofs.Tallying.{nodes_left_more}
+use Rattle.qolb.proofs.tally.nodes_left_at.Goals as goal
+use Rattle.qolb.proofs.tally.nodes_left_at.Goals.{then-is_left, else-is_left}
+
+pub loop-node-preserved : goal.loop-node-preserved
+loop-node-preserved c = record {
+  few = elim c.if-is_left.branch [ then-is_left w ↦ omega arith | else-is_left w ↦ omega arith ];
+  counted = λ s a.
+      let place : c.loop-node.node ≡ suc (c.loop-node.node - 1) = omega arith in
+      let next : c.loop-node.node + 1 - 1 ≡ suc (c.loop-node.node - 1) = omega arith in
+      let same : c.state.result ≡ state_of s (suc (c.loop-node.node - 1)) = c.state.ensures.agrees s a ∙ ap (state_of s) place in
+      let test = λ (b : Bool) (h : c.is_left.result ≡ b). sym (ap (λ t. is_queued t || is_holding t) same) ∙ sym c.is_left.ensures ∙ h in
+      let known : c.loop-node.left ≡ nodes_left (c.loop-node.node - 1) s = c.loop-node.invariant.counted s a in
+      (elim c.if-is_left.branch [
+        | then-is_left w ↦
+            let more : nodes_left (suc (c.loop-node.node - 1)) s ≡ nodes_left (c.loop-node.node - 1) s + 1 = nodes_left_more s (c.loop-node.node - 1) true (test true (search rules)) in
+            let count : c.if-is_left.left ≡ nodes_left (suc (c.loop-node.node - 1)) s = omega arith in count
+        | else-is_left w ↦
+            let more : nodes_left (suc (c.loop-node.node - 1)) s ≡ nodes_left (c.loop-node.node - 1) s + 0 = nodes_left_more s (c.loop-node.node - 1) false (test false (search rules)) in
+            let count : c.if-is_left.left ≡ nodes_left (suc (c.loop-node.node - 1)) s = omega arith in count
+      ]) ∙ ap (λ n. nodes_left n s) (sym next);
+}

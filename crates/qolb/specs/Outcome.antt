@@ -1,0 +1,49 @@
+-- How a replay of some bytes ends.
+use Rattle.std.specs.Prelude.{◌≡◌, ◌<◌, ◌≤◌, ◌⊎◌, ℕ, List, length, Ok, Err}
+use Rattle.qolb.specs.declared.replay.ReplayError.{ReplayError}
+use Rattle.qolb.specs.declared.replay.ReplayError.TheVariants as error
+use Rattle.qolb.specs.declared.input.TheConstants.{MOST_BYTES}
+use Rattle.qolb.specs.declared.input.InputError.{InputError}
+use Rattle.qolb.specs.declared.input.InputError.TheVariants as input
+use Rattle.qolb_script.specs.declared.error.ScriptError.{ScriptError}
+use Rattle.qolb_script.specs.declared.error.ScriptError.TheVariants as script
+use Rattle.qolb_script.specs.Reply.{reply_to}
+
+-- the bytes are a script, and this is its reply
+pub record IsReply (input text : List ℕ) : Type 0 where
+  pub fits : length input ≤ MOST_BYTES
+  pub reply : reply_to input ≡ Ok text
+
+-- when each error may come: Long where the bytes are too many, Script where they are not and the first fault in them is that one,
+-- Write only where they have a reply
+abbrev pub MayFail : List ℕ → ReplayError → Type 0
+MayFail input error.Memory = Unit {0}
+MayFail input error.Read = Unit {0}
+MayFail input error.Long = MOST_BYTES < length input
+MayFail input (error.Script fault) = (length input ≤ MOST_BYTES) × (reply_to input ≡ Err fault)
+MayFail input error.Write = (text : List ℕ) × IsReply input text
+
+-- the error of a replay whose input could not be read
+abbrev pub as_replay_error : InputError → ReplayError
+as_replay_error input.Memory = error.Memory
+as_replay_error input.Read = error.Read
+as_replay_error input.Long = error.Long
+
+-- the error of a replay whose input is no script, or for which memory was refused
+abbrev pub script_error : ScriptError → ReplayError
+script_error script.Memory = error.Memory
+script_error (script.BadLine n) = error.Script (script.BadLine n)
+script_error (script.Number n) = error.Script (script.Number n)
+script_error (script.TooMany n) = error.Script (script.TooMany n)
+
+-- the bytes are too many, or have a first fault
+abbrev pub IsRefused : List ℕ → Type 0
+IsRefused input = (MOST_BYTES < length input) ⊎ ((fault : ScriptError) × (reply_to input ≡ Err fault))
+
+-- the exit status of each error
+abbrev pub status_of : ReplayError → ℕ
+status_of error.Memory = 3
+status_of error.Read = 4
+status_of error.Long = 1
+status_of (error.Script fault) = 1
+status_of error.Write = 4

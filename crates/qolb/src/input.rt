@@ -1,0 +1,47 @@
+//! The whole input, read before anything else is done.
+ghost use Rattle.std.specs.Prelude.{◌≡◌, ◌↔◌, ◌<◌, ◌≤◌, ℕ, true, length, IfOk, IfSome, Err, vec_len};
+ghost use Rattle.qolb_script.specs.Watched.{inner_of, has_failed};
+
+use qolb_script::{Fault, Watched};
+use std::alloc::Allocator;
+use std::io::Read;
+
+/// The most bytes that a script may have.
+pub const MOST_BYTES: usize = 16_777_216;
+
+/// Why an input could not be read whole.
+#[derive(Clone, Copy, Debug, PartialEq, Eq)]
+pub enum InputError {
+    Memory,
+    Read,
+    Long,
+}
+
+/// Reads the reader's whole rest, of at most `MOST_BYTES` bytes.
+pub fn read_all<A: Allocator, R: Read>(
+    alloc: A,
+    reader: &mut Watched<R>,
+) -> Result<Vec<u8, A>, InputError>
+    ensures whole { IfOk result (λ bytes. IfSome (R.remaining (inner_of reader.old)) (λ rest. bytes.items ≡ rest)) }
+    ensures fits { IfOk result (λ bytes. vec_len bytes ≤ MOST_BYTES) }
+    ensures read { (result ≡ Err InputError.Read) ↔ (has_failed reader.new ≡ true) }
+    ensures long { result ≡ Err InputError.Long → IfSome (R.remaining (inner_of reader.old)) (λ rest. MOST_BYTES < length rest) }
+{
+    let mut all = Vec::new(alloc);
+    let mut part = [0u8; 4096];
+    for turn in 0..MOST_BYTES + 1 {
+        match reader.read(&mut part) {
+            Ok(0) => return Ok(all),
+            Ok(n) => {
+                if n > MOST_BYTES - all.len() {
+                    return Err(InputError::Long);
+                }
+                if all.extend_from_slice(&part[..n]).is_err() {
+                    return Err(InputError::Memory);
+                }
+            }
+            Err(Fault) => return Err(InputError::Read),
+        }
+    }
+    unreachable!()
+}

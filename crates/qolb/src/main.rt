@@ -1,0 +1,40 @@
+//! Replays scripts of calls on queued lines.
+#![tactic(auto)]
+
+mod input;
+mod replay;
+mod serve;
+mod tally;
+
+use std::env;
+use std::io::{self, ErrorKind};
+use std::process::ExitCode;
+
+/// The words of the command line, the program's name first.
+fn words(rt: &HostRuntime) -> io::Result<Vec<String>> {
+    let mut words = Vec::new(rt.alloc());
+    for word in env::args(rt)? {
+        words.push(word)?;
+    }
+    Ok(words)
+}
+
+fn main(rt: HostRuntime) -> ExitCode {
+    match words(&rt) {
+        Ok(words) => ExitCode::from(serve::serve(
+            rt.alloc(),
+            words.as_slice(),
+            &mut rt.stdin(),
+            &mut rt.stdout(),
+            &mut rt.stderr(),
+        )),
+        Err(error) if error.kind() == ErrorKind::OutOfMemory => {
+            let _ = eprintln!(rt; "out of memory");
+            ExitCode::from(3)
+        }
+        Err(_) => {
+            let _ = eprintln!(rt; "error: the arguments are no UTF-8 text");
+            ExitCode::from(2)
+        }
+    }
+}

@@ -1,0 +1,154 @@
+//! Replays of schedules: what is said of each command, and then of each line.
+ghost use Rattle.std.specs.Prelude.{◌≡◌, ◌≢◌, ◌↔◌, ℕ, List, ◌≤◌, true, false, Ok, Err, OnOk, IfOk, IfErr, IfSome};
+ghost use Rattle.std.specs.Io.KnownBytes.{Appends};
+ghost use Rattle.qolb_script.specs.Watched.{inner_of, has_failed};
+ghost use Rattle.qolb_script.specs.Reply.{replay_start, reply_of};
+ghost use Rattle.qolb.specs.Tallies.{AreLinesOf};
+ghost use Rattle.qolb.specs.declared.replay.ReplayError.TheVariants.{Memory, Write};
+ghost use Rattle.qolb.specs.Outcome.{IsReply, MayFail, as_replay_error, script_error};
+
+use crate::input::{InputError, read_all};
+use crate::tally::TalliedLine;
+use line_lanes::Line64;
+use qolb_model::PlainLine;
+use qolb_script::{Fault, Schedule, ScriptError, Watched, push_said, read_schedule};
+use std::alloc::{AllocError, Allocator};
+use std::io::{Read, Write};
+use thiserror::Error;
+
+/// What represents the lines of a replay.
+#[derive(Clone, Copy, Debug, PartialEq, Eq)]
+pub enum Kind {
+    /// The plain reference, with one owner.
+    Plain,
+}
+
+/// Why a schedule could not be replayed.
+#[derive(Clone, Copy, Debug, PartialEq, Eq, Error)]
+pub enum ReplayError {
+    /// A growth of memory was refused.
+    #[error("out of memory")]
+    Memory,
+    /// The reader failed.
+    #[error("read fault")]
+    Read,
+    /// The input has more bytes than a script may have.
+    #[error("script too long")]
+    Long,
+    /// The input is no schedule.
+    #[error(transparent)]
+    Script(ScriptError),
+    /// The writer failed, or took no byte.
+    #[error("write fault")]
+    Write,
+}
+
+impl From<AllocError> for ReplayError {
+    ghost from_gives = { λ _ error. error ≡ Memory };
+
+    fn from(_error: AllocError) -> ReplayError {
+        ReplayError::Memory
+    }
+}
+
+impl From<InputError> for ReplayError {
+    ghost from_gives = { λ fault error. error ≡ as_replay_error fault };
+
+    fn from(error: InputError) -> ReplayError {
+        match error {
+            InputError::Memory => ReplayError::Memory,
+            InputError::Read => ReplayError::Read,
+            InputError::Long => ReplayError::Long,
+        }
+    }
+}
+
+impl From<ScriptError> for ReplayError {
+    ghost from_gives = { λ fault error. error ≡ script_error fault };
+
+    fn from(error: ScriptError) -> ReplayError {
+        match error {
+            ScriptError::Memory => ReplayError::Memory,
+            error => ReplayError::Script(error),
+        }
+    }
+}
+
+impl From<Fault> for ReplayError {
+    ghost from_gives = { λ _ error. error ≡ Write };
+
+    fn from(_fault: Fault) -> ReplayError {
+        ReplayError::Write
+    }
+}
+
+/// Replays the schedule that the reader gives, and writes its reply.
+///
+/// The whole input is read first, and the reply is built whole before its first byte is written: with every error but `Write`
+/// nothing was written.
+pub fn run_schedule<A: Allocator, R: Read, W: Write>(
+    alloc: A,
+    reader: &mut Watched<R>,
+    writer: &mut Watched<W>,
+    kind: Kind,
+) -> Result<(), ReplayError>
+    ensures ok { OnOk result (IfSome (R.remaining (inner_of reader.old)) (λ input. (text : List ℕ) × IsReply input text × Appends (W.contents (inner_of writer.old)) (W.contents (inner_of writer.new)) text)) }
+    ensures refused { IfErr result (λ error. IfSome (R.remaining (inner_of reader.old)) (λ input. MayFail input error)) }
+    ensures unwritten { IfErr result (λ error. error ≢ ReplayError.Write → writer.new ≡ writer.old) }
+    ensures read_fault { (result ≡ Err ReplayError.Read) ↔ (has_failed reader.new ≡ true) }
+    ensures write_fault { result ≡ Err ReplayError.Write → has_failed writer.new ≡ true }
+    ensures written { OnOk result (has_failed writer.new ≡ false) }
+    ensures memory { result ≢ Err (ReplayError.Script ScriptError.Memory) }
+{
+    let Kind::Plain = kind;
+    let input = read_all(&alloc, reader)?;
+    let schedule = read_schedule(&alloc, input.as_slice())?;
+    let text = reply(&alloc, &schedule)?;
+    writer.write_all(text.as_slice())?;
+    Ok(())
+}
+
+/// The reply of a schedule.
+fn reply<A: Allocator + Clone>(alloc: A, schedule: &Schedule<A>) -> Result<Vec<u8, A>, AllocError>
+    ensures { IfOk result (λ text. text.items ≡ reply_of schedule.now) }
+{
+    let nodes = schedule.nodes();
+    let mut lines = open_lines(alloc.clone()?, nodes, schedule.lines())?;
+    let mut text = Vec::new(alloc);
+    for command in schedule.commands() {
+        let said = lines[command.line() as usize].take(command);
+        push_said(&mut text, &said)?;
+    }
+    for (number, line) in lines.iter().enumerate() {
+        push_said(&mut text, &line.summary(number as u64, nodes))?;
+    }
+    Ok(text)
+}
+
+/// Lines of zeros, of which nothing was said.
+fn open_lines<A: Allocator>(
+    alloc: A,
+    nodes: u64,
+    lines: u64,
+) -> Result<Vec<TalliedLine, A>, AllocError>
+    requires some { 1 ≤ nodes }
+    requires most { nodes ≤ 32 }
+    ensures { IfOk result (λ all. AreLinesOf nodes (replay_start lines) all.items) }
+{
+    let mut all = Vec::with_capacity(alloc, lines as usize)?;
+    for _ in 0..lines {
+        let Ok(line) = PlainLine::open(nodes, Line64::zero()) else {
+            unreachable!();
+        };
+        all.push(TalliedLine {
+            line,
+            served: 0,
+            withdrawn: 0,
+            told: 0,
+        })?;
+    }
+    Ok(all)
+}
+
+#[cfg(test)]
+mod tests;

@@ -1,0 +1,300 @@
+use super::*;
+use linked_list_allocator::LocalHeap;
+use std::alloc::Global;
+use std::io;
+use std::test::Fail;
+
+/// What a replay of the script writes.
+fn reply_to(alloc: Global, script: &str) -> Result<String, Fail> {
+    let mut reader = Watched::new(script.as_bytes());
+    let mut text: Vec<u8> = Vec::new(alloc);
+    run_schedule(
+        alloc,
+        &mut reader,
+        &mut Watched::new(&mut text),
+        Kind::Plain,
+    )?;
+    Ok(String::from_utf8(text)?)
+}
+
+/// The error of a replay of the script, and how many bytes were written.
+fn refused(alloc: Global, script: &str) -> (Option<ReplayError>, usize) {
+    let mut reader = Watched::new(script.as_bytes());
+    let mut text: Vec<u8> = Vec::new(alloc);
+    let done = run_schedule(
+        alloc,
+        &mut reader,
+        &mut Watched::new(&mut text),
+        Kind::Plain,
+    );
+    (done.err(), text.len())
+}
+
+const HAND_OVER: &str =
+    "nodes 2 lines 1\nenq 1 0\nwrite 1 0 0 a1b2\nenq 2 0\npoll 2 0\ndeq 1 0\npoll 2 0\nshow 2 0\ndeq 2 0\n";
+
+#[test]
+fn answers_scripts(rt: HostRuntime) -> Result<(), Fail> {
+    let rows = [
+        // no command
+        (
+            "nodes 1 lines 1\n",
+            "line 0 served 0 withdrawn 0 told 0 left 0\n",
+        ),
+        // states that do not allow a command
+        (
+            "nodes 1 lines 1\npoll 1 0\ndeq 1 0\nenq 1 0\nenq 1 0\ndeq 1 0\n",
+            "misuse\nmisuse\ngranted\nmisuse\nreleased\nline 0 served 1 withdrawn 0 told 0 left 0\n",
+        ),
+        // the oldest request is served first, whatever its node
+        (
+            "nodes 4 lines 1\nenq 4 0\nenq 3 0\nenq 1 0\nenq 2 0\ndeq 4 0\npoll 1 0\npoll 3 0\ndeq 3 0\npoll 2 0\npoll 1 0\ndeq 1 0\npoll 2 0\n",
+            "granted\nqueued\nqueued\nqueued\nreleased\nwaiting\ngranted\nreleased\nwaiting\ngranted\nreleased\ngranted\nline 0 served 3 withdrawn 0 told 0 left 1\n",
+        ),
+        // a withdrawn node is busy until a release passes it
+        (
+            "nodes 3 lines 1\nenq 1 0\nenq 2 0\nenq 3 0\nout 2 0\nenq 2 0\ndeq 1 0\nenq 2 0\npoll 3 0\ndeq 3 0\npoll 2 0\n",
+            "granted\nqueued\nqueued\nwithdrawn\nbusy\nreleased\nqueued\ngranted\nreleased\ngranted\nline 0 served 2 withdrawn 1 told 0 left 1\n",
+        ),
+        // a release passes all that have withdrawn
+        (
+            "nodes 3 lines 1\nenq 1 0\nenq 2 0\nenq 3 0\nout 2 0\nout 3 0\ndeq 1 0\nenq 3 0\n",
+            "granted\nqueued\nqueued\nwithdrawn\nwithdrawn\nreleased\ngranted\nline 0 served 1 withdrawn 2 told 0 left 1\n",
+        ),
+        // whoever withdraws at its turn holds the line
+        (
+            "nodes 2 lines 1\nenq 1 0\nenq 2 0\ndeq 1 0\nout 2 0\ndeq 2 0\n",
+            "granted\nqueued\nreleased\ngranted\nreleased\nline 0 served 2 withdrawn 0 told 0 left 0\n",
+        ),
+        // a closed line is told of to each in turn
+        (
+            "nodes 3 lines 1\nenq 1 0\nenq 2 0\nenq 3 0\nshut 1 0\npoll 3 0\npoll 2 0\npoll 3 0\nenq 1 0\nenq 2 0\n",
+            "granted\nqueued\nqueued\nshut\nwaiting\nclosed\nclosed\nclosed\nclosed\nline 0 served 1 withdrawn 0 told 4 left 0\n",
+        ),
+        // and to whoever withdraws at its turn
+        (
+            "nodes 2 lines 1\nenq 1 0\nenq 2 0\nshut 1 0\nout 2 0\n",
+            "granted\nqueued\nshut\nclosed\nline 0 served 1 withdrawn 0 told 1 left 0\n",
+        ),
+        // lines are apart
+        (
+            "nodes 2 lines 2\nenq 1 0\nenq 2 1\nenq 1 1\ndeq 2 1\npoll 1 1\nshut 1 1\nenq 2 1\nenq 2 0\nout 2 0\n",
+            "granted\ngranted\nqueued\nreleased\ngranted\nshut\nclosed\nqueued\nwithdrawn\nline 0 served 0 withdrawn 1 told 0 left 1\nline 1 served 2 withdrawn 0 told 1 left 0\n",
+        ),
+        // a told node passes the withdrawn ones behind it, so that they may ask again
+        (
+            "nodes 4 lines 1\nenq 1 0\nenq 2 0\nenq 3 0\nenq 4 0\nout 3 0\nshut 1 0\nenq 3 0\npoll 2 0\nenq 3 0\npoll 4 0\n",
+            "granted\nqueued\nqueued\nqueued\nwithdrawn\nshut\nbusy\nclosed\nqueued\nclosed\nline 0 served 1 withdrawn 1 told 2 left 1\n",
+        ),
+        // the last newline may be missing, and blanks do not count as words
+        (
+            "\n  nodes  1 lines 1  \n\n enq 1 0",
+            "granted\nline 0 served 0 withdrawn 0 told 0 left 1\n",
+        ),
+    ];
+    for (script, reply) in rows {
+        assert_eq!(rt;
+            reply_to(rt.alloc(), script)?.as_str(),
+            reply,
+            "of {script}"
+        );
+    }
+    Ok(())
+}
+
+/// A reply that shows a line with these first digits, and zeros.
+fn shown(alloc: Global, before: &str, digits: &str, after: &str) -> Result<String, Fail> {
+    let mut text = format!(in alloc; "{before}{digits}")?;
+    for _ in digits.len()..128 {
+        text.push('0')?;
+    }
+    text.push_str(after)?;
+    Ok(text)
+}
+
+#[test]
+fn shows_what_holders_wrote(rt: HostRuntime) -> Result<(), Fail> {
+    let alloc = rt.alloc();
+    let handed = shown(
+        alloc,
+        "granted\nok\nqueued\nwaiting\nreleased\ngranted\n",
+        "a1b2",
+        "\nreleased\nline 0 served 2 withdrawn 0 told 0 left 0\n",
+    )?;
+    assert_eq!(rt; reply_to(alloc, HAND_OVER)?, handed);
+
+    // Masked writes leave the other bytes, of this turn and of earlier ones, as they were.
+    let script =
+        "nodes 2 lines 1\nenq 1 0\nwrite 1 0 0 a1b2c3d4\nwrite 1 0 2 FF\nenq 2 0\ndeq 1 0\npoll 2 0\nwrite 2 0 1 0e\nshow 2 0\n";
+    let merged = shown(
+        alloc,
+        "granted\nok\nok\nqueued\nreleased\ngranted\nok\n",
+        "a10effd4",
+        "\nline 0 served 1 withdrawn 0 told 0 left 1\n",
+    )?;
+    assert_eq!(rt; reply_to(alloc, script)?, merged);
+
+    // The last place of a line.
+    let script = "nodes 1 lines 1\nenq 1 0\nwrite 1 0 63 ff\nshow 1 0\n";
+    let zeros = shown(alloc, "", "", "")?;
+    let last = format!(in alloc;
+        "granted\nok\n{}ff\nline 0 served 0 withdrawn 0 told 0 left 1\n",
+        &zeros[..126]
+    )?;
+    assert_eq!(rt; reply_to(alloc, script)?, last);
+    Ok(())
+}
+
+#[test]
+fn names_the_first_fault(rt: HostRuntime) -> Result<(), Fail> {
+    let rows = [
+        ("", ScriptError::BadLine(1)),
+        ("nodes 33 lines 1", ScriptError::Number(1)),
+        ("nodes 2 lines 1\nenq 3 0", ScriptError::Number(2)),
+        ("nodes 2 lines 1\nenq 1", ScriptError::BadLine(2)),
+        (
+            "nodes 1 lines 1\nenq 1 0\nwrite 1 0 63 ffff\nshow 1 0",
+            ScriptError::BadLine(3),
+        ),
+        ("nodes 2 lines 1\n\n\nenq 9 0\nenq", ScriptError::Number(4)),
+    ];
+    for (script, error) in rows {
+        assert_eq!(rt;
+            refused(rt.alloc(), script),
+            (Some(ReplayError::Script(error)), 0),
+            "of {script}"
+        );
+    }
+    Ok(())
+}
+
+/// Gives so many newlines, `part` at a read, and then fails or ends.
+#[derive(Drop)]
+struct Newlines {
+    left: u64,
+    part: usize,
+    fails: bool,
+}
+
+impl Read for Newlines {
+    fn read(&mut self, buf: &mut [u8]) -> io::Result<usize> {
+        if self.left == 0 && self.fails {
+            return Err(io::Error::from(io::ErrorKind::Other));
+        }
+        let mut given = 0;
+        for byte in buf.iter_mut().take(self.part) {
+            if self.left == 0 {
+                break;
+            }
+            *byte = b'\n';
+            self.left -= 1;
+            given += 1;
+        }
+        Ok(given)
+    }
+}
+
+/// Takes so many writes, and then fails.
+#[derive(Drop)]
+struct Failing {
+    left: u64,
+}
+
+impl Write for Failing {
+    fn write(&mut self, buf: &[u8]) -> io::Result<usize> {
+        if self.left == 0 || buf.is_empty() {
+            return Err(io::Error::from(io::ErrorKind::Other));
+        }
+        self.left -= 1;
+        Ok(1)
+    }
+
+    fn flush(&mut self) -> io::Result<()> {
+        Ok(())
+    }
+}
+
+#[test]
+fn tells_faults_of_reader_and_writer(rt: HostRuntime) -> Result<(), Fail> {
+    for left in 0..5u64 {
+        let mut reader = Watched::new(Newlines {
+            left,
+            part: 1,
+            fails: true,
+        });
+        let mut text: Vec<u8> = Vec::new(rt.alloc());
+        let done = run_schedule(
+            rt.alloc(),
+            &mut reader,
+            &mut Watched::new(&mut text),
+            Kind::Plain,
+        );
+        assert_eq!(rt; done, Err(ReplayError::Read), "at {left}");
+        assert!(rt; reader.failed());
+        assert_eq!(rt; text.len(), 0);
+    }
+    for left in 0..5u64 {
+        let mut reader = Watched::new(HAND_OVER.as_bytes());
+        let mut writer = Watched::new(Failing { left });
+        let done = run_schedule(rt.alloc(), &mut reader, &mut writer, Kind::Plain);
+        assert_eq!(rt; done, Err(ReplayError::Write), "at {left}");
+        assert!(rt; writer.failed());
+    }
+    Ok(())
+}
+
+#[test]
+fn takes_inputs_up_to_the_limit(rt: HostRuntime) -> Result<(), Fail> {
+    for (left, error) in [
+        (16_777_216u64, ReplayError::Script(ScriptError::BadLine(1))),
+        (16_777_217, ReplayError::Long),
+    ] {
+        let mut reader = Watched::new(Newlines {
+            left,
+            part: 65_536,
+            fails: false,
+        });
+        let mut text: Vec<u8> = Vec::new(rt.alloc());
+        let done = run_schedule(
+            rt.alloc(),
+            &mut reader,
+            &mut Watched::new(&mut text),
+            Kind::Plain,
+        );
+        assert_eq!(rt; done, Err(error), "of {left} newlines");
+        assert_eq!(rt; text.len(), 0);
+    }
+    Ok(())
+}
+
+#[test]
+fn each_allocation_is_refused(rt: HostRuntime) -> Result<(), Fail> {
+    let mut refused = 0u32;
+    let mut replayed = false;
+    for step in 1..400usize {
+        let heap = LocalHeap::new(rt.alloc(), 32 * step)?;
+        let mut reader = Watched::new(HAND_OVER.as_bytes());
+        let mut text: Vec<u8> = Vec::new(rt.alloc());
+        match run_schedule(
+            &heap,
+            &mut reader,
+            &mut Watched::new(&mut text),
+            Kind::Plain,
+        ) {
+            Ok(()) => {
+                replayed = true;
+                assert!(rt; text.len() > 128);
+            }
+            Err(error) => {
+                assert_eq!(rt; error, ReplayError::Memory, "at {step}");
+                assert!(rt; !replayed, "at {step}");
+                assert_eq!(rt; text.len(), 0, "at {step}");
+                refused = refused.saturating_add(1);
+            }
+        }
+        assert_eq!(rt; heap.used(), 0, "at {step}");
+    }
+    assert!(rt; replayed);
+    assert!(rt; refused > 5);
+    Ok(())
+}

@@ -1,0 +1,108 @@
+//! The program behind its words: what it is asked for, and the status that it ends with.
+ghost use Rattle.std.specs.Prelude.{◌≡◌, ℕ, ◌≤◌, List, IfSome};
+ghost use Rattle.qolb.specs.Outcome.{IsReply, IsRefused, status_of};
+
+use crate::replay::{Kind, ReplayError, run_schedule};
+use clap::error::ErrorKind;
+use clap::{Arg, ArgAction, Command, Error};
+use qolb_script::Watched;
+use std::alloc::{AllocError, Global};
+use std::io::{self, Read, Write};
+
+/// The names of the kinds that replay a schedule.
+static KINDS: [&str; 1] = ["plain"];
+
+const ABOUT: &str =
+    "Queued line locks: nodes queue at a 64-byte line, and a release hands lock and line to the next.";
+
+const STATUSES: &str = "Exit statuses:
+  0  done
+  1  the script was refused: `bad line N`, or `script too long`, on standard error
+  2  the command line was refused, or asked for help
+  3  want of memory
+  4  a failed read or write";
+
+const SCRIPT: &str = "The script, on standard input:
+  Its first line is `nodes N lines L`, N from 1 to 32 and L from 1 to 8. Each line after it is one command, of node n on line l:
+  `enq n l`, `poll n l`, `deq n l`, `out n l` (withdraw), `shut n l` (release and close), `show n l`, `write n l OFFSET HEX`.
+  One line of text answers each command; a last one for each line counts what was served, withdrawn, told closed and left.";
+
+/// Does what the words ask for, with the program's name first: reads from `reader`, writes to `out`, complains to `err`.
+/// Answers the exit status; a failed write to `err` changes none.
+pub fn serve<R: Read, W: Write, E: Write>(
+    alloc: Global,
+    words: &[String],
+    reader: &mut R,
+    out: &mut W,
+    err: &mut E,
+) -> u8
+    ensures statuses { result ≤ 4 }
+    ensures done { result ≡ 0 → IfSome (R.remaining reader.old) (λ input. (text : List ℕ) × IsReply input text) }
+    ensures refused { result ≡ 1 → IfSome (R.remaining reader.old) IsRefused }
+    ensures unwritten { 1 ≤ result → result ≤ 3 → out.new ≡ out.old }
+{
+    let kind = match asked(alloc, words) {
+        Ok(kind) => kind,
+        Err(error) if error.kind() == ErrorKind::OutOfMemory => {
+            let _ = err.write_all(b"out of memory\n");
+            return 3;
+        }
+        Err(error) => {
+            let _ = write!(err, "{error}");
+            return 2;
+        }
+    };
+    let mut input = Watched::new(&mut *reader);
+    let mut output = Watched::new(&mut *out);
+    let done = run_schedule(alloc, &mut input, &mut output, kind);
+    match done {
+        Ok(()) => 0,
+        Err(error) => {
+            complain(err, error);
+            status(error)
+        }
+    }
+}
+
+/// The exit status of a replay that failed.
+fn status(error: ReplayError) -> u8
+    ensures { result ≡ status_of error }
+{
+    match error {
+        ReplayError::Script(_) | ReplayError::Long => 1,
+        ReplayError::Memory => 3,
+        ReplayError::Read | ReplayError::Write => 4,
+    }
+}
+
+fn complain<E: Write>(err: &mut E, error: ReplayError) {
+    let _ = writeln!(err, "{error}");
+}
+
+/// What the words ask for: the one thing to do is a replay, of a kind.
+fn asked(alloc: Global, words: &[String]) -> Result<Kind, Error> {
+    command(alloc)?.try_get_matches_from(words)?;
+    Ok(Kind::Plain)
+}
+
+fn command<'a>(alloc: Global) -> Result<Command<'a>, AllocError> {
+    let kind = Arg::new(alloc, "kind")
+        .long("kind")
+        .value_name("KIND")
+        .help("What represents the lines: the plain reference, with one owner")
+        .required(true)
+        .action(ArgAction::Set)
+        .value_parser(KINDS.as_slice());
+    let replay = Command::new(alloc, "replay")
+        .about("Replays the schedule script on standard input, and prints what each call answers")
+        .after_help(SCRIPT)
+        .arg(kind)?;
+    Command::new(alloc, "qolb")
+        .about(ABOUT)
+        .after_help(STATUSES)
+        .subcommand_required(true)
+        .subcommand(replay)
+}
+
+#[cfg(test)]
+mod tests;

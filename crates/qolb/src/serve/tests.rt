@@ -1,0 +1,128 @@
+use super::*;
+use std::test::Fail;
+
+/// The status, standard output and standard error of a run.
+fn run(rt: &HostRuntime, words: &[&str], script: &str) -> Result<(u8, String, String), Fail> {
+    let alloc = rt.alloc();
+    let mut all = Vec::new(alloc);
+    all.push("qolb".to_string(alloc)?)?;
+    for word in words {
+        all.push(word.to_string(alloc)?)?;
+    }
+    let mut reader = script.as_bytes();
+    let mut out: Vec<u8> = Vec::new(alloc);
+    let mut err: Vec<u8> = Vec::new(alloc);
+    let status = serve(alloc, all.as_slice(), &mut reader, &mut out, &mut err);
+    Ok((status, String::from_utf8(out)?, String::from_utf8(err)?))
+}
+
+#[test]
+fn replays_and_refuses_scripts(rt: HostRuntime) -> Result<(), Fail> {
+    let rows = [
+        (
+            "nodes 1 lines 1\n",
+            0,
+            "line 0 served 0 withdrawn 0 told 0 left 0\n",
+            "",
+        ),
+        (
+            "nodes 1 lines 1\nenq 1 0\nwrite 1 0 63 ffff\nshow 1 0\n",
+            1,
+            "",
+            "bad line 3\n",
+        ),
+        ("", 1, "", "bad line 1\n"),
+        ("nodes 33 lines 1", 1, "", "bad line 1\n"),
+        ("nodes 2 lines 1\nenq 3 0", 1, "", "bad line 2\n"),
+        ("nodes 2 lines 1\nenq 1", 1, "", "bad line 2\n"),
+    ];
+    for (script, status, out, err) in rows {
+        let found = run(&rt, &["replay", "--kind", "plain"], script)?;
+        assert_eq!(rt; found.0, status, "of {script}");
+        assert_eq!(rt; found.1.as_str(), out, "of {script}");
+        assert_eq!(rt; found.2.as_str(), err, "of {script}");
+    }
+    Ok(())
+}
+
+#[test]
+fn refuses_command_lines(rt: HostRuntime) -> Result<(), Fail> {
+    let rows: [&[&str]; 9] = [
+        &[],
+        &["replay"],
+        &["replay", "--kind"],
+        &["replay", "--kind", "ring"],
+        &["replay", "--kind", "link"],
+        &["steps"],
+        &["--help"],
+        &["replay", "--help"],
+        &["--version"],
+    ];
+    for words in rows {
+        let (status, out, err) = run(&rt, words, "nodes 1 lines 1\n")?;
+        assert_eq!(rt; status, 2, "of {words:?}");
+        assert_eq!(rt; out.as_str(), "", "of {words:?}");
+        assert!(rt; err.len() > 20, "of {words:?}");
+    }
+    let (_, _, help) = run(&rt, &["replay", "--help"], "")?;
+    assert!(rt; help.contains("--kind <KIND>") && help.contains("nodes N lines L"));
+    Ok(())
+}
+
+/// A reader and writer that always fail.
+#[derive(Drop)]
+struct Broken;
+
+impl Read for Broken {
+    fn read(&mut self, _buf: &mut [u8]) -> io::Result<usize> {
+        Err(io::Error::from(io::ErrorKind::Other))
+    }
+}
+
+impl Write for Broken {
+    fn write(&mut self, _buf: &[u8]) -> io::Result<usize> {
+        Err(io::Error::from(io::ErrorKind::Other))
+    }
+
+    fn flush(&mut self) -> io::Result<()> {
+        Ok(())
+    }
+}
+
+#[test]
+fn tells_faults(rt: HostRuntime) -> Result<(), Fail> {
+    let alloc = rt.alloc();
+    let words = vec![in alloc;
+        "qolb".to_string(alloc)?,
+        "replay".to_string(alloc)?,
+        "--kind".to_string(alloc)?,
+        "plain".to_string(alloc)?,
+    ]?;
+    let mut out: Vec<u8> = Vec::new(alloc);
+    let mut err: Vec<u8> = Vec::new(alloc);
+    assert_eq!(rt;
+        serve(alloc, words.as_slice(), &mut Broken, &mut out, &mut err),
+        4
+    );
+    assert_eq!(rt;
+        (out.len(), err.as_slice()),
+        (0, b"read fault\n".as_slice())
+    );
+
+    let mut script: &[u8] = b"nodes 1 lines 1\n";
+    let mut err: Vec<u8> = Vec::new(alloc);
+    assert_eq!(rt;
+        serve(alloc, words.as_slice(), &mut script, &mut Broken, &mut err),
+        4
+    );
+    assert_eq!(rt; err.as_slice(), b"write fault\n".as_slice());
+
+    // A failed write to standard error changes no status.
+    let mut script: &[u8] = b"nodes 0 lines 1\n";
+    assert_eq!(rt;
+        serve(alloc, words.as_slice(), &mut script, &mut out, &mut Broken),
+        1
+    );
+    assert_eq!(rt; serve(alloc, &[], &mut script, &mut out, &mut Broken), 2);
+    Ok(())
+}

@@ -1,0 +1,77 @@
+-- Elements of lists by their places.
+use Rattle.std.proofs.Common.{◌≡◌, ℕ, zero, suc, ◌+◌, ◌<◌, ◌⊎◌, inl, inr, Bool, true, false, ◌||◌, List, [], ◌∷◌, ◌++◌, length, take, drop, Some, None, slice_get, refl, ap, sym, ◌∙◌, arith}
+use Rattle.std.specs.List.{list_any}
+use Rattle.std.proofs.lemmas.Bool.{or_right}
+
+-- a test does not both pass and fail
+pub never : {b : Bool} → b ≡ true → b ≡ false → ⊥
+never h k = cc
+
+-- what two equal options hold is equal
+pub same_some : {X : Type 0} {a b : X} → Some a ≡ Some b → a ≡ b
+same_some e = cc e
+
+-- each place below the length has an element
+pub element_at : {X : Type 0} (xs : List X) (p : ℕ) → p < length xs → (x : X) × (slice_get xs p ≡ Some x)
+element_at [] p h = absurd (omega arith)
+element_at (x ∷ xs) zero h = (x, refl)
+element_at (x ∷ xs) (suc p) h = element_at xs p (omega (arith, h))
+
+-- elements of two lists, one after the other
+pub slice_get-append_left : {X : Type 0} (xs ys : List X) (p : ℕ) → p < length xs → slice_get (xs ++ ys) p ≡ slice_get xs p
+slice_get-append_left [] ys p h = absurd (omega arith)
+slice_get-append_left (x ∷ xs) ys zero h = refl
+slice_get-append_left (x ∷ xs) ys (suc p) h = slice_get-append_left xs ys p (omega (arith, h))
+
+pub slice_get-push : {X : Type 0} (xs : List X) (x : X) → slice_get (xs ++ x ∷ []) (length xs) ≡ Some x
+slice_get-push [] x = refl
+slice_get-push (y ∷ xs) x = slice_get-push xs x
+
+-- an element of a list with one more is an old one, or that one
+pub push_cases : {X : Type 0} (xs : List X) (x : X) (p : ℕ) (y : X) → slice_get (xs ++ x ∷ []) p ≡ Some y → ((p < length xs) × (slice_get xs p ≡ Some y)) ⊎ ((p ≡ length xs) × (y ≡ x))
+push_cases [] x zero y e = inr (refl, sym (same_some e))
+push_cases [] x (suc p) y e = absurd (let h : None ≡ Some y = e in cc h)
+push_cases (z ∷ xs) x zero y e = inl (omega arith, e)
+push_cases (z ∷ xs) x (suc p) y e = elim (push_cases xs x p y e) [
+  | inl h ↦ inl (omega (arith, h.0), h.1)
+  | inr h ↦ inr (omega (arith, h.0), h.1)
+]
+
+-- elements of the two parts of a list
+pub slice_get-take : {X : Type 0} (n : ℕ) (xs : List X) (p : ℕ) → p < n → slice_get (take n xs) p ≡ slice_get xs p
+slice_get-take zero xs p h = absurd (omega arith)
+slice_get-take (suc n) [] p h = refl
+slice_get-take (suc n) (x ∷ xs) zero h = refl
+slice_get-take (suc n) (x ∷ xs) (suc p) h = slice_get-take n xs p (omega (arith, h))
+
+pub slice_get-drop : {X : Type 0} (n : ℕ) (xs : List X) (p : ℕ) → slice_get (drop n xs) p ≡ slice_get xs (n + p)
+slice_get-drop zero xs p = let e : p ≡ zero + p = omega arith in ap (slice_get xs) e
+slice_get-drop (suc n) [] p = refl
+slice_get-drop (suc n) (x ∷ xs) p = let e : suc (n + p) ≡ suc n + p = omega arith in slice_get-drop n xs p ∙ ap (slice_get (x ∷ xs)) e
+
+-- one more element, where a list is cut
+pub take_with : {X : Type 0} (xs : List X) (p : ℕ) (x : X) → slice_get xs p ≡ Some x → take (suc p) xs ≡ take p xs ++ x ∷ []
+take_with [] p x e = absurd (let h : None ≡ Some x = e in cc h)
+take_with (y ∷ xs) zero x e = ap (λ z. z ∷ []) (same_some e)
+take_with (y ∷ xs) (suc p) x e = ap (λ zs. y ∷ zs) (take_with xs p x e)
+
+pub drop_with : {X : Type 0} (xs : List X) (p : ℕ) (x : X) → slice_get xs p ≡ Some x → drop p xs ≡ x ∷ drop (p + 1) xs
+drop_with [] p x e = absurd (let h : None ≡ Some x = e in cc h)
+drop_with (y ∷ xs) zero x e = ap (λ z. z ∷ xs) (same_some e)
+drop_with (y ∷ xs) (suc p) x e = let next : suc (p + 1) ≡ suc p + 1 = omega arith in drop_with xs p x e ∙ ap (λ n. x ∷ drop n (y ∷ xs)) next
+
+-- where a test passes for some element of a list, it does so at a place
+pub place_of : {X : Type 0} (test : X → Bool) (xs : List X) → list_any test xs ≡ true → (p : ℕ) × (x : X) × (slice_get xs p ≡ Some x) × (test x ≡ true)
+place_of test [] h = absurd (let e : false ≡ true = h in cc e)
+place_of {X} test (x ∷ xs) h = by (place_of test xs) (test x) refl h
+  where
+    by : (list_any test xs ≡ true → (p : ℕ) × (y : X) × (slice_get xs p ≡ Some y) × (test y ≡ true)) → (b : Bool) → test x ≡ b → (b || list_any test xs) ≡ true
+        → (p : ℕ) × (y : X) × (slice_get (x ∷ xs) p ≡ Some y) × (test y ≡ true)
+    by later true e h = (0, x, refl, e)
+    by later false e h = let more = later h in (suc more.0, more.1, more.2, more.3)
+
+-- and back
+pub passes_at : {X : Type 0} (test : X → Bool) (xs : List X) (p : ℕ) (x : X) → slice_get xs p ≡ Some x → test x ≡ true → list_any test xs ≡ true
+passes_at test [] p x e t = absurd (let h : None ≡ Some x = e in cc h)
+passes_at test (y ∷ xs) zero x e t = ap (λ b. b || list_any test xs) (ap test (same_some e) ∙ t)
+passes_at test (y ∷ xs) (suc p) x e t = or_right (test y) (list_any test xs) (passes_at test xs p x e t)

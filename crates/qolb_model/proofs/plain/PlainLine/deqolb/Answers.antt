@@ -1,0 +1,9 @@
+use Rattle.std.proofs.Common.{false}
+use Rattle.qolb_model.proofs.Calls.{releases-moves, releases-agrees}
+use Rattle.qolb_model.proofs.plain.PlainLine.deqolb.Goals as goal
+
+pub returns-clause-moves : goal.returns-clause-moves
+returns-clause-moves c = λ s a. releases-moves c.args.self.now s c.args.node false a c.requires
+
+pub returns-clause-agrees : goal.returns-clause-agrees
+returns-clause-agrees c = λ s a. rw c.end_turn.ensures (releases-agrees c.args.self.now s c.args.node a c.requires)

@@ -1,0 +1,31 @@
+-- Ends of requests, and what they leave of a line's bytes. A list of ends goes with an order: end p is that of request p.
+-- (Masked writes and closing are of this project.)
+use Rattle.std.specs.Prelude.{◌≡◌, ℕ, Bool, true, false, ◌||◌, List, [], ◌∷◌}
+use Rattle.line_lanes.specs.Line.{merged}
+use Rattle.qolb_model.specs.declared.write.Write.{Write}
+use Rattle.qolb_model.specs.declared.end.End.{End}
+use Rattle.qolb_model.specs.declared.end.End.TheVariants.{Served, Gone, Told}
+
+-- some end closed the line
+abbrev pub is_closed : List End → Bool
+is_closed [] = false
+is_closed (Served write shut ∷ ends) = shut || is_closed ends
+is_closed (Gone ∷ ends) = is_closed ends
+is_closed (Told ∷ ends) = is_closed ends
+
+-- how a request may end on an open line (false) and on a closed one (true)
+abbrev pub MayEnd : Bool → End → Type 0
+MayEnd closed (Served write shut) = closed ≡ false
+MayEnd closed Gone = Unit {0}
+MayEnd closed Told = closed ≡ true
+
+-- the bytes after a masked write: the write's byte where the mask has its place, else the old byte
+abbrev pub written : List ℕ → Write → List ℕ
+written bytes write = merged bytes write.bytes.bytes write.mask.0
+
+-- the bytes after these ends: the writes of those that were served, one after another
+abbrev pub bytes_after : List ℕ → List End → List ℕ
+bytes_after bytes [] = bytes
+bytes_after bytes (Served write shut ∷ ends) = bytes_after (written bytes write) ends
+bytes_after bytes (Gone ∷ ends) = bytes_after bytes ends
+bytes_after bytes (Told ∷ ends) = bytes_after bytes ends

@@ -1,0 +1,10 @@
+pub use Rattle.line_lanes.specs.Mask
+pub use Rattle.line_lanes.specs.Line
+pub use Rattle.line_lanes.specs.Lane
+pub mod Requests
+pub mod Ends
+pub mod Histories
+pub mod Queue
+pub mod OneOwner
+pub mod Plain
+pub mod Steps

@@ -1,0 +1,78 @@
+-- The plain line as its callers see it, and when it agrees with the state of a line.
+use Rattle.std.specs.Prelude.{◌≡◌, ℕ, ◌<◌, ◌≤◌, ◌==◌, Bool, true, false, ◌&&◌, if◌then◌else◌, List, [], ◌∷◌, map, length, Option, Some, None, slice_get, find}
+use Rattle.std.specs.Option.{option_map_or}
+use Rattle.std.specs.List.{list_any}
+use Rattle.qolb_model.specs.declared.answer.PortState.{PortState}
+use Rattle.qolb_model.specs.declared.answer.PortState.TheVariants.{Idle, Linking, Queued, Holding, Left, Rolled, Shut}
+use Rattle.qolb_model.specs.declared.request.Request.{Request}
+use Rattle.qolb_model.specs.declared.waiter.Waiter.{Waiter}
+use Rattle.qolb_model.specs.declared.write.Write.{Write}
+use Rattle.qolb_model.specs.Requests.{Has, Lacks, has, count_of, last_of}
+use Rattle.qolb_model.specs.Ends.{is_closed, bytes_after, written}
+use Rattle.qolb_model.specs.Histories.{IsLegal, turn_of, ended_of, open_of}
+use Rattle.qolb_model.specs.OneOwner.{LineState, new_turn}
+
+-- the line's number of nodes, the nodes that wait or hold with the oldest first, whether that one holds, whether the line is closed,
+-- and the bytes with the mask of what the holder has written
+pub record PlainView : Type 0 where
+  pub nodes : ℕ
+  pub waiting : List Waiter
+  pub granted : Bool
+  pub closed : Bool
+  pub turn : Write
+
+abbrev pub is_at : ℕ → Waiter → Bool
+is_at node w = w.node == node
+
+-- the node is the oldest of those that wait
+abbrev pub is_oldest : PlainView → ℕ → Bool
+is_oldest line node = option_map_or (is_at node) (slice_get line.waiting 0) false
+
+-- where a node stands whose entry is this, if it has one
+abbrev pub waiter_state : PlainView → ℕ → Option Waiter → PortState
+waiter_state line node None = if line.closed then Shut else Idle
+waiter_state line node (Some w) = if w.withdrawn then Rolled else (if line.granted && is_oldest line node then Holding else Queued)
+
+abbrev pub node_state : PlainView → ℕ → PortState
+node_state line node = waiter_state line node (find (is_at node) line.waiting)
+
+-- a node in this state may ask
+abbrev pub may_ask : PortState → Bool
+may_ask Idle = true
+may_ask Linking = false
+may_ask Queued = false
+may_ask Holding = false
+may_ask Left = true
+may_ask Rolled = true
+may_ask Shut = true
+
+-- what holds of every state that one owner's calls reach: the history is legal, all that has ended is clear, each open request
+-- is its node's last, no withdrawn one is at its turn, and what a turn has written lies over the bytes after all ends
+pub record IsReached (nodes : ℕ) (s : LineState) : Type 0 where
+  pub line : length s.opening ≡ 64
+  pub legal : IsLegal s.queue.order s.queue.ends
+  pub cleared : s.queue.clear ≡ ended_of s.queue.order s.queue.ends
+  pub nodes_known : (p : ℕ) (r : Request) → slice_get s.queue.order p ≡ Some r → (1 ≤ r.node) × (r.node ≤ nodes)
+  pub last_open : (p : ℕ) (r : Request) → length s.queue.ends ≤ p → slice_get s.queue.order p ≡ Some r → r ≡ last_of r.node s.queue.order
+  pub marks_known : (r : Request) → Has s.queue.marked r → r.number ≤ count_of r.node s.queue.order
+  pub passed : (r : Request) → turn_of s.queue.order s.queue.ends ≡ Some r → Lacks s.queue.marked r
+  pub held : s.granted ≡ true → (length s.queue.ends < length s.queue.order) × (is_closed s.queue.ends ≡ false)
+  pub resting : s.granted ≡ false → s.turn ≡ new_turn s.opening s.queue.ends
+  pub turn : written (bytes_after s.opening s.queue.ends) s.turn ≡ s.turn.bytes.bytes
+
+-- the entry of an open request
+abbrev pub waiter_of : List Request → Request → Waiter
+waiter_of marked r = record { node = r.node; withdrawn = has marked r }
+
+-- the line agrees with a state: on the open requests and their marks, on who holds, on closing, and on the turn's write
+pub record Agrees (line : PlainView) (s : LineState) : Type 0 where
+  pub waiting : line.waiting ≡ map (waiter_of s.queue.marked) (open_of s.queue.order s.queue.ends)
+  pub granted : line.granted ≡ s.granted
+  pub closed : line.closed ≡ is_closed s.queue.ends
+  pub turn : line.turn ≡ s.turn
+  pub reached : IsReached line.nodes s
+
+-- the waiting nodes are distinct, and from 1 to `nodes`
+abbrev pub AreWaiting : ℕ → List Waiter → Type 0
+AreWaiting nodes [] = Unit {0}
+AreWaiting nodes (w ∷ ws) = (1 ≤ w.node) × (w.node ≤ nodes) × (list_any (is_at w.node) ws ≡ false) × AreWaiting nodes ws

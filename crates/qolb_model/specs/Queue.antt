@@ -1,0 +1,53 @@
+-- The queue of a line, as a machine: requests are made, marked as withdrawn, and ended in their order.
+-- (The queue is that of Goodman, Vernon and Woest, 1989; withdrawing by mark and closing are of this project.)
+use Rattle.std.specs.Prelude.{◌≡◌, ℕ, ◌<◌, ◌≤◌, true, false, List, [], ◌∷◌, ◌++◌, length, Some, slice_get}
+use Rattle.qolb_model.specs.declared.request.Request.{Request}
+use Rattle.qolb_model.specs.declared.end.End.{End}
+use Rattle.qolb_model.specs.declared.end.End.TheVariants.{Served, Gone, Told}
+use Rattle.qolb_model.specs.Requests.{Has, Lacks, count_of, last_of, next_of}
+use Rattle.qolb_model.specs.Ends.{is_closed}
+use Rattle.qolb_model.specs.Histories.{turn_of, Clears}
+
+-- the requests in their order, the ends of the first of them, those that were withdrawn, and those whose node may ask again
+pub record Queue : Type 0 where
+  pub order : List Request
+  pub ends : List End
+  pub marked : List Request
+  pub clear : List Request
+
+abbrev pub empty_queue : Queue
+empty_queue = record { order = []; ends = []; marked = []; clear = [] }
+
+-- a node makes its next request; a request is marked as withdrawn; the request at its turn ends
+pub data Move : Type 0 where
+  ask : (node : ℕ) → Move
+  mark : (request : Request) → Move
+  finish : (end : End) → Move
+
+-- how the request at its turn may end: a marked one is gone; another is served while the line is open, and then told
+abbrev pub EndsAs : Queue → Request → End → Type 0
+EndsAs q r (Served write shut) = Lacks q.marked r × (is_closed q.ends ≡ false)
+EndsAs q r Gone = Has q.marked r
+EndsAs q r Told = Lacks q.marked r × (is_closed q.ends ≡ true)
+
+-- when a move may be made on a line of this many nodes:
+-- a node asks if its last request, if any, is clear; a request is marked, once, while it waits behind the one at its turn
+abbrev pub CanMove : ℕ → Queue → Move → Type 0
+CanMove nodes q (ask node) = (1 ≤ node) × (node ≤ nodes) × (1 ≤ count_of node q.order → Has q.clear (last_of node q.order))
+CanMove nodes q (mark r) = (p : ℕ) × (length q.ends < p) × (slice_get q.order p ≡ Some r) × Lacks q.marked r
+CanMove nodes q (finish end) = (r : Request) × (turn_of q.order q.ends ≡ Some r) × EndsAs q r end
+
+-- the queue after a move
+abbrev pub moved : Queue → Move → Queue
+moved q (ask node) = record q { order = q.order ++ next_of node q.order ∷ [] }
+moved q (mark r) = record q { marked = q.marked ++ r ∷ [] }
+moved q (finish end) = record q { ends = q.ends ++ end ∷ [] }
+
+-- nothing but the clear list has changed, and that has grown
+abbrev pub HasCleared : Queue → Queue → Type 0
+HasCleared old new = (clear : List Request) × Clears old.order (length old.ends) old.clear clear × (new ≡ record old { clear = clear })
+
+-- the queue makes these moves, each where it may; before, between and after them ended requests may be cleared
+abbrev pub Runs : ℕ → Queue → List Move → Queue → Type 0
+Runs nodes old [] new = HasCleared old new
+Runs nodes old (move ∷ moves) new = (now : Queue) × HasCleared old now × CanMove nodes now move × Runs nodes (moved now move) moves new

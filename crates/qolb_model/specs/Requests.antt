@@ -1,0 +1,33 @@
+-- Requests, and the order in which they were made. A requester puts itself at the head of a line's list, and the oldest
+-- stands at the tail (the sharing list of IEEE Std 1596-1992; queueing at it after Goodman, Vernon and Woest, 1989).
+-- An order is a list, the oldest first. Places are counted from 0.
+use Rattle.std.specs.Prelude.{◌≡◌, ℕ, ◌+◌, ◌==◌, ◌&&◌, Bool, true, false, List, count_by}
+use Rattle.std.specs.List.{list_any}
+use Rattle.qolb_model.specs.declared.request.Request.{Request}
+
+-- the two are one request
+abbrev pub is_same : Request → Request → Bool
+is_same r s = (r.node == s.node) && (r.number == s.number)
+
+-- the request is one of these
+abbrev pub has : List Request → Request → Bool
+has requests r = list_any (is_same r) requests
+
+abbrev pub Has : List Request → Request → Type 0
+Has requests r = has requests r ≡ true
+
+-- it is none of them
+abbrev pub Lacks : List Request → Request → Type 0
+Lacks requests r = has requests r ≡ false
+
+-- how many requests a node has made
+abbrev pub count_of : ℕ → List Request → ℕ
+count_of node order = count_by (λ r. r.node == node) order
+
+-- the node's last request; with number 0, which no request has, if it has made none
+abbrev pub last_of : ℕ → List Request → Request
+last_of node order = record { node = node; number = count_of node order }
+
+-- the request that the node makes next
+abbrev pub next_of : ℕ → List Request → Request
+next_of node order = record { node = node; number = count_of node order + 1 }

@@ -1,0 +1,320 @@
+//! The reference line: one owner, no threads, no memory.
+ghost use Rattle.std.specs.Prelude.{◌≡◌, ℕ, ◌≤◌, ◌↔◌, Bool, true, false, IsTrue, IsOk, IfOk, IfErr, ◌<◌, length, map, find};
+ghost use Rattle.qolb_model.specs.Queue.{Runs};
+ghost use Rattle.qolb_model.specs.OneOwner.{LineState, opened, state_of, shown, enq_answer, enq_moves, after_enq, poll_answer, poll_moves, after_poll, out_answer, out_moves, after_out, release_moves, after_release, after_write};
+ghost use Rattle.qolb_model.specs.Plain.{node_state, may_ask, is_at, is_oldest, Agrees};
+ghost use Rattle.qolb_model.specs.Steps.{after_withdrawn, withdrawn_at, turn_ended, look_answer, looked};
+
+use crate::answer::{Enq, OpenError, Out, Poll, PortState};
+use crate::waiter::Waiter;
+use crate::write::Write;
+use arrayvec::ArrayVec;
+use line_lanes::{Line64, Mask, merge};
+use std::marker::Model;
+
+/// The most nodes that a line has.
+pub const MOST_NODES: u64 = 32;
+
+/// A line that is called by one owner, on behalf of nodes 1 to `nodes`.
+///
+/// Every call's contract is the run of the queue machine that the table of answers gives for it: from each state that agrees
+/// with the line, to one that agrees again. Calls take no memory.
+#[derive(Drop)]
+pub struct PlainLine {
+    turn: Write,
+    waiting: ArrayVec<Waiter, 32>,
+    nodes: u64,
+    granted: bool,
+    closed: bool,
+}
+
+impl Model for PlainLine {
+    ghost use Rattle.std.specs.Prelude.{◌≤◌};
+    ghost use Rattle.qolb_model.specs.Plain.{PlainView, AreWaiting};
+
+    ghost Value = { PlainView };
+
+    ghost view = { λ p. record { nodes = p.nodes; waiting = p.waiting.items; granted = p.granted; closed = p.closed; turn = p.turn } };
+
+    ghost invariant = { λ p. (p.nodes ≤ 32) × AreWaiting p.nodes p.waiting.items };
+}
+
+impl PlainLine {
+    /// A line with these bytes for nodes 1 to `nodes`, all idle. `Nodes` where that is not 1 to 32.
+    pub fn open(nodes: u64, opening: Line64) -> Result<PlainLine, OpenError>
+        ensures agrees { IfOk result (λ line. Agrees line (opened opening.bytes)) }
+        ensures nodes { IfOk result (λ line. line.nodes ≡ nodes) }
+        ensures succeeds { IsOk result ↔ ((1 ≤ nodes) × (nodes ≤ 32)) }
+        ensures refused { IfErr result (λ error. error ≡ OpenError.Nodes) }
+    {
+        if nodes < 1 || nodes > MOST_NODES {
+            return Err(OpenError::Nodes);
+        }
+        Ok(PlainLine {
+            turn: Write {
+                mask: Mask(0),
+                bytes: opening,
+            },
+            waiting: ArrayVec::new(),
+            nodes,
+            granted: false,
+            closed: false,
+        })
+    }
+
+    /// Where the node stands.
+    pub fn state(&self, node: u64) -> PortState
+        ensures state { result ≡ node_state self.now node }
+        ensures agrees { (s : LineState) → Agrees self.now s → result ≡ state_of s node }
+    {
+        match self.entry(node) {
+            None if self.closed => PortState::Shut,
+            None => PortState::Idle,
+            Some(waiter) if waiter.withdrawn => PortState::Rolled,
+            Some(_) if self.granted && self.is_oldest(node) => PortState::Holding,
+            Some(_) => PortState::Queued,
+        }
+    }
+
+    /// The line's bytes as the node sees them that holds it.
+    pub fn bytes(&self, node: u64) -> &Line64
+        requires { node_state self.now node ≡ PortState.Holding }
+        ensures { (s : LineState) → Agrees self.now s → result.now.bytes ≡ shown s }
+    {
+        &self.turn.bytes
+    }
+
+    /// The node that holds the line writes the bytes of the mask.
+    pub fn write(&mut self, node: u64, mask: Mask, bytes: &Line64)
+        requires { node_state self.old node ≡ PortState.Holding }
+        ensures agrees { (s : LineState) → Agrees self.old s → Agrees self.new (after_write s mask.0 bytes.now.bytes) }
+        ensures nodes { self.new.nodes ≡ self.old.nodes }
+    {
+        self.turn.bytes = merge(&self.turn.bytes, bytes, mask);
+        self.turn.mask = Mask(self.turn.mask.0 | mask.0);
+    }
+
+    /// The node asks for the line.
+    pub fn enqolb(&mut self, node: u64) -> Enq
+        requires first { 1 ≤ node }
+        requires last { node ≤ self.old.nodes }
+        requires may_ask { IsTrue (may_ask (node_state self.old node)) }
+        ensures answer { (s : LineState) → Agrees self.old s → result ≡ enq_answer s node }
+        ensures moves { (s : LineState) → Agrees self.old s → Runs self.old.nodes s.queue (enq_moves s node) (after_enq s node).queue }
+        ensures agrees { (s : LineState) → Agrees self.old s → Agrees self.new (after_enq s node) }
+        ensures nodes { self.new.nodes ≡ self.old.nodes }
+    {
+        if self.entry(node).is_some() {
+            return Enq::Busy;
+        }
+        self.waiting.push(Waiter {
+            node,
+            withdrawn: false,
+        });
+        match self.look(node) {
+            Poll::Granted => Enq::Granted,
+            Poll::Waiting => Enq::Queued,
+            Poll::Closed => Enq::Closed,
+        }
+    }
+
+    /// The node that waits looks whether it has come to its turn.
+    pub fn poll(&mut self, node: u64) -> Poll
+        requires { node_state self.old node ≡ PortState.Queued }
+        ensures answer { (s : LineState) → Agrees self.old s → result ≡ poll_answer s node }
+        ensures moves { (s : LineState) → Agrees self.old s → Runs self.old.nodes s.queue (poll_moves result s) (after_poll result s).queue }
+        ensures agrees { (s : LineState) → Agrees self.old s → Agrees self.new (after_poll result s) }
+        ensures nodes { self.new.nodes ≡ self.old.nodes }
+    {
+        self.look(node)
+    }
+
+    /// The node that waits gives its request up, unless it has come to its turn.
+    pub fn withdraw(&mut self, node: u64) -> Out
+        requires { node_state self.old node ≡ PortState.Queued }
+        ensures answer { (s : LineState) → Agrees self.old s → result ≡ out_answer s node }
+        ensures moves { (s : LineState) → Agrees self.old s → Runs self.old.nodes s.queue (out_moves s node) (after_out s node).queue }
+        ensures agrees { (s : LineState) → Agrees self.old s → Agrees self.new (after_out s node) }
+        ensures nodes { self.new.nodes ≡ self.old.nodes }
+    {
+        match self.look(node) {
+            Poll::Granted => Out::Granted,
+            Poll::Closed => Out::Closed,
+            Poll::Waiting => {
+                mark(&mut self.waiting, node);
+                Out::Withdrawn
+            }
+        }
+    }
+
+    /// The node that holds the line releases it.
+    pub fn deqolb(&mut self, node: u64)
+        requires { node_state self.old node ≡ PortState.Holding }
+        ensures moves { (s : LineState) → Agrees self.old s → Runs self.old.nodes s.queue (release_moves s false) (after_release s false).queue }
+        ensures agrees { (s : LineState) → Agrees self.old s → Agrees self.new (after_release s false) }
+        ensures nodes { self.new.nodes ≡ self.old.nodes }
+    {
+        self.end_turn();
+    }
+
+    /// The node that holds the line releases it and closes it: nobody will be served any more.
+    pub fn shut(&mut self, node: u64)
+        requires { node_state self.old node ≡ PortState.Holding }
+        ensures moves { (s : LineState) → Agrees self.old s → Runs self.old.nodes s.queue (release_moves s true) (after_release s true).queue }
+        ensures agrees { (s : LineState) → Agrees self.old s → Agrees self.new (after_release s true) }
+        ensures nodes { self.new.nodes ≡ self.old.nodes }
+    {
+        self.closed = true;
+        self.end_turn();
+    }
+
+    /// The node's entry, if it waits or holds the line.
+    fn entry(&self, node: u64) -> Option<Waiter>
+        ensures { result ≡ find (is_at node) self.now.waiting }
+    {
+        self.waiting.iter().copied().find(|w| w.node == node)
+    }
+
+    /// Whether the node's request is the oldest.
+    fn is_oldest(&self, node: u64) -> bool
+        ensures { result ≡ is_oldest self.now node }
+    {
+        self.waiting.first().is_some_and(|w| w.node == node)
+    }
+
+    /// What `poll` does, whatever the node's state.
+    fn look(&mut self, node: u64) -> Poll
+        ensures answer { result ≡ look_answer self.old node }
+        ensures new { self.new ≡ looked result self.old }
+    {
+        if !self.is_oldest(node) {
+            return Poll::Waiting;
+        }
+        if self.closed {
+            self.end_turn();
+            return Poll::Closed;
+        }
+        self.granted = true;
+        Poll::Granted
+    }
+
+    /// Ends the turn of the oldest request, and passes the withdrawn ones behind it.
+    fn end_turn(&mut self)
+        requires { 0 < length self.old.waiting }
+        ensures { self.new ≡ turn_ended self.old }
+    {
+        self.granted = false;
+        self.turn.mask = Mask(0);
+        self.waiting.remove(0);
+        pass(&mut self.waiting);
+    }
+}
+
+/// Passes the withdrawn ones at the front.
+fn pass(waiting: &mut ArrayVec<Waiter, 32>)
+    ensures { waiting.new.items ≡ after_withdrawn waiting.old.items }
+{
+    while waiting.first().is_some_and(|w| w.withdrawn) {
+        waiting.remove(0);
+    }
+}
+
+/// Marks the node's entry as withdrawn.
+fn mark(waiting: &mut [Waiter], node: u64)
+    ensures { waiting.new ≡ map (withdrawn_at node) waiting.old }
+{
+    for waiter in waiting.iter_mut() {
+        if waiter.node == node {
+            waiter.withdrawn = true;
+        }
+    }
+}
+
+#[cfg(test)]
+mod tests {
+    use super::*;
+    use std::process::Abort;
+    use std::test::Fail;
+
+    fn expect_state(rt: &impl Abort, line: &PlainLine, node: u64, state: PortState)
+        ensures { node_state line.now node ≡ state }
+    {
+        assert_eq!(rt; line.state(node), state, "of node {node}");
+    }
+
+    #[test]
+    fn next_holder_sees_what_was_written(rt: HostRuntime) -> Result<(), Fail> {
+        let mut line = PlainLine::open(2, Line64::zero())?;
+        expect_state(&rt, &line, 1, PortState::Idle);
+        assert_eq!(rt; line.enqolb(1), Enq::Granted);
+        expect_state(&rt, &line, 2, PortState::Idle);
+        assert_eq!(rt; line.enqolb(2), Enq::Queued);
+
+        let mut bytes = [0xff; 64];
+        bytes[0] = 0xa1;
+        bytes[1] = 0xb2;
+        expect_state(&rt, &line, 1, PortState::Holding);
+        line.write(1, Mask(0b11), &Line64::from_bytes(bytes));
+        expect_state(&rt, &line, 1, PortState::Holding);
+        line.deqolb(1);
+
+        expect_state(&rt, &line, 2, PortState::Queued);
+        assert_eq!(rt; line.poll(2), Poll::Granted);
+        expect_state(&rt, &line, 2, PortState::Holding);
+        let seen = line.bytes(2).to_bytes();
+        assert_eq!(rt; seen[0], 0xa1);
+        assert_eq!(rt; seen[1], 0xb2);
+        assert_eq!(rt; seen[2], 0);
+        Ok(())
+    }
+
+    #[test]
+    fn withdrawn_node_is_passed(rt: HostRuntime) -> Result<(), Fail> {
+        let mut line = PlainLine::open(3, Line64::zero())?;
+        expect_state(&rt, &line, 1, PortState::Idle);
+        assert_eq!(rt; line.enqolb(1), Enq::Granted);
+        expect_state(&rt, &line, 2, PortState::Idle);
+        assert_eq!(rt; line.enqolb(2), Enq::Queued);
+        expect_state(&rt, &line, 3, PortState::Idle);
+        assert_eq!(rt; line.enqolb(3), Enq::Queued);
+
+        expect_state(&rt, &line, 2, PortState::Queued);
+        assert_eq!(rt; line.withdraw(2), Out::Withdrawn);
+        expect_state(&rt, &line, 2, PortState::Rolled);
+        assert_eq!(rt; line.enqolb(2), Enq::Busy);
+
+        expect_state(&rt, &line, 1, PortState::Holding);
+        line.deqolb(1);
+        expect_state(&rt, &line, 3, PortState::Queued);
+        assert_eq!(rt; line.poll(3), Poll::Granted);
+        expect_state(&rt, &line, 2, PortState::Idle);
+        assert_eq!(rt; line.enqolb(2), Enq::Queued);
+        Ok(())
+    }
+
+    #[test]
+    fn closed_line_serves_nobody(rt: HostRuntime) -> Result<(), Fail> {
+        let mut line = PlainLine::open(2, Line64::zero())?;
+        expect_state(&rt, &line, 1, PortState::Idle);
+        assert_eq!(rt; line.enqolb(1), Enq::Granted);
+        expect_state(&rt, &line, 2, PortState::Idle);
+        assert_eq!(rt; line.enqolb(2), Enq::Queued);
+
+        expect_state(&rt, &line, 1, PortState::Holding);
+        line.shut(1);
+        expect_state(&rt, &line, 2, PortState::Queued);
+        assert_eq!(rt; line.poll(2), Poll::Closed);
+        expect_state(&rt, &line, 1, PortState::Shut);
+        assert_eq!(rt; line.enqolb(1), Enq::Closed);
+        Ok(())
+    }
+
+    #[test]
+    fn lines_have_one_to_32_nodes(rt: HostRuntime) {
+        for (nodes, opens) in [(0, false), (1, true), (32, true), (33, false)] {
+            let refused = PlainLine::open(nodes, Line64::zero()).err();
+            let want = if opens { None } else { Some(OpenError::Nodes) };
+            assert_eq!(rt; refused, want, "{nodes} nodes");
+        }
+    }
+}

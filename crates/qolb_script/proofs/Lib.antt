@@ -1,0 +1,5 @@
+pub mod CommandLemmas
+pub mod NumberLemmas
+pub mod ScriptLemmas
+pub mod TextLemmas
+pub mod WorkedScripts

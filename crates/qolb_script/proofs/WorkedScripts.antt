@@ -1,0 +1,62 @@
+-- Worked scripts: what the definitions of a script and of its reply say of them, by computation.
+use Rattle.std.specs.Prelude.{◌≡◌, [], ◌∷◌, ◌++◌, codes, replicate, refl, Ok, Err}
+use Rattle.std.specs.Fmt.{digits}
+use Rattle.hex.specs.Hex.{encode_with, decode_pairs}
+use Rattle.qolb_script.specs.declared.error.ScriptError.TheVariants.{BadLine, Number}
+use Rattle.qolb_script.specs.Reply.{reply_to}
+
+no_commands : reply_to (codes "nodes 1 lines 1\n") ≡ Ok (codes "line 0 served 0 withdrawn 0 told 0 left 0\n")
+unfolding digits
+no_commands = refl
+
+-- two nodes hand the line over, with a write
+handed_over : reply_to (codes "nodes 2 lines 1\nenq 1 0\nwrite 1 0 0 a1b2\nenq 2 0\npoll 2 0\ndeq 1 0\npoll 2 0\nshow 2 0\ndeq 2 0\n") ≡ Ok (codes "granted\nok\nqueued\nwaiting\nreleased\ngranted\na1b2" ++ replicate 124 48 ++ codes "\nreleased\nline 0 served 2 withdrawn 0 told 0 left 0\n")
+unfolding digits encode_with decode_pairs
+handed_over = refl
+
+-- the last place of a line can be written, and no place behind it
+last_place : reply_to (codes "nodes 1 lines 1\nenq 1 0\nwrite 1 0 63 ff\nshow 1 0\n") ≡ Ok (codes "granted\nok\n" ++ replicate 126 48 ++ codes "ff\nline 0 served 0 withdrawn 0 told 0 left 1\n")
+unfolding digits encode_with decode_pairs
+last_place = refl
+
+behind_the_last_place : reply_to (codes "nodes 1 lines 1\nenq 1 0\nwrite 1 0 63 ffff\nshow 1 0\n") ≡ Err (BadLine 3)
+unfolding decode_pairs
+behind_the_last_place = refl
+
+-- commands in states that do not allow them
+misuses : reply_to (codes "nodes 1 lines 1\npoll 1 0\ndeq 1 0\nenq 1 0\nenq 1 0\ndeq 1 0\n") ≡ Ok (codes "misuse\nmisuse\ngranted\nmisuse\nreleased\nline 0 served 1 withdrawn 0 told 0 left 0\n")
+unfolding digits
+misuses = refl
+
+-- the oldest request comes first, whatever its node
+in_order : reply_to (codes "nodes 4 lines 1\nenq 4 0\nenq 3 0\nenq 1 0\nenq 2 0\ndeq 4 0\npoll 1 0\npoll 3 0\ndeq 3 0\npoll 2 0\npoll 1 0\ndeq 1 0\npoll 2 0\n") ≡ Ok (codes "granted\nqueued\nqueued\nqueued\nreleased\nwaiting\ngranted\nreleased\nwaiting\ngranted\nreleased\ngranted\nline 0 served 3 withdrawn 0 told 0 left 1\n")
+unfolding digits
+in_order = refl
+
+-- a withdrawn node is busy until a release passes it
+withdrawn : reply_to (codes "nodes 3 lines 1\nenq 1 0\nenq 2 0\nenq 3 0\nout 2 0\nenq 2 0\ndeq 1 0\nenq 2 0\npoll 3 0\ndeq 3 0\npoll 2 0\n") ≡ Ok (codes "granted\nqueued\nqueued\nwithdrawn\nbusy\nreleased\nqueued\ngranted\nreleased\ngranted\nline 0 served 2 withdrawn 1 told 0 left 1\n")
+unfolding digits
+withdrawn = refl
+
+-- a closed line is told of to each request that comes to its turn
+closed : reply_to (codes "nodes 3 lines 1\nenq 1 0\nenq 2 0\nenq 3 0\nshut 1 0\npoll 3 0\npoll 2 0\npoll 3 0\nenq 1 0\nenq 2 0\n") ≡ Ok (codes "granted\nqueued\nqueued\nshut\nwaiting\nclosed\nclosed\nclosed\nclosed\nline 0 served 1 withdrawn 0 told 4 left 0\n")
+unfolding digits
+closed = refl
+
+-- two lines are apart
+two_lines : reply_to (codes "nodes 2 lines 2\nenq 1 0\nenq 2 1\nenq 1 1\ndeq 2 1\npoll 1 1\nshut 1 1\nenq 2 1\nenq 2 0\nout 2 0\n") ≡ Ok (codes "granted\ngranted\nqueued\nreleased\ngranted\nshut\nclosed\nqueued\nwithdrawn\nline 0 served 0 withdrawn 1 told 0 left 1\nline 1 served 2 withdrawn 0 told 1 left 0\n")
+unfolding digits
+two_lines = refl
+
+-- first faults: no header, a number out of its range, a missing word
+nothing : reply_to [] ≡ Err (BadLine 1)
+nothing = refl
+
+too_many_nodes : reply_to (codes "nodes 33 lines 1") ≡ Err (Number 1)
+too_many_nodes = refl
+
+no_such_node : reply_to (codes "nodes 2 lines 1\nenq 3 0") ≡ Err (Number 2)
+no_such_node = refl
+
+no_line : reply_to (codes "nodes 2 lines 1\nenq 1") ≡ Err (BadLine 2)
+no_line = refl

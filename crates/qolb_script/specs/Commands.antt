@@ -1,0 +1,95 @@
+-- The commands of a schedule, and the header. (Of this project.)
+use Rattle.std.specs.Prelude.{ℕ, ◌+◌, ◌-◌, ◌&&◌, nat_le, if◌then◌else◌, List, [], ◌∷◌, length, codes, Option, Some, None, Result, Ok, Err}
+use Rattle.std.specs.Str.{bytes_eq}
+use Rattle.hex.specs.Hex.{decode_of}
+use Rattle.hex.specs.declared.error.FromHexError.{FromHexError}
+use Rattle.line_lanes.specs.Mask.{placed_mask}
+use Rattle.line_lanes.specs.Line.{placed_line}
+use Rattle.qolb_script.specs.declared.command.Command.{Command}
+use Rattle.qolb_script.specs.declared.command.Command.TheVariants.{Enq, Poll, Show, Deq, Out, Shut, Write}
+use Rattle.qolb_script.specs.declared.text.LineFault.{LineFault}
+use Rattle.qolb_script.specs.declared.text.LineFault.TheVariants.{Bad}
+use Rattle.qolb_script.specs.Text.{words_of, is_plain, number_within}
+
+-- what is called
+abbrev pub node_of : Command → ℕ
+node_of (Enq node line) = node
+node_of (Poll node line) = node
+node_of (Show node line) = node
+node_of (Deq node line) = node
+node_of (Out node line) = node
+node_of (Shut node line) = node
+node_of (Write node line mask bytes) = node
+
+abbrev pub line_of : Command → ℕ
+line_of (Enq node line) = line
+line_of (Poll node line) = line
+line_of (Show node line) = line
+line_of (Deq node line) = line
+line_of (Out node line) = line
+line_of (Shut node line) = line
+line_of (Write node line mask bytes) = line
+
+-- the first value, if there is one, goes on into the next step
+abbrev pub and_then : {A B : Type 0} → Result A LineFault → (A → Result B LineFault) → Result B LineFault
+and_then (Ok a) next = next a
+and_then (Err fault) next = Err fault
+
+-- the command that a first word names, where a node and a line are all that follows
+abbrev pub plain_command : List ℕ → Option (ℕ → ℕ → Command)
+plain_command word =
+    if bytes_eq word (codes "enq") then Some Enq
+    else if bytes_eq word (codes "poll") then Some Poll
+    else if bytes_eq word (codes "show") then Some Show
+    else if bytes_eq word (codes "deq") then Some Deq
+    else if bytes_eq word (codes "out") then Some Out
+    else if bytes_eq word (codes "shut") then Some Shut
+    else None
+
+-- a node from 1 to `nodes`, and a line from 0 to `lines` - 1
+abbrev pub node_within : ℕ → List ℕ → Result ℕ LineFault
+node_within nodes word = number_within 1 nodes word
+
+abbrev pub line_within : ℕ → List ℕ → Result ℕ LineFault
+line_within lines word = number_within 0 (lines - 1) word
+
+-- a command of a node and a line
+abbrev pub command_at : ℕ → ℕ → Option (ℕ → ℕ → Command) → List ℕ → List ℕ → Result Command LineFault
+command_at nodes lines None node line = Err Bad
+command_at nodes lines (Some command) node line =
+    and_then (node_within nodes node) (λ n. and_then (line_within lines line) (λ l. Ok (command n l)))
+
+-- the write of these bytes from place `off` on, if they fit into a line
+abbrev pub write_at : ℕ → ℕ → ℕ → Result (List ℕ) FromHexError → Result Command LineFault
+write_at node line off (Err error) = Err Bad
+write_at node line off (Ok bytes) =
+    if nat_le (off + length bytes) 64
+    then Ok (Write node line (record { 0 = placed_mask off (length bytes) }) (record { bytes = placed_line off bytes }))
+    else Err Bad
+
+abbrev pub write_command : ℕ → ℕ → List ℕ → List ℕ → List ℕ → List ℕ → Result Command LineFault
+write_command nodes lines node line off hex =
+    and_then (node_within nodes node) (λ n. and_then (line_within lines line) (λ l. and_then (number_within 0 63 off) (λ o. write_at n l o (decode_of hex))))
+
+-- the command that some words write
+abbrev pub command_of : ℕ → ℕ → List (List ℕ) → Result Command LineFault
+command_of nodes lines (word ∷ node ∷ line ∷ []) = command_at nodes lines (plain_command word) node line
+command_of nodes lines (word ∷ node ∷ line ∷ off ∷ hex ∷ []) =
+    if bytes_eq word (codes "write") then write_command nodes lines node line off hex else Err Bad
+command_of nodes lines words = Err Bad
+
+-- the numbers of nodes and of lines
+pub record Header : Type 0 where
+  pub nodes : ℕ
+  pub lines : ℕ
+
+abbrev pub header_of : List (List ℕ) → Result Header LineFault
+header_of (first ∷ nodes ∷ third ∷ lines ∷ []) =
+    if bytes_eq first (codes "nodes") && bytes_eq third (codes "lines")
+    then and_then (number_within 1 32 nodes) (λ n. and_then (number_within 1 8 lines) (λ l. Ok (record { nodes = n; lines = l })))
+    else Err Bad
+header_of words = Err Bad
+
+-- a line with a byte that no script has is bad whatever its words
+abbrev pub read_line : {A : Type 0} → (List (List ℕ) → Result A LineFault) → List ℕ → Result A LineFault
+read_line read line = if is_plain line then read (words_of line) else Err Bad

@@ -1,0 +1,17 @@
+pub use Rattle.line_lanes.specs.Mask
+pub use Rattle.line_lanes.specs.Line
+pub use Rattle.qolb_model.specs.Requests
+pub use Rattle.qolb_model.specs.Ends
+pub use Rattle.qolb_model.specs.Histories
+pub use Rattle.qolb_model.specs.Queue
+pub use Rattle.qolb_model.specs.OneOwner
+pub use Rattle.qolb_model.specs.Plain
+pub mod Text
+pub mod Commands
+pub mod Made
+pub mod Script
+pub mod Ranges
+pub mod Reading
+pub mod Said
+pub mod Reply
+pub mod Watched

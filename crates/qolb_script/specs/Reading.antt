@@ -1,0 +1,22 @@
+-- What readers of lines and words have left. (Of this project.)
+use Rattle.std.specs.Prelude.{ℕ, ◌==◌, not, List, [], length, filter, Option, Some, None}
+use Rattle.std.specs.Borrow.{Bor}
+use Rattle.std.specs.List.{slice_split, enumerate_from}
+use Rattle.qolb_script.specs.declared.words.Words.{Words}
+use Rattle.qolb_script.specs.declared.lines.Lines.{Lines}
+use Rattle.qolb_script.specs.Text.{words_of}
+
+-- those of the lines that have words
+abbrev pub worded : List (ℕ × List ℕ) → List (ℕ × List ℕ)
+worded lines = filter (λ line. not (length (words_of line.1) == 0)) lines
+
+-- the lines of what is left of a text, if anything is
+abbrev pub parts_left : Option (Bor (List ℕ)) → List (List ℕ)
+parts_left None = []
+parts_left (Some rest) = slice_split (λ b. b == 10) rest.now
+
+abbrev pub lines_left : Lines → List (ℕ × List ℕ)
+lines_left it = worded (enumerate_from it.number (parts_left it.rest))
+
+abbrev pub words_left : Words → List (List ℕ)
+words_left it = words_of it.rest.now

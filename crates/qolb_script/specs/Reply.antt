@@ -1,0 +1,138 @@
+-- The reply of a script: what is said of each command, and then of each line. (Of this project.)
+use Rattle.std.specs.Prelude.{ℕ, ◌==◌, ◌&&◌, ◌||◌, Bool, true, false, if◌then◌else◌, List, [], ◌∷◌, ◌++◌, map, fold, flat_map, count_by, replicate, slice_set, Result, Ok, Err}
+use Rattle.std.specs.List.{slice_index_or, range_with_len}
+use Rattle.line_lanes.specs.Line.{zeros}
+use Rattle.qolb_model.specs.declared.answer.Enq.TheVariants as enq
+use Rattle.qolb_model.specs.declared.answer.Poll.TheVariants as poll
+use Rattle.qolb_model.specs.declared.answer.Out.TheVariants as out
+use Rattle.qolb_model.specs.declared.answer.PortState.{PortState}
+use Rattle.qolb_model.specs.declared.answer.PortState.TheVariants as port
+use Rattle.qolb_model.specs.OneOwner.{LineState, opened, state_of, shown, enq_answer, after_enq, poll_answer, after_poll, out_answer, after_out, after_release, after_write}
+use Rattle.qolb_model.specs.Plain.{may_ask}
+use Rattle.qolb_script.specs.declared.command.Command.{Command}
+use Rattle.qolb_script.specs.declared.command.Command.TheVariants.{Enq, Poll, Show, Deq, Out, Shut, Write}
+use Rattle.qolb_script.specs.declared.said.Said.{Said}
+use Rattle.qolb_script.specs.declared.said.Said.TheVariants as said
+use Rattle.qolb_script.specs.Commands.{node_of, line_of}
+use Rattle.qolb_script.specs.declared.error.ScriptError.{ScriptError}
+use Rattle.qolb_script.specs.Script.{Script, script_of}
+use Rattle.qolb_script.specs.Said.{said_text}
+
+abbrev pub is_queued : PortState → Bool
+is_queued port.Idle = false
+is_queued port.Linking = false
+is_queued port.Queued = true
+is_queued port.Holding = false
+is_queued port.Left = false
+is_queued port.Rolled = false
+is_queued port.Shut = false
+
+abbrev pub is_holding : PortState → Bool
+is_holding port.Idle = false
+is_holding port.Linking = false
+is_holding port.Queued = false
+is_holding port.Holding = true
+is_holding port.Left = false
+is_holding port.Rolled = false
+is_holding port.Shut = false
+
+-- the node is in a state that allows the command: asking takes one that neither waits nor holds, polling and withdrawing one that
+-- waits, the others one that holds
+abbrev pub is_allowed : PortState → Command → Bool
+is_allowed state (Enq node line) = may_ask state
+is_allowed state (Poll node line) = is_queued state
+is_allowed state (Show node line) = is_holding state
+is_allowed state (Deq node line) = is_holding state
+is_allowed state (Out node line) = is_queued state
+is_allowed state (Shut node line) = is_holding state
+is_allowed state (Write node line mask bytes) = is_holding state
+
+-- what an allowed command is answered, and what it leaves
+abbrev pub answered : LineState → Command → Said
+answered s (Enq node line) = said.Enq (enq_answer s node)
+answered s (Poll node line) = said.Poll (poll_answer s node)
+answered s (Show node line) = said.Bytes (record { bytes = shown s })
+answered s (Deq node line) = said.Released
+answered s (Out node line) = said.Out (out_answer s node)
+answered s (Shut node line) = said.Shut
+answered s (Write node line mask bytes) = said.Written
+
+abbrev pub after_allowed : LineState → Command → LineState
+after_allowed s (Enq node line) = after_enq s node
+after_allowed s (Poll node line) = after_poll (poll_answer s node) s
+after_allowed s (Show node line) = s
+after_allowed s (Deq node line) = after_release s false
+after_allowed s (Out node line) = after_out s node
+after_allowed s (Shut node line) = after_release s true
+after_allowed s (Write node line mask bytes) = after_write s mask.0 bytes.bytes
+
+-- any other is misuse, and changes nothing
+abbrev pub said_of : LineState → Command → Said
+said_of s c = if is_allowed (state_of s (node_of c)) c then answered s c else said.Misuse
+
+abbrev pub after_command : LineState → Command → LineState
+after_command s c = if is_allowed (state_of s (node_of c)) c then after_allowed s c else s
+
+-- the state of every line, and what was said so far, each with its line
+pub record Replay : Type 0 where
+  pub lines : List LineState
+  pub said : List (ℕ × Said)
+
+abbrev pub line_at : List LineState → ℕ → LineState
+line_at lines l = slice_index_or lines l (opened zeros)
+
+-- every line is opened with zeros; then the commands are done in order, each on its line
+abbrev pub replay_start : ℕ → Replay
+replay_start lines = record { lines = replicate lines (opened zeros); said = [] }
+
+abbrev pub replay_step : Replay → Command → Replay
+replay_step r c = record {
+  lines = slice_set r.lines (line_of c) (after_command (line_at r.lines (line_of c)) c);
+  said = r.said ++ (line_of c, said_of (line_at r.lines (line_of c)) c) ∷ [];
+}
+
+abbrev pub replay_of : Script → Replay
+replay_of script = fold replay_step (replay_start script.lines) script.commands
+
+-- how often such a thing was said of a line
+abbrev pub times_said : (Said → Bool) → ℕ → List (ℕ × Said) → ℕ
+times_said test line said = count_by (λ s. (s.0 == line) && test s.1) said
+
+abbrev pub is_served : Said → Bool
+is_served said.Released = true
+is_served said.Shut = true
+is_served what = false
+
+abbrev pub is_withdrawn : Said → Bool
+is_withdrawn (said.Out out.Withdrawn) = true
+is_withdrawn what = false
+
+abbrev pub is_told : Said → Bool
+is_told (said.Enq enq.Closed) = true
+is_told (said.Poll poll.Closed) = true
+is_told (said.Out out.Closed) = true
+is_told what = false
+
+-- how many of the nodes wait at a line or hold it
+abbrev pub nodes_left : ℕ → LineState → ℕ
+nodes_left nodes s = count_by (λ n. is_queued (state_of s n) || is_holding (state_of s n)) (range_with_len 1 nodes)
+
+abbrev pub summary_of : ℕ → Replay → ℕ → Said
+summary_of nodes r line =
+    said.Summary line (times_said is_served line r.said) (times_said is_withdrawn line r.said) (times_said is_told line r.said) (nodes_left nodes (line_at r.lines line))
+
+-- the text: what was said of the commands, in order, and then the summaries of the lines
+abbrev pub text_of : List Said → List ℕ
+text_of all = flat_map said_text all
+
+abbrev pub reply_of : Script → List ℕ
+reply_of script =
+    text_of (map (λ s. s.1) (replay_of script).said) ++ text_of (map (summary_of script.nodes (replay_of script)) (range_with_len 0 script.lines))
+
+-- what a replay of some bytes writes, or the first fault in them
+abbrev pub replied : Result Script ScriptError → Result (List ℕ) ScriptError
+replied (Ok script) = Ok (reply_of script)
+replied (Err error) = Err error
+
+abbrev pub reply_to : List ℕ → Result (List ℕ) ScriptError
+reply_to text = replied (script_of text)

@@ -1,0 +1,34 @@
+-- The text of a script: lines that end with a newline, of words with spaces around them. (Of this project.)
+use Rattle.std.specs.Prelude.{ℕ, ◌==◌, ◌&&◌, ◌^◌, nat_le, nat_lt, not, Bool, if◌then◌else◌, List, length, filter, Option, Some, None, Result, Ok, Err}
+use Rattle.std.specs.List.{slice_split, list_all, enumerate_from}
+use Rattle.std.specs.Str.{all_ascii_digits}
+use Rattle.std.specs.Str.Parse.{digits_value}
+use Rattle.qolb_script.specs.declared.text.LineFault.{LineFault}
+use Rattle.qolb_script.specs.declared.text.LineFault.TheVariants.{Number}
+
+-- the lines of a text, without their newlines and with their numbers, from 1
+abbrev pub numbered_lines : List ℕ → List (ℕ × List ℕ)
+numbered_lines text = enumerate_from 1 (slice_split (λ b. b == 10) text)
+
+-- the words of a line
+abbrev pub words_of : List ℕ → List (List ℕ)
+words_of line = filter (λ word. not (length word == 0)) (slice_split (λ b. b == 32) line)
+
+-- every byte is a space or a visible ASCII character
+abbrev pub is_plain : List ℕ → Bool
+is_plain line = list_all (λ b. nat_le 32 b && nat_le b 126) line
+
+-- the number that a word writes: 1 to 20 decimal digits, of a value below 2^64
+abbrev pub number_of : List ℕ → Option ℕ
+number_of word =
+    if nat_le 1 (length word) && nat_le (length word) 20 && all_ascii_digits word && nat_lt (digits_value 10 word) (2 ^ 64)
+    then Some (digits_value 10 word)
+    else None
+
+-- it, if it is from `low` to `high`
+abbrev pub between : ℕ → ℕ → Option ℕ → Result ℕ LineFault
+between low high None = Err Number
+between low high (Some n) = if nat_le low n && nat_le n high then Ok n else Err Number
+
+abbrev pub number_within : ℕ → ℕ → List ℕ → Result ℕ LineFault
+number_within low high word = between low high (number_of word)

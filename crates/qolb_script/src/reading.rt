@@ -1,0 +1,157 @@
+ghost use Rattle.std.specs.Prelude.{◌≡◌, ◌≤◌, ◌<◌, IfOk, IfErr};
+ghost use Rattle.hex.specs.Hex.{decode_of};
+ghost use Rattle.qolb_script.specs.Commands as spec;
+
+use crate::command::{Command, Plain};
+use crate::number::number_within;
+use crate::text::{LineFault, is_plain_line};
+use crate::words::Words;
+use hex::decode_to_slice;
+use line_lanes::placed;
+
+/// The most bytes that a command may write: a whole line.
+const MOST_BYTES: usize = 64;
+
+/// The last place of a line.
+const LAST_PLACE: u64 = 63;
+
+/// The first word of a write.
+const WRITE: &[u8] = b"write";
+
+/// The word of a header before its number of nodes.
+const NODES: &[u8] = b"nodes";
+
+/// The word of a header before its number of lines.
+const LINES: &[u8] = b"lines";
+
+/// The numbers of nodes and of lines that a header line gives.
+pub fn read_header(text: &[u8]) -> Result<(u64, u64), LineFault>
+    ensures ok { IfOk result (λ h. spec.read_line spec.header_of text.now ≡ Ok (record { nodes = h.0; lines = h.1 })) }
+    ensures refused { IfErr result (λ fault. spec.read_line spec.header_of text.now ≡ Err fault) }
+    ensures nodes { IfOk result (λ h. (1 ≤ h.0) × (h.0 ≤ 32)) }
+    ensures lines { IfOk result (λ h. (1 ≤ h.1) × (h.1 ≤ 8)) }
+{
+    if !is_plain_line(text) {
+        return Err(LineFault::Bad);
+    }
+    let mut words = Words::new(text);
+    let (Some(first), Some(nodes), Some(third), Some(lines), None) = (
+        words.next(),
+        words.next(),
+        words.next(),
+        words.next(),
+        words.next(),
+    ) else {
+        return Err(LineFault::Bad);
+    };
+    if first != NODES || third != LINES {
+        return Err(LineFault::Bad);
+    }
+    let nodes = number_within(1, 32, nodes)?;
+    let lines = number_within(1, 8, lines)?;
+    Ok((nodes, lines))
+}
+
+/// The command that a line writes, under a header of these numbers.
+pub fn read_command(nodes: u64, lines: u64, text: &[u8]) -> Result<Command, LineFault>
+    requires { 1 ≤ lines }
+    ensures command { result ≡ spec.read_line (spec.command_of nodes lines) text.now }
+    ensures range { IfOk result (λ c. (1 ≤ spec.node_of c) × (spec.node_of c ≤ nodes) × (spec.line_of c < lines)) }
+{
+    if !is_plain_line(text) {
+        return Err(LineFault::Bad);
+    }
+    let mut words = Words::new(text);
+    let (Some(first), Some(node), Some(line)) = (words.next(), words.next(), words.next()) else {
+        return Err(LineFault::Bad);
+    };
+    match (words.next(), words.next(), words.next()) {
+        (None, _, _) => read_plain(nodes, lines, first, node, line),
+        (Some(off), Some(hex), None) if first == WRITE => read_write(
+            nodes, lines, node, line, off, hex,
+        ),
+        _ => Err(LineFault::Bad),
+    }
+}
+
+/// The node that a word writes, from 1 to the number of nodes.
+fn node_within(nodes: u64, word: &[u8]) -> Result<u64, LineFault>
+    ensures node { result ≡ spec.node_within nodes word.now }
+    ensures range { IfOk result (λ n. (1 ≤ n) × (n ≤ nodes)) }
+{
+    number_within(1, nodes, word)
+}
+
+/// The line that a word writes, from 0 to below the number of lines.
+fn line_within(lines: u64, word: &[u8]) -> Result<u64, LineFault>
+    requires { 1 ≤ lines }
+    ensures line { result ≡ spec.line_within lines word.now }
+    ensures range { IfOk result (λ l. l < lines) }
+{
+    number_within(0, lines - 1, word)
+}
+
+/// The command of a node and a line that a first word names.
+fn read_plain(
+    nodes: u64,
+    lines: u64,
+    first: &[u8],
+    node: &[u8],
+    line: &[u8],
+) -> Result<Command, LineFault>
+    requires { 1 ≤ lines }
+    ensures command { result ≡ spec.command_at nodes lines (spec.plain_command first.now) node.now line.now }
+    ensures range { IfOk result (λ c. (1 ≤ spec.node_of c) × (spec.node_of c ≤ nodes) × (spec.line_of c < lines)) }
+{
+    let Some(plain) = Plain::named(first) else {
+        return Err(LineFault::Bad);
+    };
+    let node = node_within(nodes, node)?;
+    let line = line_within(lines, line)?;
+    Ok(plain.command(node, line))
+}
+
+/// The write of hex bytes from a place of a line on.
+fn read_write(
+    nodes: u64,
+    lines: u64,
+    node: &[u8],
+    line: &[u8],
+    off: &[u8],
+    hex: &[u8],
+) -> Result<Command, LineFault>
+    requires { 1 ≤ lines }
+    ensures command { result ≡ spec.write_command nodes lines node.now line.now off.now hex.now }
+    ensures range { IfOk result (λ c. (1 ≤ spec.node_of c) × (spec.node_of c ≤ nodes) × (spec.line_of c < lines)) }
+{
+    let node = node_within(nodes, node)?;
+    let line = line_within(lines, line)?;
+    let off = number_within(0, LAST_PLACE, off)?;
+    write_at(node, line, off as usize, hex)
+}
+
+/// The write of hex bytes from place `off` on, if they fit into the line.
+fn write_at(node: u64, line: u64, off: usize, hex: &[u8]) -> Result<Command, LineFault>
+    requires { off < 64 }
+    ensures command { result ≡ spec.write_at node line off (decode_of hex.now) }
+    ensures place { IfOk result (λ c. (spec.node_of c ≡ node) × (spec.line_of c ≡ line)) }
+{
+    let len = hex.len() / 2;
+    if len > MOST_BYTES {
+        return Err(LineFault::Bad);
+    }
+    let mut buffer = [0; MOST_BYTES];
+    let bytes = &mut buffer[..len];
+    if decode_to_slice(hex, bytes).is_err() {
+        return Err(LineFault::Bad);
+    }
+    let Some((mask, bytes)) = placed(off, bytes) else {
+        return Err(LineFault::Bad);
+    };
+    Ok(Command::Write {
+        node,
+        line,
+        mask,
+        bytes,
+    })
+}

@@ -1,0 +1,65 @@
+use super::*;
+use std::test::Fail;
+
+/// What is said, and its line of text.
+const SAID: [(Said, &str); 16] = [
+    (Said::Enq(Enq::Granted), "granted\n"),
+    (Said::Enq(Enq::Queued), "queued\n"),
+    (Said::Enq(Enq::Closed), "closed\n"),
+    (Said::Enq(Enq::Busy), "busy\n"),
+    (Said::Poll(Poll::Granted), "granted\n"),
+    (Said::Poll(Poll::Waiting), "waiting\n"),
+    (Said::Poll(Poll::Closed), "closed\n"),
+    (Said::Out(Out::Withdrawn), "withdrawn\n"),
+    (Said::Out(Out::Granted), "granted\n"),
+    (Said::Out(Out::Closed), "closed\n"),
+    (Said::Written, "ok\n"),
+    (Said::Released, "released\n"),
+    (Said::Shut, "shut\n"),
+    (Said::Misuse, "misuse\n"),
+    (
+        Said::Summary {
+            line: 0,
+            served: 2,
+            withdrawn: 0,
+            told: 0,
+            left: 0,
+        },
+        "line 0 served 2 withdrawn 0 told 0 left 0\n",
+    ),
+    (
+        Said::Summary {
+            line: 18446744073709551615,
+            served: 10000000000000000000,
+            withdrawn: 10000000000000000001,
+            told: 10000000000000000002,
+            left: 10000000000000000003,
+        },
+        "line 18446744073709551615 served 10000000000000000000 withdrawn 10000000000000000001 told 10000000000000000002 left 10000000000000000003\n",
+    ),
+];
+
+#[test]
+fn says_each_thing(rt: HostRuntime) -> Result<(), Fail> {
+    for (said, line) in SAID {
+        let mut text = Vec::from_slice(rt.alloc(), b"ok\n")?;
+        push_said(&mut text, &said)?;
+        assert_eq!(rt; text.len(), 3 + line.len(), "at {line}");
+        assert_eq!(rt; &text[3..], line.as_bytes(), "at {line}");
+    }
+    Ok(())
+}
+
+#[test]
+fn says_the_bytes_in_lower_case(rt: HostRuntime) -> Result<(), Fail> {
+    let mut bytes = [0; 64];
+    bytes[0] = 0xab;
+    bytes[63] = 0x0f;
+    let mut text = Vec::new(rt.alloc());
+    push_said(&mut text, &Said::Bytes(Line64 { bytes }))?;
+    assert_eq!(rt; text.len(), 129);
+    assert_eq!(rt; &text[..2], b"ab".as_slice());
+    assert!(rt; text[2..127].iter().all(|&digit| digit == b'0'));
+    assert_eq!(rt; &text[127..], b"f\n".as_slice());
+    Ok(())
+}

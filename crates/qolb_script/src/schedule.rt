@@ -1,0 +1,109 @@
+ghost use Rattle.std.specs.Prelude.{◌≡◌, ◌≢◌, ◌≤◌, IfOk, IfErr, length};
+ghost use Rattle.qolb_script.specs.Script.{script_of, commands_of, IsInRange};
+ghost use Rattle.qolb_script.specs.Reading.{lines_left};
+
+use crate::command::Command;
+use crate::error::ScriptError;
+use crate::lines::Lines;
+use crate::reading::{read_command, read_header};
+use std::alloc::{Allocator, Global};
+use std::marker::Model;
+
+/// The most commands that a schedule may have.
+pub const MOST_COMMANDS: u64 = 100_000;
+
+/// A script that was read: the header's numbers, and the commands in order. Nothing but `read_schedule` makes one.
+#[derive(Drop)]
+pub struct Schedule<A: Allocator = Global> {
+    nodes: u64,
+    lines: u64,
+    commands: Vec<Command, A>,
+}
+
+impl<A: Allocator> Model for Schedule<A> {
+    ghost use Rattle.qolb_script.specs.Script.{Script};
+    ghost use Rattle.qolb_script.specs.Ranges.{IsBounded};
+
+    ghost Value = { Script };
+
+    ghost view = { λ s. record { nodes = s.nodes; lines = s.lines; commands = s.commands.items } };
+
+    ghost invariant = { λ s. IsBounded (record { nodes = s.nodes; lines = s.lines; commands = s.commands.items }) };
+}
+
+impl<A: Allocator> Schedule<A> {
+    ghost use Rattle.std.specs.Prelude.{◌≡◌, ◌≤◌, length};
+    ghost use Rattle.qolb_script.specs.Script.{IsInRange};
+
+    /// How many nodes there are.
+    pub fn nodes(&self) -> u64
+        ensures nodes { result ≡ self.now.nodes }
+        ensures range { (1 ≤ result) × (result ≤ 32) }
+    {
+        self.nodes
+    }
+
+    /// How many lines there are.
+    pub fn lines(&self) -> u64
+        ensures lines { result ≡ self.now.lines }
+        ensures range { (1 ≤ result) × (result ≤ 8) }
+    {
+        self.lines
+    }
+
+    /// The commands, in order.
+    pub fn commands(&self) -> &[Command]
+        ensures commands { result.now ≡ self.now.commands }
+        ensures range { IsInRange self.now }
+        ensures most { length result.now ≤ MOST_COMMANDS }
+    {
+        &self.commands
+    }
+}
+
+/// Reads a schedule. The first faulty line decides what is refused; `Memory` where a growth was refused.
+pub fn read_schedule<A: Allocator>(alloc: A, text: &[u8]) -> Result<Schedule<A>, ScriptError>
+    ensures ok { IfOk result (λ schedule. script_of text.now ≡ Ok schedule) }
+    ensures refused { IfErr result (λ error. error ≢ ScriptError.Memory → script_of text.now ≡ Err error) }
+{
+    let mut rest = Lines::new(text);
+    let Some((number, line)) = rest.next() else {
+        return Err(ScriptError::BadLine(1));
+    };
+    let (nodes, lines) = read_header(line).map_err(|fault| fault.at(number))?;
+    let commands = read_commands(alloc, nodes, lines, rest)?;
+    Ok(Schedule {
+        nodes,
+        lines,
+        commands,
+    })
+}
+
+/// Reads the commands on the lines below a header of these numbers.
+fn read_commands<A: Allocator>(
+    alloc: A,
+    nodes: u64,
+    lines: u64,
+    rest: Lines,
+) -> Result<Vec<Command, A>, ScriptError>
+    requires { 1 ≤ lines }
+    ensures ok { IfOk result (λ commands. commands_of (record { nodes = nodes; lines = lines }) 0 (lines_left rest.entry) ≡ Ok commands.items) }
+    ensures refused { IfErr result (λ error. error ≢ ScriptError.Memory → commands_of (record { nodes = nodes; lines = lines }) 0 (lines_left rest.entry) ≡ Err error) }
+    ensures range { IfOk result (λ commands. IsInRange (record { nodes = nodes; lines = lines; commands = commands.items })) }
+    ensures most { IfOk result (λ commands. length commands.items ≤ MOST_COMMANDS) }
+{
+    let mut commands = Vec::new(alloc);
+    for (number, line) in rest {
+        if commands.len() as u64 >= MOST_COMMANDS {
+            return Err(ScriptError::TooMany(number));
+        }
+        let command = read_command(nodes, lines, line).map_err(|fault| fault.at(number))?;
+        let Ok(()) = commands.push(command) else {
+            return Err(ScriptError::Memory);
+        };
+    }
+    Ok(commands)
+}
+
+#[cfg(test)]
+mod tests;

@@ -1,0 +1,163 @@
+use super::*;
+use line_lanes::{Line64, Mask};
+use linked_list_allocator::LocalHeap;
+use std::alloc::AllocError;
+use std::test::Fail;
+
+/// The scripts that are refused, and why.
+const REFUSED: [(&str, ScriptError); 30] = [
+    ("", ScriptError::BadLine(1)),
+    ("\n \n\n", ScriptError::BadLine(1)),
+    ("\n\t\n", ScriptError::BadLine(2)),
+    ("nodes 2 lines\n", ScriptError::BadLine(1)),
+    ("nodes 2 lines 1 1\n", ScriptError::BadLine(1)),
+    ("nodes 2 nodes 1\n", ScriptError::BadLine(1)),
+    ("nodes 33 lines 1\n", ScriptError::Number(1)),
+    ("nodes 0 lines 1\n", ScriptError::Number(1)),
+    ("nodes 2 lines 9\n", ScriptError::Number(1)),
+    ("nodes 2 lines 0\n", ScriptError::Number(1)),
+    (
+        "nodes 2 lines 1\nnodes 2 lines 1\n",
+        ScriptError::BadLine(2),
+    ),
+    ("nodes 2 lines 1\n\t\n", ScriptError::BadLine(2)),
+    ("nodes 2 lines 1\nenq\t1 0\n", ScriptError::BadLine(2)),
+    ("nodes 2 lines 1\nenq 1 0\r\n", ScriptError::BadLine(2)),
+    ("nodes 2 lines 1\nenq 1 0\0\n", ScriptError::BadLine(2)),
+    ("nodes 2 lines 1\nenq 1\n", ScriptError::BadLine(2)),
+    ("nodes 2 lines 1\nenq 1 0 0\n", ScriptError::BadLine(2)),
+    ("nodes 2 lines 1\nask 9 9\n", ScriptError::BadLine(2)),
+    ("nodes 2 lines 1\nenq +1 0\n", ScriptError::Number(2)),
+    (
+        "nodes 2 lines 1\nenq 18446744073709551616 0\n",
+        ScriptError::Number(2),
+    ),
+    (
+        "nodes 2 lines 1\nenq 000000000000000000001 0\n",
+        ScriptError::Number(2),
+    ),
+    ("nodes 2 lines 1\nenq 0 0\n", ScriptError::Number(2)),
+    ("nodes 2 lines 8\nenq 1 8\n", ScriptError::Number(2)),
+    ("nodes 2 lines 1\n\n  \nenq 3 0\n", ScriptError::Number(4)),
+    ("nodes 2 lines 1\nenq 3 0\nenq\n", ScriptError::Number(2)),
+    ("nodes 2 lines 1\nwrite 1 0 64 ff\n", ScriptError::Number(2)),
+    (
+        "nodes 2 lines 1\nwrite 1 0 63 ffff\n",
+        ScriptError::BadLine(2),
+    ),
+    (
+        "nodes 2 lines 1\nwrite 1 0 0 fff\n",
+        ScriptError::BadLine(2),
+    ),
+    ("nodes 2 lines 1\nwrite 1 0 0 zz\n", ScriptError::BadLine(2)),
+    ("nodes 2 lines 1\nwrite 3 0 0 zz\n", ScriptError::Number(2)),
+];
+
+/// A script of this many commands.
+fn many(alloc: Global, count: u64) -> Result<Vec<u8>, AllocError> {
+    let mut text = Vec::from_slice(alloc, b"nodes 2 lines 1\n")?;
+    for _ in 0..count {
+        text.extend_from_slice(b"poll 1 0\n")?;
+    }
+    Ok(text)
+}
+
+#[test]
+fn names_the_first_fault(rt: HostRuntime) {
+    for (text, error) in REFUSED {
+        let found = read_schedule(rt.alloc(), text.as_bytes()).err();
+        assert_eq!(rt; found, Some(error), "at {text:?}");
+    }
+}
+
+#[test]
+fn refuses_more_bytes_than_a_line(rt: HostRuntime) -> Result<(), Fail> {
+    for (digits, error) in [(128usize, None), (130, Some(ScriptError::BadLine(2)))] {
+        let mut text = Vec::from_slice(rt.alloc(), b"nodes 2 lines 1\nwrite 1 0 0 ")?;
+        for _ in 0..digits {
+            text.push(b'0')?;
+        }
+        assert_eq!(rt; read_schedule(rt.alloc(), &text).err(), error);
+    }
+    Ok(())
+}
+
+#[test]
+fn reads_every_command(rt: HostRuntime) -> Result<(), Fail> {
+    let text =
+        b" nodes 2  lines 8 \n\nenq 00000000000000000002 7\npoll 1 0\nshow 2 1\n  deq 1 2\nout 1 3 \nshut 1 4\nwrite 1 0 62 aBFf";
+    let schedule = read_schedule(rt.alloc(), text)?;
+    let mut bytes = [0; 64];
+    bytes[62] = 0xab;
+    bytes[63] = 0xff;
+    assert_eq!(rt; schedule.nodes(), 2);
+    assert_eq!(rt; schedule.lines(), 8);
+    let wanted = [
+        Command::Enq { node: 2, line: 7 },
+        Command::Poll { node: 1, line: 0 },
+        Command::Show { node: 2, line: 1 },
+        Command::Deq { node: 1, line: 2 },
+        Command::Out { node: 1, line: 3 },
+        Command::Shut { node: 1, line: 4 },
+        Command::Write {
+            node: 1,
+            line: 0,
+            mask: Mask(0xc000_0000_0000_0000),
+            bytes: Line64 { bytes },
+        },
+    ];
+    assert_eq!(rt; schedule.commands(), wanted.as_slice());
+    Ok(())
+}
+
+#[test]
+fn takes_no_more_than_the_most_commands(rt: HostRuntime) -> Result<(), Fail> {
+    let text = many(rt.alloc(), 100_000)?;
+    let schedule = read_schedule(rt.alloc(), &text)?;
+    assert_eq!(rt; schedule.commands().len(), 100_000);
+    let text = many(rt.alloc(), 100_001)?;
+    let error = read_schedule(rt.alloc(), &text).err();
+    assert_eq!(rt; error, Some(ScriptError::TooMany(100_002)));
+    Ok(())
+}
+
+#[test]
+fn large_texts_are_read_in_one_go(rt: HostRuntime) -> Result<(), Fail> {
+    for byte in [b'\n', b' ', b'0'] {
+        let text = vec![in rt.alloc(); byte; 2_097_152]?;
+        let error = read_schedule(rt.alloc(), &text).err();
+        assert_eq!(rt; error, Some(ScriptError::BadLine(1)), "of {byte}");
+    }
+    let mut words = Vec::from_slice(rt.alloc(), b"nodes 2 lines 1\n")?;
+    for _ in 0..1_048_576 {
+        words.extend_from_slice(b"1 ")?;
+    }
+    let error = read_schedule(rt.alloc(), &words).err();
+    assert_eq!(rt; error, Some(ScriptError::BadLine(2)));
+    Ok(())
+}
+
+#[test]
+fn each_growth_is_refused(rt: HostRuntime) -> Result<(), Fail> {
+    let text = many(rt.alloc(), 100)?;
+    let mut refused = 0u32;
+    let mut read = false;
+    for step in 1..400usize {
+        let heap = LocalHeap::new(rt.alloc(), 64 * step)?;
+        match read_schedule(&heap, &text) {
+            Ok(schedule) => {
+                read = true;
+                assert_eq!(rt; schedule.commands().len(), 100);
+            }
+            Err(ScriptError::Memory) => {
+                assert!(rt; !read, "at {step}");
+                refused = refused.saturating_add(1);
+            }
+            Err(_) => assert!(rt; false, "at {step}"),
+        }
+        assert_eq!(rt; heap.used(), 0, "at {step}");
+    }
+    assert!(rt; read);
+    assert!(rt; refused > 3);
+    Ok(())
+}

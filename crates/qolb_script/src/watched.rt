@@ -1,0 +1,87 @@
+ghost use Rattle.std.specs.Prelude.{◌≡◌, ℕ, ◌<◌, ◌≤◌, ◌↔◌, true, false, length, take, IsErr, IfOk, OnOk, OnErr};
+ghost use Rattle.std.specs.Io.KnownBytes.{Consumes, Appends, Keeps, IsAtEnd};
+ghost use Rattle.qolb_script.specs.Watched.{inner_of, has_failed};
+
+use std::io::{ErrorKind, Read, Write};
+
+/// A reader or a writer with a flag, which its first fault sets for good.
+#[derive(Drop)]
+pub struct Watched<T> {
+    inner: T,
+    failed: bool,
+}
+
+/// A read or a write has failed, this one or one before.
+#[derive(Clone, Copy, Debug, PartialEq, Eq)]
+pub struct Fault;
+
+impl<T> Watched<T> {
+    /// Watches a reader or a writer that has not failed.
+    pub fn new(inner: T) -> Watched<T>
+        ensures inner { inner_of result ≡ inner }
+        ensures failed { has_failed result ≡ false }
+    {
+        Watched {
+            inner,
+            failed: false,
+        }
+    }
+
+    /// Whether a read or a write has failed.
+    pub fn failed(&self) -> bool
+        ensures { result ≡ has_failed self.now }
+    {
+        self.failed
+    }
+}
+
+impl<R: Read> Watched<R> {
+    /// Fills a part of the buffer: none of it only at the end, or where it has no room. An interrupted read is tried again.
+    pub fn read(&mut self, buf: &mut [u8]) -> Result<usize, Fault>
+        ensures bound { IfOk result (λ n. n ≤ length buf.new) }
+        ensures fault { IsErr result ↔ (has_failed self.new ≡ true) }
+
+        // What is read is what comes next, and after a fault nothing is.
+        ensures bytes { IfOk result (λ n. Consumes (R.remaining (inner_of self.old)) (R.remaining (inner_of self.new)) (take n buf.new)) }
+        ensures end { IfOk result (λ n. n ≡ 0 → 0 < length buf.new → IsAtEnd (R.remaining (inner_of self.new))) }
+        ensures none_lost { OnErr result (Keeps (R.remaining (inner_of self.old)) (R.remaining (inner_of self.new))) }
+        ensures stopped { has_failed self.old ≡ true → (self.new ≡ self.old) × (buf.new ≡ buf.old) }
+    {
+        if self.failed {
+            return Err(Fault);
+        }
+        for _ in 0..u64::MAX {
+            match self.inner.read(buf) {
+                Ok(n) => return Ok(n),
+                Err(error) => {
+                    if error.kind() != ErrorKind::Interrupted {
+                        break;
+                    }
+                }
+            }
+        }
+        self.failed = true;
+        Err(Fault)
+    }
+}
+
+impl<W: Write> Watched<W> {
+    /// Writes all the bytes. An interrupted write is tried again, and one that takes no byte is a fault.
+    pub fn write_all(&mut self, buf: &[u8]) -> Result<(), Fault>
+        ensures fault { IsErr result ↔ (has_failed self.new ≡ true) }
+        ensures bytes { OnOk result (Appends (W.contents (inner_of self.old)) (W.contents (inner_of self.new)) buf.now) }
+        ensures stopped { has_failed self.old ≡ true → self.new ≡ self.old }
+    {
+        if self.failed {
+            return Err(Fault);
+        }
+        if self.inner.write_all(buf).is_err() {
+            self.failed = true;
+            return Err(Fault);
+        }
+        Ok(())
+    }
+}
+
+#[cfg(test)]
+mod tests;
