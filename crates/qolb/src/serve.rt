@@ -13,19 +13,20 @@ use std::io::{self, Read, Write};
 static KINDS: [&str; 1] = ["plain"];
 
 const ABOUT: &str =
-    "Queued line locks: nodes queue at a 64-byte line, and a release hands lock and line to the next.";
+    "Queued line locks: nodes queue at a line of 64 bytes, and a release hands lock and\nline to the next";
 
 const STATUSES: &str = "Exit statuses:
   0  done
-  1  the script was refused: `bad line N`, or `script too long`, on standard error
+  1  the script was refused: `bad line N` or `script too long` on standard error
   2  the command line was refused, or asked for help
   3  want of memory
   4  a failed read or write";
 
 const SCRIPT: &str = "The script, on standard input:
-  Its first line is `nodes N lines L`, N from 1 to 32 and L from 1 to 8. Each line after it is one command, of node n on line l:
-  `enq n l`, `poll n l`, `deq n l`, `out n l` (withdraw), `shut n l` (release and close), `show n l`, `write n l OFFSET HEX`.
-  One line of text answers each command; a last one for each line counts what was served, withdrawn, told closed and left.";
+  nodes N lines L             its first line: 1 to 32 nodes and 1 to 8 lines
+  COMMAND n l                 a call of node n on line l: enq, poll, deq, show,
+                              out (withdraw) or shut (release and close)
+  write n l OFFSET HEX        the holder writes these bytes into the line";
 
 /// Does what the words ask for, with the program's name first: reads from `reader`, writes to `out`, complains to `err`.
 /// Answers the exit status; a failed write to `err` changes none.
@@ -54,8 +55,7 @@ pub fn serve<R: Read, W: Write, E: Write>(
     };
     let mut input = Watched::new(&mut *reader);
     let mut output = Watched::new(&mut *out);
-    let done = run_schedule(alloc, &mut input, &mut output, kind);
-    match done {
+    match run_schedule(alloc, &mut input, &mut output, kind) {
         Ok(()) => 0,
         Err(error) => {
             complain(err, error);

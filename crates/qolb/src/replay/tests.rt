@@ -102,44 +102,42 @@ fn answers_scripts(rt: HostRuntime) -> Result<(), Fail> {
     Ok(())
 }
 
-/// A reply that shows a line with these first digits, and zeros.
-fn shown(alloc: Global, before: &str, digits: &str, after: &str) -> Result<String, Fail> {
-    let mut text = format!(in alloc; "{before}{digits}")?;
-    for _ in digits.len()..128 {
-        text.push('0')?;
+/// The hex digits of a line that has these from a place on, and zeros elsewhere.
+fn line_of(alloc: Global, place: usize, digits: &str) -> Result<String, Fail> {
+    let mut line = String::new(alloc);
+    for _ in 0..place {
+        line.push_str("00")?;
     }
-    text.push_str(after)?;
-    Ok(text)
+    line.push_str(digits)?;
+    for _ in line.len()..128 {
+        line.push('0')?;
+    }
+    Ok(line)
 }
 
 #[test]
 fn shows_what_holders_wrote(rt: HostRuntime) -> Result<(), Fail> {
     let alloc = rt.alloc();
-    let handed = shown(
-        alloc,
-        "granted\nok\nqueued\nwaiting\nreleased\ngranted\n",
-        "a1b2",
-        "\nreleased\nline 0 served 2 withdrawn 0 told 0 left 0\n",
+    let line = line_of(alloc, 0, "a1b2")?;
+    let handed = format!(in alloc;
+        "granted\nok\nqueued\nwaiting\nreleased\ngranted\n{line}\nreleased\nline 0 served 2 withdrawn 0 told 0 left 0\n"
     )?;
     assert_eq!(rt; reply_to(alloc, HAND_OVER)?, handed);
 
     // Masked writes leave the other bytes, of this turn and of earlier ones, as they were.
     let script =
         "nodes 2 lines 1\nenq 1 0\nwrite 1 0 0 a1b2c3d4\nwrite 1 0 2 FF\nenq 2 0\ndeq 1 0\npoll 2 0\nwrite 2 0 1 0e\nshow 2 0\n";
-    let merged = shown(
-        alloc,
-        "granted\nok\nok\nqueued\nreleased\ngranted\nok\n",
-        "a10effd4",
-        "\nline 0 served 1 withdrawn 0 told 0 left 1\n",
+    let line = line_of(alloc, 0, "a10effd4")?;
+    let merged = format!(in alloc;
+        "granted\nok\nok\nqueued\nreleased\ngranted\nok\n{line}\nline 0 served 1 withdrawn 0 told 0 left 1\n"
     )?;
     assert_eq!(rt; reply_to(alloc, script)?, merged);
 
     // The last place of a line.
     let script = "nodes 1 lines 1\nenq 1 0\nwrite 1 0 63 ff\nshow 1 0\n";
-    let zeros = shown(alloc, "", "", "")?;
+    let line = line_of(alloc, 63, "ff")?;
     let last = format!(in alloc;
-        "granted\nok\n{}ff\nline 0 served 0 withdrawn 0 told 0 left 1\n",
-        &zeros[..126]
+        "granted\nok\n{line}\nline 0 served 0 withdrawn 0 told 0 left 1\n"
     )?;
     assert_eq!(rt; reply_to(alloc, script)?, last);
     Ok(())
@@ -181,15 +179,10 @@ impl Read for Newlines {
         if self.left == 0 && self.fails {
             return Err(io::Error::from(io::ErrorKind::Other));
         }
-        let mut given = 0;
-        for byte in buf.iter_mut().take(self.part) {
-            if self.left == 0 {
-                break;
-            }
-            *byte = b'\n';
-            self.left -= 1;
-            given += 1;
-        }
+        let room = self.part.min(buf.len());
+        let given = self.left.min(room as u64) as usize;
+        buf[..given].fill(b'\n');
+        self.left -= given as u64;
         Ok(given)
     }
 }
