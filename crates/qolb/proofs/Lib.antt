@@ -2,3 +2,5 @@ pub mod InTurn
 pub mod Allowed
 pub mod Tallying
 pub mod Replayed
+pub mod StepsRun
+pub mod Answered

@@ -77,7 +77,7 @@ abbrev pub said_text_of : Replay → List ℕ
 said_text_of r = text_of (map (λ s. s.1) r.said)
 
 -- the text of one more thing
-text_one_more : (said : List Said) (what : Said) → text_of (said ++ what ∷ []) ≡ text_of said ++ said_text what
+pub text_one_more : (said : List Said) (what : Said) → text_of (said ++ what ∷ []) ≡ text_of said ++ said_text what
 text_one_more said what = flat_map-append said_text said (what ∷ []) ∙ ap (λ t. text_of said ++ t) (append-nil (said_text what))
 
 text_more : (said : List (ℕ × Said)) (at : ℕ) (what : Said) → text_of (map (λ s. s.1) (said ++ (at, what) ∷ [])) ≡ text_of (map (λ s. s.1) said) ++ said_text what

@@ -1,2 +1,4 @@
 pub mod Tallies
 pub mod Outcome
+pub mod StepRuns
+pub mod StepCounts

@@ -8,6 +8,8 @@ use Rattle.qolb.specs.declared.input.InputError.TheVariants as input
 use Rattle.qolb_script.specs.declared.error.ScriptError.{ScriptError}
 use Rattle.qolb_script.specs.declared.error.ScriptError.TheVariants as script
 use Rattle.qolb_script.specs.Reply.{reply_to}
+use Rattle.qolb_script.specs.StepScript.{steps_of}
+use Rattle.qolb.specs.StepRuns.{IsStepReplyTo}
 
 -- the bytes are a script, and this is its reply
 pub record IsReply (input text : List ℕ) : Type 0 where
@@ -36,9 +38,13 @@ script_error (script.BadLine n) = error.Script (script.BadLine n)
 script_error (script.Number n) = error.Script (script.Number n)
 script_error (script.TooMany n) = error.Script (script.TooMany n)
 
--- the bytes are too many, or have a first fault
+-- the bytes have a reply, as a schedule or as a step script
+abbrev pub IsAnswered : List ℕ → Type 0
+IsAnswered input = (text : List ℕ) × (IsReply input text ⊎ IsStepReplyTo input text)
+
+-- the bytes are too many, or have a first fault, as a schedule or as a step script
 abbrev pub IsRefused : List ℕ → Type 0
-IsRefused input = (MOST_BYTES < length input) ⊎ ((fault : ScriptError) × (reply_to input ≡ Err fault))
+IsRefused input = (MOST_BYTES < length input) ⊎ ((fault : ScriptError) × ((reply_to input ≡ Err fault) ⊎ (steps_of input ≡ Err fault)))
 
 -- the exit status of each error
 abbrev pub status_of : ReplayError → ℕ
@@ -47,3 +53,11 @@ status_of error.Read = 4
 status_of error.Long = 1
 status_of (error.Script fault) = 1
 status_of error.Write = 4
+
+-- the same of a run of a step script
+abbrev pub MayFailSteps : List ℕ → ReplayError → Type 0
+MayFailSteps input error.Memory = Unit {0}
+MayFailSteps input error.Read = Unit {0}
+MayFailSteps input error.Long = MOST_BYTES < length input
+MayFailSteps input (error.Script fault) = (length input ≤ MOST_BYTES) × (steps_of input ≡ Err fault)
+MayFailSteps input error.Write = (text : List ℕ) × IsStepReplyTo input text

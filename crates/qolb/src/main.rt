@@ -4,6 +4,7 @@
 mod input;
 mod replay;
 mod serve;
+mod steps;
 mod tally;
 
 use std::env;

@@ -1,8 +1,10 @@
 //! The program behind its words: what it is asked for, and the status that it ends with.
-ghost use Rattle.std.specs.Prelude.{◌≡◌, ℕ, ◌≤◌, List, IfSome};
-ghost use Rattle.qolb.specs.Outcome.{IsReply, IsRefused, status_of};
+ghost use Rattle.std.specs.Prelude.{◌≡◌, ◌≢◌, ◌≤◌, IfSome, IfErr, OnOk};
+ghost use Rattle.qolb_script.specs.Watched.{inner_of};
+ghost use Rattle.qolb.specs.Outcome.{IsAnswered, IsRefused, status_of};
 
 use crate::replay::{Kind, ReplayError, run_schedule};
+use crate::steps::run_steps;
 use clap::error::ErrorKind;
 use clap::{Arg, ArgAction, Command, Error};
 use qolb_script::Watched;
@@ -28,6 +30,26 @@ const SCRIPT: &str = "The script, on standard input:
                               out (withdraw) or shut (release and close)
   write n l OFFSET HEX        the holder writes these bytes into the line";
 
+const STEPS: &str = "The script, on standard input:
+  nodes N                     its first line: 1 to 32 nodes
+  EVENT n                     a word step of node n: reset, prepend, link, load, home,
+                              done, grant, roll or freed; or close, in a holder's hand
+  write n OFFSET HEX          the holder writes these bytes into the line
+
+Example: with
+  nodes 1
+  reset 1
+  prepend 1
+  home 1
+it prints went, granted, released, and the counts of the line.";
+
+/// What the program is asked to do.
+#[derive(Clone, Copy)]
+enum Task {
+    Replay(Kind),
+    Steps,
+}
+
 /// Does what the words ask for, with the program's name first: reads from `reader`, writes to `out`, complains to `err`.
 /// Answers the exit status; a failed write to `err` changes none.
 pub fn serve<R: Read, W: Write, E: Write>(
@@ -38,12 +60,12 @@ pub fn serve<R: Read, W: Write, E: Write>(
     err: &mut E,
 ) -> u8
     ensures statuses { result ≤ 4 }
-    ensures done { result ≡ 0 → IfSome (R.remaining reader.old) (λ input. (text : List ℕ) × IsReply input text) }
+    ensures done { result ≡ 0 → IfSome (R.remaining reader.old) IsAnswered }
     ensures refused { result ≡ 1 → IfSome (R.remaining reader.old) IsRefused }
     ensures unwritten { 1 ≤ result → result ≤ 3 → out.new ≡ out.old }
 {
-    let kind = match asked(alloc, words) {
-        Ok(kind) => kind,
+    let task = match asked(alloc, words) {
+        Ok(task) => task,
         Err(error) if error.kind() == ErrorKind::OutOfMemory => {
             let _ = err.write_all(b"out of memory\n");
             return 3;
@@ -55,12 +77,29 @@ pub fn serve<R: Read, W: Write, E: Write>(
     };
     let mut input = Watched::new(&mut *reader);
     let mut output = Watched::new(&mut *out);
-    match run_schedule(alloc, &mut input, &mut output, kind) {
+    match run(alloc, task, &mut input, &mut output) {
         Ok(()) => 0,
         Err(error) => {
             complain(err, error);
             status(error)
         }
+    }
+}
+
+/// Does the task.
+fn run<R: Read, W: Write>(
+    alloc: Global,
+    task: Task,
+    input: &mut Watched<R>,
+    output: &mut Watched<W>,
+) -> Result<(), ReplayError>
+    ensures answered { OnOk result (IfSome (R.remaining (inner_of input.old)) IsAnswered) }
+    ensures refused { IfErr result (λ error. status_of error ≡ 1 → IfSome (R.remaining (inner_of input.old)) IsRefused) }
+    ensures unwritten { IfErr result (λ error. error ≢ ReplayError.Write → output.new ≡ output.old) }
+{
+    match task {
+        Task::Replay(kind) => run_schedule(alloc, input, output, kind),
+        Task::Steps => run_steps(alloc, input, output),
     }
 }
 
@@ -79,10 +118,13 @@ fn complain<E: Write>(err: &mut E, error: ReplayError) {
     let _ = writeln!(err, "{error}");
 }
 
-/// What the words ask for: the one thing to do is a replay, of a kind.
-fn asked(alloc: Global, words: &[String]) -> Result<Kind, Error> {
-    command(alloc)?.try_get_matches_from(words)?;
-    Ok(Kind::Plain)
+/// What the words ask for.
+fn asked(alloc: Global, words: &[String]) -> Result<Task, Error> {
+    let matches = command(alloc)?.try_get_matches_from(words)?;
+    Ok(match matches.subcommand() {
+        Some(("steps", _)) => Task::Steps,
+        _ => Task::Replay(Kind::Plain),
+    })
 }
 
 fn command<'a>(alloc: Global) -> Result<Command<'a>, AllocError> {
@@ -97,11 +139,17 @@ fn command<'a>(alloc: Global) -> Result<Command<'a>, AllocError> {
         .about("Replays the schedule script on standard input, and prints what each call answers")
         .after_help(SCRIPT)
         .arg(kind)?;
+    let steps = Command::new(alloc, "steps")
+        .about(
+            "Runs the step script on standard input on the core of reversed links, and prints what\neach event tells",
+        )
+        .after_help(STEPS);
     Command::new(alloc, "qolb")
         .about(ABOUT)
         .after_help(STATUSES)
         .subcommand_required(true)
-        .subcommand(replay)
+        .subcommand(replay)?
+        .subcommand(steps)
 }
 
 #[cfg(test)]

@@ -6,3 +6,8 @@ pub mod Agreed
 pub mod Steps
 pub mod Waiting
 pub mod Calls
+pub mod Prefixes
+pub mod Clearing
+pub mod Writes
+pub mod Agreeing
+pub mod Longer

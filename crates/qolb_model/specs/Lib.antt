@@ -8,3 +8,16 @@ pub mod Queue
 pub mod OneOwner
 pub mod Plain
 pub mod Steps
+pub mod EndKinds
+pub mod Views
+pub mod OneHistory
+pub mod Kept
+pub mod Sound
+pub mod Opening
+pub mod Asking
+pub mod Turns
+pub mod Linking
+pub mod LettingGo
+pub mod Meeting
+pub mod Finishing
+pub mod Laws

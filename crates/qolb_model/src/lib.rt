@@ -1,17 +1,26 @@
 //! What a queued line means: requests, their ends and the bytes that they leave, the queue as a machine, and a plain line
-//! with one owner that runs it.
+//! with one owner that runs it. And what a line that many nodes share promises to each of them: its calls, as a trait.
 #![tactic(auto)]
 
 mod answer;
 mod end;
+mod keep;
+pub mod laws;
 mod plain;
 mod request;
+mod sync;
+mod unfinished;
+mod view;
 mod waiter;
 mod write;
 
 pub use answer::{Enq, OpenError, Out, Poll, PortState};
 pub use end::End;
+pub use keep::{Free, Keep};
 pub use plain::PlainLine;
 pub use request::Request;
+pub use sync::LineSync;
+pub use unfinished::{FinishError, Unfinished};
+pub use view::View;
 pub use waiter::Waiter;
 pub use write::Write;

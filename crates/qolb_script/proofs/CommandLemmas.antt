@@ -8,20 +8,19 @@ use Rattle.line_lanes.specs.Mask.{placed_mask}
 use Rattle.line_lanes.specs.Line.{placed_line}
 use Rattle.line_lanes.specs.declared.line.Mask.{Mask}
 use Rattle.line_lanes.specs.declared.line.Line64.{Line64}
-use Rattle.qolb_script.specs.Commands.{write_at}
-use Rattle.qolb_script.specs.declared.command.Command.TheVariants.{Write}
+use Rattle.qolb_script.specs.Commands.{placed_at}
 use Rattle.qolb_script.specs.declared.text.LineFault.TheVariants.{Bad}
 
-too_many : (node line off : ℕ) (hex : List ℕ) (d : Result (List ℕ) FromHexError) → decode_of hex ≡ d → 64 < length hex / 2 → Err Bad ≡ write_at node line off d
-too_many node line off hex (Err e) same long = refl
-too_many node line off hex (Ok bytes) same long =
+too_many : (off : ℕ) (hex : List ℕ) (d : Result (List ℕ) FromHexError) → decode_of hex ≡ d → 64 < length hex / 2 → Err Bad ≡ placed_at off d
+too_many off hex (Err e) same long = refl
+too_many off hex (Ok bytes) same long =
     let twice : length hex ≡ 2 * length bytes = (decode_of-ok hex bytes same).2 in
     let past : nat_le (off + length bytes) 64 ≡ false = grind (arith, nat_tests) in
     rw past refl
 
--- so are more bytes than a line has
-pub write_at-long : (node line off : ℕ) (hex : List ℕ) → 64 < length hex / 2 → Err Bad ≡ write_at node line off (decode_of hex)
-write_at-long node line off hex long = too_many node line off hex (decode_of hex) refl long
+-- more bytes than a line has are refused
+pub placed_at-long : (off : ℕ) (hex : List ℕ) → 64 < length hex / 2 → Err Bad ≡ placed_at off (decode_of hex)
+placed_at-long off hex long = too_many off hex (decode_of hex) refl long
 
 decoded_so : (d : Result (List ℕ) FromHexError) (r : Result (Unit {0}) FromHexError) (out : List ℕ)
     → MatchResult d (λ bytes. (r ≡ Ok tt) × (out ≡ bytes)) (λ e. r ≡ Err e) → is_err r ≡ false → d ≡ Ok out
@@ -36,10 +35,10 @@ decoded hex n r out h ok =
     let sized = decoded_so (decode_sized hex n) r out h ok in
     sym (decode_sized-twice hex n (decode_sized-ok hex n out sized)) ∙ sized
 
--- bytes that fit are written at their places
-pub write_at-placed : (node line off : ℕ) (mask : Mask) (bytes : Line64) (hex «data» : List ℕ) → decode_of hex ≡ Ok «data» → off + length «data» ≤ 64
-    → mask.0 ≡ placed_mask off (length «data») → bytes.bytes ≡ placed_line off «data» → Ok (Write node line mask bytes) ≡ write_at node line off (decode_of hex)
-write_at-placed node line off mask bytes hex «data» same fits m b =
+-- bytes that fit are placed
+pub placed_at-fits : (off : ℕ) (mask : Mask) (bytes : Line64) (hex «data» : List ℕ) → decode_of hex ≡ Ok «data» → off + length «data» ≤ 64
+    → mask.0 ≡ placed_mask off (length «data») → bytes.bytes ≡ placed_line off «data» → Ok (mask, bytes) ≡ placed_at off (decode_of hex)
+placed_at-fits off mask bytes hex «data» same fits m b =
     let within : nat_le (off + length «data») 64 ≡ true = grind (arith, nat_tests) in
     let masks : mask ≡ record { 0 = placed_mask off (length «data») } = ap (λ (n : ℕ). let r : Mask = record { 0 = n } in r) m in
     let lines : bytes ≡ record { bytes = placed_line off «data» } = ap (λ (n : List ℕ). let r : Line64 = record { bytes = n } in r) b in

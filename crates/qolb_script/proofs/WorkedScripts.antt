@@ -1,9 +1,13 @@
 -- Worked scripts: what the definitions of a script and of its reply say of them, by computation.
-use Rattle.std.specs.Prelude.{◌≡◌, [], ◌∷◌, ◌++◌, codes, replicate, refl, Ok, Err}
+use Rattle.std.specs.Prelude.{◌≡◌, [], ◌∷◌, ◌++◌, codes, map, replicate, refl, Some, None, Ok, Err}
 use Rattle.std.specs.Fmt.{digits}
 use Rattle.hex.specs.Hex.{encode_with, decode_pairs}
 use Rattle.qolb_script.specs.declared.error.ScriptError.TheVariants.{BadLine, Number}
-use Rattle.qolb_script.specs.Reply.{reply_to}
+use Rattle.link_core.specs.declared.event.Event.TheVariants.{Reset, Prepend, Link, Home, Close}
+use Rattle.link_core.specs.declared.told.Told.TheVariants as told
+use Rattle.qolb_script.specs.Reply.{reply_to, text_of}
+use Rattle.qolb_script.specs.StepScript.{steps_of}
+use Rattle.qolb_script.specs.StepReply.{step_said, step_summary}
 
 no_commands : reply_to (codes "nodes 1 lines 1\n") ≡ Ok (codes "line 0 served 0 withdrawn 0 told 0 left 0\n")
 unfolding digits
@@ -60,3 +64,28 @@ no_such_node = refl
 
 no_line : reply_to (codes "nodes 2 lines 1\nenq 1") ≡ Err (BadLine 2)
 no_line = refl
+
+-- step scripts: events in order, and first faults
+two_lines_of_steps : steps_of (codes "nodes 2\nlink 2") ≡ Ok (record { nodes = 2; events = Link 2 ∷ [] })
+two_lines_of_steps = refl
+
+closing_steps : steps_of (codes "nodes 2\nreset 1\nprepend 1\n\nclose 1\nhome 1\n") ≡ Ok (record { nodes = 2; events = Reset 1 ∷ Prepend 1 ∷ Close 1 ∷ Home 1 ∷ [] })
+closing_steps = refl
+
+no_such_node_of_steps : steps_of (codes "nodes 2\nlink 3") ≡ Err (Number 2)
+no_such_node_of_steps = refl
+
+steps_have_no_lines : steps_of (codes "nodes 2 lines 1\nlink 1") ≡ Err (BadLine 1)
+steps_have_no_lines = refl
+
+write_past_the_end : steps_of (codes "nodes 2\nwrite 1 63 ffff") ≡ Err (BadLine 2)
+unfolding decode_pairs
+write_past_the_end = refl
+
+-- what is said of a request that is served and of one that is told of the closed line, with one event refused between them
+said_of_steps : text_of (map step_said (Some told.Went ∷ Some told.Granted ∷ Some told.Shut ∷ None ∷ Some told.Closed ∷ [])) ≡ codes "went\ngranted\nshut\nrefused\nclosed\n"
+said_of_steps = refl
+
+summary_of_steps : text_of (step_summary (Some told.Went ∷ Some told.Granted ∷ Some told.Shut ∷ None ∷ Some told.Closed ∷ Some told.Withdrawn ∷ Some told.Released ∷ []) 3 ∷ []) ≡ codes "line 0 served 2 withdrawn 1 told 1 left 3\n"
+unfolding digits
+summary_of_steps = refl

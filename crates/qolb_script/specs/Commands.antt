@@ -5,6 +5,8 @@ use Rattle.hex.specs.Hex.{decode_of}
 use Rattle.hex.specs.declared.error.FromHexError.{FromHexError}
 use Rattle.line_lanes.specs.Mask.{placed_mask}
 use Rattle.line_lanes.specs.Line.{placed_line}
+use Rattle.line_lanes.specs.declared.line.Mask.{Mask}
+use Rattle.line_lanes.specs.declared.line.Line64.{Line64}
 use Rattle.qolb_script.specs.declared.command.Command.{Command}
 use Rattle.qolb_script.specs.declared.command.Command.TheVariants.{Enq, Poll, Show, Deq, Out, Shut, Write}
 use Rattle.qolb_script.specs.declared.text.LineFault.{LineFault}
@@ -59,17 +61,21 @@ command_at nodes lines None node line = Err Bad
 command_at nodes lines (Some command) node line =
     and_then (node_within nodes node) (λ n. and_then (line_within lines line) (λ l. Ok (command n l)))
 
--- the write of these bytes from place `off` on, if they fit into a line
-abbrev pub write_at : ℕ → ℕ → ℕ → Result (List ℕ) FromHexError → Result Command LineFault
-write_at node line off (Err error) = Err Bad
-write_at node line off (Ok bytes) =
+-- the mask and the line of a write of these bytes from place `off` on, if they fit into a line
+abbrev pub placed_at : ℕ → Result (List ℕ) FromHexError → Result (Mask × Line64) LineFault
+placed_at off (Err error) = Err Bad
+placed_at off (Ok bytes) =
     if nat_le (off + length bytes) 64
-    then Ok (Write node line (record { 0 = placed_mask off (length bytes) }) (record { bytes = placed_line off bytes }))
+    then Ok (record { 0 = placed_mask off (length bytes) }, record { bytes = placed_line off bytes })
     else Err Bad
+
+-- the same, of the words for the place and for the bytes
+abbrev pub placed_of : List ℕ → List ℕ → Result (Mask × Line64) LineFault
+placed_of off hex = and_then (number_within 0 63 off) (λ o. placed_at o (decode_of hex))
 
 abbrev pub write_command : ℕ → ℕ → List ℕ → List ℕ → List ℕ → List ℕ → Result Command LineFault
 write_command nodes lines node line off hex =
-    and_then (node_within nodes node) (λ n. and_then (line_within lines line) (λ l. and_then (number_within 0 63 off) (λ o. write_at n l o (decode_of hex))))
+    and_then (node_within nodes node) (λ n. and_then (line_within lines line) (λ l. and_then (placed_of off hex) (λ p. Ok (Write n l p.0 p.1))))
 
 -- the command that some words write
 abbrev pub command_of : ℕ → ℕ → List (List ℕ) → Result Command LineFault

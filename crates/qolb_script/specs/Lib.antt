@@ -15,3 +15,6 @@ pub mod Reading
 pub mod Said
 pub mod Reply
 pub mod Watched
+pub mod Events
+pub mod StepScript
+pub mod StepReply

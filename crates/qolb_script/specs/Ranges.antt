@@ -1,7 +1,8 @@
--- The ranges of a schedule's numbers. (Of this project.)
+-- The ranges of a script's numbers. (Of this project.)
 use Rattle.std.specs.Prelude.{◌≤◌, length}
 use Rattle.qolb_script.specs.declared.schedule.TheConstants.{MOST_COMMANDS}
 use Rattle.qolb_script.specs.Script.{Script, IsInRange}
+use Rattle.qolb_script.specs.StepScript.{StepScript, IsOfItsNodes}
 
 -- there are 1 to 32 nodes, 1 to 8 lines and no more commands than a schedule may have, each in range
 pub record IsBounded (script : Script) : Type 0 where
@@ -11,3 +12,10 @@ pub record IsBounded (script : Script) : Type 0 where
   pub most_lines : script.lines ≤ 8
   pub most_commands : length script.commands ≤ MOST_COMMANDS
   pub range : IsInRange script
+
+-- the same of a step script
+pub record IsStepBounded (script : StepScript) : Type 0 where
+  pub least_nodes : 1 ≤ script.nodes
+  pub most_nodes : script.nodes ≤ 32
+  pub most_events : length script.events ≤ MOST_COMMANDS
+  pub range : IsOfItsNodes script

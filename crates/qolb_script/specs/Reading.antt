@@ -1,14 +1,10 @@
 -- What readers of lines and words have left. (Of this project.)
-use Rattle.std.specs.Prelude.{ℕ, ◌==◌, not, List, [], length, filter, Option, Some, None}
+use Rattle.std.specs.Prelude.{ℕ, ◌==◌, List, [], Option, Some, None}
 use Rattle.std.specs.Borrow.{Bor}
 use Rattle.std.specs.List.{slice_split, enumerate_from}
 use Rattle.qolb_script.specs.declared.words.Words.{Words}
 use Rattle.qolb_script.specs.declared.lines.Lines.{Lines}
-use Rattle.qolb_script.specs.Text.{words_of}
-
--- those of the lines that have words
-abbrev pub worded : List (ℕ × List ℕ) → List (ℕ × List ℕ)
-worded lines = filter (λ line. not (length (words_of line.1) == 0)) lines
+use Rattle.qolb_script.specs.Text.{words_of, worded}
 
 -- the lines of what is left of a text, if anything is
 abbrev pub parts_left : Option (Bor (List ℕ)) → List (List ℕ)

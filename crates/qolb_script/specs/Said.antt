@@ -4,6 +4,7 @@ use Rattle.hex.specs.Hex.{encode_lower}
 use Rattle.qolb_model.specs.declared.answer.Enq.TheVariants as enq
 use Rattle.qolb_model.specs.declared.answer.Poll.TheVariants as poll
 use Rattle.qolb_model.specs.declared.answer.Out.TheVariants as out
+use Rattle.link_core.specs.declared.told.Told.TheVariants as told
 use Rattle.qolb_script.specs.declared.said.Said.{Said}
 use Rattle.qolb_script.specs.declared.said.Said.TheVariants as said
 
@@ -24,6 +25,17 @@ said_words said.Released = codes "released"
 said_words said.Shut = codes "shut"
 said_words said.Misuse = codes "misuse"
 said_words (said.Bytes line) = encode_lower line.bytes
+said_words (said.Told told.Went) = codes "went"
+said_words (said.Told told.Granted) = codes "granted"
+said_words (said.Told told.Queued) = codes "queued"
+said_words (said.Told told.Waiting) = codes "waiting"
+said_words (said.Told told.Closed) = codes "closed"
+said_words (said.Told told.Busy) = codes "busy"
+said_words (said.Told told.Free) = codes "free"
+said_words (said.Told told.Withdrawn) = codes "withdrawn"
+said_words (said.Told told.Released) = codes "released"
+said_words (said.Told told.Shut) = codes "shut"
+said_words said.Refused = codes "refused"
 said_words (said.Summary line served withdrawn told left) =
     codes "line " ++ decimal line ++ codes " served " ++ decimal served ++ codes " withdrawn " ++ decimal withdrawn
     ++ codes " told " ++ decimal told ++ codes " left " ++ decimal left

@@ -1,12 +1,12 @@
 -- The script that some bytes are, or the first fault in them. (Of this project.)
-use Rattle.std.specs.Prelude.{ℕ, ◌+◌, ◌<◌, ◌≤◌, ◌==◌, nat_le, not, if◌then◌else◌, List, [], ◌∷◌, length, filter, All, Result, Ok, Err}
+use Rattle.std.specs.Prelude.{ℕ, ◌+◌, ◌<◌, ◌≤◌, nat_le, if◌then◌else◌, List, [], ◌∷◌, All, Result, Ok, Err}
 use Rattle.qolb_script.specs.declared.command.Command.{Command}
 use Rattle.qolb_script.specs.declared.error.ScriptError.{ScriptError}
 use Rattle.qolb_script.specs.declared.error.ScriptError.TheVariants as error
 use Rattle.qolb_script.specs.declared.text.LineFault.{LineFault}
 use Rattle.qolb_script.specs.declared.text.LineFault.TheVariants.{Bad, Number}
 use Rattle.qolb_script.specs.declared.schedule.TheConstants.{MOST_COMMANDS}
-use Rattle.qolb_script.specs.Text.{numbered_lines, words_of}
+use Rattle.qolb_script.specs.Text.{numbered_lines, worded}
 use Rattle.qolb_script.specs.Commands.{Header, header_of, command_of, read_line, node_of, line_of}
 
 -- the numbers of nodes and lines, and the commands in order
@@ -28,19 +28,24 @@ abbrev pub found_at : {A : Type 0} → ℕ → Result A LineFault → Result A S
 found_at n (Ok a) = Ok a
 found_at n (Err fault) = Err (fault_at n fault)
 
--- a command and those after it
-abbrev pub followed_by : Result Command ScriptError → Result (List Command) ScriptError → Result (List Command) ScriptError
+-- an item and those after it
+abbrev pub followed_by : {A : Type 0} → Result A ScriptError → Result (List A) ScriptError → Result (List A) ScriptError
 followed_by (Err error) rest = Err error
-followed_by (Ok command) (Err error) = Err error
-followed_by (Ok command) (Ok commands) = Ok (command ∷ commands)
+followed_by (Ok item) (Err error) = Err error
+followed_by (Ok item) (Ok items) = Ok (item ∷ items)
 
--- the commands on these lines, where `before` come before them; a line past the most that a script may have is refused unread
-abbrev pub commands_of : Header → ℕ → List (ℕ × List ℕ) → Result (List Command) ScriptError
-commands_of header before [] = Ok []
-commands_of header before (line ∷ rest) =
+-- the items that words write on these lines, where `before` come before them; a line past the most that a script may have is refused
+-- unread
+abbrev pub items_of : {A : Type 0} → (List (List ℕ) → Result A LineFault) → ℕ → List (ℕ × List ℕ) → Result (List A) ScriptError
+items_of item_of before [] = Ok []
+items_of item_of before (line ∷ rest) =
     followed_by
-    (if nat_le MOST_COMMANDS before then Err (error.TooMany line.0) else found_at line.0 (read_line (command_of header.nodes header.lines) line.1))
-    (commands_of header (before + 1) rest)
+    (if nat_le MOST_COMMANDS before then Err (error.TooMany line.0) else found_at line.0 (read_line item_of line.1))
+    (items_of item_of (before + 1) rest)
+
+-- the commands
+abbrev pub commands_of : Header → ℕ → List (ℕ × List ℕ) → Result (List Command) ScriptError
+commands_of header before lines = items_of (command_of header.nodes header.lines) before lines
 
 abbrev pub with_commands : Header → Result (List Command) ScriptError → Result Script ScriptError
 with_commands header (Err error) = Err error
@@ -56,4 +61,4 @@ script_from [] = Err (error.BadLine 1)
 script_from (line ∷ rest) = under_header (found_at line.0 (read_line header_of line.1)) rest
 
 abbrev pub script_of : List ℕ → Result Script ScriptError
-script_of text = script_from (filter (λ line. not (length (words_of line.1) == 0)) (numbered_lines text))
+script_of text = script_from (worded (numbered_lines text))

@@ -14,6 +14,10 @@ numbered_lines text = enumerate_from 1 (slice_split (λ b. b == 10) text)
 abbrev pub words_of : List ℕ → List (List ℕ)
 words_of line = filter (λ word. not (length word == 0)) (slice_split (λ b. b == 32) line)
 
+-- those of the lines that have words
+abbrev pub worded : List (ℕ × List ℕ) → List (ℕ × List ℕ)
+worded lines = filter (λ line. not (length (words_of line.1) == 0)) lines
+
 -- every byte is a space or a visible ASCII character
 abbrev pub is_plain : List ℕ → Bool
 is_plain line = list_all (λ b. nat_le 32 b && nat_le b 126) line

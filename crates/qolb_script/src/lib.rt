@@ -1,13 +1,16 @@
-//! Scripts of calls: their readers, what is said of each call, and readers and writers that remember a fault.
+//! Scripts of calls and of steps: their readers, what is said of each call or step, and readers and writers that remember a fault.
 #![tactic(auto)]
 
 mod command;
 mod error;
+mod events;
+mod items;
 mod lines;
 mod number;
 mod reading;
 mod said;
 mod schedule;
+mod steps;
 mod text;
 mod watched;
 mod words;
@@ -16,4 +19,5 @@ pub use command::Command;
 pub use error::ScriptError;
 pub use said::{Said, push_said};
 pub use schedule::{Schedule, read_schedule};
+pub use steps::{Steps, read_steps};
 pub use watched::{Fault, Watched};

@@ -14,8 +14,8 @@ pub struct Lines<'a> {
 
 impl<'a> Lines<'a> {
     ghost use Rattle.std.specs.Prelude.{◌≡◌};
-    ghost use Rattle.qolb_script.specs.Text.{numbered_lines};
-    ghost use Rattle.qolb_script.specs.Reading.{lines_left, worded};
+    ghost use Rattle.qolb_script.specs.Text.{numbered_lines, worded};
+    ghost use Rattle.qolb_script.specs.Reading.{lines_left};
 
     /// The lines of a text.
     pub fn new(text: &'a [u8]) -> Lines<'a>

@@ -3,11 +3,12 @@ ghost use Rattle.hex.specs.Hex.{decode_of};
 ghost use Rattle.qolb_script.specs.Commands as spec;
 
 use crate::command::{Command, Plain};
+use crate::items::ReadItem;
 use crate::number::number_within;
 use crate::text::{LineFault, is_plain_line};
 use crate::words::Words;
 use hex::decode_to_slice;
-use line_lanes::placed;
+use line_lanes::{Line64, Mask, placed};
 
 /// The most bytes that a command may write: a whole line.
 const MOST_BYTES: usize = 64;
@@ -16,13 +17,33 @@ const MOST_BYTES: usize = 64;
 const LAST_PLACE: u64 = 63;
 
 /// The first word of a write.
-const WRITE: &[u8] = b"write";
+pub const WRITE: &[u8] = b"write";
 
 /// The word of a header before its number of nodes.
-const NODES: &[u8] = b"nodes";
+pub const NODES: &[u8] = b"nodes";
 
 /// The word of a header before its number of lines.
 const LINES: &[u8] = b"lines";
+
+/// Reads the commands below a header of these numbers.
+#[derive(Drop)]
+pub struct CommandReader {
+    pub nodes: u64,
+    pub lines: u64,
+    ghost some_line: { 1 ≤ lines },
+}
+
+impl ReadItem for CommandReader {
+    type Item = Command;
+
+    ghost item_of = { λ r. spec.command_of r.nodes r.lines };
+
+    ghost in_range = { λ r c. (1 ≤ spec.node_of c) × (spec.node_of c ≤ r.nodes) × (spec.line_of c < r.lines) };
+
+    fn read_item(&self, line: &[u8]) -> Result<Command, LineFault> {
+        read_command(self.nodes, self.lines, line)
+    }
+}
 
 /// The numbers of nodes and of lines that a header line gives.
 pub fn read_header(text: &[u8]) -> Result<(u64, u64), LineFault>
@@ -53,7 +74,7 @@ pub fn read_header(text: &[u8]) -> Result<(u64, u64), LineFault>
 }
 
 /// The command that a line writes, under a header of these numbers.
-pub fn read_command(nodes: u64, lines: u64, text: &[u8]) -> Result<Command, LineFault>
+fn read_command(nodes: u64, lines: u64, text: &[u8]) -> Result<Command, LineFault>
     requires { 1 ≤ lines }
     ensures command { result ≡ spec.read_line (spec.command_of nodes lines) text.now }
     ensures range { IfOk result (λ c. (1 ≤ spec.node_of c) × (spec.node_of c ≤ nodes) × (spec.line_of c < lines)) }
@@ -75,7 +96,7 @@ pub fn read_command(nodes: u64, lines: u64, text: &[u8]) -> Result<Command, Line
 }
 
 /// The node that a word writes, from 1 to the number of nodes.
-fn node_within(nodes: u64, word: &[u8]) -> Result<u64, LineFault>
+pub fn node_within(nodes: u64, word: &[u8]) -> Result<u64, LineFault>
     ensures node { result ≡ spec.node_within nodes word.now }
     ensures range { IfOk result (λ n. (1 ≤ n) × (n ≤ nodes)) }
 {
@@ -126,15 +147,27 @@ fn read_write(
 {
     let node = node_within(nodes, node)?;
     let line = line_within(lines, line)?;
-    let off = number_within(0, LAST_PLACE, off)?;
-    write_at(node, line, off as usize, hex)
+    let (mask, bytes) = read_placed(off, hex)?;
+    Ok(Command::Write {
+        node,
+        line,
+        mask,
+        bytes,
+    })
 }
 
-/// The write of hex bytes from place `off` on, if they fit into the line.
-fn write_at(node: u64, line: u64, off: usize, hex: &[u8]) -> Result<Command, LineFault>
+/// The mask and the line of a write, from the words for its place and for its bytes.
+pub fn read_placed(off: &[u8], hex: &[u8]) -> Result<(Mask, Line64), LineFault>
+    ensures { result ≡ spec.placed_of off.now hex.now }
+{
+    let off = number_within(0, LAST_PLACE, off)?;
+    placed_at(off as usize, hex)
+}
+
+/// The same of hex bytes from place `off` on, if they fit into the line.
+fn placed_at(off: usize, hex: &[u8]) -> Result<(Mask, Line64), LineFault>
     requires { off < 64 }
-    ensures command { result ≡ spec.write_at node line off (decode_of hex.now) }
-    ensures place { IfOk result (λ c. (spec.node_of c ≡ node) × (spec.line_of c ≡ line)) }
+    ensures { result ≡ spec.placed_at off (decode_of hex.now) }
 {
     let len = hex.len() / 2;
     if len > MOST_BYTES {
@@ -148,10 +181,5 @@ fn write_at(node: u64, line: u64, off: usize, hex: &[u8]) -> Result<Command, Lin
     let Some((mask, bytes)) = placed(off, bytes) else {
         return Err(LineFault::Bad);
     };
-    Ok(Command::Write {
-        node,
-        line,
-        mask,
-        bytes,
-    })
+    Ok((mask, bytes))
 }

@@ -5,6 +5,7 @@ ghost use Rattle.hex.specs.Hex.{encode_lower};
 use hex::encode_to_slice;
 use itoa::Buffer;
 use line_lanes::Line64;
+use link_core::Told;
 use qolb_model::{Enq, Out, Poll};
 use std::alloc::{AllocError, Allocator};
 
@@ -21,6 +22,10 @@ pub enum Said {
     Misuse,
     /// The bytes of a line, as 128 hex digits.
     Bytes(Line64),
+    /// What an event of a step script told.
+    Told(Told),
+    /// The event is not enabled.
+    Refused,
     /// What was said of a line: how many requests were served, withdrawn and told closed, and how many nodes still wait or hold.
     Summary {
         line: u64,
@@ -48,6 +53,8 @@ pub fn push_said<A: Allocator>(text: &mut Vec<u8, A>, said: &Said) -> Result<(),
         Said::Shut => push_line(text, b"shut"),
         Said::Misuse => push_line(text, b"misuse"),
         Said::Bytes(line) => push_bytes(text, &line),
+        Said::Told(told) => push_line(text, told_words(told)),
+        Said::Refused => push_line(text, b"refused"),
         Said::Summary {
             line,
             served,
@@ -89,6 +96,24 @@ fn out_words(answer: Out) -> &'static [u8]
         Out::Withdrawn => b"withdrawn",
         Out::Granted => b"granted",
         Out::Closed => b"closed",
+    }
+}
+
+/// The words of what an event told.
+fn told_words(told: Told) -> &'static [u8]
+    ensures { result.now ≡ said_words (Said.Told told) }
+{
+    match told {
+        Told::Went => b"went",
+        Told::Granted => b"granted",
+        Told::Queued => b"queued",
+        Told::Waiting => b"waiting",
+        Told::Closed => b"closed",
+        Told::Busy => b"busy",
+        Told::Free => b"free",
+        Told::Withdrawn => b"withdrawn",
+        Told::Released => b"released",
+        Told::Shut => b"shut",
     }
 }
 

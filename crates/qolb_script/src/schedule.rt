@@ -1,15 +1,15 @@
-ghost use Rattle.std.specs.Prelude.{◌≡◌, ◌≢◌, ◌≤◌, IfOk, IfErr, length};
-ghost use Rattle.qolb_script.specs.Script.{script_of, commands_of, IsInRange};
-ghost use Rattle.qolb_script.specs.Reading.{lines_left};
+ghost use Rattle.std.specs.Prelude.{◌≡◌, ◌≢◌, IfOk, IfErr};
+ghost use Rattle.qolb_script.specs.Script.{script_of};
 
 use crate::command::Command;
 use crate::error::ScriptError;
+use crate::items::read_items;
 use crate::lines::Lines;
-use crate::reading::{read_command, read_header};
+use crate::reading::{CommandReader, read_header};
 use std::alloc::{Allocator, Global};
 use std::marker::Model;
 
-/// The most commands that a schedule may have.
+/// The most commands that a script may have, or events.
 pub const MOST_COMMANDS: u64 = 100_000;
 
 /// A script that was read: the header's numbers, and the commands in order. Nothing but `read_schedule` makes one.
@@ -71,38 +71,12 @@ pub fn read_schedule<A: Allocator>(alloc: A, text: &[u8]) -> Result<Schedule<A>,
         return Err(ScriptError::BadLine(1));
     };
     let (nodes, lines) = read_header(line).map_err(|fault| fault.at(number))?;
-    let commands = read_commands(alloc, nodes, lines, rest)?;
+    let commands = read_items(alloc, &CommandReader { nodes, lines }, rest)?;
     Ok(Schedule {
         nodes,
         lines,
         commands,
     })
-}
-
-/// Reads the commands on the lines below a header of these numbers.
-fn read_commands<A: Allocator>(
-    alloc: A,
-    nodes: u64,
-    lines: u64,
-    rest: Lines,
-) -> Result<Vec<Command, A>, ScriptError>
-    requires { 1 ≤ lines }
-    ensures ok { IfOk result (λ commands. commands_of (record { nodes = nodes; lines = lines }) 0 (lines_left rest.entry) ≡ Ok commands.items) }
-    ensures refused { IfErr result (λ error. error ≢ ScriptError.Memory → commands_of (record { nodes = nodes; lines = lines }) 0 (lines_left rest.entry) ≡ Err error) }
-    ensures range { IfOk result (λ commands. IsInRange (record { nodes = nodes; lines = lines; commands = commands.items })) }
-    ensures most { IfOk result (λ commands. length commands.items ≤ MOST_COMMANDS) }
-{
-    let mut commands = Vec::new(alloc);
-    for (number, line) in rest {
-        if commands.len() as u64 >= MOST_COMMANDS {
-            return Err(ScriptError::TooMany(number));
-        }
-        let command = read_command(nodes, lines, line).map_err(|fault| fault.at(number))?;
-        let Ok(()) = commands.push(command) else {
-            return Err(ScriptError::Memory);
-        };
-    }
-    Ok(commands)
 }
 
 #[cfg(test)]

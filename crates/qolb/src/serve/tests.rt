@@ -53,7 +53,7 @@ fn refuses_command_lines(rt: HostRuntime) -> Result<(), Fail> {
         &["replay", "--kind"],
         &["replay", "--kind", "ring"],
         &["replay", "--kind", "link"],
-        &["steps"],
+        &["steps", "--kind", "plain"],
         &["--help"],
         &["replay", "--help"],
         &["--version"],
@@ -66,6 +66,8 @@ fn refuses_command_lines(rt: HostRuntime) -> Result<(), Fail> {
     }
     let (_, _, help) = run(&rt, &["replay", "--help"], "")?;
     assert!(rt; help.contains("--kind <KIND>") && help.contains("nodes N lines L"));
+    let (_, _, help) = run(&rt, &["steps", "--help"], "")?;
+    assert!(rt; help.contains("prepend 1") && help.contains("nodes N "));
     Ok(())
 }
 
@@ -124,5 +126,83 @@ fn tells_faults(rt: HostRuntime) -> Result<(), Fail> {
         1
     );
     assert_eq!(rt; serve(alloc, &[], &mut script, &mut out, &mut Broken), 2);
+    Ok(())
+}
+
+#[test]
+fn runs_step_scripts(rt: HostRuntime) -> Result<(), Fail> {
+    let rows = [
+        // no event
+        ("nodes 2", "", "line 0 served 0 withdrawn 0 told 0 left 0"),
+        // a releaser leaves the line to a linker that halted halfway
+        (
+            "nodes 2, reset 1, prepend 1, write 1 0 ab, reset 2, prepend 2, home 1, done 1, load 1, link 2, load 1, reset 1, prepend 1, link 1",
+            "went, granted, went, went, went, went, released, busy, granted, free, went, went, queued",
+            "line 0 served 1 withdrawn 0 told 0 left 2",
+        ),
+        // a node withdraws before it is granted
+        (
+            "nodes 2, reset 1, prepend 1, reset 2, prepend 2, link 2, home 1, done 1, roll 2, grant 1, home 1, load 2, freed 1, load 2",
+            "went, granted, went, went, queued, went, went, withdrawn, went, went, busy, released, free",
+            "line 0 served 1 withdrawn 1 told 0 left 0",
+        ),
+        // and after it is granted
+        (
+            "nodes 2, reset 1, prepend 1, reset 2, prepend 2, link 2, home 1, done 1, grant 1, roll 2",
+            "went, granted, went, went, queued, went, went, released, granted",
+            "line 0 served 1 withdrawn 0 told 0 left 1",
+        ),
+        // a closed line is passed on at once
+        (
+            "nodes 2, reset 1, prepend 1, close 1, home 1, reset 1, prepend 1, home 1",
+            "went, granted, went, shut, went, went, closed",
+            "line 0 served 1 withdrawn 0 told 1 left 0",
+        ),
+        // events that are not enabled
+        (
+            "nodes 1, link 1, prepend 1, reset 1, home 1",
+            "refused, refused, went, refused",
+            "line 0 served 0 withdrawn 0 told 0 left 0",
+        ),
+        // a chain of withdrawn nodes that ends at a late linker
+        (
+            "nodes 4, reset 1, prepend 1, reset 2, prepend 2, link 2, reset 3, prepend 3, link 3, roll 2, roll 3, reset 4, prepend 4, home 1, done 1, grant 1, home 1, done 1, grant 1, home 1, done 1, freed 1, freed 1, load 2, load 3, link 4, load 3",
+            "went, granted, went, went, queued, went, went, queued, withdrawn, withdrawn, went, went, went, went, went, went, went, went, went, went, went, released, free, busy, granted, free",
+            "line 0 served 1 withdrawn 2 told 0 left 1",
+        ),
+        // a closed line passes a withdrawn node
+        (
+            "nodes 3, reset 1, prepend 1, reset 2, prepend 2, link 2, reset 3, prepend 3, link 3, roll 2, close 1, home 1, done 1, grant 1, home 1, done 1, grant 1, freed 1, load 3, home 3, load 2",
+            "went, granted, went, went, queued, went, went, queued, withdrawn, went, went, went, went, went, went, went, shut, went, closed, free",
+            "line 0 served 1 withdrawn 1 told 1 left 0",
+        ),
+        // a told node is left by a late linker
+        (
+            "nodes 2, reset 1, prepend 1, close 1, home 1, reset 2, prepend 2, reset 1, prepend 1, home 2, done 2, load 2, link 1, home 1, load 2",
+            "went, granted, went, shut, went, went, went, went, went, closed, busy, went, closed, free",
+            "line 0 served 1 withdrawn 0 told 2 left 0",
+        ),
+        // a node in the middle of a release is left
+        (
+            "nodes 2, reset 1, prepend 1, reset 2, prepend 2, link 2, home 1",
+            "went, granted, went, went, queued, went",
+            "line 0 served 0 withdrawn 0 told 0 left 2",
+        ),
+    ];
+    for (script, words, summary) in rows {
+        let script = script.replace(rt.alloc(), ", ", "\n")?;
+        let words = words.replace(rt.alloc(), ", ", "\n")?;
+        let (status, out, err) = run(&rt, &["steps"], script.as_str())?;
+        assert_eq!(rt; status, 0, "of {script}");
+        assert_eq!(rt; err.as_str(), "", "of {script}");
+        assert!(rt; out.starts_with(words.as_str()), "of {script}");
+        assert!(rt; out.trim_end().ends_with(summary), "of {script}");
+        assert_eq!(rt; out.lines().count(), script.lines().count(), "of {script}");
+    }
+    let (status, out, err) = run(&rt, &["steps"], "nodes 2\nreset 3\n")?;
+    assert_eq!(rt;
+        (status, out.as_str(), err.as_str()),
+        (1, "", "bad line 2\n")
+    );
     Ok(())
 }

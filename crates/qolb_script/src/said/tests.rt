@@ -63,3 +63,28 @@ fn says_the_bytes_in_lower_case(rt: HostRuntime) -> Result<(), Fail> {
     assert_eq!(rt; &text[127..], b"f\n".as_slice());
     Ok(())
 }
+
+#[test]
+fn says_what_an_event_told(rt: HostRuntime) -> Result<(), Fail> {
+    let all = [
+        Said::Told(Told::Went),
+        Said::Told(Told::Granted),
+        Said::Told(Told::Queued),
+        Said::Told(Told::Waiting),
+        Said::Told(Told::Closed),
+        Said::Told(Told::Busy),
+        Said::Told(Told::Free),
+        Said::Told(Told::Withdrawn),
+        Said::Told(Told::Released),
+        Said::Told(Told::Shut),
+        Said::Refused,
+    ];
+    let mut text = Vec::new(rt.alloc());
+    for said in all {
+        push_said(&mut text, &said)?;
+    }
+    let wanted =
+        "went\ngranted\nqueued\nwaiting\nclosed\nbusy\nfree\nwithdrawn\nreleased\nshut\nrefused\n";
+    assert_eq!(rt; text.as_slice(), wanted.as_bytes());
+    Ok(())
+}

@@ -1,0 +1,243 @@
+-- Freeing a passed node.
+use Rattle.link_core.proofs.Deeds.{Frees}
+use Rattle.std.proofs.Common.{◌≡◌, ◌≢◌, ℕ, suc, ◌+◌, ◌<◌, ◌≤◌, true, false, ◌||◌, List, [], ◌∷◌, ◌⊎◌, length, refl, sym, ◌∙◌, ap, subst, inl, inr, arith}
+use Rattle.std.specs.Prelude.{slice_index_or}
+use Rattle.link_core.specs.declared.point.Point.{Point}
+use Rattle.link_core.specs.declared.point.Point.TheVariants.{Ready, Linking, Queued, Granting, Freeing, Left, Rolled}
+use Rattle.link_core.specs.declared.seat.Reason.{Reason}
+use Rattle.link_core.specs.declared.seat.Reason.TheVariants.{Own, Closing, Refused}
+use Rattle.link_core.specs.declared.entry.Entry.{Entry}
+use Rattle.link_core.specs.Places.{asker, IsLast}
+use Rattle.qolb_model.specs.Histories.{none}
+use Rattle.qolb_model.specs.Queue.{Queue}
+use Rattle.link_core.specs.State.{State, Seat, entry, seat, point, IsNode, current, is_clear}
+use Rattle.link_core.specs.Shown.{is_rolled, has_line, is_freeing, EndedBy, HasEnded, Sits, IsPassed, IsGranting, IsFresh, passed, Matches}
+use Rattle.std.proofs.lemmas.Bool.{cases_eq}
+use Rattle.link_core.specs.Steps.{seat_with, told_with, point_at_end}
+use Rattle.link_core.proofs.Deeds.{GoesOn}
+use Rattle.link_core.specs.Promise.{Says}
+use Rattle.link_core.proofs.Orders.{last_once}
+use Rattle.link_core.proofs.Changes.{Changed, entry_field}
+use Rattle.link_core.proofs.Clearing.{Cleared, may_push_cleared}
+use Rattle.link_core.proofs.Follows.{sits_at, hand_lies}
+use Rattle.link_core.proofs.Kept.{Spares, sits_kept, fresh_kept, passed_kept, Leaves, lies_kept}
+use Rattle.link_core.proofs.Close.{end_says}
+
+abbrev pub frees : Entry → Entry
+frees w = record w { freed = true }
+
+with_passed : (ps : List ℕ) (p : Point) (r : Reason) → (seat_with ps p r).passed ≡ ps
+with_passed [] p r = refl
+with_passed (m ∷ ms) p r = refl
+
+with_reason : (ps : List ℕ) (p : Point) (r : Reason) → (seat_with ps p r).reason ≡ r
+with_reason [] p r = refl
+with_reason (m ∷ ms) p r = refl
+
+with_unpassed : (ps : List ℕ) (p : Point) (r : Reason) → has_line (seat_with ps p r).point || is_freeing (seat_with ps p r).point ≡ false → (seat_with ps p r).passed ≡ []
+with_unpassed [] p r e = refl
+with_unpassed (m ∷ ms) p r e = cc
+
+with_unrolled : (ps : List ℕ) (r s : Reason) → is_rolled (seat_with ps (point_at_end r) s).point ≡ false
+with_unrolled [] Own s = refl
+with_unrolled [] Closing s = refl
+with_unrolled [] Refused s = refl
+with_unrolled (m ∷ ms) r s = refl
+
+freed_says : (h : Queue) (n : ℕ) (ps : List ℕ) (r : Reason) → EndedBy h.order h.ends n r → Says h n (told_with ps r)
+freed_says h n [] r e = end_says h n r e
+freed_says h n (m ∷ ms) r e = tt
+
+module _ (opening : List ℕ) (c : State) (h : Queue) (n x : ℕ) (rest : List ℕ) (s : Matches opening c h) (is : IsNode c n) (at : point c n ≡ Freeing) (ps : (seat c n).passed ≡ x ∷ rest)
+    (ents : List Entry) (sts : List Seat) (ch : Changed c (record c { entries = ents; seats = sts }) n (seat_with rest (point_at_end (seat c n).reason) (seat c n).reason) x (frees (entry c x))) where
+  abbrev d : State
+  d = record c { entries = ents; seats = sts }
+
+  abbrev st : Seat
+  st = seat_with rest (point_at_end (seat c n).reason) (seat c n).reason
+
+  ended : EndedBy h.order h.ends n (seat c n).reason
+  ended = (sits_at opening c h s n Freeing is at).0
+
+  over : HasEnded h.order h.ends n
+  over p l = let k = last_once h.order n p ended.at l ended.last in let e = ended.ended in omega arith
+
+  -- the nodes passed by n: x at first
+  first : IsPassed c h.order h.ends n x
+  first = subst (λ (y : ℕ). IsPassed c h.order h.ends n y) (ap (λ (ps : List ℕ). slice_index_or ps 0 0) ps) (s.passes n 0 is (subst (λ (ps : List ℕ). 0 < length ps) (sym ps) (omega arith)))
+
+  -- a passed node has ended, since n has not the line
+  first_ended : first.at < length h.ends
+  first_ended = elim first.come [
+    | inl l ↦ l.0
+    | inr g ↦ let y = (hand_lies opening c h s n g.1 s.lies).2 in let z : false ≡ true = ap has_line (sym at) ∙ y in cc
+  ]
+
+  x_over : HasEnded h.order h.ends x
+  x_over p l = let k = last_once h.order x p first.at l first.last in let e = first_ended in omega arith
+
+  apart : x ≢ n
+  apart e = let z : Rolled ≡ Freeing = sym first.point ∙ ap (point c) e ∙ at in cc
+
+  point_other : (m : ℕ) → m ≢ n → point d m ≡ point c m
+  point_other m ne = ap (λ (s : Seat). s.point) (ch.seat_other m ne)
+
+  point_own : point d n ≡ st.point
+  point_own = ap (λ (s : Seat). s.point) ch.seat_own
+
+  field : {A : Type 0} (f : Entry → A) → f (frees (entry c x)) ≡ f (entry c x) → (m : ℕ) → f (entry d m) ≡ f (entry c m)
+  field f e m = entry_field c d n st x (frees (entry c x)) ch f e m
+
+  -- the open requests are of others
+  open_n : (p : ℕ) → length h.ends ≤ p → p < length h.order → asker h.order p ≢ n
+  open_n p a l e = let k = over p (subst (λ (m : ℕ). IsLast h.order m p) e (s.distinct p a l)) in absurd (omega arith)
+
+  open_x : (p : ℕ) → length h.ends ≤ p → p < length h.order → asker h.order p ≢ x
+  open_x p a l e = let k = x_over p (subst (λ (m : ℕ). IsLast h.order m p) e (s.distinct p a l)) in absurd (omega arith)
+
+  not_n : (m : ℕ) (q : Point) → point c m ≡ q → (Freeing ≡ q → ⊥) → m ≢ n
+  not_n m q e ne f = ne (sym at ∙ ap (point c) (sym f) ∙ e)
+
+  -- first x is cleared, and then n
+  cleared : Cleared c h.order (length h.ends) h.clear (λ m. is_clear (point d m) (entry d m))
+  cleared =
+      may_push_cleared c h.order (length h.ends) h.clear s.numbered (λ m. is_clear (point c m) (entry d m)) (λ m. is_clear (point d m) (entry d m)) n ended.at
+      (may_push_cleared c h.order (length h.ends) h.clear s.numbered (λ m. is_clear (point c m) (entry c m)) (λ m. is_clear (point c m) (entry d m)) x first.at
+      (record { clear = h.clear; grows = none; says = s.clears; known = s.clear_known })
+      first.last first.node (rw first.point (kept (entry c x) first.kept)) (λ _. first_ended)
+      (λ m q ne a l. ap (is_clear (point c m)) (ch.entry_other m ne)))
+      ended.last is (ap (λ (p : Point). is_clear p (entry d n)) at) (λ _. ended.ended)
+      (λ m q ne a l. ap (λ (p : Point). is_clear p (entry d m)) (point_other m ne))
+    where
+      kept : (v : Entry) → v.freed ≡ false → is_clear Rolled v ≡ false
+      kept v e = rw e refl
+
+  spares : (m : ℕ) → IsNode c m → m ≢ n → Spares c d h.order h.order h.ends h.ends m
+  spares m a ne = record {
+    nodes = refl;
+    seat = ch.seat_other m ne;
+    rolled = field (λ w. w.rolled) refl m;
+    ready = λ e. ch.entry_other m (λ f. let z : Rolled ≡ Ready = sym first.point ∙ ap (point c) (sym f) ∙ e in cc);
+    fwd = λ p l. l;
+    back = λ p l. l;
+    ended = λ p l. (l, refl);
+    later = λ p _ _ l. l;
+    behind = λ y p e l j t. (l, field (λ w. w.link) refl y);
+    line = λ e. (refl, refl, (λ l. (l, refl)), λ x e. field (λ w. w.link) refl (current c m));
+  }
+
+  granting : IsGranting c → IsGranting d
+  granting g = record { by = g.by; to = g.to; node = g.node; place = g.place; point = point_other g.by (not_n g.by (Granting g.to) g.point (λ e. cc)) ∙ g.point }
+
+  fresh : (p : ℕ) → length h.ends ≤ p → p < length h.order → IsFresh d (length h.ends) (asker h.order p) p
+  fresh p a l = fresh_kept c d (length h.ends) (length h.ends) (asker h.order p) p (ap (λ (w : Entry). w.freed) (ch.entry_other (asker h.order p) (open_x p a l))) (field (λ w. w.granted) refl (asker h.order p)) (field (λ w. w.done) refl (asker h.order p)) (λ e. e) granting (s.fresh p a l)
+
+  own_passed : (seat d n).passed ≡ rest
+  own_passed = ap (λ (s : Seat). s.passed) ch.seat_own ∙ with_passed rest (point_at_end (seat c n).reason) (seat c n).reason
+
+  -- what is still passed stood one place later, at n, or where it stood
+  passed_cases : (m i : ℕ) → i < length (seat d m).passed → (j : ℕ) × (j < length (seat c m).passed) × (passed d m i ≡ passed c m j) × (((m ≡ n) × (j ≡ i + 1)) ⊎ ((m ≢ n) × (j ≡ i)))
+  passed_cases m i l = elim (cases_eq m n) [
+    | inl e ↦
+        let q : (seat d m).passed ≡ rest = ap (λ (m : ℕ). (seat d m).passed) e ∙ own_passed in
+        let r : (seat c m).passed ≡ x ∷ rest = ap (λ (m : ℕ). (seat c m).passed) e ∙ ps in
+        let len : i < length rest = subst (λ (ps : List ℕ). i < length ps) q l in
+        (suc i, subst (λ (ps : List ℕ). suc i < length ps) (sym r) (omega arith), ap (λ (ps : List ℕ). slice_index_or ps i 0) q ∙ ap (λ (ps : List ℕ). slice_index_or ps (suc i) 0) (sym r), inl (e, omega arith))
+    | inr ne ↦ (i, subst (λ (s : Seat). i < length s.passed) (ch.seat_other m ne) l, ap (λ (s : Seat). slice_index_or s.passed i 0) (ch.seat_other m ne), inr (ne, refl))
+  ]
+
+  -- x is passed no more
+  not_x : (m i : ℕ) → IsNode c m → (l : i < length (seat d m).passed) → passed c m (passed_cases m i l).0 ≢ x
+  not_x m i a l e =
+      let y = passed_cases m i l in
+      let z = s.once m n y.0 0 a is y.1 (subst (λ (ps : List ℕ). 0 < length ps) (sym ps) (omega arith)) (e ∙ ap (λ (ps : List ℕ). slice_index_or ps 0 0) (sym ps)) in
+      elim y.3 [ inl f ↦ let g = f.1 in let k = z.1 in omega arith | inr f ↦ f.0 z.0 ]
+
+  passes : (m i : ℕ) → IsNode d m → i < length (seat d m).passed → IsPassed d h.order h.ends m (passed d m i)
+  passes m i a l =
+      let y = passed_cases m i l in
+      let j = s.passes m y.0 a y.1 in
+      subst (λ (x : ℕ). IsPassed d h.order h.ends m x) (sym y.2)
+      (passed_kept c d h.order h.order h.ends h.ends m (passed c m y.0) refl (point_other (passed c m y.0) (not_n (passed c m y.0) Rolled j.point (λ e. cc))) (ap (λ (w : Entry). w.freed) (ch.entry_other (passed c m y.0) (not_x m i a l))) (λ p l. l) (λ p _ w. w) j)
+
+  once : (m y i j : ℕ) → IsNode d m → IsNode d y → i < length (seat d m).passed → j < length (seat d y).passed → passed d m i ≡ passed d y j → (m ≡ y) × (i ≡ j)
+  once m y i j a b k l e =
+      let f = passed_cases m i k in
+      let g = passed_cases y j l in
+      let z = s.once m y f.0 g.0 a b f.1 g.1 (sym f.2 ∙ e ∙ g.2) in (
+        z.0,
+        elim f.3 [
+          | inl u ↦ elim g.3 [
+            | inl v ↦ let p = u.1 in let q = v.1 in let r = z.1 in omega arith
+            | inr v ↦ absurd (v.0 (sym z.0 ∙ u.0))
+          ]
+          | inr u ↦ elim g.3 [
+            | inl v ↦ absurd (u.0 (z.0 ∙ v.0))
+            | inr v ↦ let p = u.1 in let q = v.1 in let r = z.1 in omega arith
+          ]
+        ],
+      )
+
+  leaves : Leaves c d h.order h.order h.ends
+  leaves = record {
+    place = refl;
+    bytes = refl;
+    closed = refl;
+    mask = refl;
+    nodes = refl;
+    home = λ e. e;
+    turn = λ l. (l, refl);
+    fwd = λ m q e l. l;
+    hand = λ m f. ch.seat_other m (λ g. let x : has_line Freeing ≡ true = ap has_line (sym at) ∙ ap (λ (x : ℕ). has_line (point c x)) (sym g) ∙ f in cc);
+    box = λ t l a q g. (point_other t (not_n t Queued q (λ e. cc)) ∙ q, field (λ w. w.granted) refl t ∙ g);
+    linking = λ t q l a f. point_other t (not_n t (Linking q) f (λ e. cc)) ∙ f;
+    tail = λ q a f g. let ne : q ≢ n = elim a [ inl i ↦ not_n q Left i (λ e. cc) | inr i ↦ not_n q Rolled i (λ e. cc) ] in
+        (elim a [ inl i ↦ inl (point_other q ne ∙ i) | inr i ↦ inr (point_other q ne ∙ i) ], field (λ w. w.link) refl q ∙ f, field (λ w. w.done) refl q ∙ g);
+  }
+
+  own : (ps : List ℕ) (r : Reason) → (seat d n).passed ≡ ps → r ≡ (seat d n).reason → EndedBy h.order h.ends n r → Sits d h.order h.ends n (seat_with ps (point_at_end r) r).point
+  own [] Own f e k = over
+  own [] Closing f e k = over
+  own [] Refused f e k = over
+  own (m ∷ ms) r f e k = (subst (λ (r : Reason). EndedBy h.order h.ends n r) e k, λ g. let z : m ∷ ms ≡ [] = sym f ∙ g in cc)
+
+  pub freed_keeps : GoesOn opening c d h n (told_with rest (seat c n).reason)
+  freed_keeps = record {
+    after = record h { clear = cleared.clear };
+    clears = cleared.grows;
+    shows = record {
+      opened = s.opened;
+      known = s.known;
+      nodes = s.nodes;
+      numbered = s.numbered;
+      marked_known = s.marked_known;
+      clear_known = cleared.known;
+      distinct = s.distinct;
+      home_idle = s.home_idle;
+      home_last = s.home_last;
+      links = λ p a l. elim (s.links p a l) [
+        | inl f ↦ inl (field (λ w. w.link) refl (asker h.order p) ∙ f)
+        | inr f ↦ inr (field (λ w. w.link) refl (asker h.order p) ∙ f.0, point_other (asker h.order (p + 1)) (open_n (p + 1) (omega arith) l) ∙ f.1)
+      ];
+      last_link = λ p a e. field (λ w. w.link) refl (asker h.order p) ∙ s.last_link p a e;
+      lies = lies_kept opening c d h.order h.order h.ends leaves s.lies;
+      marks = λ p a l. s.marks p a l ∙ ap is_rolled (sym (point_other (asker h.order p) (open_n p a l)));
+      clears = λ m q a l. cleared.says m q a l;
+      sits = λ m a. elim (cases_eq m n) [
+        | inl e ↦ rw (e, point_own) (own rest (seat c n).reason own_passed (sym (with_reason rest (point_at_end (seat c n).reason) (seat c n).reason) ∙ ap (λ (s : Seat). s.reason) (sym ch.seat_own)) ended)
+        | inr ne ↦ sits_kept c d h.order h.order h.ends h.ends m (spares m a ne) (s.sits m a)
+      ];
+      fresh = fresh;
+      passes = passes;
+      once = once;
+      unpassed = λ m a e. elim (cases_eq m n) [
+        | inl f ↦ rw (f, ch.seat_own) (with_unpassed rest (point_at_end (seat c n).reason) (seat c n).reason (ap (λ (p : Point). has_line p || is_freeing p) (sym point_own ∙ ap (point d) (sym f)) ∙ e))
+        | inr ne ↦ ap (λ (s : Seat). s.passed) (ch.seat_other m ne) ∙ s.unpassed m a (ap (λ (p : Point). has_line p || is_freeing p) (sym (point_other m ne)) ∙ e)
+      ];
+    };
+    says = freed_says _ n rest (seat c n).reason ended;
+  }
+
+  pub freed_does : Frees h freed_keeps.after
+  unfolding freed_keeps
+  freed_does = refl

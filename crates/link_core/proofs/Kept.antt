@@ -1,0 +1,147 @@
+-- What an act leaves true of the nodes that it doesn't touch.
+use Rattle.std.proofs.Common.{◌≡◌, ℕ, ◌+◌, ◌<◌, ◌≤◌, true, false, List, [], ◌∷◌, ◌⊎◌, length, refl, sym, ◌∙◌, ap, subst}
+use Rattle.std.specs.Prelude.{slice_index_or}
+use Rattle.line_lanes.specs.declared.line.Line64.{Line64}
+use Rattle.link_core.specs.declared.point.Point.{Point}
+use Rattle.link_core.specs.declared.point.Point.TheVariants.{Idle, Ready, Linking, Queued, Holding, Leaving, Marking, Granting, Freeing, Left, Rolled, Shut}
+use Rattle.link_core.specs.declared.seat.Reason.{Reason}
+use Rattle.link_core.specs.declared.seat.Reason.TheVariants.{Own, Closing, Refused}
+use Rattle.link_core.specs.declared.place.Place.TheVariants.{Hand}
+use Rattle.link_core.specs.Places.{asker, IsLast}
+use Rattle.qolb_model.specs.declared.end.End.{End}
+use Rattle.qolb_model.specs.declared.end.End.TheVariants.{Gone, Told}
+use Rattle.qolb_model.specs.declared.request.Request.{Request}
+use Rattle.link_core.specs.State.{State, Seat, entry, seat, point, last_or, current}
+use Rattle.link_core.specs.Shown.{is_rolled, has_line, ByReason, HasEnded, IsWhole, IsHeld, IsCarried, Lies, at_home, in_hand, granted, left, IsReleasing, Sits, IsPassed, IsGranting, IsFresh}
+
+-- an act from c to d, which takes the order o to o2 and the ends es to fs, leaves alone what x is in
+pub record Spares (c d : State) (o o2 : List Request) (es fs : List End) (x : ℕ) : Type 0 where
+  pub nodes : d.nodes ≡ c.nodes
+  pub seat : seat d x ≡ seat c x
+  pub rolled : (entry d x).rolled ≡ (entry c x).rolled
+  pub ready : point c x ≡ Ready → entry d x ≡ entry c x
+  pub fwd : (p : ℕ) → IsLast o x p → IsLast o2 x p
+  pub back : (p : ℕ) → IsLast o2 x p → IsLast o x p
+  pub ended : (p : ℕ) → p < length es → (p < length fs) × (slice_index_or fs p Gone ≡ slice_index_or es p Gone)
+  pub later : (p : ℕ) → is_rolled (point c x) ≡ false → IsLast o x p → length es ≤ p → length fs ≤ p
+  pub behind : (q p : ℕ) → point c x ≡ Linking q → IsLast o q p → IsLast o x (p + 1) → length es ≤ p + 1 → IsLast o2 q p × ((entry d q).link ≡ (entry c q).link)
+  pub line : has_line (point c x) ≡ true → (d.place ≡ c.place) × (length fs ≡ length es) × (length es + 1 < length o → (length es + 1 < length o2) × (asker o2 (length es + 1) ≡ asker o (length es + 1))) × ((m : ℕ) → point c x ≡ Granting m → (entry d (current c x)).link ≡ (entry c (current c x)).link)
+
+module _ (c d : State) (o o2 : List Request) (es fs : List End) (x : ℕ) (k : Spares c d o o2 es fs x) where
+  ended_kept : HasEnded o es x → HasEnded o2 fs x
+  ended_kept h p a = (k.ended p (h p (k.back p a))).0
+
+  current_kept : current d x ≡ current c x
+  current_kept = ap (λ (s : Seat). last_or x s.passed) k.seat
+
+  releasing_kept : (e : ℕ) → has_line (point c x) ≡ true → IsReleasing c x e → IsReleasing d x e
+  releasing_kept e t r = record { place = (k.line t).0 ∙ r.place; is = current_kept ∙ r.is }
+
+  point_kept : point d x ≡ point c x
+  point_kept = ap (λ (s : Seat). s.point) k.seat
+
+  at_point_kept : (p : Point) → point c x ≡ p → Sits c o es x p → Sits d o2 fs x p
+  at_point_kept Idle e h = ended_kept h
+  at_point_kept Ready e h = (ended_kept h.0, k.ready e ∙ h.1)
+  at_point_kept Shut e h = ended_kept h
+  at_point_kept Left e h = ended_kept h
+  at_point_kept Freeing e h = (
+    record {
+      at = h.0.at;
+      last = k.fwd h.0.at h.0.last;
+      ended = (k.ended h.0.at h.0.ended).0;
+      how = subst (λ (r : Reason). ByReason r (slice_index_or fs h.0.at Gone)) (sym (ap (λ (s : Seat). s.reason) k.seat)) (subst (λ (w : End). ByReason (seat c x).reason w) (sym (k.ended h.0.at h.0.ended).1) h.0.how);
+    },
+    λ f. h.1 (ap (λ (s : Seat). s.passed) (sym k.seat) ∙ f),
+  )
+  at_point_kept (Linking q) e h = record {
+    at = h.at;
+    node = (h.node.0, subst (λ (n : ℕ). q ≤ n) (sym k.nodes) h.node.1);
+    before = (k.behind q h.at e h.before h.own h.waits).0;
+    own = k.fwd (h.at + 1) h.own;
+    waits = k.later (h.at + 1) (ap is_rolled e) h.own h.waits;
+    unlinked = (k.behind q h.at e h.before h.own h.waits).1 ∙ h.unlinked;
+    rolled = k.rolled ∙ h.rolled;
+  }
+  at_point_kept Queued e h = record {
+    at = h.at;
+    own = k.fwd h.at h.own;
+    waits = k.later h.at (ap is_rolled e) h.own h.waits;
+    rolled = k.rolled ∙ h.rolled;
+  }
+  at_point_kept Rolled e h = k.rolled ∙ h
+  at_point_kept Holding e h = (releasing_kept x (ap has_line e) h.0, ap (λ (s : Seat). s.reason) k.seat ∙ h.1, ap (λ (s : Seat). s.passed) k.seat ∙ h.2)
+  at_point_kept (Leaving n) e h = releasing_kept n (ap has_line e) h
+  at_point_kept (Marking n) e h =
+      let t = k.line (ap has_line e) in
+      (releasing_kept n (ap has_line e) h.0, subst (λ (t : ℕ). t + 1 < length o2) (sym t.1) (t.2 h.1).0)
+  at_point_kept (Granting m) e h =
+      let t = k.line (ap has_line e) in
+      let u = t.2 h.1 in (
+        record { place = t.0 ∙ h.0.place; is = refl },
+        subst (λ (t : ℕ). t + 1 < length o2) (sym t.1) u.0,
+        ap (λ (t : ℕ). asker o2 (t + 1)) t.1 ∙ u.1 ∙ h.2,
+        ap (λ (y : ℕ). (entry d y).link) current_kept ∙ t.3 m e ∙ h.3,
+      )
+
+  pub sits_kept : Sits c o es x (point c x) → Sits d o2 fs x (point d x)
+  sits_kept h = subst (λ (p : Point). Sits d o2 fs x p) (sym point_kept) (at_point_kept (point c x) refl h)
+
+-- what is fresh stays so
+pub fresh_kept : (c d : State) (t t2 x p : ℕ) → (entry d x).freed ≡ (entry c x).freed → (entry d x).granted ≡ (entry c x).granted → (entry d x).done ≡ (entry c x).done → (p ≡ t → p ≡ t2) → (IsGranting c → IsGranting d) → IsFresh c t x p → IsFresh d t2 x p
+fresh_kept c d t t2 x p a b e f g h = record {
+  freed = a ∙ h.freed;
+  granted = λ y. f (h.granted (sym b ∙ y));
+  done = λ y. let z = h.done (sym e ∙ y) in (f z.0, g z.1);
+}
+
+-- what is passed stays so
+pub passed_kept : (c d : State) (o o2 : List Request) (es fs : List End) (n x : ℕ) → d.nodes ≡ c.nodes → point d x ≡ point c x → (entry d x).freed ≡ (entry c x).freed → ((p : ℕ) → IsLast o x p → IsLast o2 x p) → ((p : ℕ) → IsLast o x p → ((p < length es) × (slice_index_or es p Told ≡ Gone)) ⊎ ((p ≡ length es) × (c.place ≡ Hand n)) → ((p < length fs) × (slice_index_or fs p Told ≡ Gone)) ⊎ ((p ≡ length fs) × (d.place ≡ Hand n))) → IsPassed c o es n x → IsPassed d o2 fs n x
+passed_kept c d o o2 es fs n x ns a b e f h = record {
+  node = (h.node.0, subst (λ (n : ℕ). x ≤ n) (sym ns) h.node.1);
+  point = a ∙ h.point;
+  kept = b ∙ h.kept;
+  at = h.at;
+  last = e h.at h.last;
+  come = f h.at h.last h.come;
+}
+
+-- an act that leaves the line alone leaves it where it lies
+pub record Leaves (c d : State) (o o2 : List Request) (es : List End) : Type 0 where
+  pub place : d.place ≡ c.place
+  pub bytes : d.bytes ≡ c.bytes
+  pub closed : d.closed ≡ c.closed
+  pub mask : d.mask ≡ c.mask
+  pub nodes : d.nodes ≡ c.nodes
+  pub home : length es ≡ length o → length es ≡ length o2
+  pub turn : length es < length o → (length es < length o2) × (asker o2 (length es) ≡ asker o (length es))
+  pub fwd : (n p : ℕ) → has_line (point c n) ≡ true → IsLast o n p → IsLast o2 n p
+  pub hand : (n : ℕ) → has_line (point c n) ≡ true → seat d n ≡ seat c n
+  pub box : (t : ℕ) → length es < length o → asker o (length es) ≡ t → point c t ≡ Queued → (entry c t).granted ≡ true → (point d t ≡ Queued) × ((entry d t).granted ≡ true)
+  pub linking : (t q : ℕ) → length es < length o → asker o (length es) ≡ t → point c t ≡ Linking q → point d t ≡ Linking q
+  pub tail : (q : ℕ) → (point c q ≡ Left) ⊎ (point c q ≡ Rolled) → (entry c q).link ≡ 0 → (entry c q).done ≡ true → ((point d q ≡ Left) ⊎ (point d q ≡ Rolled)) × ((entry d q).link ≡ 0) × ((entry d q).done ≡ true)
+
+module _ (opening : List ℕ) (c d : State) (o o2 : List Request) (es : List End) (k : Leaves c d o o2 es) where
+  same_bytes : d.bytes.bytes ≡ c.bytes.bytes
+  same_bytes = ap (λ (l : Line64). l.bytes) k.bytes
+
+  whole_kept : IsWhole opening c es → IsWhole opening d es
+  whole_kept w = record { bytes = same_bytes ∙ w.bytes; closed = k.closed ∙ w.closed }
+
+  held_kept : (r : Reason) → IsHeld opening c es r → IsHeld opening d es r
+  held_kept Own h = (k.closed ∙ h.0, h.1, rw (k.bytes, k.mask) h.2)
+  held_kept Closing h = (k.closed ∙ h.0, h.1, rw (k.bytes, k.mask) h.2)
+  held_kept Refused h = (k.closed ∙ h.0, h.1, same_bytes ∙ h.2)
+
+  carried_kept : (n : ℕ) (r : Reason) (ps : List ℕ) → ((p : ℕ) → IsLast o n p → IsLast o2 n p) → IsCarried opening c o es n r ps → IsCarried opening d o2 es n r ps
+  carried_kept n r [] f h = held_kept r h
+  carried_kept n r (m ∷ ms) f h = (whole_kept h.0, record { at = h.1.at; last = f h.1.at h.1.last; ended = h.1.ended; how = h.1.how }, h.2)
+
+  pub lies_kept : Lies opening c o es → Lies opening d o2 es
+  lies_kept (at_home a b w) = at_home (k.home a) (k.place ∙ b) (whole_kept w)
+  lies_kept (in_hand n a b e f g h) = in_hand n (k.turn a).0 (b.0, subst (λ (m : ℕ). n ≤ m) (sym k.nodes) b.1) (k.place ∙ e)
+      (ap (λ (s : Seat). has_line s.point) (k.hand n f) ∙ f)
+      ((k.turn a).1 ∙ g ∙ ap (λ (s : Seat). last_or n s.passed) (sym (k.hand n f)))
+      (subst (λ (s : Seat). IsCarried opening d o2 es n s.reason s.passed) (sym (k.hand n f)) (carried_kept n (seat c n).reason (seat c n).passed (λ p. k.fwd n p f) h))
+  lies_kept (granted t a b e f g h) = let y = k.box t a b g f in granted t (k.turn a).0 ((k.turn a).1 ∙ b) (k.place ∙ e) y.1 y.0 (whole_kept h)
+  lies_kept (left t q a b e f g h i j) = let y = k.tail q h g f in left t q (k.turn a).0 ((k.turn a).1 ∙ b) (k.place ∙ e) y.2 y.1 y.0 (k.linking t q a b i) (whole_kept j)

@@ -1,0 +1,65 @@
+-- The ended requests that were marked are those that are gone, whatever move is made.
+use Rattle.std.proofs.Common.{◌≡◌, ℕ, ◌<◌, ◌⊎◌, List, [], ◌∷◌, ◌++◌, length, Option, Some, None, slice_get, refl, sym, ◌∙◌, ap, subst, inl, inr, arith, length-append}
+use Rattle.std.proofs.lemmas.Option.{slice_get_within}
+use Rattle.qolb_model.specs.declared.request.Request.{Request}
+use Rattle.qolb_model.specs.declared.end.End.{End}
+use Rattle.qolb_model.specs.declared.end.End.TheVariants.{Served, Gone, Told}
+use Rattle.qolb_model.specs.Requests.{Has, next_of}
+use Rattle.qolb_model.specs.Histories.{IsLegal}
+use Rattle.qolb_model.specs.Queue.{Queue, Move, ask, mark, finish, EndsAs, CanMove, moved}
+use Rattle.qolb_model.proofs.Lists.{never, same_some, push_cases, slice_get-append_left, slice_get-push}
+use Rattle.qolb_model.proofs.Requests.{has_push, has_left}
+use Rattle.qolb_model.proofs.Histories.{same_place_legal}
+use Rattle.link_core.specs.Moves.{MayMake, made, Goes}
+use Rattle.link_core.specs.Shown.{AreMarked}
+
+-- an old place of an order with one more request
+old_place : (o : List Request) (x : Request) (p : ℕ) (r : Request) → p < length o → slice_get (o ++ x ∷ []) p ≡ Some r → slice_get o p ≡ Some r
+old_place o x p r l e = sym (slice_get-append_left o (x ∷ []) p l) ∙ e
+
+-- a marked request can end in one way
+gone_only : (q : Queue) (r : Request) (x : End) → EndsAs q r x → Has q.marked r → x ≡ Gone
+gone_only q r (Served w shut) a h = absurd (never h a.0)
+gone_only q r Gone a h = refl
+gone_only q r Told a h = absurd (never h a.0)
+
+gone_marked : (q : Queue) (r : Request) (x : End) → EndsAs q r x → x ≡ Gone → Has q.marked r
+gone_marked q r x a e = subst (λ (y : End). EndsAs q r y) e a
+
+marked_move : (nodes : ℕ) (q : Queue) (m : Move) → CanMove nodes q m → IsLegal q.order q.ends → AreMarked q → AreMarked (moved q m)
+marked_move nodes q (ask n) can l a = record {
+  gone = λ p r at e. let k = slice_get_within q.ends p Gone e in a.gone p r (old_place q.order (next_of n q.order) p r (omega (arith, l.ended, k)) at) e;
+  marked = λ p r at lt h. a.marked p r (old_place q.order (next_of n q.order) p r (omega (arith, l.ended, lt)) at) lt h;
+}
+marked_move nodes q (mark x) can l a = record {
+  gone = λ p r at e. has_left q.marked (x ∷ []) r (a.gone p r at e);
+  marked = λ p r at lt h. elim (has_push q.marked x r h) [
+    | inl old ↦ a.marked p r at lt old
+    | inr is ↦ let k = same_place_legal q.order q.ends l p can.0 x (at ∙ ap Some is) can.2 in let j = can.1 in absurd (omega arith)
+  ];
+}
+marked_move nodes q (finish x) can l a = record {
+  gone = λ p r at e. elim (push_cases q.ends x p Gone e) [
+    | inl old ↦ a.gone p r at old.1
+    | inr new ↦ gone_marked q r x (subst (λ (y : Request). EndsAs q y x) (turn p r at new.0) can.2) (sym new.1)
+  ];
+  marked = λ p r at lt h. elim (below p lt) [
+    | inl old ↦ slice_get-append_left q.ends (x ∷ []) p old ∙ a.marked p r at old h
+    | inr new ↦ ap (slice_get (q.ends ++ x ∷ [])) new ∙ slice_get-push q.ends x ∙ ap Some (gone_only q r x (subst (λ (y : Request). EndsAs q y x) (turn p r at new) can.2) h)
+  ];
+}
+  where
+    turn : (p : ℕ) (r : Request) → slice_get q.order p ≡ Some r → p ≡ length q.ends → can.0 ≡ r
+    turn p r at e = same_some (sym can.1 ∙ ap (slice_get q.order) (sym e) ∙ at)
+
+    below : (p : ℕ) → p < length (q.ends ++ x ∷ []) → (p < length q.ends) ⊎ (p ≡ length q.ends)
+    below p lt = let k = length-append q.ends (x ∷ []) in grind arith
+
+marked_made : (nodes : ℕ) (q : Queue) (m : Option Move) → MayMake nodes q m → IsLegal q.order q.ends → AreMarked q → AreMarked (made q m)
+marked_made nodes q None may l a = a
+marked_made nodes q (Some x) may l a = marked_move nodes q x may l a
+
+pub marked_goes : (nodes : ℕ) (q : Queue) (m : Option Move) (g : Queue) → Goes nodes q m g → IsLegal q.order q.ends → AreMarked q → AreMarked g
+marked_goes nodes q m g k l a =
+    let b = marked_made nodes q m k.may l a in
+    subst (λ (y : Queue). AreMarked y) (sym k.cleared.2) (record { gone = b.gone; marked = b.marked })

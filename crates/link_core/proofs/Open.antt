@@ -1,0 +1,52 @@
+-- The opened line shows the empty history; a run goes on.
+use Rattle.std.proofs.Common.{◌≡◌, ℕ, zero, suc, ◌<◌, true, false, List, [], ◌∷◌, length, refl, sym, ap, subst, arith}
+use Rattle.std.specs.Prelude.{slice_index_or}
+use Rattle.link_core.specs.declared.point.Point.{Point}
+use Rattle.link_core.specs.declared.point.Point.TheVariants.{Idle}
+use Rattle.qolb_model.specs.Queue.{empty_queue}
+use Rattle.line_lanes.specs.declared.line.Line64.{Line64}
+use Rattle.link_core.specs.State.{Seat, seat, point}
+use Rattle.link_core.specs.Shown.{at_home, Sits, Matches}
+use Rattle.std.specs.Prelude.{replicate}
+use Rattle.link_core.specs.State.{unused, first}
+
+pub seat_first : (k n : ℕ) → slice_index_or (replicate k unused) n unused ≡ unused
+seat_first zero n = refl
+seat_first (suc k) zero = refl
+seat_first (suc k) (suc n) = seat_first k n
+
+pub first_matches : (nodes : ℕ) (opening : Line64) → length opening.bytes ≡ 64 → Matches opening.bytes (first nodes opening) empty_queue
+first_matches nodes opening long = record {
+  opened = long;
+  known = omega arith;
+  nodes = λ p l. absurd (omega arith);
+  numbered = λ p l. absurd (omega arith);
+  marked_known = λ r e. let z : false ≡ true = e in cc;
+  clear_known = λ r e. let z : false ≡ true = e in cc;
+  distinct = λ p a l. absurd (omega arith);
+  home_idle = λ e. refl;
+  home_last = λ p a e. absurd (omega arith);
+  links = λ p a l. absurd (omega arith);
+  last_link = λ p a e. absurd (omega arith);
+  lies = at_home refl refl (record { bytes = refl; closed = refl });
+  marks = λ p a l. absurd (omega arith);
+  clears = λ n p a l. let k = l.known in absurd (omega arith);
+  sits = λ n a. subst (λ (p : Point). Sits (first nodes opening) [] [] n p) (sym (idle n)) (λ p l. let k = l.known in absurd (omega arith));
+  fresh = λ p a l. absurd (omega arith);
+  passes = λ n i a l. absurd (none n i l);
+  once = λ n m i j a b k l e. absurd (none n i k);
+  unpassed = λ n a e. ap (λ (s : Seat). s.passed) (seat_first 33 n);
+}
+  where
+    idle : (n : ℕ) → point (first nodes opening) n ≡ Idle
+    idle n = ap (λ (s : Seat). s.point) (seat_first 33 n)
+
+    none : (n i : ℕ) → i < length (seat (first nodes opening) n).passed → ⊥
+    none n i l = let z : i < length (unused).passed = subst (λ (s : Seat). i < length s.passed) (seat_first 33 n) l in omega arith
+
+-- a list of one value
+pub all_same : {A : Type 0} (xs : List A) (x : A) (n : ℕ) → length xs ≡ n → ((i : ℕ) (d : A) → i < n → slice_index_or xs i d ≡ x) → xs ≡ replicate n x
+all_same [] x n e f = subst (λ (n : ℕ). [] ≡ replicate n x) e refl
+all_same (y ∷ ys) x zero e f = let z : suc (length ys) ≡ 0 = e in absurd (omega arith)
+all_same (y ∷ ys) x (suc n) e f = let h : y ≡ x = f 0 y (omega arith) in
+    rw (h, all_same ys x n (let z : suc (length ys) ≡ suc n = e in omega arith) (λ i d l. f (suc i) d (omega arith))) refl

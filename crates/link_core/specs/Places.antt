@@ -1,0 +1,21 @@
+-- Requests of an order by their places, from 0.
+use Rattle.std.specs.Prelude.{◌≡◌, ◌≢◌, ℕ, ◌<◌, List, length, slice_index_or}
+use Rattle.qolb_model.specs.declared.request.Request.{Request}
+
+-- a request that nobody makes
+abbrev pub nobody : Request
+nobody = record { node = 0; number = 0 }
+
+-- the request at a place of the order
+abbrev pub request : List Request → ℕ → Request
+request order p = slice_index_or order p nobody
+
+-- the node that made it
+abbrev pub asker : List Request → ℕ → ℕ
+asker order p = (request order p).node
+
+-- p is the place of n's last request
+pub record IsLast (order : List Request) (n p : ℕ) : Type 0 where
+  pub known : p < length order
+  pub its : asker order p ≡ n
+  pub newest : (q : ℕ) → p < q → q < length order → asker order q ≢ n

@@ -1,0 +1,72 @@
+-- What a step promises: a state that shows a queue goes on to show one, after at most one move.
+use Rattle.std.specs.Prelude.{◌≡◌, ℕ, ◌<◌, ◌≤◌, false, List, [], ◌∷◌, ◌++◌, length, take, slice_get, Some}
+use Rattle.line_lanes.specs.declared.line.Line64.{Line64}
+use Rattle.qolb_model.specs.Requests.{Has, Lacks}
+use Rattle.qolb_model.specs.Ends.{is_closed}
+use Rattle.qolb_model.specs.Queue.{Queue, empty_queue}
+use Rattle.link_core.specs.declared.seat.Reason.TheVariants.{Own, Closing, Refused}
+use Rattle.link_core.specs.declared.told.Told.{Told}
+use Rattle.link_core.specs.declared.told.Told.TheVariants as told
+use Rattle.link_core.specs.declared.told.NotEnabled.{NotEnabled}
+use Rattle.link_core.specs.declared.event.Event.{Event}
+use Rattle.link_core.specs.Places.{request, IsLast}
+use Rattle.link_core.specs.State.{State, first}
+use Rattle.link_core.specs.Steps.{Step, node_of, IsRefused}
+use Rattle.link_core.specs.Moves.{move_of, may_clear, Goes}
+use Rattle.link_core.specs.Others.{Spared}
+use Rattle.link_core.specs.Shown.{EndedBy, Shows}
+
+-- n's last request is at its turn, on an open line; or it waits behind that one
+pub record AtTurn (q : Queue) (n : ℕ) : Type 0 where
+  pub last : IsLast q.order n (length q.ends)
+  pub open' : is_closed q.ends ≡ false
+
+pub record Waits (q : Queue) (n : ℕ) : Type 0 where
+  pub at : ℕ
+  pub last : IsLast q.order n at
+  pub behind : length q.ends < at
+
+-- what is told of n's last request: granted only at its turn; queued, waiting and withdrawn only before it; released, shut and closed
+-- only where it has ended so; free and busy as the clear list has it
+abbrev pub Says : Queue → ℕ → Told → Type 0
+Says q n told.Went = Unit {0}
+Says q n told.Granted = AtTurn q n
+Says q n told.Queued = Waits q n
+Says q n told.Waiting = Waits q n
+Says q n told.Withdrawn = Waits q n
+Says q n told.Released = EndedBy q.order q.ends n Own
+Says q n told.Shut = EndedBy q.order q.ends n Closing
+Says q n told.Closed = EndedBy q.order q.ends n Refused
+Says q n told.Free = (p : ℕ) → IsLast q.order n p → Has q.clear (request q.order p)
+Says q n told.Busy = (p : ℕ) → IsLast q.order n p → Lacks q.clear (request q.order p)
+
+-- the event leads from c, which shows q, to d, which shows a queue after the event's move
+pub record Keeps (opening : List ℕ) (c : State) (e : Event) (t : Told) (d : State) (q : Queue) : Type 0 where
+  pub after : Queue
+  pub goes : Goes c.nodes q (move_of c q.order e) after
+  pub shows : Shows opening d after
+  pub says : Says after (node_of e) t
+  pub uncleared : may_clear e ≡ false → after.clear ≡ q.clear
+  pub spared : Spared c d q after (node_of e)
+
+-- what holds of every state of a core: it shows some queue, and there is a place for each of at most 32 nodes
+pub record IsSound (c : State) : Type 0 where
+  pub nodes : c.nodes ≤ 32
+  pub entries : length c.entries ≡ 33
+  pub seats : length c.seats ≡ 33
+  pub opening : List ℕ
+  pub queue : Queue
+  pub shows : Shows opening c queue
+
+-- these events, each with its move and a queue that is shown after it, lead from the opening to a state and a queue
+pub data Run (nodes : ℕ) (opening : Line64) : List Event → State → Queue → Type 0 where
+  opened : Run nodes opening [] (first nodes opening) empty_queue
+  event : {es : List Event} {c : State} {q : Queue} → Run nodes opening es c q → (e : Event) (t : Told) (d : State) (r : Queue) → Step c e t d → Goes c.nodes q (move_of c q.order e) r → Shows opening.bytes d r → Run nodes opening (es ++ e ∷ []) d r
+
+-- the events before i lead to a state, and the event at i is refused there
+pub record Stops (nodes : ℕ) (opening : Line64) (es : List Event) (i : ℕ) (r : NotEnabled) : Type 0 where
+  pub state : State
+  pub queue : Queue
+  pub before : Run nodes opening (take i es) state queue
+  pub here : i < length es
+  pub refused : (e : Event) → slice_get es i ≡ Some e → IsRefused state e r

@@ -1,0 +1,196 @@
+-- When a state shows a queue. Each clause is by place in the order of requests: those below `length ends` have ended, the one at
+-- that place is at its turn, and the open ones from there on are those of the nodes in the list, the oldest first.
+-- (The list of a line's requesters, with its head named at home, is of IEEE Std 1596-1992; queueing at the line and handing it on from
+-- the tail is of Goodman, Vernon and Woest, 1989; the reversed links, the flags and what is shown by them are of this project.)
+use Rattle.std.specs.Prelude.{◌≡◌, ◌≢◌, ℕ, ◌+◌, ◌<◌, ◌≤◌, Bool, true, false, ◌||◌, List, [], ◌∷◌, ◌⊎◌, length, Some, slice_get, slice_index_or}
+use Rattle.link_core.specs.declared.point.Point.{Point}
+use Rattle.link_core.specs.declared.point.Point.TheVariants.{Idle, Ready, Linking, Queued, Holding, Leaving, Marking, Granting, Freeing, Left, Rolled, Shut}
+use Rattle.link_core.specs.declared.seat.Reason.{Reason}
+use Rattle.link_core.specs.declared.seat.Reason.TheVariants.{Own, Closing, Refused}
+use Rattle.link_core.specs.declared.place.Place.TheVariants.{Home, Mailbox, Hand}
+use Rattle.line_lanes.specs.Line.{merged}
+use Rattle.link_core.specs.Places.{request, asker, IsLast}
+use Rattle.qolb_model.specs.Ends.{is_closed, bytes_after}
+use Rattle.qolb_model.specs.Histories.{IsLegal}
+use Rattle.qolb_model.specs.Queue.{Queue}
+use Rattle.qolb_model.specs.Requests.{Has, count_of, has}
+use Rattle.qolb_model.specs.declared.end.End.{End}
+use Rattle.qolb_model.specs.declared.end.End.TheVariants.{Served, Gone, Told}
+use Rattle.qolb_model.specs.declared.request.Request.{Request}
+use Rattle.link_core.specs.State.{State, empty, entry, seat, point, IsNode, current, is_clear}
+
+-- the points at which a node has withdrawn its request, has the line in its hand, and frees the nodes that it passed
+abbrev pub is_rolled : Point → Bool
+is_rolled Rolled = true
+is_rolled _ = false
+
+abbrev pub has_line : Point → Bool
+has_line Holding = true
+has_line (Leaving e) = true
+has_line (Marking e) = true
+has_line (Granting m) = true
+has_line _ = false
+
+abbrev pub is_freeing : Point → Bool
+is_freeing Freeing = true
+is_freeing _ = false
+
+-- how a request ends whose node releases the line for this reason
+abbrev pub ByReason : Reason → End → Type 0
+ByReason Own (Served w shut) = shut ≡ false
+ByReason Closing (Served w shut) = shut ≡ true
+ByReason Refused Told = Unit {0}
+ByReason _ _ = ⊥
+
+-- n's last request has ended, by this reason
+pub record EndedBy (order : List Request) (ends : List End) (n : ℕ) (r : Reason) : Type 0 where
+  pub at : ℕ
+  pub last : IsLast order n at
+  pub ended : at < length ends
+  pub how : ByReason r (slice_index_or ends at Gone)
+
+-- n's last request, if any, has ended
+abbrev pub HasEnded : List Request → List End → ℕ → Type 0
+HasEnded order ends n = (p : ℕ) → IsLast order n p → p < length ends
+
+-- the line is as all ends left it
+pub record IsWhole (opening : List ℕ) (c : State) (ends : List End) : Type 0 where
+  pub bytes : c.bytes.bytes ≡ bytes_after opening ends
+  pub closed : c.closed ≡ is_closed ends
+
+-- The line is in the hand of the node whose own request is at its turn: open and not yet closed, with the bytes of the ends but for
+-- what was written in this turn; the same, closed by this turn; or closed before, and only passed on.
+abbrev pub IsHeld : List ℕ → State → List End → Reason → Type 0
+IsHeld opening c ends Own = (c.closed ≡ false) × (is_closed ends ≡ false) × (merged (bytes_after opening ends) c.bytes.bytes c.mask.0 ≡ c.bytes.bytes)
+IsHeld opening c ends Closing = (c.closed ≡ true) × (is_closed ends ≡ false) × (merged (bytes_after opening ends) c.bytes.bytes c.mask.0 ≡ c.bytes.bytes)
+IsHeld opening c ends Refused = (c.closed ≡ true) × (is_closed ends ≡ true) × (c.bytes.bytes ≡ bytes_after opening ends)
+
+-- the line is in the hand of n, which has passed these nodes: with some passed, n's own request has ended and nothing is under way
+abbrev pub IsCarried : List ℕ → State → List Request → List End → ℕ → Reason → List ℕ → Type 0
+IsCarried opening c order ends n r [] = IsHeld opening c ends r
+IsCarried opening c order ends n r (m ∷ ms) = IsWhole opening c ends × EndedBy order ends n r × (r ≡ Refused → is_closed ends ≡ true)
+
+-- Where the line lies. With no open request it is at home. Else it is in the hand of n, whose release has come to the request at its
+-- turn; or in the mailbox of t, whose turn it is, which waits; or in the mailbox of q, for t to find when it links.
+pub data Lies (opening : List ℕ) (c : State) (order : List Request) (ends : List End) : Type 0 where
+  at_home : length ends ≡ length order → c.place ≡ Home → IsWhole opening c ends → Lies opening c order ends
+  in_hand : (n : ℕ) → length ends < length order → IsNode c n → c.place ≡ Hand n → has_line (point c n) ≡ true → asker order (length ends) ≡ current c n → IsCarried opening c order ends n (seat c n).reason (seat c n).passed → Lies opening c order ends
+  granted : (t : ℕ) → length ends < length order → asker order (length ends) ≡ t → c.place ≡ Mailbox t → (entry c t).granted ≡ true → point c t ≡ Queued → IsWhole opening c ends → Lies opening c order ends
+  left : (t q : ℕ) → length ends < length order → asker order (length ends) ≡ t → c.place ≡ Mailbox q → (entry c q).done ≡ true → (entry c q).link ≡ 0 → (point c q ≡ Left) ⊎ (point c q ≡ Rolled) → point c t ≡ Linking q → IsWhole opening c ends → Lies opening c order ends
+
+-- neighbours among the open requests: the older one's link names the younger, or the younger is about to link
+abbrev pub IsLinked : State → ℕ → ℕ → Type 0
+IsLinked c older younger = ((entry c older).link ≡ younger) ⊎ (((entry c older).link ≡ 0) × (point c younger ≡ Linking older))
+
+-- n is to link to q, which made the request just before n's, its last one
+pub record IsBehind (c : State) (order : List Request) (ends : List End) (q n : ℕ) : Type 0 where
+  pub at : ℕ
+  pub node : IsNode c q
+  pub before : IsLast order q at
+  pub own : IsLast order n (at + 1)
+  pub waits : length ends ≤ at + 1
+  pub unlinked : (entry c q).link ≡ 0
+  pub rolled : (entry c n).rolled ≡ false
+
+-- n's last request is open and not withdrawn
+pub record IsWaiting (c : State) (order : List Request) (ends : List End) (n : ℕ) : Type 0 where
+  pub at : ℕ
+  pub own : IsLast order n at
+  pub waits : length ends ≤ at
+  pub rolled : (entry c n).rolled ≡ false
+
+-- the line is in n's hand, and its release is at e
+pub record IsReleasing (c : State) (n e : ℕ) : Type 0 where
+  pub place : c.place ≡ Hand n
+  pub is : current c n ≡ e
+
+-- What the point of n says. At Marking another request follows the one at its turn; at Granting that is m's, and it is linked.
+abbrev pub Sits : State → List Request → List End → ℕ → Point → Type 0
+Sits c order ends n Idle = HasEnded order ends n
+Sits c order ends n Ready = HasEnded order ends n × (entry c n ≡ empty)
+Sits c order ends n Shut = HasEnded order ends n
+Sits c order ends n Left = HasEnded order ends n
+Sits c order ends n Freeing = EndedBy order ends n (seat c n).reason × ((seat c n).passed ≢ [])
+Sits c order ends n (Linking q) = IsBehind c order ends q n
+Sits c order ends n Queued = IsWaiting c order ends n
+Sits c order ends n Rolled = (entry c n).rolled ≡ true
+Sits c order ends n Holding = IsReleasing c n n × ((seat c n).reason ≡ Own) × ((seat c n).passed ≡ [])
+Sits c order ends n (Leaving e) = IsReleasing c n e
+Sits c order ends n (Marking e) = IsReleasing c n e × (length ends + 1 < length order)
+Sits c order ends n (Granting m) = IsReleasing c n (current c n) × (length ends + 1 < length order) × (asker order (length ends + 1) ≡ m) × ((entry c (current c n)).link ≡ m)
+
+-- n's release has passed x and not freed it: x's last request is gone, or is at its turn with the line in n's hand
+pub record IsPassed (c : State) (order : List Request) (ends : List End) (n x : ℕ) : Type 0 where
+  pub node : IsNode c x
+  pub point : point c x ≡ Rolled
+  pub kept : (entry c x).freed ≡ false
+  pub at : ℕ
+  pub last : IsLast order x at
+  pub come : ((at < length ends) × (slice_index_or ends at Told ≡ Gone)) ⊎ ((at ≡ length ends) × (c.place ≡ Hand n))
+
+-- some node has the line in its hand and is about to grant
+pub record IsGranting (c : State) : Type 0 where
+  pub by : ℕ
+  pub to : ℕ
+  pub node : IsNode c by
+  pub place : c.place ≡ Hand by
+  pub point : point c by ≡ Granting to
+
+-- The request of n at the place p is open: its entry is not freed, granted only at its turn, and done only at its turn while the next
+-- is about to be granted.
+pub record IsFresh (c : State) (turn n p : ℕ) : Type 0 where
+  pub freed : (entry c n).freed ≡ false
+  pub granted : (entry c n).granted ≡ true → p ≡ turn
+  pub done : (entry c n).done ≡ true → (p ≡ turn) × IsGranting c
+
+-- the i-th of the nodes that n has passed
+abbrev pub passed : State → ℕ → ℕ → ℕ
+passed c n i = slice_index_or (seat c n).passed i 0
+
+-- the words, the line, the points and the lists of passed nodes fit the queue
+pub record Matches (opening : List ℕ) (c : State) (q : Queue) : Type 0 where
+  -- the queue: some first requests have ended, and what is marked or clear was made
+  pub opened : length opening ≡ 64
+  pub known : length q.ends ≤ length q.order
+  pub nodes : (p : ℕ) → p < length q.order → IsNode c (asker q.order p)
+  pub numbered : (p : ℕ) → p < length q.order → (request q.order p).number ≤ count_of (asker q.order p) q.order
+  pub marked_known : (r : Request) → has q.marked r ≡ true → r.number ≤ count_of r.node q.order
+  pub clear_known : (r : Request) → has q.clear r ≡ true → r.number ≤ count_of r.node q.order
+  -- the open requests are their nodes' last, so these are distinct; home names the newest, or is 0
+  pub distinct : (p : ℕ) → length q.ends ≤ p → p < length q.order → IsLast q.order (asker q.order p) p
+  pub home_idle : length q.ends ≡ length q.order → c.home ≡ 0
+  pub home_last : (p : ℕ) → length q.ends ≤ p → p + 1 ≡ length q.order → c.home ≡ asker q.order p
+  -- the links between neighbours; the newest has none
+  pub links : (p : ℕ) → length q.ends ≤ p → p + 1 < length q.order → IsLinked c (asker q.order p) (asker q.order (p + 1))
+  pub last_link : (p : ℕ) → length q.ends ≤ p → p + 1 ≡ length q.order → (entry c (asker q.order p)).link ≡ 0
+  -- the line
+  pub lies : Lies opening c q.order q.ends
+  -- an open request is marked exactly where its node is at Rolled; a node's last request is clear exactly where point and entry say
+  pub marks : (p : ℕ) → length q.ends ≤ p → p < length q.order → has q.marked (request q.order p) ≡ is_rolled (point c (asker q.order p))
+  pub clears : (n p : ℕ) → IsNode c n → IsLast q.order n p → has q.clear (request q.order p) ≡ is_clear (point c n) (entry c n)
+  -- the points
+  pub sits : (n : ℕ) → IsNode c n → Sits c q.order q.ends n (point c n)
+  -- the entries of open requests
+  pub fresh : (p : ℕ) → length q.ends ≤ p → p < length q.order → IsFresh c (length q.ends) (asker q.order p) p
+  -- the passed nodes: of all releases together, each stands once; and only a release has any
+  pub passes : (n i : ℕ) → IsNode c n → i < length (seat c n).passed → IsPassed c q.order q.ends n (passed c n i)
+  pub once : (n m i j : ℕ) → IsNode c n → IsNode c m → i < length (seat c n).passed → j < length (seat c m).passed → passed c n i ≡ passed c m j → (n ≡ m) × (i ≡ j)
+  pub unpassed : (n : ℕ) → IsNode c n → has_line (point c n) || is_freeing (point c n) ≡ false → (seat c n).passed ≡ []
+
+-- A release leaves a chain of links behind it: that of the releasing node's own entry, and those of the nodes that it has passed
+-- and not freed, but for the last. Where it is about to grant, the entry that it has come to is done.
+pub record IsChained (c : State) : Type 0 where
+  pub links : (n i : ℕ) → IsNode c n → i < length (seat c n).passed → (entry c (slice_index_or (n ∷ (seat c n).passed) i 0)).link ≢ 0
+  pub done : (n m : ℕ) → IsNode c n → point c n ≡ Granting m → (entry c (current c n)).done ≡ true
+
+-- the requests that are gone are those of the ended ones that were marked
+pub record AreMarked (q : Queue) : Type 0 where
+  pub gone : (p : ℕ) (r : Request) → slice_get q.order p ≡ Some r → slice_get q.ends p ≡ Some Gone → Has q.marked r
+  pub marked : (p : ℕ) (r : Request) → slice_get q.order p ≡ Some r → p < length q.ends → Has q.marked r → slice_get q.ends p ≡ Some Gone
+
+-- The state shows the queue: that is legal, and the state matches it.
+pub record Shows (opening : List ℕ) (c : State) (q : Queue) : Type 0 where
+  pub legal : IsLegal q.order q.ends
+  pub gone : AreMarked q
+  pub matches : Matches opening c q
+  pub chained : IsChained c

@@ -1,0 +1,81 @@
+-- The state of a line with reversed links, and what one act changes in it.
+-- (A list of requesters at a line is of IEEE Std 1596-1992; that its links are made by the younger node, from the tail's side
+-- to the head's, and the words that hold them are of this project.)
+use Rattle.std.specs.Prelude.{ℕ, ◌<◌, ◌≤◌, ◌==◌, Bool, true, false, ◌&&◌, not, List, [], ◌∷◌, length, replicate, slice_index_or, slice_set}
+use Rattle.link_core.specs.declared.point.Point.{Point}
+use Rattle.link_core.specs.declared.point.Point.TheVariants.{Idle, Ready, Linking, Queued, Holding, Leaving, Marking, Granting, Freeing, Left, Rolled, Shut}
+use Rattle.link_core.specs.declared.place.Place.TheVariants.{Home}
+use Rattle.link_core.specs.declared.seat.Reason.TheVariants.{Own}
+use Rattle.line_lanes.specs.declared.line.Line64.{Line64}
+use Rattle.line_lanes.specs.declared.line.Mask.{Mask}
+use Rattle.link_core.specs.declared.entry.Entry.{Entry}
+pub use Rattle.link_core.specs.declared.seat.Seat.{Seat}
+pub use Rattle.link_core.specs.declared.state.State.{State}
+
+-- an entry after its reset
+abbrev pub empty : Entry
+empty = record { granted = false; rolled = false; done = false; freed = false; link = 0 }
+
+-- the seat of a node that has made no call
+abbrev pub unused : Seat
+unused = record { point = Idle; passed = []; reason = Own }
+
+-- the entry, the seat and the point of a node
+abbrev pub entry : State → ℕ → Entry
+entry c n = slice_index_or c.entries n empty
+
+abbrev pub seat : State → ℕ → Seat
+seat c n = slice_index_or c.seats n unused
+
+abbrev pub point : State → ℕ → Point
+point c n = (seat c n).point
+
+-- nodes are numbered from 1
+abbrev pub IsNode : State → ℕ → Type 0
+IsNode c n = (0 < n) × (n ≤ c.nodes)
+
+-- there is a place for each node
+pub record IsWide (c : State) : Type 0 where
+  pub entries : c.nodes < length c.entries
+  pub seats : c.nodes < length c.seats
+
+-- the node whose entry the release is at: the last that it passed, or itself
+abbrev pub last_or : ℕ → List ℕ → ℕ
+last_or n [] = n
+last_or n (m ∷ ms) = last_or m ms
+
+abbrev pub current : State → ℕ → ℕ
+current c n = last_or n (seat c n).passed
+
+-- the last request of a node at this point, with this entry, may be followed by another
+abbrev pub is_clear : Point → Entry → Bool
+is_clear Idle w = true
+is_clear Ready w = true
+is_clear Shut w = true
+is_clear Left w = not (w.link == 0)
+is_clear Rolled w = w.freed && not (w.done && (w.link == 0))
+is_clear (Linking q) w = false
+is_clear Queued w = false
+is_clear Holding w = false
+is_clear (Leaving e) w = false
+is_clear (Marking e) w = false
+is_clear (Granting m) w = false
+is_clear Freeing w = false
+
+-- a node's entry, seat or point is replaced
+abbrev pub put_entry : ℕ → Entry → State → State
+put_entry n w c = record c { entries = slice_set c.entries n w }
+
+abbrev pub put_seat : ℕ → Seat → State → State
+put_seat n s c = record c { seats = slice_set c.seats n s }
+
+abbrev pub at_point : ℕ → Point → State → State
+at_point n p c = put_seat n (record (seat c n) { point = p }) c
+
+-- no byte of a line
+abbrev pub no_mask : Mask
+no_mask = record { 0 = 0 }
+
+-- the state in which a line of so many nodes is opened; place 0 of both lists is not used
+abbrev pub first : ℕ → Line64 → State
+first nodes opening = record { nodes = nodes; home = 0; place = Home; bytes = opening; closed = false; mask = no_mask; entries = replicate 33 empty; seats = replicate 33 unused }

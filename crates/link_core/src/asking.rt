@@ -1,0 +1,75 @@
+ghost use Rattle.std.specs.Prelude.{◌≡◌, IfOk, IfErr, OnErr};
+ghost use Rattle.link_core.specs.State.{IsNode};
+ghost use Rattle.link_core.specs.Steps.{Step, Fits, IsRefused};
+
+use crate::entry::{EMPTY, Entry};
+use crate::event::Event;
+use crate::point::Point;
+use crate::state::State;
+use crate::told::{NotEnabled, Told};
+
+impl State {
+    /// n stores 0 in its own entry.
+    pub fn reset(&mut self, n: u64) -> Result<Told, NotEnabled>
+        requires fits { Fits self.old }
+        requires node { IsNode self.old n }
+        ensures step { IfOk result (λ t. Step self.old (Event.Reset n) t self.new) }
+        ensures refused { IfErr result (λ e. IsRefused self.old (Event.Reset n) e) }
+        ensures unchanged { OnErr result (self.new ≡ self.old) }
+    {
+        match self.point(n) {
+            Point::Idle | Point::Shut => {
+                self.put_entry(n, EMPTY);
+                self.go_to(n, Point::Ready);
+                Ok(Told::Went)
+            }
+            _ => Err(NotEnabled::Point),
+        }
+    }
+
+    /// n puts its number into the home word; where that was idle, the line comes from home.
+    pub fn prepend(&mut self, n: u64) -> Result<Told, NotEnabled>
+        requires fits { Fits self.old }
+        requires node { IsNode self.old n }
+        ensures step { IfOk result (λ t. Step self.old (Event.Prepend n) t self.new) }
+        ensures refused { IfErr result (λ e. IsRefused self.old (Event.Prepend n) e) }
+        ensures unchanged { OnErr result (self.new ≡ self.old) }
+    {
+        match self.point(n) {
+            Point::Ready => {
+                let older = self.home;
+                self.home = n;
+                if older == 0 {
+                    Ok(self.arrive(n))
+                } else {
+                    self.go_to(n, Point::Linking(older));
+                    Ok(Told::Went)
+                }
+            }
+            _ => Err(NotEnabled::Point),
+        }
+    }
+
+    /// n adds its link to the entry that it found; where that was done, the line comes from its mailbox.
+    pub fn link(&mut self, n: u64) -> Result<Told, NotEnabled>
+        requires fits { Fits self.old }
+        requires node { IsNode self.old n }
+        ensures step { IfOk result (λ t. Step self.old (Event.Link n) t self.new) }
+        ensures refused { IfErr result (λ e. IsRefused self.old (Event.Link n) e) }
+        ensures unchanged { OnErr result (self.new ≡ self.old) }
+    {
+        match self.point(n) {
+            Point::Linking(p) => {
+                let word = self.entry(p);
+                self.put_entry(p, Entry { link: n, ..word });
+                if word.done {
+                    Ok(self.arrive(n))
+                } else {
+                    self.go_to(n, Point::Queued);
+                    Ok(Told::Queued)
+                }
+            }
+            _ => Err(NotEnabled::Point),
+        }
+    }
+}

@@ -1,0 +1,52 @@
+ghost use Rattle.std.specs.Prelude.{◌≡◌};
+ghost use Rattle.link_core.specs.Steps.{node_of};
+
+use line_lanes::{Line64, Mask};
+
+/// One atomic act of one node: a step on a word, or one of the two acts of a holder on the line in its hand.
+#[derive(Clone, Copy, Debug, PartialEq, Eq)]
+pub enum Event {
+    /// The node stores 0 in its own entry.
+    Reset(u64),
+    /// The node puts its number into the home word.
+    Prepend(u64),
+    /// The node adds its number as the link of the entry that it found at home.
+    Link(u64),
+    /// The node loads its own entry.
+    Load(u64),
+    /// A release tries to put 0 into the home word.
+    Home(u64),
+    /// A release adds the flag done to the entry that it has come to.
+    Done(u64),
+    /// A release adds the flag granted to the next entry.
+    Grant(u64),
+    /// A waiting node adds the flag rolled to its own entry.
+    Roll(u64),
+    /// A release adds the flag freed to the entry of a node that it passed.
+    Freed(u64),
+    /// The holder writes these bytes, at the places of the mask.
+    Write(u64, Mask, Line64),
+    /// The holder closes the line.
+    Close(u64),
+}
+
+impl Event {
+    /// The node that acts.
+    pub fn node(&self) -> u64
+        ensures { result ≡ node_of self.now }
+    {
+        match self {
+            Event::Reset(n) => *n,
+            Event::Prepend(n) => *n,
+            Event::Link(n) => *n,
+            Event::Load(n) => *n,
+            Event::Home(n) => *n,
+            Event::Done(n) => *n,
+            Event::Grant(n) => *n,
+            Event::Roll(n) => *n,
+            Event::Freed(n) => *n,
+            Event::Write(n, _, _) => *n,
+            Event::Close(n) => *n,
+        }
+    }
+}

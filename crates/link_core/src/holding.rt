@@ -1,0 +1,58 @@
+ghost use Rattle.std.specs.Prelude.{◌≡◌, ◌<◌, IfOk, IfErr, OnErr};
+ghost use Rattle.link_core.specs.State.{IsNode, seat, put_seat};
+ghost use Rattle.link_core.specs.Steps.{Step, Fits, IsRefused};
+
+use crate::event::Event;
+use crate::point::Point;
+use crate::seat::Reason;
+use crate::state::State;
+use crate::told::{NotEnabled, Told};
+use line_lanes::{Line64, Mask, merge};
+
+impl State {
+    /// The holder writes.
+    pub fn write(&mut self, n: u64, mask: Mask, bytes: Line64) -> Result<Told, NotEnabled>
+        requires fits { Fits self.old }
+        requires node { IsNode self.old n }
+        ensures step { IfOk result (λ t. Step self.old (Event.Write n mask bytes) t self.new) }
+        ensures refused { IfErr result (λ e. IsRefused self.old (Event.Write n mask bytes) e) }
+        ensures unchanged { OnErr result (self.new ≡ self.old) }
+    {
+        match self.point(n) {
+            Point::Holding => {
+                self.bytes = merge(&self.bytes, &bytes, mask);
+                self.mask = Mask(self.mask.0 | mask.0);
+                Ok(Told::Went)
+            }
+            _ => Err(NotEnabled::Point),
+        }
+    }
+
+    /// The holder closes the line.
+    pub fn close(&mut self, n: u64) -> Result<Told, NotEnabled>
+        requires fits { Fits self.old }
+        requires node { IsNode self.old n }
+        ensures step { IfOk result (λ t. Step self.old (Event.Close n) t self.new) }
+        ensures refused { IfErr result (λ e. IsRefused self.old (Event.Close n) e) }
+        ensures unchanged { OnErr result (self.new ≡ self.old) }
+    {
+        match self.point(n) {
+            Point::Holding => {
+                self.closed = true;
+                self.leave_closing(n);
+                Ok(Told::Went)
+            }
+            _ => Err(NotEnabled::Point),
+        }
+    }
+
+    /// n's release starts, as that of a node that has closed the line.
+    pub fn leave_closing(&mut self, n: u64)
+        requires { n < 33 }
+        ensures { self.new ≡ put_seat n (record (seat self.old n) { point = Point.Leaving n; reason = Reason.Closing }) self.old }
+    {
+        let seat = &mut self.seats[n as usize];
+        seat.point = Point::Leaving(n);
+        seat.reason = Reason::Closing;
+    }
+}

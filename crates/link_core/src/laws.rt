@@ -1,0 +1,48 @@
+//! What a lock whose words are those of a core may rest on, as laws of its events. Each law is the contract of a function that does nothing.
+
+ghost use Rattle.link_core.specs.Laws.{OpenedShows, EachEventKeeps, EventsAreEnabled, EventsHaveOneEffect, AddsFindUnset, NodesFind, WalksAreShort, EndsClose, RunsMove};
+
+/// A line that is opened shows the empty queue.
+pub fn opened_shows()
+    ensures { OpenedShows }
+{}
+
+/// Each event keeps that a queue is shown: by its move, and sparing the other nodes.
+pub fn each_event_keeps()
+    ensures { EachEventKeeps }
+{}
+
+/// An event has an effect only where its node's point allows it.
+pub fn events_are_enabled()
+    ensures { EventsAreEnabled }
+{}
+
+/// And then it has one.
+pub fn events_have_one_effect()
+    ensures { EventsHaveOneEffect }
+{}
+
+/// Each event that adds a field to an entry finds it 0.
+pub fn adds_find_unset()
+    ensures { AddsFindUnset }
+{}
+
+/// What a node finds at each point of its call.
+pub fn nodes_find()
+    ensures { NodesFind }
+{}
+
+/// A release passes each other node at most once, and then the line goes home.
+pub fn walks_are_short()
+    ensures { WalksAreShort }
+{}
+
+/// A node that has closed the line, or was told that it is closed, leaves it closed.
+pub fn ends_close()
+    ensures { EndsClose }
+{}
+
+/// A run of events is a run of the queue.
+pub fn runs_move()
+    ensures { RunsMove }
+{}

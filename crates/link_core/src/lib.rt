@@ -1,0 +1,29 @@
+//! The core of a lock-free queue lock by reversed links: its states and its events, with no threads and no memory.
+#![tactic(auto)]
+
+mod asking;
+mod entry;
+mod event;
+mod holding;
+pub mod laws;
+mod machine;
+mod place;
+mod point;
+mod releasing;
+mod replaying;
+mod seat;
+mod state;
+mod steps;
+mod told;
+mod waiting;
+
+pub use entry::Entry;
+pub use event::Event;
+pub use machine::Core;
+pub use place::Place;
+pub use point::Point;
+pub use replaying::replay;
+pub use told::{NotEnabled, Told};
+
+#[cfg(test)]
+mod tests;

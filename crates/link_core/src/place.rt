@@ -1,0 +1,7 @@
+/// Where the line lies.
+#[derive(Clone, Copy, Debug, PartialEq, Eq)]
+pub enum Place {
+    Home,
+    Mailbox(u64),
+    Hand(u64),
+}

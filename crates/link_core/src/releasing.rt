@@ -1,0 +1,162 @@
+ghost use Rattle.std.specs.Prelude.{◌≡◌, ◌≢◌, ◌<◌, ◌≤◌, ℕ, List, [], ◌∷◌, ◌++◌, length, IfOk, IfErr, OnErr};
+ghost use Rattle.link_core.specs.State.{IsNode, seat, put_seat};
+ghost use Rattle.link_core.specs.Steps.{Step, Fits, IsRefused, Releases, seat_with, told_with, point_at_end};
+
+use crate::entry::Entry;
+use crate::event::Event;
+use crate::place::Place;
+use crate::point::Point;
+use crate::state::{State, point_at_end, told_at_end};
+use crate::told::{NotEnabled, Told};
+
+impl State {
+    /// n releases the line: home, where no younger request is known to home.
+    pub fn go_home(&mut self, n: u64) -> Result<Told, NotEnabled>
+        requires fits { Fits self.old }
+        requires node { IsNode self.old n }
+        ensures step { IfOk result (λ t. Step self.old (Event.Home n) t self.new) }
+        ensures refused { IfErr result (λ e. IsRefused self.old (Event.Home n) e) }
+        ensures unchanged { OnErr result (self.new ≡ self.old) }
+    {
+        match self.point(n) {
+            Point::Holding => Ok(self.go_home_from(n, n)),
+            Point::Leaving(e) => Ok(self.go_home_from(n, e)),
+            _ => Err(NotEnabled::Point),
+        }
+    }
+
+    /// n's release tries to take the line home from e.
+    pub fn go_home_from(&mut self, n: u64, e: u64) -> Told
+        requires node { IsNode self.old n }
+        requires nodes { self.old.nodes ≤ 32 }
+        requires at { Releases self.old n e }
+        ensures { Step self.old (Event.Home n) result self.new }
+    {
+        if self.home == e {
+            self.home = 0;
+            self.place = Place::Home;
+            let point = point_at_end(self.reason(n));
+            self.close_call(n, point)
+        } else {
+            self.go_to(n, Point::Marking(e));
+            Told::Went
+        }
+    }
+
+    /// n marks the entry that its release has come to as done; without a link the line stays in its mailbox.
+    pub fn mark_done(&mut self, n: u64) -> Result<Told, NotEnabled>
+        requires fits { Fits self.old }
+        requires node { IsNode self.old n }
+        ensures step { IfOk result (λ t. Step self.old (Event.Done n) t self.new) }
+        ensures refused { IfErr result (λ e. IsRefused self.old (Event.Done n) e) }
+        ensures unchanged { OnErr result (self.new ≡ self.old) }
+    {
+        match self.point(n) {
+            Point::Marking(e) => {
+                let word = self.entry(e);
+                self.put_entry(e, Entry { done: true, ..word });
+                if word.link == 0 {
+                    self.place = Place::Mailbox(e);
+                    if e == n {
+                        Ok(self.close_call(n, Point::Left))
+                    } else {
+                        let point = point_at_end(self.reason(n));
+                        Ok(self.close_call(n, point))
+                    }
+                } else {
+                    self.go_to(n, Point::Granting(word.link));
+                    Ok(Told::Went)
+                }
+            }
+            _ => Err(NotEnabled::Point),
+        }
+    }
+
+    /// n grants the next node; a rolled one is passed.
+    pub fn grant(&mut self, n: u64) -> Result<Told, NotEnabled>
+        requires fits { Fits self.old }
+        requires node { IsNode self.old n }
+        ensures step { IfOk result (λ t. Step self.old (Event.Grant n) t self.new) }
+        ensures refused { IfErr result (λ e. IsRefused self.old (Event.Grant n) e) }
+        ensures unchanged { OnErr result (self.new ≡ self.old) }
+    {
+        match self.point(n) {
+            Point::Granting(m) => {
+                let word = self.entry(m);
+                self.put_entry(
+                    m,
+                    Entry {
+                        granted: true,
+                        ..word
+                    },
+                );
+                if word.rolled {
+                    self.pass(n, m);
+                    Ok(Told::Went)
+                } else {
+                    self.place = Place::Mailbox(m);
+                    let point = point_at_end(self.reason(n));
+                    Ok(self.close_call(n, point))
+                }
+            }
+            _ => Err(NotEnabled::Point),
+        }
+    }
+
+    /// n's release goes on at m.
+    pub fn pass(&mut self, n: u64, m: u64)
+        requires node { n < 33 }
+        requires room { length (seat self.old n).passed < 32 }
+        ensures { self.new ≡ put_seat n (record { point = Point.Leaving m; passed = (seat self.old n).passed ++ m ∷ []; reason = (seat self.old n).reason }) self.old }
+    {
+        let seat = &mut self.seats[n as usize];
+        seat.passed.push(m);
+        seat.point = Point::Leaving(m);
+    }
+
+    /// The first passed node of n's release, taken off its list, and what is told when it is freed.
+    pub fn next_freed(&mut self, n: u64) -> (u64, Told)
+        requires node { n < 33 }
+        requires some { (seat self.old n).passed ≢ [] }
+        ensures { (rest : List ℕ) × ((seat self.old n).passed ≡ result.0 ∷ rest)
+            × (self.new ≡ put_seat n (seat_with rest (point_at_end (seat self.old n).reason) (seat self.old n).reason) self.old)
+            × (result.1 ≡ told_with rest (seat self.old n).reason) }
+    {
+        let seat = &mut self.seats[n as usize];
+        let Some(first) = seat.passed.take_first() else {
+            unreachable!();
+        };
+        if seat.passed.is_empty() {
+            seat.point = point_at_end(seat.reason);
+            (first, told_at_end(seat.reason))
+        } else {
+            seat.point = Point::Freeing;
+            (first, Told::Went)
+        }
+    }
+
+    /// n frees the first node that it passed.
+    pub fn free_next(&mut self, n: u64) -> Result<Told, NotEnabled>
+        requires fits { Fits self.old }
+        requires node { IsNode self.old n }
+        ensures step { IfOk result (λ t. Step self.old (Event.Freed n) t self.new) }
+        ensures refused { IfErr result (λ e. IsRefused self.old (Event.Freed n) e) }
+        ensures unchanged { OnErr result (self.new ≡ self.old) }
+    {
+        match self.point(n) {
+            Point::Freeing => {
+                let (x, told) = self.next_freed(n);
+                let word = self.entry(x);
+                self.put_entry(
+                    x,
+                    Entry {
+                        freed: true,
+                        ..word
+                    },
+                );
+                Ok(told)
+            }
+            _ => Err(NotEnabled::Point),
+        }
+    }
+}

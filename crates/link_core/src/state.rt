@@ -1,0 +1,178 @@
+ghost use Rattle.std.specs.Prelude.{◌≡◌, ◌↔◌, ◌<◌, IsTrue};
+ghost use Rattle.link_core.specs.State.{IsNode, is_clear, entry, point, seat, put_entry, put_seat, at_point, first};
+ghost use Rattle.link_core.specs.Steps.{arrive, told_at_arrival, seat_at_close, told_with, told_at_end, point_at_end};
+
+use crate::entry::{EMPTY, Entry};
+use crate::place::Place;
+use crate::point::Point;
+use crate::seat::{Passed, Reason, Seat};
+use crate::told::Told;
+use line_lanes::{Line64, Mask};
+
+/// The whole state: the words, the line and the seats. Number 0 is no node, so the first place of both arrays is not used.
+#[derive(Drop)]
+pub struct State {
+    pub nodes: u64,
+    pub home: u64,
+    pub place: Place,
+    pub bytes: Line64,
+    pub closed: bool,
+    /// The places that were written in this turn.
+    pub mask: Mask,
+    pub entries: [Entry; 33],
+    pub seats: [Seat; 33],
+}
+
+impl State {
+    /// A line of so many nodes with these bytes, open and at home.
+    pub fn opened(nodes: u64, opening: Line64) -> State
+        ensures { result ≡ first nodes opening }
+    {
+        let seats = Default::default();
+        State {
+            nodes,
+            home: 0,
+            place: Place::Home,
+            bytes: opening,
+            closed: false,
+            mask: Mask(0),
+            entries: [EMPTY; 33],
+            seats,
+        }
+    }
+
+    /// Whether n is a node.
+    pub fn is_node(&self, n: u64) -> bool
+        ensures { IsTrue result ↔ IsNode self.now n }
+    {
+        0 < n && n <= self.nodes
+    }
+
+    /// The entry of n.
+    pub fn entry(&self, n: u64) -> Entry
+        requires { n < 33 }
+        ensures { result ≡ entry self.now n }
+    {
+        self.entries[n as usize]
+    }
+
+    pub fn put_entry(&mut self, n: u64, word: Entry)
+        requires { n < 33 }
+        ensures { self.new ≡ put_entry n word self.old }
+    {
+        self.entries[n as usize] = word;
+    }
+
+    /// Where n is in its call.
+    pub fn point(&self, n: u64) -> Point
+        requires { n < 33 }
+        ensures { result ≡ point self.now n }
+    {
+        self.seats[n as usize].point
+    }
+
+    /// Why n releases the line.
+    pub fn reason(&self, n: u64) -> Reason
+        requires { n < 33 }
+        ensures { result ≡ (seat self.now n).reason }
+    {
+        self.seats[n as usize].reason
+    }
+
+    pub fn put_seat(&mut self, n: u64, seat: Seat)
+        requires { n < 33 }
+        ensures { self.new ≡ put_seat n seat self.old }
+    {
+        self.seats[n as usize] = seat;
+    }
+
+    /// n goes on to this point.
+    pub fn go_to(&mut self, n: u64, point: Point)
+        requires { n < 33 }
+        ensures { self.new ≡ at_point n point self.old }
+    {
+        self.seats[n as usize].point = point;
+    }
+
+    /// Whether n's last request is clear.
+    pub fn is_clear(&self, n: u64) -> bool
+        requires { n < 33 }
+        ensures { result ≡ is_clear (point self.now n) (entry self.now n) }
+    {
+        let word = self.entry(n);
+        match self.point(n) {
+            Point::Idle | Point::Ready | Point::Shut => true,
+            Point::Left => word.link != 0,
+            Point::Rolled => word.freed && !(word.done && word.link == 0),
+            _ => false,
+        }
+    }
+
+    /// The line comes into n's hand: open, to be held; closed, to be released at once.
+    pub fn arrive(&mut self, n: u64) -> Told
+        requires { n < 33 }
+        ensures state { self.new ≡ arrive n self.old }
+        ensures told { result ≡ told_at_arrival self.old.closed }
+    {
+        self.place = Place::Hand(n);
+        self.mask = Mask(0);
+        if self.closed {
+            self.put_seat(
+                n,
+                Seat {
+                    point: Point::Leaving(n),
+                    passed: Passed::new(),
+                    reason: Reason::Refused,
+                },
+            );
+            Told::Went
+        } else {
+            self.put_seat(
+                n,
+                Seat {
+                    point: Point::Holding,
+                    passed: Passed::new(),
+                    reason: Reason::Own,
+                },
+            );
+            Told::Granted
+        }
+    }
+
+    /// The line has left n's hand: n has nodes to free, or its call ends at this point.
+    pub fn close_call(&mut self, n: u64, point: Point) -> Told
+        requires { n < 33 }
+        ensures state { self.new ≡ put_seat n (seat_at_close point (seat self.old n)) self.old }
+        ensures told { result ≡ told_with (seat self.old n).passed (seat self.old n).reason }
+    {
+        if self.seats[n as usize].passed.is_empty() {
+            self.go_to(n, point);
+            told_at_end(self.seats[n as usize].reason)
+        } else {
+            self.go_to(n, Point::Freeing);
+            Told::Went
+        }
+    }
+}
+
+/// What a call tells at its end.
+pub fn told_at_end(reason: Reason) -> Told
+    ensures { result ≡ told_at_end reason }
+{
+    match reason {
+        Reason::Own => Told::Released,
+        Reason::Closing => Told::Shut,
+        Reason::Refused => Told::Closed,
+    }
+}
+
+/// Where a node is after its call.
+pub fn point_at_end(reason: Reason) -> Point
+    ensures { result ≡ point_at_end reason }
+{
+    match reason {
+        Reason::Own => Point::Idle,
+        Reason::Closing => Point::Shut,
+        Reason::Refused => Point::Shut,
+    }
+}

@@ -1,0 +1,60 @@
+//! The events, each by its case.
+//!
+//! The flags of node n's entry, from its reset to the next. Node m is the next younger, and o a node whose release has come to n's
+//! request. A request that found the line at home has no granted.
+//!
+//! ```text
+//!     0 ---------- Roll(n) ----------> rolled             n withdraws before the grant: Withdrawn
+//!     |                                  |
+//!   Grant(o)                           Grant(o)           on the left the line is laid for n; on the right n is passed
+//!     |                                  |
+//!     v                                  v
+//!   granted ------ Roll(n) ----> rolled granted           after the grant a withdrawal comes too late, and n takes the line
+//!     |                                  |
+//!   Done(n)                            Done(n) or Done(o)  the release at n's entry has found a younger request at home
+//!     |                                  |
+//!     v                                  v
+//!   granted done              rolled granted done
+//!                                        |
+//!                                      Freed(o)           a passed node alone, after o's release: before Done too, where the line
+//!                                        |                went home from n's entry
+//!                                        v
+//!                          rolled granted done freed
+//! ```
+//!
+//! The link is 0 until Link(m), which may come at each of these. Where Done finds it 0 the line stays in n's mailbox, and where Link
+//! finds done m takes it from there.
+
+ghost use Rattle.std.specs.Prelude.{◌≡◌, IfOk, IfErr, OnErr};
+ghost use Rattle.link_core.specs.Steps.{Step, Fits, IsRefused};
+
+use crate::event::Event;
+use crate::state::State;
+use crate::told::{NotEnabled, Told};
+
+impl State {
+    /// Makes one event. A refused one changes nothing.
+    pub fn apply(&mut self, event: Event) -> Result<Told, NotEnabled>
+        requires fits { Fits self.old }
+        ensures step { IfOk result (λ t. Step self.old event t self.new) }
+        ensures refused { IfErr result (λ e. IsRefused self.old event e) }
+        ensures unchanged { OnErr result (self.new ≡ self.old) }
+    {
+        if !self.is_node(event.node()) {
+            return Err(NotEnabled::Node);
+        }
+        match event {
+            Event::Reset(n) => self.reset(n),
+            Event::Prepend(n) => self.prepend(n),
+            Event::Link(n) => self.link(n),
+            Event::Load(n) => self.load(n),
+            Event::Home(n) => self.go_home(n),
+            Event::Done(n) => self.mark_done(n),
+            Event::Grant(n) => self.grant(n),
+            Event::Roll(n) => self.roll(n),
+            Event::Freed(n) => self.free_next(n),
+            Event::Write(n, mask, bytes) => self.write(n, mask, bytes),
+            Event::Close(n) => self.close(n),
+        }
+    }
+}

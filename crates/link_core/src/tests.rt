@@ -1,0 +1,289 @@
+use super::*;
+use line_lanes::{Line64, Mask};
+use std::process::Abort;
+use std::test::Fail;
+
+/// A run of events from an opened line, each told or refused as wanted.
+fn expect_run(
+    rt: &impl Abort,
+    nodes: u64,
+    script: &[(Event, Result<Told, NotEnabled>)],
+) -> Result<Core, Fail> {
+    let mut core = Core::start(nodes, Line64::zero()).ok_or("1 to 32 nodes")?;
+    for (event, want) in script {
+        assert_eq!(rt; core.step(*event), *want, "at {event:?}");
+    }
+    Ok(core)
+}
+
+/// A line of one byte at place 0.
+fn first_byte(byte: u8) -> Line64 {
+    let mut bytes = [0; 64];
+    bytes[0] = byte;
+    Line64::from_bytes(bytes)
+}
+
+#[test]
+fn a_line_left_to_a_late_linker_makes_its_node_busy(rt: HostRuntime) -> Result<(), Fail> {
+    let script = [
+        (Event::Reset(1), Ok(Told::Went)),
+        (Event::Prepend(1), Ok(Told::Granted)),
+        (Event::Write(1, Mask(1), first_byte(0xab)), Ok(Told::Went)),
+        (Event::Reset(2), Ok(Told::Went)),
+        (Event::Prepend(2), Ok(Told::Went)),
+        (Event::Home(1), Ok(Told::Went)),
+        (Event::Done(1), Ok(Told::Released)),
+        (Event::Load(1), Ok(Told::Busy)),
+        (Event::Link(2), Ok(Told::Granted)),
+        (Event::Load(1), Ok(Told::Free)),
+        (Event::Reset(1), Ok(Told::Went)),
+        (Event::Prepend(1), Ok(Told::Went)),
+        (Event::Link(1), Ok(Told::Queued)),
+    ];
+    let _ = expect_run(&rt, 2, script.as_slice())?;
+    Ok(())
+}
+
+#[test]
+fn a_withdrawn_node_is_passed_and_freed(rt: HostRuntime) -> Result<(), Fail> {
+    let script = [
+        (Event::Reset(1), Ok(Told::Went)),
+        (Event::Prepend(1), Ok(Told::Granted)),
+        (Event::Reset(2), Ok(Told::Went)),
+        (Event::Prepend(2), Ok(Told::Went)),
+        (Event::Link(2), Ok(Told::Queued)),
+        (Event::Home(1), Ok(Told::Went)),
+        (Event::Done(1), Ok(Told::Went)),
+        (Event::Roll(2), Ok(Told::Withdrawn)),
+        (Event::Grant(1), Ok(Told::Went)),
+        (Event::Home(1), Ok(Told::Went)),
+        (Event::Load(2), Ok(Told::Busy)),
+        (Event::Freed(1), Ok(Told::Released)),
+        (Event::Load(2), Ok(Told::Free)),
+    ];
+    let _ = expect_run(&rt, 2, script.as_slice())?;
+    Ok(())
+}
+
+#[test]
+fn a_withdrawal_after_the_grant_takes_the_line(rt: HostRuntime) -> Result<(), Fail> {
+    let script = [
+        (Event::Reset(1), Ok(Told::Went)),
+        (Event::Prepend(1), Ok(Told::Granted)),
+        (Event::Reset(2), Ok(Told::Went)),
+        (Event::Prepend(2), Ok(Told::Went)),
+        (Event::Link(2), Ok(Told::Queued)),
+        (Event::Home(1), Ok(Told::Went)),
+        (Event::Done(1), Ok(Told::Went)),
+        (Event::Grant(1), Ok(Told::Released)),
+        (Event::Roll(2), Ok(Told::Granted)),
+    ];
+    let _ = expect_run(&rt, 2, script.as_slice())?;
+    Ok(())
+}
+
+#[test]
+fn a_closed_line_is_told_and_goes_home(rt: HostRuntime) -> Result<(), Fail> {
+    let script = [
+        (Event::Reset(1), Ok(Told::Went)),
+        (Event::Prepend(1), Ok(Told::Granted)),
+        (Event::Close(1), Ok(Told::Went)),
+        (Event::Home(1), Ok(Told::Shut)),
+        (Event::Reset(1), Ok(Told::Went)),
+        (Event::Prepend(1), Ok(Told::Went)),
+        (Event::Home(1), Ok(Told::Closed)),
+    ];
+    let _ = expect_run(&rt, 2, script.as_slice())?;
+    Ok(())
+}
+
+#[test]
+fn an_event_at_another_point_is_refused(rt: HostRuntime) -> Result<(), Fail> {
+    let script = [
+        (Event::Link(1), Err(NotEnabled::Point)),
+        (Event::Prepend(1), Err(NotEnabled::Point)),
+        (Event::Reset(1), Ok(Told::Went)),
+        (Event::Home(1), Err(NotEnabled::Point)),
+    ];
+    let _ = expect_run(&rt, 1, script.as_slice())?;
+    Ok(())
+}
+
+#[test]
+fn a_chain_of_withdrawn_nodes_ends_at_a_late_linker(rt: HostRuntime) -> Result<(), Fail> {
+    let script = [
+        (Event::Reset(1), Ok(Told::Went)),
+        (Event::Prepend(1), Ok(Told::Granted)),
+        (Event::Reset(2), Ok(Told::Went)),
+        (Event::Prepend(2), Ok(Told::Went)),
+        (Event::Link(2), Ok(Told::Queued)),
+        (Event::Reset(3), Ok(Told::Went)),
+        (Event::Prepend(3), Ok(Told::Went)),
+        (Event::Link(3), Ok(Told::Queued)),
+        (Event::Roll(2), Ok(Told::Withdrawn)),
+        (Event::Roll(3), Ok(Told::Withdrawn)),
+        (Event::Reset(4), Ok(Told::Went)),
+        (Event::Prepend(4), Ok(Told::Went)),
+        (Event::Home(1), Ok(Told::Went)),
+        (Event::Done(1), Ok(Told::Went)),
+        (Event::Grant(1), Ok(Told::Went)),
+        (Event::Home(1), Ok(Told::Went)),
+        (Event::Done(1), Ok(Told::Went)),
+        (Event::Grant(1), Ok(Told::Went)),
+        (Event::Home(1), Ok(Told::Went)),
+        (Event::Done(1), Ok(Told::Went)),
+        (Event::Freed(1), Ok(Told::Went)),
+        (Event::Freed(1), Ok(Told::Released)),
+        (Event::Load(2), Ok(Told::Free)),
+        (Event::Load(3), Ok(Told::Busy)),
+        (Event::Link(4), Ok(Told::Granted)),
+        (Event::Load(3), Ok(Told::Free)),
+    ];
+    let _ = expect_run(&rt, 4, script.as_slice())?;
+    Ok(())
+}
+
+#[test]
+fn a_closed_line_passes_a_withdrawn_node(rt: HostRuntime) -> Result<(), Fail> {
+    let script = [
+        (Event::Reset(1), Ok(Told::Went)),
+        (Event::Prepend(1), Ok(Told::Granted)),
+        (Event::Reset(2), Ok(Told::Went)),
+        (Event::Prepend(2), Ok(Told::Went)),
+        (Event::Link(2), Ok(Told::Queued)),
+        (Event::Reset(3), Ok(Told::Went)),
+        (Event::Prepend(3), Ok(Told::Went)),
+        (Event::Link(3), Ok(Told::Queued)),
+        (Event::Roll(2), Ok(Told::Withdrawn)),
+        (Event::Close(1), Ok(Told::Went)),
+        (Event::Home(1), Ok(Told::Went)),
+        (Event::Done(1), Ok(Told::Went)),
+        (Event::Grant(1), Ok(Told::Went)),
+        (Event::Home(1), Ok(Told::Went)),
+        (Event::Done(1), Ok(Told::Went)),
+        (Event::Grant(1), Ok(Told::Went)),
+        (Event::Freed(1), Ok(Told::Shut)),
+        (Event::Load(3), Ok(Told::Went)),
+        (Event::Home(3), Ok(Told::Closed)),
+        (Event::Load(2), Ok(Told::Free)),
+    ];
+    let _ = expect_run(&rt, 3, script.as_slice())?;
+    Ok(())
+}
+
+#[test]
+fn a_told_node_leaves_a_closed_line_to_a_late_linker(rt: HostRuntime) -> Result<(), Fail> {
+    let script = [
+        (Event::Reset(1), Ok(Told::Went)),
+        (Event::Prepend(1), Ok(Told::Granted)),
+        (Event::Close(1), Ok(Told::Went)),
+        (Event::Home(1), Ok(Told::Shut)),
+        (Event::Reset(2), Ok(Told::Went)),
+        (Event::Prepend(2), Ok(Told::Went)),
+        (Event::Reset(1), Ok(Told::Went)),
+        (Event::Prepend(1), Ok(Told::Went)),
+        (Event::Home(2), Ok(Told::Went)),
+        (Event::Done(2), Ok(Told::Closed)),
+        (Event::Load(2), Ok(Told::Busy)),
+        (Event::Link(1), Ok(Told::Went)),
+        (Event::Home(1), Ok(Told::Closed)),
+        (Event::Load(2), Ok(Told::Free)),
+    ];
+    let _ = expect_run(&rt, 2, script.as_slice())?;
+    Ok(())
+}
+
+#[test]
+fn lines_have_one_to_32_nodes(rt: HostRuntime) {
+    for (nodes, starts) in [(0, false), (1, true), (32, true), (33, false)] {
+        assert_eq!(rt;
+            Core::start(nodes, Line64::zero()).is_some(),
+            starts,
+            "{nodes} nodes"
+        );
+    }
+    let refused = replay(33, Line64::zero(), [].as_slice()).err();
+    assert_eq!(rt; refused, Some((0, NotEnabled::Node)));
+}
+
+#[test]
+fn a_node_that_the_line_lacks_is_refused(rt: HostRuntime) -> Result<(), Fail> {
+    let script = [
+        (Event::Reset(0), Err(NotEnabled::Node)),
+        (Event::Reset(3), Err(NotEnabled::Node)),
+        (Event::Reset(2), Ok(Told::Went)),
+    ];
+    let _ = expect_run(&rt, 2, script.as_slice())?;
+    Ok(())
+}
+
+#[test]
+fn the_first_refused_event_is_named(rt: HostRuntime) {
+    let events = [
+        Event::Reset(1),
+        Event::Prepend(1),
+        Event::Link(1),
+        Event::Reset(5),
+    ];
+    let refused = replay(2, Line64::zero(), events.as_slice()).err();
+    assert_eq!(rt; refused, Some((2, NotEnabled::Point)));
+    let refused = replay(2, Line64::zero(), &events[3..]).err();
+    assert_eq!(rt; refused, Some((0, NotEnabled::Node)));
+}
+
+#[test]
+fn a_hand_over_is_seen_in_the_words(rt: HostRuntime) -> Result<(), Fail> {
+    let script = [
+        (Event::Reset(1), Ok(Told::Went)),
+        (Event::Prepend(1), Ok(Told::Granted)),
+        (Event::Reset(2), Ok(Told::Went)),
+        (Event::Prepend(2), Ok(Told::Went)),
+        (Event::Link(2), Ok(Told::Queued)),
+        (Event::Home(1), Ok(Told::Went)),
+        (Event::Done(1), Ok(Told::Went)),
+    ];
+    let mut core = expect_run(&rt, 2, script.as_slice())?;
+    assert_eq!(rt; core.nodes(), 2);
+    assert_eq!(rt; core.home(), 2);
+    assert_eq!(rt; core.place(), Place::Hand(1));
+    assert_eq!(rt; core.point(1), Point::Granting(2));
+    assert_eq!(rt; core.point(2), Point::Queued);
+    let marked = Entry {
+        granted: false,
+        rolled: false,
+        done: true,
+        freed: false,
+        link: 2,
+    };
+    assert_eq!(rt; core.entry(1), marked);
+
+    assert_eq!(rt; core.step(Event::Grant(1)), Ok(Told::Released));
+    assert_eq!(rt; core.nodes(), 2);
+    assert_eq!(rt; core.place(), Place::Mailbox(2));
+    assert_eq!(rt; core.point(1), Point::Idle);
+    let granted = Entry {
+        granted: true,
+        rolled: false,
+        done: false,
+        freed: false,
+        link: 0,
+    };
+    assert_eq!(rt; core.entry(2), granted);
+
+    assert_eq!(rt; core.step(Event::Load(2)), Ok(Told::Granted));
+    assert_eq!(rt; core.step(Event::Home(2)), Ok(Told::Released));
+    assert_eq!(rt; core.place(), Place::Home);
+    assert_eq!(rt; core.home(), 0);
+    Ok(())
+}
+
+#[test]
+fn a_replay_reaches_the_core_after_its_events(rt: HostRuntime) -> Result<(), Fail> {
+    let events = [Event::Reset(2), Event::Prepend(2)];
+    let core = replay(2, Line64::zero(), events.as_slice())
+        .ok()
+        .ok_or("a run")?;
+    assert_eq!(rt; core.home(), 2);
+    assert_eq!(rt; core.place(), Place::Hand(2));
+    Ok(())
+}

@@ -1,0 +1,33 @@
+/// What an accepted event tells its node.
+#[derive(Clone, Copy, Debug, PartialEq, Eq)]
+pub enum Told {
+    /// The call goes on.
+    Went,
+    /// The line, open, is in the node's hand.
+    Granted,
+    /// The request is linked and waits.
+    Queued,
+    /// The request waits still.
+    Waiting,
+    /// The line was closed; the node has passed it on.
+    Closed,
+    /// The node's last request is not clear yet.
+    Busy,
+    /// The node's last request is clear.
+    Free,
+    /// The request is withdrawn.
+    Withdrawn,
+    /// The line was passed on.
+    Released,
+    /// The line was closed and passed on.
+    Shut,
+}
+
+/// Why an event is refused.
+#[derive(Clone, Copy, Debug, PartialEq, Eq)]
+pub enum NotEnabled {
+    /// There is no such node.
+    Node = 1,
+    /// The node's point in its call does not allow the event.
+    Point = 2,
+}

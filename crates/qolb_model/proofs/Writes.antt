@@ -1,0 +1,66 @@
+-- The bytes that ends leave, and the law that they keep.
+use Rattle.std.proofs.Common.{◌≡◌, ℕ, zero, suc, Bool, true, false, List, [], ◌∷◌, ◌++◌, replicate, filter, refl, ◌∙◌}
+use Rattle.qolb_model.specs.declared.write.Write.{Write}
+use Rattle.qolb_model.specs.declared.end.End.{End}
+use Rattle.qolb_model.specs.declared.end.End.TheVariants.{Served, Gone, Told}
+use Rattle.qolb_model.specs.Ends.{MayEnd, written, bytes_after}
+use Rattle.qolb_model.specs.EndKinds.{is_served}
+use Rattle.qolb_model.specs.Kept.{AreAllowed}
+use Rattle.qolb_model.proofs.Histories.{bytes_after-append}
+
+-- only served ends change bytes
+pub bytes_after-served : (bytes : List ℕ) (ends : List End) → bytes_after bytes (filter is_served ends) ≡ bytes_after bytes ends
+bytes_after-served bytes [] = refl
+bytes_after-served bytes (Served write shut ∷ ends) = bytes_after-served (written bytes write) ends
+bytes_after-served bytes (Gone ∷ ends) = bytes_after-served bytes ends
+bytes_after-served bytes (Told ∷ ends) = bytes_after-served bytes ends
+
+-- passed requests change none
+pub bytes_after-passed : (bytes : List ℕ) (passed : ℕ) → bytes_after bytes (replicate passed Gone) ≡ bytes
+bytes_after-passed bytes zero = refl
+bytes_after-passed bytes (suc passed) = bytes_after-passed bytes passed
+
+-- a release leaves what its turn wrote
+pub bytes_after-release : (bytes : List ℕ) (ends : List End) (write : Write) (shut : Bool) (passed : ℕ) → bytes_after bytes (ends ++ Served write shut ∷ replicate passed Gone) ≡ written (bytes_after bytes ends) write
+bytes_after-release bytes ends write shut passed =
+    bytes_after-append bytes ends (Served write shut ∷ replicate passed Gone) ∙ bytes_after-passed (written (bytes_after bytes ends) write) passed
+
+-- and one that is told leaves the bytes as they were
+pub bytes_after-told : (bytes : List ℕ) (ends : List End) (passed : ℕ) → bytes_after bytes (ends ++ Told ∷ replicate passed Gone) ≡ bytes_after bytes ends
+bytes_after-told bytes ends passed = bytes_after-append bytes ends (Told ∷ replicate passed Gone) ∙ bytes_after-passed (bytes_after bytes ends) passed
+
+-- what is good at the opening stays good under turns that keep the law
+pub good_after :
+    (good : List ℕ → Type 0) (allows : List ℕ → List ℕ → Type 0)
+    (stays_good : (old new : List ℕ) → good old → allows old new → good new)
+    (bytes : List ℕ) (ends : List End) → good bytes → AreAllowed allows bytes ends → good (bytes_after bytes ends)
+good_after good allows stays_good bytes [] g k = g
+good_after good allows stays_good bytes (Served write shut ∷ ends) g k =
+    good_after good allows stays_good (written bytes write) ends (stays_good bytes (written bytes write) g k.0) k.1
+good_after good allows stays_good bytes (Gone ∷ ends) g k = good_after good allows stays_good bytes ends g k
+good_after good allows stays_good bytes (Told ∷ ends) g k = good_after good allows stays_good bytes ends g k
+
+-- the law kept by two lists of ends, one after the other
+pub allowed-append : (allows : List ℕ → List ℕ → Type 0) (bytes : List ℕ) (xs ys : List End) → AreAllowed allows bytes xs → AreAllowed allows (bytes_after bytes xs) ys → AreAllowed allows bytes (xs ++ ys)
+allowed-append allows bytes [] ys h k = k
+allowed-append allows bytes (Served write shut ∷ xs) ys h k = (h.0, allowed-append allows (written bytes write) xs ys h.1 k)
+allowed-append allows bytes (Gone ∷ xs) ys h k = allowed-append allows bytes xs ys h k
+allowed-append allows bytes (Told ∷ xs) ys h k = allowed-append allows bytes xs ys h k
+
+-- passed requests keep every law
+pub allowed-passed : (allows : List ℕ → List ℕ → Type 0) (bytes : List ℕ) (passed : ℕ) → AreAllowed allows bytes (replicate passed Gone)
+allowed-passed allows bytes zero = tt
+allowed-passed allows bytes (suc passed) = allowed-passed allows bytes passed
+
+-- and a beginning of ends that keep it keeps it
+pub allowed-begins : (allows : List ℕ → List ℕ → Type 0) (bytes : List ℕ) (xs ys : List End) → AreAllowed allows bytes (xs ++ ys) → AreAllowed allows bytes xs
+allowed-begins allows bytes [] ys h = tt
+allowed-begins allows bytes (Served write shut ∷ xs) ys h = (h.0, allowed-begins allows (written bytes write) xs ys h.1)
+allowed-begins allows bytes (Gone ∷ xs) ys h = allowed-begins allows bytes xs ys h
+allowed-begins allows bytes (Told ∷ xs) ys h = allowed-begins allows bytes xs ys h
+
+-- a closed line serves nobody
+pub not_served : (e : End) → MayEnd true e → is_served e ≡ false
+not_served (Served write shut) h = h
+not_served Gone h = refl
+not_served Told h = refl

@@ -1,0 +1,69 @@
+-- Taking a line apart, with the ports of all its nodes. (Of this project.)
+use Rattle.std.specs.Prelude.{◌≡◌, ◌≢◌, ℕ, zero, suc, ◌<◌, ◌≤◌, Bool, true, false, List, length}
+use Rattle.qolb_model.specs.declared.answer.PortState.{PortState}
+use Rattle.qolb_model.specs.declared.answer.PortState.TheVariants.{Idle, Linking, Queued, Holding, Left, Rolled, Shut}
+use Rattle.qolb_model.specs.declared.unfinished.FinishError.{FinishError}
+use Rattle.qolb_model.specs.declared.unfinished.FinishError.TheVariants.{Memory, Unquiet, Missing}
+use Rattle.qolb_model.specs.declared.view.View.{View}
+use Rattle.qolb_model.specs.Ends.{bytes_after}
+use Rattle.qolb_model.specs.OneHistory.{IsAmong, OneHistory}
+
+-- a port in this state has no request that waits or holds
+abbrev pub is_quiet : PortState → Bool
+is_quiet Idle = true
+is_quiet Linking = false
+is_quiet Queued = false
+is_quiet Holding = false
+is_quiet Left = true
+is_quiet Rolled = true
+is_quiet Shut = true
+
+-- all ports have this label; and some port has another
+abbrev pub AreOfLine : ℕ → List View → Type 0
+AreOfLine label views = (v : View) → IsAmong views v → v.label ≡ label
+
+abbrev pub HasOther : ℕ → List View → Type 0
+HasOther label views = (v : View) × IsAmong views v × (v.label ≢ label)
+
+-- there is a port of the node; and there is none
+abbrev pub IsThere : List View → ℕ → Type 0
+IsThere views node = (v : View) × IsAmong views v × (v.node ≡ node)
+
+abbrev pub IsMissing : List View → ℕ → Type 0
+IsMissing views node = (v : View) → IsAmong views v → v.node ≢ node
+
+-- the node's port is quiet; and it is not
+abbrev pub IsQuiet : List View → ℕ → Type 0
+IsQuiet views node = (v : View) → IsAmong views v → v.node ≡ node → is_quiet v.state ≡ true
+
+abbrev pub IsUnquiet : List View → ℕ → Type 0
+IsUnquiet views node = (v : View) × IsAmong views v × (v.node ≡ node) × (is_quiet v.state ≡ false)
+
+-- the fact holds of each node
+abbrev pub EachNode : ℕ → (ℕ → Type 0) → Type 0
+EachNode nodes P = (node : ℕ) → 1 ≤ node → node ≤ nodes → P node
+
+-- the node fails, and each node before it is fine
+pub record IsLeast (nodes : ℕ) (Fails IsFine : ℕ → Type 0) (node : ℕ) : Type 0 where
+  pub first : 1 ≤ node
+  pub last : node ≤ nodes
+  pub fails : Fails node
+  pub before : (m : ℕ) → 1 ≤ m → m < node → IsFine m
+
+-- why a line may be refused, the first cause that stands: a port of another line; a node without a port; a node that is not
+-- quiet; and only where nothing else stands, want of memory
+abbrev pub MayRefuse : ℕ → ℕ → List View → FinishError → Type 0
+MayRefuse label nodes views (Missing zero) = HasOther label views
+MayRefuse label nodes views (Missing (suc n)) = AreOfLine label views × IsLeast nodes (IsMissing views) (IsThere views) (suc n)
+MayRefuse label nodes views (Unquiet n) = AreOfLine label views × EachNode nodes (IsThere views) × IsLeast nodes (IsUnquiet views) (IsQuiet views) n
+MayRefuse label nodes views Memory = AreOfLine label views × EachNode nodes (IsThere views) × EachNode nodes (IsQuiet views)
+
+-- finished: no cause of refusal stands, all ports are of one history in which every request has ended, and the bytes are the
+-- opening ones changed by all its served writes in order
+pub record IsFinished (label nodes : ℕ) (opening : List ℕ) (views : List View) (bytes : List ℕ) : Type 0 where
+  pub of_line : AreOfLine label views
+  pub there : EachNode nodes (IsThere views)
+  pub quiet : EachNode nodes (IsQuiet views)
+  pub history : OneHistory views
+  pub all_ended : length history.ends ≡ length history.order
+  pub result : bytes ≡ bytes_after opening history.ends

@@ -1,0 +1,65 @@
+-- Laws of histories, and of views of one history: what their definitions are to say at the least. (Of this project.)
+use Rattle.std.specs.Prelude.{◌≡◌, ℕ, ◌≤◌, true, false, List, [], ◌∷◌, length, take, slice_get, filter, Some}
+use mathlib.Core.List.{IsPrefix}
+use Rattle.qolb_model.specs.declared.answer.PortState.TheVariants.{Holding}
+use Rattle.qolb_model.specs.declared.request.Request.{Request}
+use Rattle.qolb_model.specs.declared.end.End.{End}
+use Rattle.qolb_model.specs.declared.view.View.{View}
+use Rattle.qolb_model.specs.Ends.{is_closed, bytes_after}
+use Rattle.qolb_model.specs.EndKinds.{is_served}
+use Rattle.qolb_model.specs.Histories.{IsLegal}
+use Rattle.qolb_model.specs.Views.{bytes_of, Extends}
+use Rattle.qolb_model.specs.OneHistory.{IsAmong, OneHistory}
+use Rattle.qolb_model.specs.Kept.{AreAllowed}
+use Rattle.qolb_model.specs.Opening.{AreNew}
+use Rattle.qolb_model.specs.Meeting.{Meets}
+
+-- two places of a legal order that have the same request are one place
+abbrev pub NoRequestStandsTwice : Type 0
+NoRequestStandsTwice = (order : List Request) (ends : List End) → IsLegal order ends
+    → (p q : ℕ) (r : Request) → slice_get order p ≡ Some r → slice_get order q ≡ Some r → p ≡ q
+
+-- an end that comes after the one that closed the line is no service
+abbrev pub NoneIsServedAfterClosing : Type 0
+NoneIsServedAfterClosing = (order : List Request) (ends : List End) → IsLegal order ends
+    → (p : ℕ) (e : End) → slice_get ends p ≡ Some e → is_closed (take p ends) ≡ true → is_served e ≡ false
+
+-- the bytes after ends are those after the served ones among them
+abbrev pub OnlyServedEndsWrite : Type 0
+OnlyServedEndsWrite = (bytes : List ℕ) (ends : List End) → bytes_after bytes (filter is_served ends) ≡ bytes_after bytes ends
+
+-- bytes that are good stay good under turns that keep the law
+abbrev pub GoodStaysGood : (List ℕ → Type 0) → (List ℕ → List ℕ → Type 0) → Type 0
+GoodStaysGood good allows = (bytes : List ℕ) (ends : List End) → good bytes → AreAllowed allows bytes ends → good (bytes_after bytes ends)
+
+-- a view that was extended twice was extended
+abbrev pub ExtendsThrough : Type 0
+ExtendsThrough = (u v w : View) → Extends u v → Extends v w → Extends u w
+
+-- views of one history, some of them or none, are of one history
+abbrev pub PartIsOfOneHistory : Type 0
+PartIsOfOneHistory = (views part : List View) → OneHistory views → ((v : View) → IsAmong part v → IsAmong views v) → OneHistory part
+
+-- and so are any two of them
+abbrev pub EachTwoAreOfOneHistory : Type 0
+EachTwoAreOfOneHistory = (views : List View) (v w : View) → OneHistory views → IsAmong views v → IsAmong views w → OneHistory (v ∷ w ∷ [])
+
+-- of two views of one history the one that knows fewer ends knows a beginning of the other's
+abbrev pub FewerEndsBegin : Type 0
+FewerEndsBegin = (views : List View) (v w : View) → OneHistory views → IsAmong views v → IsAmong views w → length v.ends ≤ length w.ends → IsPrefix v.ends w.ends
+
+-- two views of one history and one opening that know equally many ends know the same bytes
+abbrev pub SameEndsSameBytes : Type 0
+SameEndsSameBytes = (views : List View) (v w : View) → OneHistory views → IsAmong views v → IsAmong views w → v.opening.bytes ≡ w.opening.bytes → length v.ends ≡ length w.ends → bytes_of v ≡ bytes_of w
+
+-- two views of one history that both hold are of one node
+abbrev pub OneNodeHolds : Type 0
+OneNodeHolds = (views : List View) (v w : View) → OneHistory views → IsAmong views v → IsAmong views w → v.state ≡ Holding → w.state ≡ Holding → v.node ≡ w.node
+
+-- the ports that a line is opened with are of one history
+abbrev pub NewPortsAreOfOneHistory : Type 0
+NewPortsAreOfOneHistory = (label nodes : ℕ) (opening : List ℕ) (views : List View) → AreNew label nodes opening views → OneHistory views
+
+-- two ports that have met know the same lists
+abbrev pub PortsThatMetKnowTheSame : Type 0
+PortsThatMetKnowTheSame = (v w v' w' : View) → OneHistory (v ∷ w ∷ []) → Meets v w v' → Meets w v w' → (v'.order ≡ w'.order) × (v'.ends ≡ w'.ends) × (v'.clear ≡ w'.clear)

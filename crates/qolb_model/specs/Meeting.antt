@@ -1,0 +1,24 @@
+-- Two ports of a line tell each other what they know. (Of this project.)
+use Rattle.std.specs.Prelude.{◌≡◌, ◌||◌, if◌then◌else◌, nat_lt, List, length}
+use Rattle.qolb_model.specs.declared.request.Request.{Request}
+use Rattle.qolb_model.specs.declared.view.View.{View}
+use Rattle.qolb_model.specs.Requests.{has}
+
+-- the longer of two lists
+abbrev pub longer : {X : Type 0} → List X → List X → List X
+longer xs ys = if nat_lt (length xs) (length ys) then ys else xs
+
+-- the third set has the requests of the first and of the second, and no others
+abbrev pub IsUnion : List Request → List Request → List Request → Type 0
+IsUnion xs ys zs = (r : Request) → has zs r ≡ (has xs r || has ys r)
+
+-- what a port knows once it has met another: the longer of each list and the union of each set; its own state is as it was
+pub record Meets (old other new : View) : Type 0 where
+  pub order : new.order ≡ longer old.order other.order
+  pub ends : new.ends ≡ longer old.ends other.ends
+  pub clear : new.clear ≡ longer old.clear other.clear
+  pub joined : IsUnion old.joined other.joined new.joined
+  pub marked : IsUnion old.marked other.marked new.marked
+  pub freed : IsUnion old.freed other.freed new.freed
+  pub state : new.state ≡ old.state
+  pub count : new.count ≡ old.count

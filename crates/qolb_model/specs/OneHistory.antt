@@ -1,0 +1,41 @@
+-- Views of ports that are all true of one history of a line. (Of this project.)
+use Rattle.std.specs.Prelude.{◌≡◌, ℕ, false, List, [], length, slice_get, Some}
+use mathlib.Core.List.{IsPrefix}
+use Rattle.qolb_model.specs.declared.answer.PortState.TheVariants.{Holding}
+use Rattle.qolb_model.specs.declared.request.Request.{Request}
+use Rattle.qolb_model.specs.declared.end.End.{End}
+use Rattle.qolb_model.specs.declared.view.View.{View}
+use Rattle.qolb_model.specs.Requests.{Has, has, count_of}
+use Rattle.qolb_model.specs.EndKinds.{is_gone}
+use Rattle.qolb_model.specs.Histories.{IsLegal, Clears, turn_of}
+use Rattle.qolb_model.specs.Views.{own}
+
+-- the view is one of these
+abbrev pub IsAmong : List View → View → Type 0
+IsAmong views v = (i : ℕ) × (slice_get views i ≡ Some v)
+
+-- What a view knows of a history: a beginning of each of its lists; how many requests its own node has made; of these, each
+-- end by service or by telling, and which of the ended ones were withdrawn. A holder's request is at its turn.
+pub record Knows (order : List Request) (ends : List End) (clear : List Request) (v : View) : Type 0 where
+  pub order_begins : IsPrefix v.order order
+  pub ends_begin : IsPrefix v.ends ends
+  pub clear_begins : IsPrefix v.clear clear
+  pub own_count : count_of v.node order ≡ v.count
+  pub own_ends : (p : ℕ) (r : Request) (e : End) → slice_get order p ≡ Some r → slice_get ends p ≡ Some e → r.node ≡ v.node → is_gone e ≡ false → slice_get v.ends p ≡ Some e
+  pub own_marks : (p : ℕ) (r : Request) (e : End) → slice_get order p ≡ Some r → slice_get ends p ≡ Some e → r.node ≡ v.node → has v.marked r ≡ is_gone e
+  pub holder : v.state ≡ Holding → turn_of order ends ≡ Some (own v)
+
+-- what one view knows to be joined or withdrawn of the requests of the other's node, that other view knows too
+pub record KnowsOwn (v w : View) : Type 0 where
+  pub joined : (r : Request) → r.node ≡ w.node → Has v.joined r → Has w.joined r
+  pub marked : (r : Request) → r.node ≡ w.node → Has v.marked r → Has w.marked r
+
+-- the views are of one history: there are an order, its ends and a clear list that all of them know
+pub record OneHistory (views : List View) : Type 0 where
+  pub order : List Request
+  pub ends : List End
+  pub clear : List Request
+  pub legal : IsLegal order ends
+  pub cleared : Clears order (length ends) [] clear
+  pub known : (v : View) → IsAmong views v → Knows order ends clear v
+  pub agreed : (v w : View) → IsAmong views v → IsAmong views w → KnowsOwn v w

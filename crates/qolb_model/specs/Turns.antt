@@ -1,0 +1,40 @@
+-- Waiting for a turn, and having it. (The line itself is handed on: Goodman, Vernon and Woest, 1989.)
+use Rattle.std.specs.Prelude.{◌≡◌, ℕ, ◌+◌, ◌<◌, false, length, slice_get, Some}
+use Rattle.qolb_model.specs.declared.answer.PortState.TheVariants.{Holding, Queued, Rolled}
+use Rattle.qolb_model.specs.declared.request.Request.{Request}
+use Rattle.qolb_model.specs.declared.write.Write.{Write}
+use Rattle.qolb_model.specs.declared.end.End.{End}
+use Rattle.qolb_model.specs.declared.view.View.{View}
+use Rattle.qolb_model.specs.Requests.{Has}
+use Rattle.qolb_model.specs.Ends.{is_closed}
+use Rattle.qolb_model.specs.EndKinds.{is_gone}
+use Rattle.qolb_model.specs.Histories.{turn_of}
+use Rattle.qolb_model.specs.Views.{own, bytes_of}
+
+-- the port's request is not at its turn: fewer requests have ended than stand before it
+abbrev pub Waits : View → Type 0
+Waits v = (p : ℕ) × (length v.ends < p) × (slice_get v.order p ≡ Some (own v))
+
+-- the request just before this place, where it was served or told, is clear
+abbrev pub IsClearBefore : View → ℕ → Type 0
+IsClearBefore v place = (p : ℕ) (r : Request) (e : End) → p + 1 ≡ place → slice_get v.order p ≡ Some r → slice_get v.ends p ≡ Some e → is_gone e ≡ false → Has v.clear r
+
+-- granted: the port holds the open line at its turn, with the bytes that all earlier ends left, and has written nothing yet
+pub record IsGranted (new : View) (turn : Write) : Type 0 where
+  pub state : new.state ≡ Holding
+  pub at_turn : turn_of new.order new.ends ≡ Some (own new)
+  pub is_open : is_closed new.ends ≡ false
+  pub no_mask : turn.mask.0 ≡ 0
+  pub bytes : turn.bytes.bytes ≡ bytes_of new
+  pub clear_before : IsClearBefore new (length new.ends)
+
+-- queued, or waiting: the port's request is behind another
+pub record IsQueued (new : View) : Type 0 where
+  pub state : new.state ≡ Queued
+  pub waits : Waits new
+
+-- withdrawn: the port's request was marked while it was behind another, and is to be passed
+pub record IsWithdrawn (new : View) : Type 0 where
+  pub state : new.state ≡ Rolled
+  pub waits : Waits new
+  pub marked : Has new.marked (own new)

@@ -1,0 +1,29 @@
+ghost use Rattle.std.specs.Prelude.{List, ℕ};
+
+/// The law of a line: which bytes are good, and which changes a turn may make.
+pub trait Keep {
+    /// These bytes are good.
+    ghost good: { List ℕ → Type 0 };
+
+    /// A turn may change the first bytes to the second.
+    ghost allows: { List ℕ → List ℕ → Type 0 };
+
+    /// An allowed change of good bytes leaves good bytes.
+    ghost stays_good: { (old new : List ℕ) → good old → allows old new → good new };
+
+    /// A turn may leave good bytes as they are.
+    ghost allows_same: { (bytes : List ℕ) → good bytes → allows bytes bytes };
+}
+
+/// The law that allows everything.
+pub struct Free;
+
+impl Keep for Free {
+    ghost good = { λ _. Unit {0} };
+
+    ghost allows = { λ _ _. Unit {0} };
+
+    ghost stays_good = { λ _ _ _ _. tt };
+
+    ghost allows_same = { λ _ _. tt };
+}

@@ -1,0 +1,75 @@
+//! Laws of the definitions that a line's contracts speak of. Each is the contract of a function that does nothing.
+ghost use Rattle.qolb_model.specs.Laws.{NoRequestStandsTwice, NoneIsServedAfterClosing, OnlyServedEndsWrite, GoodStaysGood, ExtendsThrough, PartIsOfOneHistory, EachTwoAreOfOneHistory, FewerEndsBegin, SameEndsSameBytes, OneNodeHolds, NewPortsAreOfOneHistory, PortsThatMetKnowTheSame};
+
+use crate::keep::Keep;
+
+/// No request stands twice in a legal order.
+pub fn no_request_stands_twice()
+    ensures { NoRequestStandsTwice }
+{}
+
+/// Nothing is served once the line is closed.
+pub fn none_is_served_after_closing()
+    ensures { NoneIsServedAfterClosing }
+{}
+
+/// Only served ends change bytes.
+pub fn only_served_ends_write()
+    ensures { OnlyServedEndsWrite }
+{}
+
+/// Good bytes stay good while the law is kept.
+pub fn good_stays_good<K: Keep>()
+    ensures { GoodStaysGood K.good K.allows }
+{}
+
+/// A port that forgets nothing, call after call, forgets nothing.
+pub fn extends_through()
+    ensures { ExtendsThrough }
+{}
+
+/// Some of the views of one history are of one history.
+pub fn part_is_of_one_history()
+    ensures { PartIsOfOneHistory }
+{}
+
+/// Any two views of one history are of one history.
+pub fn each_two_are_of_one_history()
+    ensures { EachTwoAreOfOneHistory }
+{}
+
+/// The fewer ends of one port begin the more ends of another.
+pub fn fewer_ends_begin()
+    ensures { FewerEndsBegin }
+{}
+
+/// Ports that know equally many ends know the same bytes.
+pub fn same_ends_same_bytes()
+    ensures { SameEndsSameBytes }
+{}
+
+/// No two nodes hold the line at once.
+pub fn one_node_holds()
+    ensures { OneNodeHolds }
+{}
+
+/// The ports that a line is opened with are of one history.
+pub fn new_ports_are_of_one_history()
+    ensures { NewPortsAreOfOneHistory }
+{}
+
+/// Two ports that have met know the same lists.
+pub fn ports_that_met_know_the_same()
+    ensures { PortsThatMetKnowTheSame }
+{}
+
+#[cfg(test)]
+mod tests {
+    use super::*;
+    use crate::keep::Free;
+
+    #[test]
+    fn the_free_law_keeps_all_bytes(_rt: HostRuntime) {
+        good_stays_good::<Free>();
+    }
+}

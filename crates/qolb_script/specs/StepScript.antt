@@ -1,0 +1,53 @@
+-- The step script that some bytes are, or the first fault in them. (Of this project.)
+use Rattle.std.specs.Prelude.{ℕ, ◌≤◌, List, [], ◌∷◌, All, Result, Ok, Err}
+use Rattle.link_core.specs.declared.event.Event.{Event}
+use Rattle.link_core.specs.declared.event.Event.TheVariants.{Reset, Prepend, Link, Load, Home, Done, Grant, Roll, Freed, Write, Close}
+use Rattle.qolb_script.specs.declared.error.ScriptError.{ScriptError}
+use Rattle.qolb_script.specs.declared.error.ScriptError.TheVariants as error
+use Rattle.qolb_script.specs.Text.{numbered_lines, worded}
+use Rattle.qolb_script.specs.Commands.{read_line}
+use Rattle.qolb_script.specs.Events.{event_of, step_header_of}
+use Rattle.qolb_script.specs.Script.{found_at, items_of}
+
+-- the number of nodes, and the events in order
+pub record StepScript : Type 0 where
+  pub nodes : ℕ
+  pub events : List Event
+
+-- the node whose event it is
+abbrev pub event_node : Event → ℕ
+event_node (Reset node) = node
+event_node (Prepend node) = node
+event_node (Link node) = node
+event_node (Load node) = node
+event_node (Home node) = node
+event_node (Done node) = node
+event_node (Grant node) = node
+event_node (Roll node) = node
+event_node (Freed node) = node
+event_node (Write node mask bytes) = node
+event_node (Close node) = node
+
+-- every event is of a node that there is
+abbrev pub IsOfItsNodes : StepScript → Type 0
+IsOfItsNodes script = All (λ e. (1 ≤ event_node e) × (event_node e ≤ script.nodes)) script.events
+
+-- the events on these lines, where `before` come before them
+abbrev pub events_of : ℕ → ℕ → List (ℕ × List ℕ) → Result (List Event) ScriptError
+events_of nodes before lines = items_of (event_of nodes) before lines
+
+abbrev pub with_events : ℕ → Result (List Event) ScriptError → Result StepScript ScriptError
+with_events nodes (Err error) = Err error
+with_events nodes (Ok events) = Ok (record { nodes = nodes; events = events })
+
+abbrev pub under_nodes : Result ℕ ScriptError → List (ℕ × List ℕ) → Result StepScript ScriptError
+under_nodes (Err error) rest = Err error
+under_nodes (Ok nodes) rest = with_events nodes (events_of nodes 0 rest)
+
+-- lines without words count, and are skipped; the first of the others is the header
+abbrev pub steps_from : List (ℕ × List ℕ) → Result StepScript ScriptError
+steps_from [] = Err (error.BadLine 1)
+steps_from (line ∷ rest) = under_nodes (found_at line.0 (read_line step_header_of line.1)) rest
+
+abbrev pub steps_of : List ℕ → Result StepScript ScriptError
+steps_of text = steps_from (worded (numbered_lines text))

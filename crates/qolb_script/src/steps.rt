@@ -1,0 +1,68 @@
+ghost use Rattle.std.specs.Prelude.{◌≡◌, ◌≢◌, IfOk, IfErr};
+ghost use Rattle.qolb_script.specs.StepScript.{steps_of};
+
+use crate::error::ScriptError;
+use crate::events::{EventReader, read_step_header};
+use crate::items::read_items;
+use crate::lines::Lines;
+use link_core::Event;
+use std::alloc::{Allocator, Global};
+use std::marker::Model;
+
+/// A step script that was read: the header's number of nodes, and the events in order. Nothing but `read_steps` makes one.
+#[derive(Drop)]
+pub struct Steps<A: Allocator = Global> {
+    nodes: u64,
+    events: Vec<Event, A>,
+}
+
+impl<A: Allocator> Model for Steps<A> {
+    ghost use Rattle.qolb_script.specs.StepScript.{StepScript};
+    ghost use Rattle.qolb_script.specs.Ranges.{IsStepBounded};
+
+    ghost Value = { StepScript };
+
+    ghost view = { λ s. record { nodes = s.nodes; events = s.events.items } };
+
+    ghost invariant = { λ s. IsStepBounded (record { nodes = s.nodes; events = s.events.items }) };
+}
+
+impl<A: Allocator> Steps<A> {
+    ghost use Rattle.std.specs.Prelude.{◌≡◌, ◌≤◌, length};
+    ghost use Rattle.qolb_script.specs.declared.schedule.TheConstants.{MOST_COMMANDS};
+    ghost use Rattle.qolb_script.specs.StepScript.{IsOfItsNodes};
+
+    /// How many nodes there are.
+    pub fn nodes(&self) -> u64
+        ensures nodes { result ≡ self.now.nodes }
+        ensures range { (1 ≤ result) × (result ≤ 32) }
+    {
+        self.nodes
+    }
+
+    /// The events, in order.
+    pub fn events(&self) -> &[Event]
+        ensures events { result.now ≡ self.now.events }
+        ensures range { IsOfItsNodes self.now }
+        ensures most { length result.now ≤ MOST_COMMANDS }
+    {
+        &self.events
+    }
+}
+
+/// Reads a step script. The first faulty line decides what is refused; `Memory` where a growth was refused.
+pub fn read_steps<A: Allocator>(alloc: A, text: &[u8]) -> Result<Steps<A>, ScriptError>
+    ensures ok { IfOk result (λ steps. steps_of text.now ≡ Ok steps) }
+    ensures refused { IfErr result (λ error. error ≢ ScriptError.Memory → steps_of text.now ≡ Err error) }
+{
+    let mut rest = Lines::new(text);
+    let Some((number, line)) = rest.next() else {
+        return Err(ScriptError::BadLine(1));
+    };
+    let nodes = read_step_header(line).map_err(|fault| fault.at(number))?;
+    let events = read_items(alloc, &EventReader { nodes }, rest)?;
+    Ok(Steps { nodes, events })
+}
+
+#[cfg(test)]
+mod tests;

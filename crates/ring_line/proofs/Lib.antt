@@ -1,0 +1,13 @@
+pub mod Lists
+pub mod Nodes
+pub mod Histories
+pub mod Keeping
+pub mod Ask
+pub mod Look
+pub mod Darken
+pub mod Grant
+pub mod Seats
+pub mod Dealing
+pub mod Meets
+pub mod Turning
+pub mod Lasting

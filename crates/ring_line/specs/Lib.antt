@@ -1,0 +1,4 @@
+pub mod Words
+pub mod Ring
+pub mod Steps
+pub mod Ports

@@ -1,0 +1,20 @@
+//! A queued line over atomic words: nodes draw tickets, and each waits at a cell of its own.
+#![tactic(auto)]
+
+mod closing;
+mod entry;
+mod hand;
+mod line;
+mod open;
+mod plays;
+mod port;
+mod rule;
+mod seating;
+mod steps;
+mod words;
+
+pub use line::RingLine;
+pub use port::Port;
+
+#[cfg(test)]
+mod tests;

@@ -1,0 +1,214 @@
+//! A line over a table.
+ghost use Rattle.std.specs.Prelude.{◌≡◌, ◌≢◌, ◌↔◌, [], ◌∷◌, IsTrue, false};
+ghost use Rattle.qolb_model.specs.OneOwner.{turn_after};
+ghost use Rattle.qolb_model.specs.Plain.{may_ask};
+ghost use Rattle.qolb_model.specs.Views.{bytes_of};
+ghost use Rattle.qolb_model.specs.OneHistory.{OneHistory};
+ghost use Rattle.qolb_model.specs.Kept.{MayRelease};
+ghost use Rattle.qolb_model.specs.Sound.{Continues};
+ghost use Rattle.qolb_model.specs.Asking.{IsBusy, Asks, IsJoined};
+ghost use Rattle.qolb_model.specs.Turns.{IsGranted, IsQueued};
+ghost use Rattle.qolb_model.specs.LettingGo.{Releases, IsTold};
+ghost use Rattle.qolb_model.specs.Meeting.{Meets};
+ghost use Rattle.qolb_model.specs.declared.end.End.TheVariants.{Served};
+ghost use Rattle.ring_line.specs.Words.{word_count};
+ghost use Rattle.ring_line.specs.Ports.{BelongsTo};
+ghost use Rattle.ring_line.specs.declared.rule.Parcel.{Parcel};
+
+use crate::entry::Entry;
+use crate::hand::{look_in, park, put};
+use crate::port::{Port, Stage};
+use crate::rule::{Parcel, Ring, Setup};
+use crate::seating::meet_seats;
+use crate::steps::{ask, darken, grant};
+use atomic_table::Table;
+use line_lanes::{Line64, Mask, merge};
+use qolb_model::{Enq, Keep, Poll, PortState};
+use std::alloc::Global;
+use std::collections::LinkedList;
+use std::mem;
+
+/// A line that nodes queue at by tickets.
+#[derive(Drop)]
+pub struct RingLine<K: Keep> {
+    pub(crate) table: Table<Option<Parcel>, LinkedList<Entry>, Setup, Ring<K>, Global>,
+    pub(crate) label: u64,
+    pub(crate) nodes: u64,
+    ghost sized: { table.shared.table_id.words ≡ word_count },
+    ghost labelled: { label ≡ table.shared.key.label },
+    ghost counted: { nodes ≡ table.shared.key.nodes },
+}
+
+impl<K: Keep> RingLine<K> {
+    /// The label that the line was opened with.
+    pub fn label(&self) -> u64
+        ensures { result ≡ self.now.table.shared.key.label }
+    {
+        self.label
+    }
+
+    /// How many nodes the line has. They are numbered from 1.
+    pub fn nodes(&self) -> u64
+        ensures { result ≡ self.now.table.shared.key.nodes }
+    {
+        self.nodes
+    }
+
+    /// The port's node.
+    pub fn node(port: &Port) -> u64
+        ensures { result ≡ port.now.view.node }
+    {
+        port.node
+    }
+
+    /// What the port's last call left.
+    pub fn state(port: &Port) -> PortState
+        ensures { result ≡ port.now.view.state }
+    {
+        match port.stage {
+            Stage::Idle => PortState::Idle,
+            Stage::Queued(_) => PortState::Queued,
+            Stage::Holding(_, _) => PortState::Holding,
+        }
+    }
+
+    /// Whether the port's label is the line's.
+    pub fn owns(&self, port: &Port) -> bool
+        ensures { IsTrue result ↔ (port.now.view.label ≡ self.now.table.shared.key.label) }
+    {
+        port.label == self.label
+    }
+
+    /// The line's bytes as the holder sees them.
+    pub fn bytes(port: &Port) -> &Line64
+        requires { port.now.view.state ≡ PortState.Holding }
+        ensures { result.now ≡ port.now.turn.bytes }
+    {
+        match &port.stage {
+            Stage::Holding(_, parcel) => &parcel.bytes,
+            _ => unreachable!(),
+        }
+    }
+
+    /// The holder writes the bytes of the mask.
+    pub fn write(port: &mut Port, mask: Mask, bytes: &Line64)
+        requires { port.old.view.state ≡ PortState.Holding }
+        ensures table { port.new.table ≡ port.old.table }
+        ensures view { port.new.view ≡ port.old.view }
+        ensures turn { port.new.turn ≡ turn_after port.old.turn mask.0 bytes.now.bytes }
+    {
+        let Stage::Holding(cell, parcel) = mem::replace(&mut port.stage, Stage::Idle) else {
+            unreachable!()
+        };
+        let written = Parcel {
+            bytes: merge(&parcel.bytes, bytes, mask),
+            mask: Mask(parcel.mask.0 | mask.0),
+        };
+        port.stage = Stage::Holding(cell, written);
+    }
+
+    /// Asks for the line.
+    pub fn enqolb(&self, port: &mut Port) -> Enq
+        requires belongs { BelongsTo K.good K.allows self.now.table.shared.key self.now.table.shared.table_id port.old }
+        requires state { IsTrue (may_ask port.old.view.state) }
+        ensures belongs { BelongsTo K.good K.allows self.now.table.shared.key self.now.table.shared.table_id port.new }
+        ensures continues { Continues K.allows port.old.view port.new.view }
+        ensures busy { result ≡ Enq.Busy → IsBusy port.old.view port.new.view }
+        ensures asks { result ≢ Enq.Busy → Asks port.old.view port.new.view }
+        ensures joined { result ≢ Enq.Busy → IsJoined port.new.view }
+        ensures granted { result ≡ Enq.Granted → IsGranted port.new.view port.new.turn }
+        ensures queued { result ≡ Enq.Queued → IsQueued port.new.view }
+        ensures told { result ≡ Enq.Closed → IsTold port.new.view }
+    {
+        let cell = ask(&self.table.shared, &mut port.place);
+        match look_in(&self.table.shared, &mut port.place, cell) {
+            Some(parcel) => {
+                port.stage = Stage::Holding(cell, parcel);
+                Enq::Granted
+            }
+            None => {
+                port.stage = Stage::Queued(cell);
+                Enq::Queued
+            }
+        }
+    }
+
+    /// Looks whether the request has come to its turn.
+    pub fn poll(&self, port: &mut Port) -> Poll
+        requires belongs { BelongsTo K.good K.allows self.now.table.shared.key self.now.table.shared.table_id port.old }
+        requires state { port.old.view.state ≡ PortState.Queued }
+        ensures belongs { BelongsTo K.good K.allows self.now.table.shared.key self.now.table.shared.table_id port.new }
+        ensures continues { Continues K.allows port.old.view port.new.view }
+        ensures count { port.new.view.count ≡ port.old.view.count }
+        ensures granted { result ≡ Poll.Granted → IsGranted port.new.view port.new.turn }
+        ensures waiting { result ≡ Poll.Waiting → IsQueued port.new.view }
+        ensures told { result ≡ Poll.Closed → IsTold port.new.view }
+    {
+        let Stage::Queued(cell) = port.stage else {
+            unreachable!()
+        };
+        match look_in(&self.table.shared, &mut port.place, cell) {
+            Some(parcel) => {
+                port.stage = Stage::Holding(cell, parcel);
+                Poll::Granted
+            }
+            None => Poll::Waiting,
+        }
+    }
+
+    /// Releases the line: the request has been served.
+    pub fn deqolb(&self, port: &mut Port)
+        requires belongs { BelongsTo K.good K.allows self.now.table.shared.key self.now.table.shared.table_id port.old }
+        requires state { port.old.view.state ≡ PortState.Holding }
+        requires allowed { MayRelease K.allows port.old.view port.old.turn }
+        ensures belongs { BelongsTo K.good K.allows self.now.table.shared.key self.now.table.shared.table_id port.new }
+        ensures continues { Continues K.allows port.old.view port.new.view }
+        ensures releases { Releases port.old.view (Served port.old.turn false) PortState.Idle port.new.view }
+        ensures bytes { bytes_of port.new.view ≡ port.old.turn.bytes.bytes }
+    {
+        let Stage::Holding(cell, parcel) = mem::replace(&mut port.stage, Stage::Idle) else {
+            unreachable!()
+        };
+        let ground = &self.table.shared;
+        put(ground, &mut port.place, parcel);
+        darken(ground, &mut port.place, cell);
+        grant(ground, &mut port.place, cell);
+    }
+
+    /// Two ports of the line tell each other what they know.
+    pub fn meet(&self, a: &mut Port, b: &mut Port)
+        requires belongs_a { BelongsTo K.good K.allows self.now.table.shared.key self.now.table.shared.table_id a.old }
+        requires belongs_b { BelongsTo K.good K.allows self.now.table.shared.key self.now.table.shared.table_id b.old }
+        ensures belongs_a { BelongsTo K.good K.allows self.now.table.shared.key self.now.table.shared.table_id a.new }
+        ensures belongs_b { BelongsTo K.good K.allows self.now.table.shared.key self.now.table.shared.table_id b.new }
+        ensures continues_a { Continues K.allows a.old.view a.new.view }
+        ensures continues_b { Continues K.allows b.old.view b.new.view }
+        ensures before { OneHistory (a.old.view ∷ b.old.view ∷ []) }
+        ensures after { OneHistory (a.new.view ∷ b.new.view ∷ []) }
+        ensures meets_a { Meets a.old.view b.old.view a.new.view }
+        ensures meets_b { Meets b.old.view a.old.view b.new.view }
+        ensures turn_a { a.new.turn ≡ a.old.turn }
+        ensures turn_b { b.new.turn ≡ b.old.turn }
+        ensures one_holds { a.new.view.state ≡ PortState.Holding → b.new.view.state ≢ PortState.Holding }
+    {
+        let ground = &self.table.shared;
+        if !b.holds() {
+            meet_seats(ground, &mut a.place, &mut b.place);
+        } else if !a.holds() {
+            meet_seats(ground, &mut b.place, &mut a.place);
+        } else {
+            park(ground, &mut b.place);
+            meet_seats(ground, &mut a.place, &mut b.place);
+            unreachable!()
+        }
+    }
+}
+
+impl Port {
+    /// Whether the port holds the line.
+    pub(crate) fn holds(&self) -> bool
+        ensures { IsTrue result ↔ (self.now.view.state ≡ PortState.Holding) }
+    {
+        matches!(self.stage, Stage::Holding(_, _))
+    }
+}

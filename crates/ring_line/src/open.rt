@@ -1,0 +1,123 @@
+//! How a line is opened.
+ghost use Rattle.std.specs.Prelude.{◌≡◌, ◌≢◌, ℕ, ◌<◌, ◌≤◌, [], length, map, slice_get, slice_index, Some, IfOk, IfErr};
+ghost use Rattle.qolb_model.specs.Opening.{AreNew};
+ghost use Rattle.ring_line.specs.Words.{word_count, cell_at};
+ghost use Rattle.ring_line.specs.Ring.{newcomers};
+ghost use Rattle.ring_line.specs.Ports.{Standing, AreDealt, BelongsTo, MayNotOpen};
+
+use crate::line::RingLine;
+use crate::plays::Cut;
+use crate::port::{Port, Stage};
+use crate::rule::{Ground, Parcel, Place, Setup};
+use crate::words::{WORDS, cell_word};
+use atomic_table::Table;
+use line_lanes::{Line64, Mask};
+use qolb_model::{Keep, OpenError};
+use std::alloc::{AllocError, Global};
+use std::mem;
+
+/// The most nodes that a line has.
+const MOST_NODES: u64 = 32;
+
+impl<K: Keep> RingLine<K> {
+    /// A line with these bytes, and a port for each of the nodes 1 to `nodes`, in this order.
+    pub fn open(
+        alloc: Global,
+        label: u64,
+        nodes: u64,
+        opening: Line64,
+    ) -> Result<(RingLine<K>, Vec<Port>), OpenError>
+        requires { K.good opening.bytes }
+        ensures key { IfOk result (λ r. r.0.table.shared.key ≡ record { label = label; nodes = nodes; opening = opening }) }
+        ensures few { IfOk result (λ r. (1 ≤ nodes) × (nodes ≤ 32)) }
+        ensures new { IfOk result (λ r. AreNew label nodes opening.bytes (map (λ port. port.view) r.1.items)) }
+        ensures belong { IfOk result (λ r. (i : ℕ) (port : Standing) → slice_get r.1.items i ≡ Some port → BelongsTo K.good K.allows r.0.table.shared.key r.0.table.shared.table_id port) }
+        ensures why { IfErr result (λ error. MayNotOpen nodes error) }
+    {
+        if nodes < 1 || nodes > MOST_NODES {
+            return Err(OpenError::Nodes);
+        }
+        let setup = Setup {
+            label,
+            nodes,
+            opening,
+        };
+        let Ok((line, rest)) = RingLine::<K>::lay(alloc, &setup) else {
+            return Err(OpenError::Memory);
+        };
+        let Ok(ports) = deal(alloc, &line.table.shared, rest, &setup) else {
+            return Err(OpenError::Memory);
+        };
+        Ok((line, ports))
+    }
+
+    /// The line, and one seat for all nodes.
+    fn lay(alloc: Global, setup: &Setup) -> Result<(RingLine<K>, Place), AllocError>
+        requires nodes { setup.now.nodes ≤ 32 }
+        requires line { length setup.now.opening.bytes ≡ 64 }
+        requires good { K.good setup.now.opening.bytes }
+        ensures { IfOk result (λ t. (t.1.table_id ≡ t.0.table.shared.table_id) × (t.0.table.shared.key ≡ setup.now) × (t.1.me ≡ (newcomers setup.now, []))) }
+    {
+        let Setup {
+            label,
+            nodes,
+            opening,
+        } = *setup;
+        let words = first_words(alloc, WORDS)?;
+        let parcel = Parcel {
+            bytes: opening,
+            mask: Mask(0),
+        };
+        let slots = Vec::from_array(alloc, [Some(parcel)])?;
+        match Table::new(alloc, words.as_slice(), slots, setup) {
+            Ok((table, place)) => Ok((
+                RingLine {
+                    table,
+                    label,
+                    nodes,
+                },
+                place,
+            )),
+            Err(_) => Err(AllocError),
+        }
+    }
+}
+
+/// The words of a line that nobody has asked for: cell 0 is granted.
+fn first_words(alloc: Global, count: usize) -> Result<Vec<u64>, AllocError>
+    requires { count ≡ word_count }
+    ensures wide { IfOk result (λ words. length words.items ≡ word_count) }
+    ensures granted { IfOk result (λ words. slice_index words.items (cell_at 0) ≡ 1) }
+    ensures others { IfOk result (λ words. (i : ℕ) → i < word_count → i ≢ cell_at 0 → slice_index words.items i ≡ 0) }
+{
+    let mut words = vec![in alloc; 0u64; count]?;
+    words[cell_word(0)] = 1;
+    Ok(words)
+}
+
+/// A port for each node, from the seat that has the entries of all.
+fn deal<K: Keep>(
+    alloc: Global,
+    ground: &Ground<K>,
+    rest: Place,
+    setup: &Setup,
+) -> Result<Vec<Port>, AllocError>
+    requires table { (rest.table_id ≡ ground.now.table_id) × (0 < ground.now.table_id.words) × (setup.now.nodes ≤ 32) }
+    requires whole { rest.me ≡ (newcomers setup.now, []) }
+    ensures { IfOk result (λ ports. AreDealt ground.now.table_id setup.now setup.now.nodes ports.items) }
+{
+    let mut rest = rest;
+    let label = setup.label;
+    let mut ports = Vec::with_capacity(alloc, setup.nodes as usize)?;
+    for dealt in 0..setup.nodes {
+        let others = ground.split_seat::<Cut>(&mut rest);
+        let place = mem::replace(&mut rest, others);
+        ports.push(Port {
+            place,
+            stage: Stage::Idle,
+            label,
+            node: dealt + 1,
+        })?;
+    }
+    Ok(ports)
+}

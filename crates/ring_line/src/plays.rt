@@ -1,0 +1,87 @@
+//! What each step tells, and how seats are cut and joined.
+ghost use Rattle.std.specs.Prelude.{[], ◌++◌};
+ghost use Rattle.ring_line.specs.Steps.{asked, looked, darkened, granted, front, behind, met, parked};
+
+use crate::entry::Entry;
+use crate::rule::Parcel;
+use atomic_table::{Join, Play, Split};
+use qolb_model::Keep;
+use std::collections::LinkedList;
+use std::marker::PhantomData;
+
+/// A ticket is drawn.
+pub(crate) struct Ask<K> {
+    law: PhantomData<K>,
+}
+
+impl<K: Keep> Play<Option<Parcel>, LinkedList<Entry>> for Ask<K> {
+    ghost then = { asked K.allows };
+}
+
+/// The own cell is read.
+pub(crate) struct Look<K> {
+    law: PhantomData<K>,
+}
+
+impl<K: Keep> Play<Option<Parcel>, LinkedList<Entry>> for Look<K> {
+    ghost then = { looked K.allows };
+}
+
+/// The own cell is cleared.
+pub(crate) struct Clear;
+
+impl Play<Option<Parcel>, LinkedList<Entry>> for Clear {
+    ghost then = { darkened };
+}
+
+/// The next cell is granted.
+pub(crate) struct Grant<K> {
+    law: PhantomData<K>,
+}
+
+impl<K: Keep> Play<Option<Parcel>, LinkedList<Entry>> for Grant<K> {
+    ghost then = { granted K.allows };
+}
+
+/// Two ports, in one seat, compare what they know.
+pub(crate) struct Meet<K> {
+    law: PhantomData<K>,
+}
+
+impl<K: Keep> Play<Option<Parcel>, LinkedList<Entry>> for Meet<K> {
+    ghost then = { met K.allows };
+}
+
+/// A holder's empty slot goes home.
+pub(crate) struct Park;
+
+impl Play<Option<Parcel>, LinkedList<Entry>> for Park {
+    ghost then = { parked };
+}
+
+/// The first entry stays, and the others go to a new seat.
+pub(crate) struct Cut;
+
+impl Split<LinkedList<Entry>> for Cut {
+    ghost left = { front };
+
+    ghost right = { behind };
+}
+
+/// A new seat has no entry.
+pub(crate) struct Blank;
+
+impl Split<LinkedList<Entry>> for Blank {
+    ghost left = { λ es. es };
+
+    ghost right = { λ es. [] };
+}
+
+/// One seat takes in the entries of another.
+pub(crate) struct Glue;
+
+impl Join<LinkedList<Entry>> for Glue {
+    ghost both = { λ es fs. es ++ fs };
+
+    ghost spent = { [] };
+}
