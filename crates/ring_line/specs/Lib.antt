@@ -1,4 +1,5 @@
 pub mod Words
 pub mod Ring
 pub mod Steps
+pub mod Releases
 pub mod Ports

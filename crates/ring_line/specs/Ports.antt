@@ -1,63 +1,78 @@
 -- What a port knows and holds.
-use Rattle.std.specs.Prelude.{◌≡◌, ◌⊎◌, map, ℕ, ◌+◌, ◌-◌, ◌≤◌, ◌%◌, ◌<◌, length, List, [], ◌∷◌, Option, Some, None}
+use Rattle.std.specs.Prelude.{◌≡◌, ◌⊎◌, map, ℕ, ◌+◌, ◌*◌, ◌-◌, ◌≤◌, ◌%◌, ◌<◌, length, Bool, true, false, List, [], ◌∷◌, Option, Some, None}
 use Rattle.atomic_table.specs.declared.shared.Seat.{Seat}
 use Rattle.atomic_table.specs.Seated.{TableId}
+use Rattle.qolb_model.specs.declared.answer.PortState.{PortState}
 use Rattle.qolb_model.specs.declared.answer.PortState.TheVariants as shows
 use Rattle.qolb_model.specs.declared.answer.OpenError.{OpenError}
 use Rattle.qolb_model.specs.declared.answer.OpenError.TheVariants.{Nodes, Memory}
 use Rattle.qolb_model.specs.declared.view.View.{View}
 use Rattle.qolb_model.specs.declared.write.Write.{Write}
-use Rattle.qolb_model.specs.Ends.{written, bytes_after}
+use Rattle.qolb_model.specs.Ends.{is_closed, written, bytes_after}
 use Rattle.qolb_model.specs.Views.{bytes_of}
 use Rattle.qolb_model.specs.OneHistory.{OneHistory}
 use Rattle.qolb_model.specs.Sound.{IsSound}
 use Rattle.qolb_model.specs.Opening.{new_view}
-use Rattle.ring_line.specs.declared.entry.Point.TheVariants.{Idle, Queued, Holding}
+use Rattle.qolb_model.specs.Turns.{IsGranted}
+use Rattle.qolb_model.specs.LettingGo.{IsTold}
+use Rattle.ring_line.specs.declared.entry.Point.{Point}
+use Rattle.ring_line.specs.declared.entry.Point.TheVariants.{Idle, Queued, Holding, Lit, Dark, Freeing, Rolled}
 use Rattle.ring_line.specs.declared.entry.Entry.{Entry}
 use Rattle.ring_line.specs.declared.rule.Parcel.{Parcel}
 use Rattle.ring_line.specs.declared.rule.Setup.{Setup}
-use Rattle.ring_line.specs.declared.port.Stage.{Stage}
-use Rattle.ring_line.specs.declared.port.Stage.TheVariants as stage
 use Rattle.ring_line.specs.Ring.{At, newcomers_from}
-use Rattle.ring_line.specs.Steps.{Alone, entry_of, IsEarly, Comes}
+use Rattle.ring_line.specs.Steps.{Alone, entry_of, write_of}
 
--- a port as contracts see it: its table, what it knows, and the turn's write where it holds the line
+-- a port as contracts see it: its table, what it knows, the line's bytes where it holds it with the mask of the turn's writes,
+-- and how many word steps its last call took
 pub record Standing : Type 0 where
   pub table : TableId
   pub view : View
   pub turn : Write
+  pub steps : ℕ
 
 abbrev pub Spot : Type 0
-Spot = Seat (Option Parcel) (List Entry)
+Spot = Seat Parcel (List Entry)
 
--- what the turn wrote
-abbrev pub write_of : Parcel → Write
-write_of y = record { mask = y.mask; bytes = y.bytes }
-
-abbrev pub write_in : Stage → Write
-write_in stage.Idle = record { mask = record { 0 = 0 }; bytes = record { bytes = [] } }
-write_in (stage.Queued c) = record { mask = record { 0 = 0 }; bytes = record { bytes = [] } }
-write_in (stage.Holding c y) = write_of y
-
-abbrev pub standing : Spot → Stage → Standing
-standing s g = record { table = s.table_id; view = (entry_of s).view; turn = write_in g }
+abbrev pub standing : Spot → Parcel → ℕ → Standing
+standing s y steps = record { table = s.table_id; view = (entry_of s).view; turn = write_of y; steps = steps }
 
 -- the turn's bytes are those of the earlier ends, changed under the mask
 abbrev pub IsMerged : View → Parcel → Type 0
 IsMerged v y = written (bytes_of v) (write_of y) ≡ y.bytes.bytes
 
-abbrev pub Stands : Spot → Stage → Type 0
-Stands s stage.Idle = ((entry_of s).point ≡ Idle) × ((entry_of s).view.state ≡ shows.Idle) × (s.me.1 ≡ [])
-Stands s (stage.Queued c) = ((entry_of s).point ≡ Queued) × ((entry_of s).view.state ≡ shows.Queued) × (s.me.1 ≡ []) × (c ≡ (entry_of s).place % 128)
-Stands s (stage.Holding c y) = ((entry_of s).point ≡ Holding) × ((entry_of s).view.state ≡ shows.Holding) × (s.me.1 ≡ (0, None) ∷ []) × (c ≡ (entry_of s).place % 128) × IsMerged (entry_of s).view y
+-- the port has the slot, and its own copy of the open line, which it may have written
+pub record Holds (s : Spot) (y : Parcel) (cell : ℕ) : Type 0 where
+  pub point : (entry_of s).point ≡ Holding
+  pub none_passed : (entry_of s).passed ≡ []
+  pub slot : Parcel
+  pub carried : s.me.1 ≡ (0, slot) ∷ []
+  pub cell_is : cell ≡ length (entry_of s).view.ends % 128
+  pub merged : IsMerged (entry_of s).view y
+  pub is_open : is_closed (entry_of s).view.ends ≡ false
+  pub unclosed : y.closed ≡ false
 
-abbrev pub IsPort : ℕ → ℕ → Spot → Stage → Type 0
-IsPort label node s g = Alone s.me × Stands s g × ((entry_of s).view.label ≡ label) × ((entry_of s).view.node ≡ node)
+-- where the port's node is in its calls, by the port's state; no port is ever Linking or Left
+abbrev pub Stands : Spot → Parcel → ℕ → PortState → Type 0
+Stands s y cell shows.Idle = ((entry_of s).point ≡ Idle) × (s.me.1 ≡ [])
+Stands s y cell shows.Linking = ⊥
+Stands s y cell shows.Queued = ((entry_of s).point ≡ Queued) × (s.me.1 ≡ []) × (cell ≡ (entry_of s).place % 128)
+Stands s y cell shows.Holding = Holds s y cell
+Stands s y cell shows.Left = ⊥
+Stands s y cell shows.Rolled = ((entry_of s).point ≡ Rolled) × (s.me.1 ≡ [])
+Stands s y cell shows.Shut = ((entry_of s).point ≡ Idle) × (s.me.1 ≡ [])
 
--- after a look at the cell: the line is out of the slot, with no mask, or it has not come
-abbrev pub Came : Entry → Spot → Option Parcel → Type 0
-Came v s None = (s.me.1 ≡ []) × IsEarly v (entry_of s)
-Came v s (Some y) = (s.me.1 ≡ (0, None) ∷ []) × (y.mask.0 ≡ 0) × Comes v (entry_of s) y
+pub record IsPort (label node : ℕ) (s : Spot) (y : Parcel) (cell : ℕ) (state : PortState) : Type 0 where
+  pub alone : Alone s.me
+  pub stands : Stands s y cell state
+  pub shows_state : (entry_of s).view.state ≡ state
+  pub label_is : (entry_of s).view.label ≡ label
+  pub node_is : (entry_of s).view.node ≡ node
+
+-- the line has arrived: it is in the port's hand, open and not written; or, closed, it was passed on in that many word steps
+abbrev pub Arrived : Spot → Parcel → ℕ → Option ℕ → Type 0
+Arrived s y cell None = Holds s y cell × ((entry_of s).view.state ≡ shows.Holding) × IsGranted (entry_of s).view (write_of y)
+Arrived s y cell (Some steps) = ((entry_of s).point ≡ Idle) × (s.me.1 ≡ []) × ((entry_of s).view.state ≡ shows.Shut) × IsTold (entry_of s).view × (steps + 1 ≤ 3 * (entry_of s).view.nodes)
 
 -- the port was opened with the line of this table
 pub record BelongsTo (good : List ℕ → Type 0) (allows : List ℕ → List ℕ → Type 0) (key : Setup) (table_id : TableId) (p : Standing) : Type 0 where
@@ -67,7 +82,7 @@ pub record BelongsTo (good : List ℕ → Type 0) (allows : List ℕ → List �
 -- the ports of the first n nodes, which never asked
 pub record AreDealt (table_id : TableId) (about : Setup) (n : ℕ) (ports : List Standing) : Type 0 where
   pub many : length ports ≡ n
-  pub each : (k : ℕ) (p : Standing) → At ports k p → (p.table ≡ table_id) × (p.view ≡ new_view about.label about.nodes about.opening.bytes (k + 1))
+  pub each : (k : ℕ) (p : Standing) → At ports k p → (p.table ≡ table_id) × (p.view ≡ new_view about.label about.nodes about.opening.bytes (k + 1)) × (p.steps ≡ 0)
 
 -- the ports of the first n nodes are dealt, and the seat `rest` has the others' entries
 pub record Deals (table_id : TableId) (about : Setup) (n : ℕ) (rest : Spot) (ports : List Standing) : Type 0 where
@@ -80,9 +95,19 @@ abbrev pub MayNotOpen : ℕ → OpenError → Type 0
 MayNotOpen nodes Nodes = (nodes ≡ 0) ⊎ (32 < nodes)
 MayNotOpen nodes Memory = (1 ≤ nodes) × (nodes ≤ 32)
 
--- each node has an entry among these, and none has an open request
-abbrev pub AllIdle : ℕ → List Entry → Type 0
-AllIdle nodes entries = (n : ℕ) → 0 < n → n ≤ nodes → (i : ℕ) × (e : Entry) × At entries i e × (e.view.node ≡ n) × (e.point ≡ Idle)
+-- the node is in no call, and neither waits nor holds
+abbrev pub is_at_rest : Point → Bool
+is_at_rest Idle = true
+is_at_rest Queued = false
+is_at_rest Holding = false
+is_at_rest Lit = false
+is_at_rest Dark = false
+is_at_rest Freeing = false
+is_at_rest Rolled = true
+
+-- each node has an entry among these, and each is at rest
+abbrev pub AllAtRest : ℕ → List Entry → Type 0
+AllAtRest nodes entries = (n : ℕ) → 0 < n → n ≤ nodes → (i : ℕ) × (e : Entry) × At entries i e × (e.view.node ≡ n) × (is_at_rest e.point ≡ true)
 
 -- all these are of one history in which every request has ended, and the bytes are those after all ends
 pub record IsLast (opening : List ℕ) (entries : List Entry) (bytes : List ℕ) : Type 0 where

@@ -1,24 +1,22 @@
 -- The rule of the ring's table.
-use Rattle.std.specs.Prelude.{◌≡◌, ◌≢◌, ℕ, zero, suc, ◌%◌, ◌^◌, ◌<◌, ◌≤◌, List, [], ◌∷◌, length, drop, slice_index, slice_get, Bool, true, false, Option, Some}
+use Rattle.std.specs.Prelude.{◌≡◌, ◌≢◌, ◌⊎◌, ℕ, zero, suc, ◌+◌, ◌*◌, ◌%◌, ◌^◌, ◌<◌, ◌≤◌, List, [], ◌∷◌, length, slice_index, slice_get, Bool, true, false, if◌then◌else◌, Some}
 use mathlib.Core.List.{IsPrefix}
 use mathlib.Core.Option.{some}
 use mathlib.Core.Option as maybe
 use lib.ListN.{get_elem?}
 use Rattle.atomic_table.specs.Table.{State}
-use Rattle.qolb_model.specs.declared.answer.PortState.{PortState}
 use Rattle.qolb_model.specs.declared.answer.PortState.TheVariants as shows
 use Rattle.qolb_model.specs.declared.request.Request.{Request}
-use Rattle.qolb_model.specs.declared.write.Write.{Write}
 use Rattle.qolb_model.specs.declared.end.End.{End}
-use Rattle.qolb_model.specs.declared.end.End.TheVariants.{Served}
-use Rattle.qolb_model.specs.Requests.{Has, count_of}
-use Rattle.qolb_model.specs.Ends.{bytes_after}
+use Rattle.qolb_model.specs.Requests.{Has, Lacks, has, count_of}
+use Rattle.qolb_model.specs.Ends.{is_closed, bytes_after}
+use Rattle.qolb_model.specs.EndKinds.{is_gone}
 use Rattle.qolb_model.specs.Histories.{IsLegal, Clears}
 use Rattle.qolb_model.specs.Views.{own}
 use Rattle.qolb_model.specs.Kept.{AreAllowed}
 use Rattle.qolb_model.specs.Opening.{new_view}
 use Rattle.ring_line.specs.declared.entry.Point.{Point}
-use Rattle.ring_line.specs.declared.entry.Point.TheVariants.{Idle, Queued, Holding, Cleared}
+use Rattle.ring_line.specs.declared.entry.Point.TheVariants.{Idle, Queued, Holding, Lit, Dark, Freeing, Rolled}
 use Rattle.ring_line.specs.declared.entry.Entry.{Entry}
 use Rattle.ring_line.specs.declared.rule.Setup.{Setup}
 use Rattle.ring_line.specs.declared.rule.Parcel.{Parcel}
@@ -29,7 +27,7 @@ abbrev pub At : {A : Type 0} → List A → ℕ → A → Type 0
 At xs p x = slice_get xs p ≡ Some x
 
 abbrev pub newcomer : Setup → ℕ → Entry
-newcomer about n = record { view = new_view about.label about.nodes about.opening.bytes n; point = Idle; place = 0 }
+newcomer about n = record { view = new_view about.label about.nodes about.opening.bytes n; point = Idle; place = 0; passed = [] }
 
 -- the nodes n+1 .. n+k
 abbrev pub newcomers_from : Setup → ℕ → ℕ → List Entry
@@ -39,26 +37,71 @@ newcomers_from about n (suc k) = newcomer about (suc n) ∷ newcomers_from about
 abbrev pub newcomers : Setup → List Entry
 newcomers about = newcomers_from about 0 about.nodes
 
--- the state that a node shows at each point
-abbrev pub state_at : Point → PortState
-state_at Idle = shows.Idle
-state_at Queued = shows.Queued
-state_at Holding = shows.Holding
-state_at Cleared = shows.Holding
-
+-- the node has the line
 abbrev pub has_line : Point → Bool
 has_line Idle = false
 has_line Queued = false
 has_line Holding = true
-has_line Cleared = true
+has_line Lit = true
+has_line Dark = true
+has_line Freeing = false
+has_line Rolled = false
 
--- the line's history, who has the line (0: nobody), and 1 unless the granted cell is cleared
+-- the node is in a release
+abbrev pub lets_go : Point → Bool
+lets_go Idle = false
+lets_go Queued = false
+lets_go Holding = false
+lets_go Lit = true
+lets_go Dark = true
+lets_go Freeing = true
+lets_go Rolled = false
+
+-- the node's last request is not clear, and not withdrawn
+abbrev pub is_kept : Point → Bool
+is_kept Idle = false
+is_kept Queued = true
+is_kept Holding = true
+is_kept Lit = true
+is_kept Dark = true
+is_kept Freeing = true
+is_kept Rolled = false
+
+abbrev pub is_dark : Point → Bool
+is_dark Idle = false
+is_dark Queued = false
+is_dark Holding = false
+is_dark Lit = false
+is_dark Dark = true
+is_dark Freeing = false
+is_dark Rolled = false
+
+-- The line's history; who has the line (0: nobody); whether the cell at its turn is cleared; the node that withdrew the request
+-- at a place, or 0; the node whose release passed the request at a place; the word of each node.
 pub record Past : Type 0 where
   pub order : List Request
   pub ends : List End
   pub clear : List Request
   pub hand : ℕ
-  pub lamp : ℕ
+  pub dark : Bool
+  pub marks : ℕ → ℕ
+  pub passer : ℕ → ℕ
+  pub flags : ℕ → ℕ
+
+-- The node n, whose entry is e, has passed the request at the place p and has not freed its node. (Each request has one passer,
+-- so the lists of different releases share no place.)
+pub record HasPassed (x : Past) (n : ℕ) (e : Entry) (p : ℕ) : Type 0 where
+  pub in_release : lets_go e.point ≡ true
+  pub passer : x.passer p ≡ n
+  pub within : p ≤ length x.ends
+  pub marked : 0 < x.marks p
+  pub request : Request
+  pub at : At e.view.order p request
+  pub unclear : Lacks x.clear request
+
+-- In a release with the line, the request at its turn is the node's own and nothing was passed, or it is withdrawn and passed.
+abbrev pub Walks : Past → Entry → Type 0
+Walks x e = ((e.place ≡ length x.ends) × (e.passed ≡ [])) ⊎ ((e.place < length x.ends) × (0 < x.marks (length x.ends)) × (e.passed ≢ []))
 
 -- what holds of the node n, whose entry is e
 pub record NodeOk (about : Setup) (x : Past) (n : ℕ) (e : Entry) : Type 0 where
@@ -66,23 +109,35 @@ pub record NodeOk (about : Setup) (x : Past) (n : ℕ) (e : Entry) : Type 0 wher
   pub label : e.view.label ≡ about.label
   pub nodes : e.view.nodes ≡ about.nodes
   pub opening : e.view.opening ≡ about.opening
-  pub state : e.view.state ≡ state_at e.point
   pub orders : IsPrefix e.view.order x.order
   pub endings : IsPrefix e.view.ends x.ends
   pub clears : IsPrefix e.view.clear x.clear
   pub counts : count_of n x.order ≡ e.view.count
-  pub rests : e.point ≡ Idle → count_of n (drop (length x.ends) x.order) ≡ 0
-  pub waits : e.point ≢ Idle → At e.view.order e.place (own e.view) × (length x.ends ≤ e.place) × (count_of n (drop (length x.ends) x.order) ≡ 1)
-  pub holds : has_line e.point ≡ true → (e.place ≡ length x.ends) × (e.view.ends ≡ x.ends) × (x.hand ≡ n)
+  pub asked : e.point ≢ Idle → 0 < e.view.count
+  pub placed : 0 < e.view.count → At e.view.order e.place (own e.view)
+  pub last_open : (p : ℕ) (r : Request) → At x.order p r → r.node ≡ n → length x.ends ≤ p → (0 < e.view.count) × (p ≡ e.place)
+  pub idle : e.point ≡ Idle → 0 < e.view.count → (e.place < length x.ends) × Has e.view.clear (own e.view)
+  pub queued : e.point ≡ Queued → length x.ends ≤ e.place
+  pub holding : e.point ≡ Holding → e.place ≡ length x.ends
+  pub walking : lets_go e.point ≡ true → has_line e.point ≡ true → Walks x e
+  pub freeing : e.point ≡ Freeing → (e.place < length x.ends) × ((i p : ℕ) → At e.passed i p → p < length x.ends)
+  pub unmarked : is_kept e.point ≡ true → x.marks e.place ≡ 0
+  pub rolled : e.point ≡ Rolled → x.marks e.place ≡ n
+  pub holds : has_line e.point ≡ true → (e.view.ends ≡ x.ends) × (x.hand ≡ n) × (x.dark ≡ is_dark e.point)
   pub lacks : has_line e.point ≡ false → x.hand ≢ n
-  pub dark : e.point ≡ Cleared → x.lamp ≡ 0
-  pub lit : e.point ≡ Holding → x.lamp ≡ 1
-  pub own_ends : (p : ℕ) (r : Request) → At x.order p r → r.node ≡ n → p < length x.ends → p < length e.view.ends
-  pub own_clear : e.point ≡ Idle → 0 < e.view.count → Has e.view.clear (own e.view)
+  pub holder : e.view.state ≡ shows.Holding → (has_line e.point ≡ true) × (e.place ≡ length x.ends)
+  pub passed : (i p : ℕ) → At e.passed i p → HasPassed x n e p
+  pub passed_once : (i j p : ℕ) → At e.passed i p → At e.passed j p → i ≡ j
+  pub own_ends : (p : ℕ) (r : Request) (end : End) → At x.order p r → r.node ≡ n → At x.ends p end → is_gone end ≡ false → p < length e.view.ends
+  pub own_marks : (p : ℕ) (r : Request) → At x.order p r → r.node ≡ n → 0 < x.marks p → Has e.view.marked r
+  -- a withdrawn request that is not clear is its node's last
+  pub marked_last : (p : ℕ) (r : Request) → At x.order p r → r.node ≡ n → 0 < x.marks p → Lacks x.clear r → (e.point ≡ Rolled) × (e.place ≡ p)
+  pub own_flag : e.point ≡ Rolled → x.flags n ≡ (if has x.clear (own e.view) then 1 else 0)
+  pub no_flag : e.point ≢ Rolled → x.flags n ≡ 0
   pub own_joined : (p : ℕ) (r : Request) → At x.order p r → r.node ≡ n → Has e.view.joined r
   pub all_joined : (r : Request) → Has e.view.joined r → Has x.order r
-  pub unmarked : e.view.marked ≡ []
-  pub unfreed : e.view.freed ≡ []
+  pub all_marked : (r : Request) → Has e.view.marked r → (p : ℕ) × At x.order p r × (0 < x.marks p)
+  pub freed_clear : (r : Request) → Has e.view.freed r → Has e.view.clear r
 
 -- the entry at the i-th place of the seat j
 pub record Member (nodes : ℕ) (who : ℕ → Entry) (owner : ℕ → ℕ × ℕ) (j i : ℕ) (e : Entry) : Type 0 where
@@ -96,25 +151,28 @@ module _ (good : List ℕ → Type 0) (allows : List ℕ → List ℕ → Type 0
   pub record PastOk (x : Past) : Type 0 where
     pub legal : IsLegal x.order x.ends
     pub nodes : (p : ℕ) (r : Request) → At x.order p r → (0 < r.node) × (r.node ≤ about.nodes)
-    pub served : (p : ℕ) (e : End) → At x.ends p e → (w : Write) × (e ≡ Served w false)
     pub kept : AreAllowed allows about.opening.bytes x.ends
     pub sound : good (bytes_after about.opening.bytes x.ends)
-    pub nobody : x.hand ≡ 0 → x.lamp ≡ 1
     pub within : x.hand ≤ about.nodes
     pub cleared : Clears x.order (length x.ends) [] x.clear
-    pub all_clear : (p : ℕ) (r : Request) → At x.order p r → p < length x.ends → Has x.clear r
+    -- where nobody has the line, the cell at its turn is granted, the request there is not withdrawn, and the one before is settled
+    pub nobody : x.hand ≡ 0 → (x.dark ≡ false) × (x.marks (length x.ends) ≡ 0)
+    pub settled : x.hand ≡ 0 → (p : ℕ) (r : Request) (end : End) → p + 1 ≡ length x.ends → At x.order p r → At x.ends p end → is_gone end ≡ false → Has x.clear r
+    pub marked : (p : ℕ) → 0 < x.marks p → (r : Request) × At x.order p r × (r.node ≡ x.marks p)
+    pub gone : (p : ℕ) (end : End) → At x.ends p end → (is_gone end ≡ true → 0 < x.marks p) × (0 < x.marks p → is_gone end ≡ true)
 
-  -- the words and the slot
-  pub record Shown (x : Past) (words : List ℕ) (homes : List (maybe.Option (Option Parcel))) : Type 0 where
+  -- The words and the slot. A cell behind the one at its turn has the mark of its request.
+  pub record Shown (x : Past) (words : List ℕ) (homes : List (maybe.Option Parcel)) : Type 0 where
     pub wide : length words ≡ word_count
     pub deep : length homes ≡ 1
     pub ticket : slice_index words ticket_at ≡ length x.order % 2 ^ 64
-    pub here : slice_index words (cell_at (length x.ends % 128)) ≡ x.lamp
-    pub others : (c : ℕ) → c < 128 → c ≢ length x.ends % 128 → slice_index words (cell_at c) ≡ 0
-    pub flags : (n : ℕ) → 0 < n → n ≤ 32 → slice_index words (node_at n) ≡ 0
-    pub home : x.hand ≡ 0 → (y : Parcel) × (get_elem? homes 0 ≡ some (some (Some y))) × (y.bytes.bytes ≡ bytes_after about.opening.bytes x.ends)
+    pub dark : x.dark ≡ true → slice_index words (cell_at (length x.ends % 128)) ≡ 0
+    pub lit : x.hand ≡ 0 → slice_index words (cell_at (length x.ends % 128)) ≡ 1
+    pub later : (k : ℕ) → 0 < k → k < 128 → slice_index words (cell_at ((length x.ends + k) % 128)) ≡ 256 * x.marks (length x.ends + k)
+    pub flags : (n : ℕ) → 0 < n → n ≤ 32 → slice_index words (node_at n) ≡ x.flags n
+    pub home : x.hand ≡ 0 → (y : Parcel) × (get_elem? homes 0 ≡ some (some y)) × (y.bytes.bytes ≡ bytes_after about.opening.bytes x.ends) × (y.closed ≡ is_closed x.ends)
 
-  pub record RingRule (s : State (Option Parcel) (List Entry)) : Type 0 where
+  pub record RingRule (s : State Parcel (List Entry)) : Type 0 where
     pub past : Past
     pub who : ℕ → Entry
     pub owner : ℕ → ℕ × ℕ

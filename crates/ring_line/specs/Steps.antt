@@ -1,40 +1,51 @@
 -- What each step of a port tells it.
-use Rattle.std.specs.Prelude.{◌≡◌, ◌≢◌, ℕ, ◌%◌, ◌<◌, List, [], ◌∷◌, ◌++◌, length, Option, Some, None, false}
+use Rattle.std.specs.Prelude.{◌≡◌, ◌≢◌, ℕ, ◌+◌, ◌/◌, ◌%◌, ◌<◌, ◌≤◌, List, [], ◌∷◌, ◌++◌, length, Bool, true, false, Some}
 use Rattle.atomic_table.specs.Table.{Me, Step}
 use Rattle.atomic_table.specs.declared.shared.Seat.{Seat}
+use Rattle.qolb_model.specs.declared.answer.PortState.{PortState}
 use Rattle.qolb_model.specs.declared.answer.PortState.TheVariants as shows
+use Rattle.qolb_model.specs.declared.request.Request.{Request}
+use Rattle.qolb_model.specs.declared.write.Write.{Write}
 use Rattle.qolb_model.specs.declared.view.View.{View}
-use Rattle.qolb_model.specs.declared.end.End.TheVariants.{Served}
-use Rattle.qolb_model.specs.Requests.{Has}
-use Rattle.qolb_model.specs.Ends.{is_closed}
+use Rattle.qolb_model.specs.declared.end.End.{End}
+use Rattle.qolb_model.specs.declared.end.End.TheVariants.{Served, Gone, Told}
+use Rattle.qolb_model.specs.Requests.{Has, Lacks}
+use Rattle.qolb_model.specs.Ends.{is_closed, bytes_after}
+use Rattle.qolb_model.specs.Histories.{turn_of}
 use Rattle.qolb_model.specs.Views.{own, bytes_of}
 use Rattle.qolb_model.specs.OneHistory.{OneHistory}
+use Rattle.qolb_model.specs.Kept.{AreAllowed}
 use Rattle.qolb_model.specs.Sound.{Continues}
 use Rattle.qolb_model.specs.Asking.{Asks}
 use Rattle.qolb_model.specs.Turns.{IsClearBefore}
-use Rattle.qolb_model.specs.LettingGo.{Releases}
 use Rattle.qolb_model.specs.Meeting.{longer}
-use Rattle.ring_line.specs.declared.entry.Point.TheVariants.{Idle, Queued, Holding, Cleared}
+use Rattle.ring_line.specs.declared.entry.Point.{Point}
+use Rattle.ring_line.specs.declared.entry.Point.TheVariants.{Idle, Queued, Holding, Lit, Dark, Freeing, Rolled}
 use Rattle.ring_line.specs.declared.entry.Entry.{Entry}
 use Rattle.ring_line.specs.declared.rule.Parcel.{Parcel}
 use Rattle.ring_line.specs.Ring.{At}
 
 abbrev pub nothing : Entry
-nothing = record { view = record { label = 0; nodes = 0; opening = record { bytes = [] }; node = 0; count = 0; state = shows.Idle; order = []; ends = []; clear = []; joined = []; marked = []; freed = [] }; point = Idle; place = 0 }
+nothing = record {
+  view = record { label = 0; nodes = 0; opening = record { bytes = [] }; node = 0; count = 0; state = shows.Idle; order = []; ends = []; clear = []; joined = []; marked = []; freed = [] };
+  point = Idle;
+  place = 0;
+  passed = [];
+}
 
 abbrev pub sole : List Entry → Entry
 sole [] = nothing
 sole (e ∷ es) = e
 
 abbrev pub Sat : Type 0
-Sat = Me (Option Parcel) (List Entry)
+Sat = Me Parcel (List Entry)
 
 -- the seat has one entry alone
 abbrev pub Alone : Sat → Type 0
 Alone m = m.0 ≡ sole m.0 ∷ []
 
 -- the entry of a seat that has one
-abbrev pub entry_of : Seat (Option Parcel) (List Entry) → Entry
+abbrev pub entry_of : Seat Parcel (List Entry) → Entry
 entry_of s = sole s.me.0
 
 -- the node asked, and knows all that came before
@@ -59,33 +70,135 @@ pub record Comes (v w : Entry) (y : Parcel) : Type 0 where
   pub state : w.view.state ≡ shows.Holding
   pub count : w.view.count ≡ v.view.count
   pub place : w.place ≡ v.place
+  pub here : w.place ≡ length w.view.ends
+  pub passed : w.passed ≡ []
   pub turn : At w.view.order (length w.view.ends) (own w.view)
-  pub is_open : is_closed w.view.ends ≡ false
   pub clear : IsClearBefore w.view (length w.view.ends)
   pub bytes : y.bytes.bytes ≡ bytes_of w.view
+  pub closed : y.closed ≡ is_closed w.view.ends
   pub line : length y.bytes.bytes ≡ 64
 
--- the request has ended, served with the parcel's write
-pub record Ended (v w : Entry) (y : Parcel) : Type 0 where
-  pub point : w.point ≡ Idle
-  pub state : w.view.state ≡ shows.Idle
-  pub releases : Releases v.view (Served (record { mask = y.mask; bytes = y.bytes }) false) shows.Idle w.view
+-- the request has not come to its turn, and is withdrawn
+pub record IsRolled (v w : Entry) : Type 0 where
+  pub point : w.point ≡ Rolled
+  pub state : w.view.state ≡ shows.Rolled
+  pub count : w.view.count ≡ v.view.count
+  pub place : w.place ≡ v.place
+  pub placed : At w.view.order w.place (own w.view)
+  pub early : length w.view.ends < w.place
+  pub marked : Has w.view.marked (own w.view)
 
-abbrev pub darkened : Step (Option Parcel) → Sat → ℕ → Sat → Type 0
-darkened st m n m' = m' ≡ (record (sole m.0) { point = Cleared } ∷ [], m.1)
+-- the withdrawn request is clear, or it is not
+pub record IsStill (v : Entry) (found : ℕ) (w : Entry) : Type 0 where
+  pub point : w.point ≡ Rolled
+  pub state : w.view.state ≡ v.view.state
+  pub count : w.view.count ≡ v.view.count
+  pub unclear : found ≡ 0 → Lacks w.view.clear (own w.view)
+  pub clear : found ≢ 0 → Has w.view.clear (own w.view)
+
+-- what the turn wrote
+abbrev pub write_of : Parcel → Write
+write_of y = record { mask = y.mask; bytes = y.bytes }
+
+-- the end of a holder's own request: on a closed line it was told so, else it was served with the turn's write
+abbrev pub own_end : Bool → Parcel → End
+own_end true y = Told
+own_end false y = Served (write_of y) y.closed
+
+-- the end that the next grant puts: of the node's own request where it has passed none, else of a withdrawn one
+abbrev pub end_of : List ℕ → Bool → Parcel → End
+end_of [] closed y = own_end closed y
+end_of (p ∷ ps) closed y = Gone
+
+abbrev pub next_end : Entry → Parcel → End
+next_end v y = end_of v.passed (is_closed v.view.ends) y
+
+-- the state that a release of this line leaves
+abbrev pub left_by : Bool → PortState
+left_by false = shows.Idle
+left_by true = shows.Shut
+
+-- a release ends here where no passed node is to be freed
+abbrev pub after_walk : List ℕ → Point
+after_walk [] = Idle
+after_walk (p ∷ ps) = Freeing
+
+-- the line that a release carries is the one after the end that it will put next, and the law allows that end
+pub record Carries (allows : List ℕ → List ℕ → Type 0) (v : Entry) (y : Parcel) : Type 0 where
+  pub bytes : bytes_after v.view.opening.bytes (v.view.ends ++ next_end v y ∷ []) ≡ y.bytes.bytes
+  pub closed : is_closed (v.view.ends ++ next_end v y ∷ []) ≡ y.closed
+  pub allowed : AreAllowed allows (bytes_of v.view) (next_end v y ∷ [])
+
+-- the request at its turn has ended
+pub record Ended (v w : Entry) (y : Parcel) : Type 0 where
+  pub ends : w.view.ends ≡ v.view.ends ++ next_end v y ∷ []
+  pub state : w.view.state ≡ left_by y.closed
+  pub count : w.view.count ≡ v.view.count
+  pub own_turn : v.passed ≡ [] → At w.view.order (length v.view.ends) (own w.view)
+
+-- the next request is not withdrawn, and the line is at home
+pub record GoesHome (v w : Entry) : Type 0 where
+  pub point : w.point ≡ after_walk v.passed
+  pub passed : w.passed ≡ v.passed
+  pub unmarked : (r : Request) → turn_of w.view.order w.view.ends ≡ Some r → Lacks w.view.marked r
+  pub clear : v.passed ≡ [] → Has w.view.clear (own w.view)
+
+-- the next request is withdrawn: the line stays with the node, which passes that request
+pub record Passes (v : Entry) (found : ℕ) (w : Entry) : Type 0 where
+  pub point : w.point ≡ Lit
+  pub passed : w.passed ≡ v.passed ++ length w.view.ends ∷ []
+  pub request : Request
+  pub at : At w.view.order (length w.view.ends) request
+  pub node : request.node ≡ found / 256
+  pub high : request.node ≤ w.view.nodes
+  pub few : length w.passed + 1 ≤ w.view.nodes
+  pub nodes : w.view.nodes ≤ 32
+
+-- the node of the first passed request is free, and that request clear; ps are the passed ones that are left
+pub record Frees (v : Entry) (ps : List ℕ) (r : Request) (w : Entry) : Type 0 where
+  pub point : w.point ≡ after_walk ps
+  pub passed : w.passed ≡ ps
+  pub state : w.view.state ≡ v.view.state
+  pub count : w.view.count ≡ v.view.count
+  pub order : w.view.order ≡ v.view.order
+  pub ends : w.view.ends ≡ v.view.ends
+  pub marked : w.view.marked ≡ v.view.marked
+  pub freed : Has w.view.freed r
+  pub clear : Has w.view.clear r
+  pub own_clear : ps ≡ [] → Has w.view.clear (own w.view)
+
+abbrev pub darkened : Step Parcel → Sat → ℕ → Sat → Type 0
+darkened st m n m' = m' ≡ (record (sole m.0) { point = Dark } ∷ [], m.1)
+
+abbrev pub reset : Step Parcel → Sat → ℕ → Sat → Type 0
+reset st m n m' = m' ≡ (record (sole m.0) { point = Idle } ∷ [], m.1)
 
 module _ (allows : List ℕ → List ℕ → Type 0) where
-  abbrev pub asked : Step (Option Parcel) → Sat → ℕ → Sat → Type 0
+  abbrev pub asked : Step Parcel → Sat → ℕ → Sat → Type 0
   asked st m n m' = Alone m' × (m'.1 ≡ m.1) × Continues allows (sole m.0).view (sole m'.0).view × Asked (sole m.0) n (sole m'.0)
 
-  abbrev pub looked : Step (Option Parcel) → Sat → ℕ → Sat → Type 0
+  abbrev pub looked : Step Parcel → Sat → ℕ → Sat → Type 0
   looked st m n m' = Alone m' × Continues allows (sole m.0).view (sole m'.0).view
       × (n ≡ 0 → (m'.1 ≡ m.1) × IsEarly (sole m.0) (sole m'.0))
-      × (n ≢ 0 → (y : Parcel) × (m'.1 ≡ (0, Some y) ∷ m.1) × Comes (sole m.0) (sole m'.0) y)
+      × (n ≢ 0 → (y : Parcel) × (m'.1 ≡ (0, y) ∷ m.1) × Comes (sole m.0) (sole m'.0) y)
 
-  abbrev pub granted : Step (Option Parcel) → Sat → ℕ → Sat → Type 0
+  abbrev pub rolled : Step Parcel → Sat → ℕ → Sat → Type 0
+  rolled st m n m' = Alone m' × Continues allows (sole m.0).view (sole m'.0).view
+      × (n ≡ 0 → (m'.1 ≡ m.1) × IsRolled (sole m.0) (sole m'.0))
+      × (n ≢ 0 → (y : Parcel) × (m'.1 ≡ (0, y) ∷ m.1) × Comes (sole m.0) (sole m'.0) y)
+
+  abbrev pub granted : Step Parcel → Sat → ℕ → Sat → Type 0
   granted st m n m' = Alone m' × Continues allows (sole m.0).view (sole m'.0).view
-      × ((y : Parcel) → m.1 ≡ (0, Some y) ∷ [] → (m'.1 ≡ []) × Ended (sole m.0) (sole m'.0) y)
+      × ((y : Parcel) → m.1 ≡ (0, y) ∷ [] → Ended (sole m.0) (sole m'.0) y)
+      × (n ≡ 0 → ((y : Parcel) → m.1 ≡ (0, y) ∷ [] → m'.1 ≡ []) × GoesHome (sole m.0) (sole m'.0))
+      × (n ≢ 0 → (m'.1 ≡ m.1) × Passes (sole m.0) n (sole m'.0))
+
+  abbrev pub freed : Step Parcel → Sat → ℕ → Sat → Type 0
+  freed st m n m' = Alone m' × (m'.1 ≡ m.1) × Continues allows (sole m.0).view (sole m'.0).view
+      × ((q : ℕ) (ps : List ℕ) (r : Request) → (sole m.0).passed ≡ q ∷ ps → At (sole m.0).view.order q r → Frees (sole m.0) ps r (sole m'.0))
+
+  abbrev pub asked_free : Step Parcel → Sat → ℕ → Sat → Type 0
+  asked_free st m n m' = Alone m' × (m'.1 ≡ m.1) × Continues allows (sole m.0).view (sole m'.0).view × IsStill (sole m.0) n (sole m'.0)
 
 abbrev pub front : List Entry → List Entry
 front [] = []
@@ -103,12 +216,12 @@ abbrev pub informed : Entry → Entry → Entry
 informed v u = record v { view = informed_view v.view u.view }
 
 -- two ports of one line compare what they know
-abbrev pub met : (List ℕ → List ℕ → Type 0) → Step (Option Parcel) → Sat → ℕ → Sat → Type 0
+abbrev pub met : (List ℕ → List ℕ → Type 0) → Step Parcel → Sat → ℕ → Sat → Type 0
 met allows st m n m' = let v = sole m.0 in let u = sole (behind m.0) in
     (m' ≡ (informed v u ∷ informed u v ∷ [], m.1)) × OneHistory (v.view ∷ u.view ∷ []) × OneHistory (informed_view v.view u.view ∷ informed_view u.view v.view ∷ [])
     × Continues allows v.view (informed_view v.view u.view) × Continues allows u.view (informed_view u.view v.view) × ¬ ((v.point ≡ Holding) × (u.point ≡ Holding))
     × (v.point ≡ Holding → longer v.view.ends u.view.ends ≡ v.view.ends) × (u.point ≡ Holding → longer u.view.ends v.view.ends ≡ u.view.ends)
 
--- the slot goes home empty, for a moment
-abbrev pub parked : Step (Option Parcel) → Sat → ℕ → Sat → Type 0
-parked st m n m' = (m'.0 ≡ m.0) × (m.1 ≡ (0, None) ∷ [] → m'.1 ≡ [])
+-- the slot goes home, for a moment
+abbrev pub parked : Step Parcel → Sat → ℕ → Sat → Type 0
+parked st m n m' = (m'.0 ≡ m.0) × ((y : Parcel) → m.1 ≡ (0, y) ∷ [] → m'.1 ≡ [])

@@ -1,15 +1,22 @@
 use qolb_model::View;
+use std::collections::LinkedList;
 
 /// Where a node is in its calls.
 pub enum Point {
-    /// It has no request, or its last one has ended.
+    /// It has no request, or its last one has ended and is clear.
     Idle,
     /// It has asked, and not found its cell granted.
     Queued,
-    /// It has the line, and its cell is granted.
+    /// It has the line, its request is at its turn, and the cell there is granted.
     Holding,
-    /// It has the line, its cell is cleared, and the next one is not yet granted.
-    Cleared,
+    /// It lets the line go: the cell at its turn is granted, and the request there is withdrawn.
+    Lit,
+    /// It lets the line go: the cell at its turn is cleared.
+    Dark,
+    /// It has let the line go, and has yet to free nodes that it passed.
+    Freeing,
+    /// Its request is withdrawn.
+    Rolled,
 }
 
 /// What the table's rule knows of a node: what its port knows, and where its request stands. No value of it is made.
@@ -20,4 +27,6 @@ pub struct Entry {
     pub point: Point,
     /// The place of its last request in the order.
     pub place: u64,
+    /// The places of the withdrawn requests that the node has passed, and whose nodes it has not freed yet.
+    pub passed: LinkedList<u64>,
 }

@@ -8,6 +8,7 @@ mod line;
 mod open;
 mod plays;
 mod port;
+mod release;
 mod rule;
 mod seating;
 mod steps;

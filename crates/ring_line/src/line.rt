@@ -1,5 +1,5 @@
 //! A line over a table.
-ghost use Rattle.std.specs.Prelude.{◌≡◌, ◌≢◌, ◌↔◌, [], ◌∷◌, IsTrue, false};
+ghost use Rattle.std.specs.Prelude.{◌≡◌, ◌≢◌, ◌↔◌, ◌+◌, ◌*◌, ◌≤◌, [], ◌∷◌, IsTrue, true, false};
 ghost use Rattle.qolb_model.specs.OneOwner.{turn_after};
 ghost use Rattle.qolb_model.specs.Plain.{may_ask};
 ghost use Rattle.qolb_model.specs.Views.{bytes_of};
@@ -7,7 +7,7 @@ ghost use Rattle.qolb_model.specs.OneHistory.{OneHistory};
 ghost use Rattle.qolb_model.specs.Kept.{MayRelease};
 ghost use Rattle.qolb_model.specs.Sound.{Continues};
 ghost use Rattle.qolb_model.specs.Asking.{IsBusy, Asks, IsJoined};
-ghost use Rattle.qolb_model.specs.Turns.{IsGranted, IsQueued};
+ghost use Rattle.qolb_model.specs.Turns.{IsGranted, IsQueued, IsWithdrawn};
 ghost use Rattle.qolb_model.specs.LettingGo.{Releases, IsTold};
 ghost use Rattle.qolb_model.specs.Meeting.{Meets};
 ghost use Rattle.qolb_model.specs.declared.end.End.TheVariants.{Served};
@@ -16,27 +16,28 @@ ghost use Rattle.ring_line.specs.Ports.{BelongsTo};
 ghost use Rattle.ring_line.specs.declared.rule.Parcel.{Parcel};
 
 use crate::entry::Entry;
-use crate::hand::{look_in, park, put};
-use crate::port::{Port, Stage};
+use crate::hand::{park, put};
+use crate::port::Port;
+use crate::release::{arrive, release};
 use crate::rule::{Parcel, Ring, Setup};
 use crate::seating::meet_seats;
-use crate::steps::{ask, darken, grant};
+use crate::steps::{ask, is_free, look, reset, roll};
 use atomic_table::Table;
 use line_lanes::{Line64, Mask, merge};
-use qolb_model::{Enq, Keep, Poll, PortState};
+use qolb_model::{Enq, Keep, Out, Poll, PortState};
 use std::alloc::Global;
 use std::collections::LinkedList;
-use std::mem;
 
 /// A line that nodes queue at by tickets.
 #[derive(Drop)]
 pub struct RingLine<K: Keep> {
-    pub(crate) table: Table<Option<Parcel>, LinkedList<Entry>, Setup, Ring<K>, Global>,
+    pub(crate) table: Table<Parcel, LinkedList<Entry>, Setup, Ring<K>, Global>,
     pub(crate) label: u64,
     pub(crate) nodes: u64,
     ghost sized: { table.shared.table_id.words ≡ word_count },
     ghost labelled: { label ≡ table.shared.key.label },
     ghost counted: { nodes ≡ table.shared.key.nodes },
+    ghost few: { nodes ≤ 32 },
 }
 
 impl<K: Keep> RingLine<K> {
@@ -65,11 +66,14 @@ impl<K: Keep> RingLine<K> {
     pub fn state(port: &Port) -> PortState
         ensures { result ≡ port.now.view.state }
     {
-        match port.stage {
-            Stage::Idle => PortState::Idle,
-            Stage::Queued(_) => PortState::Queued,
-            Stage::Holding(_, _) => PortState::Holding,
-        }
+        port.state
+    }
+
+    /// How many word steps the port's last call took that asks, looks, withdraws or lets go; 0 before the first.
+    pub fn steps(&self, port: &Port) -> u64
+        ensures { result ≡ port.now.steps }
+    {
+        port.steps
     }
 
     /// Whether the port's label is the line's.
@@ -84,10 +88,7 @@ impl<K: Keep> RingLine<K> {
         requires { port.now.view.state ≡ PortState.Holding }
         ensures { result.now ≡ port.now.turn.bytes }
     {
-        match &port.stage {
-            Stage::Holding(_, parcel) => &parcel.bytes,
-            _ => unreachable!(),
-        }
+        &port.parcel.bytes
     }
 
     /// The holder writes the bytes of the mask.
@@ -96,15 +97,10 @@ impl<K: Keep> RingLine<K> {
         ensures table { port.new.table ≡ port.old.table }
         ensures view { port.new.view ≡ port.old.view }
         ensures turn { port.new.turn ≡ turn_after port.old.turn mask.0 bytes.now.bytes }
+        ensures steps { port.new.steps ≡ port.old.steps }
     {
-        let Stage::Holding(cell, parcel) = mem::replace(&mut port.stage, Stage::Idle) else {
-            unreachable!()
-        };
-        let written = Parcel {
-            bytes: merge(&parcel.bytes, bytes, mask),
-            mask: Mask(parcel.mask.0 | mask.0),
-        };
-        port.stage = Stage::Holding(cell, written);
+        port.parcel.bytes = merge(&port.parcel.bytes, bytes, mask);
+        port.parcel.mask = Mask(port.parcel.mask.0 | mask.0);
     }
 
     /// Asks for the line.
@@ -119,16 +115,33 @@ impl<K: Keep> RingLine<K> {
         ensures granted { result ≡ Enq.Granted → IsGranted port.new.view port.new.turn }
         ensures queued { result ≡ Enq.Queued → IsQueued port.new.view }
         ensures told { result ≡ Enq.Closed → IsTold port.new.view }
+        ensures bound { port.new.steps ≤ 3 * self.now.table.shared.key.nodes + 3 }
     {
-        let cell = ask(&self.table.shared, &mut port.place);
-        match look_in(&self.table.shared, &mut port.place, cell) {
-            Some(parcel) => {
-                port.stage = Stage::Holding(cell, parcel);
+        let ground = &self.table.shared;
+        port.steps = 0;
+        if port.state == PortState::Rolled {
+            port.steps = 1;
+            if !is_free(ground, &mut port.place, port.node) {
+                return Enq::Busy;
+            }
+            reset(ground, &mut port.place, port.node);
+            port.steps = 2;
+        }
+        port.cell = ask(ground, &mut port.place);
+        port.steps += 2;
+        if !look(ground, &mut port.place, port.cell) {
+            port.state = PortState::Queued;
+            return Enq::Queued;
+        }
+        match arrive(ground, &mut port.place, &mut port.parcel, port.cell) {
+            None => {
+                port.state = PortState::Holding;
                 Enq::Granted
             }
-            None => {
-                port.stage = Stage::Queued(cell);
-                Enq::Queued
+            Some(steps) => {
+                port.steps += steps;
+                port.state = PortState::Shut;
+                Enq::Closed
             }
         }
     }
@@ -143,16 +156,54 @@ impl<K: Keep> RingLine<K> {
         ensures granted { result ≡ Poll.Granted → IsGranted port.new.view port.new.turn }
         ensures waiting { result ≡ Poll.Waiting → IsQueued port.new.view }
         ensures told { result ≡ Poll.Closed → IsTold port.new.view }
+        ensures bound { port.new.steps ≤ 3 * self.now.table.shared.key.nodes }
     {
-        let Stage::Queued(cell) = port.stage else {
-            unreachable!()
-        };
-        match look_in(&self.table.shared, &mut port.place, cell) {
-            Some(parcel) => {
-                port.stage = Stage::Holding(cell, parcel);
+        let ground = &self.table.shared;
+        port.steps = 1;
+        if !look(ground, &mut port.place, port.cell) {
+            return Poll::Waiting;
+        }
+        match arrive(ground, &mut port.place, &mut port.parcel, port.cell) {
+            None => {
+                port.state = PortState::Holding;
                 Poll::Granted
             }
-            None => Poll::Waiting,
+            Some(steps) => {
+                port.steps += steps;
+                port.state = PortState::Shut;
+                Poll::Closed
+            }
+        }
+    }
+
+    /// Withdraws the request, unless it has come to its turn.
+    pub fn withdraw(&self, port: &mut Port) -> Out
+        requires belongs { BelongsTo K.good K.allows self.now.table.shared.key self.now.table.shared.table_id port.old }
+        requires state { port.old.view.state ≡ PortState.Queued }
+        ensures belongs { BelongsTo K.good K.allows self.now.table.shared.key self.now.table.shared.table_id port.new }
+        ensures continues { Continues K.allows port.old.view port.new.view }
+        ensures count { port.new.view.count ≡ port.old.view.count }
+        ensures withdrawn { result ≡ Out.Withdrawn → IsWithdrawn port.new.view }
+        ensures granted { result ≡ Out.Granted → IsGranted port.new.view port.new.turn }
+        ensures told { result ≡ Out.Closed → IsTold port.new.view }
+        ensures bound { port.new.steps ≤ 3 * self.now.table.shared.key.nodes }
+    {
+        let ground = &self.table.shared;
+        port.steps = 1;
+        if !roll(ground, &mut port.place, port.cell, port.node) {
+            port.state = PortState::Rolled;
+            return Out::Withdrawn;
+        }
+        match arrive(ground, &mut port.place, &mut port.parcel, port.cell) {
+            None => {
+                port.state = PortState::Holding;
+                Out::Granted
+            }
+            Some(steps) => {
+                port.steps += steps;
+                port.state = PortState::Shut;
+                Out::Closed
+            }
         }
     }
 
@@ -165,14 +216,30 @@ impl<K: Keep> RingLine<K> {
         ensures continues { Continues K.allows port.old.view port.new.view }
         ensures releases { Releases port.old.view (Served port.old.turn false) PortState.Idle port.new.view }
         ensures bytes { bytes_of port.new.view ≡ port.old.turn.bytes.bytes }
+        ensures bound { port.new.steps + 1 ≤ 3 * self.now.table.shared.key.nodes }
     {
-        let Stage::Holding(cell, parcel) = mem::replace(&mut port.stage, Stage::Idle) else {
-            unreachable!()
-        };
         let ground = &self.table.shared;
-        put(ground, &mut port.place, parcel);
-        darken(ground, &mut port.place, cell);
-        grant(ground, &mut port.place, cell);
+        put(ground, &mut port.place, &port.parcel);
+        port.steps = release(ground, &mut port.place, port.cell);
+        port.state = PortState::Idle;
+    }
+
+    /// Releases the line, and closes it: no later request is served.
+    pub fn shut(&self, port: &mut Port)
+        requires belongs { BelongsTo K.good K.allows self.now.table.shared.key self.now.table.shared.table_id port.old }
+        requires state { port.old.view.state ≡ PortState.Holding }
+        requires allowed { MayRelease K.allows port.old.view port.old.turn }
+        ensures belongs { BelongsTo K.good K.allows self.now.table.shared.key self.now.table.shared.table_id port.new }
+        ensures continues { Continues K.allows port.old.view port.new.view }
+        ensures releases { Releases port.old.view (Served port.old.turn true) PortState.Shut port.new.view }
+        ensures bytes { bytes_of port.new.view ≡ port.old.turn.bytes.bytes }
+        ensures bound { port.new.steps + 1 ≤ 3 * self.now.table.shared.key.nodes }
+    {
+        let ground = &self.table.shared;
+        port.parcel.closed = true;
+        put(ground, &mut port.place, &port.parcel);
+        port.steps = release(ground, &mut port.place, port.cell);
+        port.state = PortState::Shut;
     }
 
     /// Two ports of the line tell each other what they know.
@@ -189,6 +256,7 @@ impl<K: Keep> RingLine<K> {
         ensures meets_b { Meets b.old.view a.old.view b.new.view }
         ensures turn_a { a.new.turn ≡ a.old.turn }
         ensures turn_b { b.new.turn ≡ b.old.turn }
+        ensures steps { (a.new.steps ≡ a.old.steps) × (b.new.steps ≡ b.old.steps) }
         ensures one_holds { a.new.view.state ≡ PortState.Holding → b.new.view.state ≢ PortState.Holding }
     {
         let ground = &self.table.shared;
@@ -209,6 +277,6 @@ impl Port {
     pub(crate) fn holds(&self) -> bool
         ensures { IsTrue result ↔ (self.now.view.state ≡ PortState.Holding) }
     {
-        matches!(self.stage, Stage::Holding(_, _))
+        self.state == PortState::Holding
     }
 }

@@ -7,12 +7,12 @@ ghost use Rattle.ring_line.specs.Ports.{Standing, AreDealt, BelongsTo, MayNotOpe
 
 use crate::line::RingLine;
 use crate::plays::Cut;
-use crate::port::{Port, Stage};
+use crate::port::Port;
 use crate::rule::{Ground, Parcel, Place, Setup};
 use crate::words::{WORDS, cell_word};
 use atomic_table::Table;
 use line_lanes::{Line64, Mask};
-use qolb_model::{Keep, OpenError};
+use qolb_model::{Keep, OpenError, PortState};
 use std::alloc::{AllocError, Global};
 use std::mem;
 
@@ -32,6 +32,7 @@ impl<K: Keep> RingLine<K> {
         ensures few { IfOk result (λ r. (1 ≤ nodes) × (nodes ≤ 32)) }
         ensures new { IfOk result (λ r. AreNew label nodes opening.bytes (map (λ port. port.view) r.1.items)) }
         ensures belong { IfOk result (λ r. (i : ℕ) (port : Standing) → slice_get r.1.items i ≡ Some port → BelongsTo K.good K.allows r.0.table.shared.key r.0.table.shared.table_id port) }
+        ensures unused { IfOk result (λ r. (i : ℕ) (port : Standing) → slice_get r.1.items i ≡ Some port → port.steps ≡ 0) }
         ensures why { IfErr result (λ error. MayNotOpen nodes error) }
     {
         if nodes < 1 || nodes > MOST_NODES {
@@ -67,8 +68,9 @@ impl<K: Keep> RingLine<K> {
         let parcel = Parcel {
             bytes: opening,
             mask: Mask(0),
+            closed: false,
         };
-        let slots = Vec::from_array(alloc, [Some(parcel)])?;
+        let slots = Vec::from_array(alloc, [parcel])?;
         match Table::new(alloc, words.as_slice(), slots, setup) {
             Ok((table, place)) => Ok((
                 RingLine {
@@ -113,10 +115,17 @@ fn deal<K: Keep>(
         let others = ground.split_seat::<Cut>(&mut rest);
         let place = mem::replace(&mut rest, others);
         ports.push(Port {
+            parcel: Parcel {
+                bytes: Line64::zero(),
+                mask: Mask(0),
+                closed: false,
+            },
             place,
-            stage: Stage::Idle,
+            cell: 0,
             label,
             node: dealt + 1,
+            steps: 0,
+            state: PortState::Idle,
         })?;
     }
     Ok(ports)

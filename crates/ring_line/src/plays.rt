@@ -1,6 +1,6 @@
 //! What each step tells, and how seats are cut and joined.
 ghost use Rattle.std.specs.Prelude.{[], ◌++◌};
-ghost use Rattle.ring_line.specs.Steps.{asked, looked, darkened, granted, front, behind, met, parked};
+ghost use Rattle.ring_line.specs.Steps.{asked, looked, rolled, darkened, granted, freed, asked_free, reset, front, behind, met, parked};
 
 use crate::entry::Entry;
 use crate::rule::Parcel;
@@ -14,7 +14,7 @@ pub(crate) struct Ask<K> {
     law: PhantomData<K>,
 }
 
-impl<K: Keep> Play<Option<Parcel>, LinkedList<Entry>> for Ask<K> {
+impl<K: Keep> Play<Parcel, LinkedList<Entry>> for Ask<K> {
     ghost then = { asked K.allows };
 }
 
@@ -23,14 +23,23 @@ pub(crate) struct Look<K> {
     law: PhantomData<K>,
 }
 
-impl<K: Keep> Play<Option<Parcel>, LinkedList<Entry>> for Look<K> {
+impl<K: Keep> Play<Parcel, LinkedList<Entry>> for Look<K> {
     ghost then = { looked K.allows };
 }
 
-/// The own cell is cleared.
-pub(crate) struct Clear;
+/// The own number is added to the own cell.
+pub(crate) struct Roll<K> {
+    law: PhantomData<K>,
+}
 
-impl Play<Option<Parcel>, LinkedList<Entry>> for Clear {
+impl<K: Keep> Play<Parcel, LinkedList<Entry>> for Roll<K> {
+    ghost then = { rolled K.allows };
+}
+
+/// The cell at its turn is cleared.
+pub(crate) struct Darken;
+
+impl Play<Parcel, LinkedList<Entry>> for Darken {
     ghost then = { darkened };
 }
 
@@ -39,8 +48,33 @@ pub(crate) struct Grant<K> {
     law: PhantomData<K>,
 }
 
-impl<K: Keep> Play<Option<Parcel>, LinkedList<Entry>> for Grant<K> {
+impl<K: Keep> Play<Parcel, LinkedList<Entry>> for Grant<K> {
     ghost then = { granted K.allows };
+}
+
+/// A passed node is freed.
+pub(crate) struct Free<K> {
+    law: PhantomData<K>,
+}
+
+impl<K: Keep> Play<Parcel, LinkedList<Entry>> for Free<K> {
+    ghost then = { freed K.allows };
+}
+
+/// The own node's word is read.
+pub(crate) struct AskFree<K> {
+    law: PhantomData<K>,
+}
+
+impl<K: Keep> Play<Parcel, LinkedList<Entry>> for AskFree<K> {
+    ghost then = { asked_free K.allows };
+}
+
+/// The own node's word is cleared.
+pub(crate) struct Reset;
+
+impl Play<Parcel, LinkedList<Entry>> for Reset {
+    ghost then = { reset };
 }
 
 /// Two ports, in one seat, compare what they know.
@@ -48,14 +82,14 @@ pub(crate) struct Meet<K> {
     law: PhantomData<K>,
 }
 
-impl<K: Keep> Play<Option<Parcel>, LinkedList<Entry>> for Meet<K> {
+impl<K: Keep> Play<Parcel, LinkedList<Entry>> for Meet<K> {
     ghost then = { met K.allows };
 }
 
-/// A holder's empty slot goes home.
+/// A holder's slot goes home, for a moment.
 pub(crate) struct Park;
 
-impl Play<Option<Parcel>, LinkedList<Entry>> for Park {
+impl Play<Parcel, LinkedList<Entry>> for Park {
     ghost then = { parked };
 }
 

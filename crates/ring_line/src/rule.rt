@@ -14,11 +14,12 @@ pub struct Setup {
     pub opening: Line64,
 }
 
-/// The line, with the mask of what its holder has written in this turn.
+/// The line, with the mask of what its holder has written in this turn, and whether it is closed.
 #[derive(Clone, Copy)]
 pub struct Parcel {
     pub bytes: Line64,
     pub mask: Mask,
+    pub closed: bool,
 }
 
 /// The rule of a table whose line is under the law `K`.
@@ -26,7 +27,7 @@ pub struct Ring<K> {
     law: PhantomData<K>,
 }
 
-impl<K: Keep> TableRule<Option<Parcel>, LinkedList<Entry>, Setup> for Ring<K> {
+impl<K: Keep> TableRule<Parcel, LinkedList<Entry>, Setup> for Ring<K> {
     ghost use Rattle.ring_line.specs.Ring.{RingRule, newcomers};
 
     ghost holds = { RingRule K.good K.allows };
@@ -34,6 +35,6 @@ impl<K: Keep> TableRule<Option<Parcel>, LinkedList<Entry>, Setup> for Ring<K> {
     ghost first = { newcomers };
 }
 
-pub type Ground<K> = Shared<Option<Parcel>, LinkedList<Entry>, Setup, Ring<K>>;
+pub type Ground<K> = Shared<Parcel, LinkedList<Entry>, Setup, Ring<K>>;
 
-pub type Place = Seat<Option<Parcel>, LinkedList<Entry>>;
+pub type Place = Seat<Parcel, LinkedList<Entry>>;

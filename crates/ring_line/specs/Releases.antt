@@ -1,0 +1,36 @@
+-- What a release as a whole tells a port.
+use Rattle.std.specs.Prelude.{◌≡◌, ℕ, suc, List, [], ◌∷◌, ◌++◌, length, replicate}
+use Rattle.qolb_model.specs.declared.answer.PortState.TheVariants as shows
+use Rattle.qolb_model.specs.declared.end.End.TheVariants.{Gone}
+use Rattle.qolb_model.specs.Ends.{is_closed}
+use Rattle.qolb_model.specs.Views.{bytes_of}
+use Rattle.qolb_model.specs.LettingGo.{LetsGo, Releases, IsTold}
+use Rattle.ring_line.specs.declared.entry.Point.TheVariants.{Idle, Lit}
+use Rattle.ring_line.specs.declared.entry.Entry.{Entry}
+use Rattle.ring_line.specs.declared.rule.Parcel.{Parcel}
+use Rattle.ring_line.specs.Steps.{own_end, left_by}
+
+-- the line lies as the known ends leave it
+pub record IsBare (v : Entry) (y : Parcel) : Type 0 where
+  pub bytes : bytes_of v.view ≡ y.bytes.bytes
+  pub closed : is_closed v.view.ends ≡ y.closed
+
+-- the release of the line y is over
+pub record LetsLineGo (v : Entry) (y : Parcel) (w : Entry) : Type 0 where
+  pub point : w.point ≡ Idle
+  pub releases : Releases v.view (own_end (is_closed v.view.ends) y) (left_by y.closed) w.view
+
+-- a release that had passed the request at its turn, and none before, is over
+pub record WalksOn (v w : Entry) : Type 0 where
+  pub point : w.point ≡ Idle
+  pub count : w.view.count ≡ v.view.count
+  pub passed : ℕ
+  pub ends : w.view.ends ≡ v.view.ends ++ replicate (suc passed) Gone
+  pub lets_go : LetsGo (length v.view.ends) v.view.state w.view
+
+-- a closed line that came has been passed on
+pub record IsPassedOn (v w : Entry) : Type 0 where
+  pub point : w.point ≡ Idle
+  pub state : w.view.state ≡ shows.Shut
+  pub count : w.view.count ≡ v.view.count
+  pub told : IsTold w.view

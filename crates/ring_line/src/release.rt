@@ -1,0 +1,112 @@
+//! How a line is let go.
+ghost use Rattle.std.specs.Prelude.{◌≡◌, ◌≢◌, ℕ, ◌+◌, ◌/◌, ◌*◌, ◌%◌, ◌<◌, ◌≤◌, [], ◌∷◌, length, true};
+ghost use Rattle.qolb_model.specs.declared.request.Request.{Request};
+ghost use Rattle.qolb_model.specs.declared.view.View.{View};
+ghost use Rattle.qolb_model.specs.Sound.{Continues};
+ghost use Rattle.ring_line.specs.Words.{word_count};
+ghost use Rattle.ring_line.specs.Ring.{At};
+ghost use Rattle.ring_line.specs.Steps.{Alone, entry_of, Comes, Carries, left_by};
+ghost use Rattle.ring_line.specs.Releases.{IsBare, LetsLineGo, WalksOn, IsPassedOn};
+ghost use Rattle.ring_line.specs.Ports.{Arrived};
+ghost use Rattle.ring_line.specs.declared.entry.Entry.{Entry};
+ghost use Rattle.ring_line.specs.declared.rule.Parcel.{Parcel};
+ghost use Rattle.ring_line.specs.declared.entry.Point.TheVariants.{Holding, Lit};
+
+use crate::hand::take;
+use crate::rule::{Ground, Parcel, Place};
+use crate::steps::{darken, free, grant};
+use crate::words::{WITHDRAWN, cell_after};
+use arrayvec::ArrayVec;
+use qolb_model::Keep;
+
+/// The most requests that a release passes: those of all nodes but its own.
+const MOST_PASSED: usize = 31;
+
+/// Takes in the line that has come to its turn. A closed one is passed on at once: then returns how many word steps that took.
+#[inline]
+pub(crate) fn arrive<K: Keep>(
+    ground: &Ground<K>,
+    place: &mut Place,
+    parcel: &mut Parcel,
+    cell: u64,
+) -> Option<u64>
+    requires table { (place.old.table_id ≡ ground.now.table_id) × (ground.now.table_id.words ≡ word_count) }
+    requires ready { Alone place.old.me × (cell ≡ (entry_of place.old).place % 128) × (1 ≤ (entry_of place.old).view.nodes) }
+    requires comes { (v : Entry) × (y : Parcel) × (place.old.me.1 ≡ (0, y) ∷ []) × Comes v (entry_of place.old) y }
+    ensures seat { (place.new.table_id ≡ place.old.table_id) × (place.new.id ≡ place.old.id) × Alone place.new.me }
+    ensures continues { (v : View) → Continues K.allows v (entry_of place.old).view → Continues K.allows v (entry_of place.new).view }
+    ensures count { (entry_of place.new).view.count ≡ (entry_of place.old).view.count }
+    ensures arrived { Arrived place.new parcel.new cell result }
+{
+    take(ground, place, parcel);
+    if parcel.closed {
+        Some(pass_on(ground, place, cell))
+    } else {
+        None
+    }
+}
+
+/// Passes a closed line on, and returns how many word steps that took.
+#[cold]
+#[inline(never)]
+fn pass_on<K: Keep>(ground: &Ground<K>, place: &mut Place, cell: u64) -> u64
+    requires table { (place.old.table_id ≡ ground.now.table_id) × (ground.now.table_id.words ≡ word_count) }
+    requires ready { Alone place.old.me × (cell ≡ (entry_of place.old).place % 128) × (1 ≤ (entry_of place.old).view.nodes) }
+    requires comes { (v : Entry) × (y : Parcel) × (place.old.me.1 ≡ (0, y) ∷ []) × Comes v (entry_of place.old) y × (y.closed ≡ true) }
+    ensures seat { (place.new.table_id ≡ place.old.table_id) × (place.new.id ≡ place.old.id) × Alone place.new.me }
+    ensures continues { Continues K.allows (entry_of place.old).view (entry_of place.new).view }
+    ensures told { (place.new.me.1 ≡ []) × IsPassedOn (entry_of place.old) (entry_of place.new) }
+    ensures bound { result + 1 ≤ 3 * (entry_of place.old).view.nodes }
+{
+    release(ground, place, cell)
+}
+
+/// Lets the line go that lies in the slot, and returns how many word steps that took.
+#[inline]
+pub(crate) fn release<K: Keep>(ground: &Ground<K>, place: &mut Place, cell: u64) -> u64
+    requires table { (place.old.table_id ≡ ground.now.table_id) × (ground.now.table_id.words ≡ word_count) }
+    requires ready { Alone place.old.me × ((entry_of place.old).point ≡ Holding) × ((entry_of place.old).passed ≡ []) × (cell ≡ length (entry_of place.old).view.ends % 128) }
+    requires nodes { 1 ≤ (entry_of place.old).view.nodes }
+    requires parcel { (y : Parcel) × (place.old.me.1 ≡ (0, y) ∷ []) × Carries K.allows (entry_of place.old) y }
+    ensures seat { (place.new.table_id ≡ place.old.table_id) × (place.new.id ≡ place.old.id) × Alone place.new.me × (place.new.me.1 ≡ []) }
+    ensures continues { Continues K.allows (entry_of place.old).view (entry_of place.new).view }
+    ensures lets_go { (y : Parcel) → place.old.me.1 ≡ (0, y) ∷ [] → LetsLineGo (entry_of place.old) y (entry_of place.new) }
+    ensures bound { result + 1 ≤ 3 * (entry_of place.old).view.nodes }
+{
+    darken(ground, place, cell);
+    let found = grant(ground, place, cell);
+    if found == 0 {
+        2
+    } else {
+        2 + walk(ground, place, cell_after(cell), found)
+    }
+}
+
+/// Passes withdrawn requests, up to one that is not, and frees their nodes. Returns how many word steps that took.
+#[cold]
+#[inline(never)]
+fn walk<K: Keep>(ground: &Ground<K>, place: &mut Place, cell: u64, found: u64) -> u64
+    requires table { (place.old.table_id ≡ ground.now.table_id) × (ground.now.table_id.words ≡ word_count) }
+    requires ready { Alone place.old.me × ((entry_of place.old).point ≡ Lit) × (cell ≡ length (entry_of place.old).view.ends % 128) × (found ≢ 0) }
+    requires first { ((entry_of place.old).passed ≡ length (entry_of place.old).view.ends ∷ []) × ((r : Request) × At (entry_of place.old).view.order (length (entry_of place.old).view.ends) r × (r.node ≡ found / 256) × (r.node ≤ (entry_of place.old).view.nodes)) }
+    requires nodes { (2 ≤ (entry_of place.old).view.nodes) × ((entry_of place.old).view.nodes ≤ 32) }
+    requires parcel { (y : Parcel) × (place.old.me.1 ≡ (0, y) ∷ []) × IsBare (entry_of place.old) y × ((entry_of place.old).view.state ≡ left_by y.closed) }
+    ensures seat { (place.new.table_id ≡ place.old.table_id) × (place.new.id ≡ place.old.id) × Alone place.new.me × (place.new.me.1 ≡ []) }
+    ensures continues { Continues K.allows (entry_of place.old).view (entry_of place.new).view }
+    ensures walks_on { WalksOn (entry_of place.old) (entry_of place.new) }
+    ensures bound { result + 3 ≤ 3 * (entry_of place.old).view.nodes }
+{
+    let mut passed = ArrayVec::<u64, MOST_PASSED>::new();
+    let mut cell = cell;
+    let mut found = found;
+    while found != 0 {
+        passed.push(found / WITHDRAWN);
+        darken(ground, place, cell);
+        found = grant(ground, place, cell);
+        cell = cell_after(cell);
+    }
+    for node in &passed {
+        free(ground, place, *node);
+    }
+    3 * passed.len() as u64
+}
