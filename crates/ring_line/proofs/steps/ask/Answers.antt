@@ -1,0 +1,4 @@
+use Rattle.ring_line.proofs.steps.ask.Goals as goal
+
+pub fetch_add-requires : goal.fetch_add-requires
+fetch_add-requires g c = ?
