@@ -8,7 +8,7 @@ use Rattle.qolb_model.specs.Requests.{Has}
 use Rattle.qolb_model.specs.Views.{own, Extends}
 use Rattle.qolb_model.specs.Sound.{Continues, IsSound}
 use Rattle.qolb_model.specs.Asking.{Asks, IsJoined}
-use Rattle.qolb_model.proofs.Prefixes.{prefix_get}
+use Rattle.qolb_model.proofs.Prefixes.{prefix_self, prefix_get}
 use Rattle.qolb_model.proofs.Requests.{same_request, has_left}
 use Rattle.qolb_model.proofs.Agreeing.{extends_trans}
 
@@ -18,6 +18,26 @@ has_begun xs ys r p h = subst (λ z. Has z r) p.1 (has_left xs p.0 r h)
 
 pub continues_trans : (allows : List ℕ → List ℕ → Type 0) (u v w : View) → Continues allows u v → Continues allows v w → Continues allows u w
 continues_trans allows u v w a b = record { extends = extends_trans u v w a.extends b.extends; history = b.history; kept = b.kept; freed_clear = b.freed_clear }
+
+-- what a port knows after a step it goes on knowing
+pub continues_self : (allows : List ℕ → List ℕ → Type 0) (u v : View) → Continues allows u v → Continues allows v v
+continues_self allows u v c = record {
+  extends = record {
+    label = refl;
+    nodes = refl;
+    opening = refl;
+    node = refl;
+    order = prefix_self v.order;
+    ends = prefix_self v.ends;
+    clear = prefix_self v.clear;
+    joined = λ r h. h;
+    marked = λ r h. h;
+    freed = λ r h. h;
+  };
+  history = c.history;
+  kept = c.kept;
+  freed_clear = c.freed_clear;
+}
 
 -- what is true of a port's view stays true
 pub sound_goes : (good : List ℕ → Type 0) (allows : List ℕ → List ℕ → Type 0) (label nodes : ℕ) (opening : List ℕ) (v w : View) → IsSound good allows label nodes opening v → Continues allows v w → IsSound good allows label nodes opening w
