@@ -3,3 +3,5 @@ pub mod Nodes
 pub mod Histories
 pub mod Keeping
 pub mod Ask
+pub mod Taking
+pub mod Look

@@ -7,6 +7,8 @@ use native.Mathlib.Decide.{ℕ_discrete}
 use lib.ListN.{get_elem?}
 use Rattle.std.proofs.lemmas.Option.{slice_get_within}
 use Rattle.atomic_table.proofs.Lists.{at_set}
+use Rattle.qolb_model.specs.declared.answer.PortState.{PortState}
+use Rattle.qolb_model.specs.declared.answer.PortState.TheVariants as shows
 use Rattle.qolb_model.specs.declared.request.Request.{Request}
 use Rattle.qolb_model.specs.declared.end.End.{End}
 use Rattle.qolb_model.specs.Requests.{Has, Lacks, has, count_of}
@@ -379,12 +381,12 @@ module _ (about : Setup) (x : Past) (n : ℕ) (v : Entry) (ok : NodeOk about x n
     freed_clear = ok.freed_clear;
   }
 
-  -- the node learns the whole history
-  abbrev pub fresh : Entry
-  fresh = record v { view = record v.view { order = x.order; ends = x.ends; clear = x.clear } }
+  -- the node learns the whole history, and shows the state
+  abbrev pub fresh : PortState → Entry
+  fresh state = record v { view = record v.view { state = state; order = x.order; ends = x.ends; clear = x.clear } }
 
-  pub fresh_ok : NodeOk about x n fresh
-  fresh_ok = record {
+  pub fresh_ok : (state : PortState) → (state ≡ shows.Holding → (has_line v.point ≡ true) × (v.place ≡ length x.ends)) → NodeOk about x n (fresh state)
+  fresh_ok state holder = record {
     node = ok.node;
     label = ok.label;
     nodes = ok.nodes;
@@ -405,8 +407,8 @@ module _ (about : Setup) (x : Past) (n : ℕ) (v : Entry) (ok : NodeOk about x n
     rolled = ok.rolled;
     holds = λ l. let h = ok.holds l in (refl, h.1, h.2);
     lacks = ok.lacks;
-    holder = ok.holder;
-    passed = λ i p at. let h = ok.passed i p at in passed_goes x x n v fresh p h h.in_release refl (omega arith) h.marked ok.orders h.unclear;
+    holder = holder;
+    passed = λ i p at. let h = ok.passed i p at in passed_goes x x n v (fresh state) p h h.in_release refl (omega arith) h.marked ok.orders h.unclear;
     passed_once = ok.passed_once;
     own_ends = λ p r end _ _ en _. slice_get_within x.ends p end en;
     own_marks = ok.own_marks;
