@@ -5,3 +5,4 @@ pub mod Keeping
 pub mod Ask
 pub mod Taking
 pub mod Look
+pub mod Roll
