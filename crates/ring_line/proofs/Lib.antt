@@ -6,3 +6,5 @@ pub mod Ask
 pub mod Taking
 pub mod Look
 pub mod Roll
+pub mod Darken
+pub mod Reset
