@@ -15,7 +15,7 @@ use Rattle.qolb_model.specs.Views.{own}
 use Rattle.qolb_model.specs.Sound.{Continues}
 use Rattle.qolb_model.proofs.Lists.{slice_get-push, push_cases}
 use Rattle.qolb_model.proofs.Prefixes.{prefix_self, prefix_length}
-use Rattle.qolb_model.proofs.Requests.{count_of-push_same, has_left, has_last, has_push}
+use Rattle.qolb_model.proofs.Requests.{count_of-push_same, has_left, has_last, has_push, lacks_from, same_place}
 use Rattle.qolb_model.proofs.Histories.{legal_ask}
 use Rattle.ring_line.specs.declared.entry.Point.TheVariants.{Idle, Queued}
 use Rattle.ring_line.specs.declared.entry.Entry.{Entry}
@@ -23,7 +23,7 @@ use Rattle.ring_line.specs.declared.rule.Setup.{Setup}
 use Rattle.ring_line.specs.Words.{ticket_at, cell_at, node_at}
 use Rattle.ring_line.specs.Ring.{At, Past, NodeOk, PastOk, Shown, RingRule, has_line, lets_go}
 use Rattle.ring_line.specs.Steps.{sole, Sat, Asked, asked}
-use Rattle.ring_line.proofs.Lists.{at_longer, prefix_more, has_prefix, clears_wider}
+use Rattle.ring_line.proofs.Lists.{at_longer, prefix_more, has_prefix, cleared_ended, clears_wider}
 use Rattle.ring_line.proofs.Nodes.{clash_at, others_ask}
 use Rattle.ring_line.proofs.Histories.{continues}
 use Rattle.ring_line.proofs.Keeping.{Homes, rule_step, mine_ok, mine_low}
@@ -62,6 +62,7 @@ module _ (good : List ℕ → Type 0) (allows : List ℕ → List ℕ → Type 0
     walking = λ e. cc;
     freeing = λ e. cc;
     unmarked = λ _. unmarked_new;
+    unclear = λ _. lacks_from x.clear (new x) fresh_request;
     rolled = λ e. cc;
     holds = λ e. cc;
     lacks = λ _. ok.lacks (ap has_line idle);
@@ -81,6 +82,12 @@ module _ (good : List ℕ → Type 0) (allows : List ℕ → List ℕ → Type 0
     where
       unmarked_new : x.marks (length x.order) ≡ 0
       unmarked_new = dite (ℕ_discrete (x.marks (length x.order)) 0) (λ z. z) (λ ne. let k = f.marked (length x.order) (omega arith) in let h = slice_get_within x.order (length x.order) k.0 k.1 in absurd (omega arith))
+
+      -- the new request stands at one place
+      fresh_request : Has x.clear (new x) → ⊥
+      fresh_request h = let o = cleared_ended x.order (length x.ends) x.clear f.cleared (new x) h in let l = legal_ask x.order x.ends v.view.node f.legal in
+          let q = same_place (x.order ++ new x ∷ []) l.numbered o.0 (length x.order) (new x) (at_longer x.order (new x ∷ []) o.0 (new x) o.2) (slice_get-push x.order (new x)) in
+          let b = o.1 in let e = f.legal.ended in omega arith
 
       -- none of the node's earlier requests is open
       ended : (p : ℕ) (r : Request) → At x.order p r → r.node ≡ v.view.node → length x.ends ≤ p → ⊥

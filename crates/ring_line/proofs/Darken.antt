@@ -25,6 +25,9 @@ module _ (good : List ℕ → Type 0) (allows : List ℕ → List ℕ → Type 0
   has_it : has_line v.point ≡ true
   has_it = ⊎_elim (λ e. ap has_line e) (λ e. ap has_line e) lit
 
+  keeps_it : is_kept v.point ≡ true
+  keeps_it = ⊎_elim (λ e. ap is_kept e) (λ e. ap is_kept e) lit
+
   not_idle : v.point ≢ Idle
   not_idle e = clash_at has_line Idle has_it e refl
 
@@ -49,7 +52,8 @@ module _ (good : List ℕ → Type 0) (allows : List ℕ → List ℕ → Type 0
     holding = λ e. cc;
     walking = λ _ _. walks;
     freeing = λ e. cc;
-    unmarked = λ _. ok.unmarked (⊎_elim (λ e. ap is_kept e) (λ e. ap is_kept e) lit);
+    unmarked = λ _. ok.unmarked keeps_it;
+    unclear = λ _. ok.unclear keeps_it;
     rolled = λ e. cc;
     holds = λ _. let h = ok.holds has_it in (h.0, h.1, refl);
     lacks = λ e. cc;

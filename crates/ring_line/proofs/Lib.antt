@@ -8,3 +8,5 @@ pub mod Look
 pub mod Roll
 pub mod Darken
 pub mod Reset
+pub mod Clearing
+pub mod Free

@@ -102,6 +102,7 @@ module _ (about : Setup) (x : Past) (n : ℕ) (v : Entry) (ok : NodeOk about x n
     walking = ok.walking;
     freeing = ok.freeing;
     unmarked = ok.unmarked;
+    unclear = ok.unclear;
     rolled = ok.rolled;
     holds = ok.holds;
     lacks = ok.lacks;
@@ -142,6 +143,7 @@ module _ (about : Setup) (x : Past) (n : ℕ) (v : Entry) (ok : NodeOk about x n
     walking = ok.walking;
     freeing = ok.freeing;
     unmarked = ok.unmarked;
+    unclear = ok.unclear;
     rolled = ok.rolled;
     holds = λ e. absurd (was (ok.holds e).1);
     lacks = λ _. is;
@@ -180,6 +182,7 @@ module _ (about : Setup) (x : Past) (n : ℕ) (v : Entry) (ok : NodeOk about x n
     walking = λ _ l. absurd (no_line l);
     freeing = λ i. let h = ok.freeing i in ((let l = longer in let a = h.0 in omega arith), (λ j p at. let l = longer in let a = h.1 j p at in omega arith));
     unmarked = ok.unmarked;
+    unclear = ok.unclear;
     rolled = ok.rolled;
     holds = λ l. absurd (no_line l);
     lacks = ok.lacks;
@@ -232,6 +235,7 @@ module _ (about : Setup) (x : Past) (n : ℕ) (v : Entry) (ok : NodeOk about x n
     walking = ok.walking;
     freeing = ok.freeing;
     unmarked = ok.unmarked;
+    unclear = λ k. lacks_push x.clear q (own v.view) (λ e. other (sym (ap (λ (z : Request). z.node) e) ∙ ok.node)) (ok.unclear k);
     rolled = ok.rolled;
     holds = ok.holds;
     lacks = ok.lacks;
@@ -271,6 +275,7 @@ module _ (about : Setup) (x : Past) (n : ℕ) (v : Entry) (ok : NodeOk about x n
     walking = λ a l. ⊎_elim (λ z. inl z) (λ z. inr (z.0, more (length x.ends) z.1, z.2)) (ok.walking a l);
     freeing = ok.freeing;
     unmarked = λ k. own_place (ok.asked (kept_asked v.point k)) ∙ ok.unmarked k;
+    unclear = ok.unclear;
     rolled = λ i. own_place (ok.asked (λ e. cc)) ∙ ok.rolled i;
     holds = ok.holds;
     lacks = ok.lacks;
@@ -318,6 +323,7 @@ module _ (about : Setup) (x : Past) (n : ℕ) (v : Entry) (ok : NodeOk about x n
     walking = ok.walking;
     freeing = ok.freeing;
     unmarked = ok.unmarked;
+    unclear = λ k. lacks_push x.clear r (own v.view) (λ e. clash_at is_kept Rolled k (last (sym (ap (λ (z : Request). z.node) e) ∙ ok.node)).0 refl) (ok.unclear k);
     rolled = ok.rolled;
     holds = ok.holds;
     lacks = ok.lacks;
@@ -364,6 +370,7 @@ module _ (about : Setup) (x : Past) (n : ℕ) (v : Entry) (ok : NodeOk about x n
     walking = ok.walking;
     freeing = ok.freeing;
     unmarked = ok.unmarked;
+    unclear = ok.unclear;
     rolled = ok.rolled;
     holds = ok.holds;
     lacks = ok.lacks;
@@ -404,6 +411,7 @@ module _ (about : Setup) (x : Past) (n : ℕ) (v : Entry) (ok : NodeOk about x n
     walking = ok.walking;
     freeing = ok.freeing;
     unmarked = ok.unmarked;
+    unclear = ok.unclear;
     rolled = ok.rolled;
     holds = λ l. let h = ok.holds l in (refl, h.1, h.2);
     lacks = ok.lacks;

@@ -112,6 +112,7 @@ module _ (good : List ℕ → Type 0) (allows : List ℕ → List ℕ → Type 0
       walking = λ e. cc;
       freeing = λ e. cc;
       unmarked = λ e. cc;
+      unclear = λ e. cc;
       rolled = λ e. cc;
       holds = λ e. cc;
       lacks = λ _. ok.lacks (ap has_line rolled);

@@ -50,11 +50,6 @@ module _ (good : List ℕ → Type 0) (allows : List ℕ → List ℕ → Type 0
     more : (p : ℕ) → 0 < x.marks p → 0 < put x.marks v.place v.view.node p
     more p h = dite (ℕ_discrete p v.place) (λ e. subst (λ k. 0 < k) (sym (ap (put x.marks v.place v.view.node) e ∙ here)) low) (λ ne. subst (λ k. 0 < k) (sym (elsewhere p ne)) h)
 
-    -- the request is not clear
-    unclear : Lacks x.clear (own v.view)
-    unclear = lacks_from x.clear (own v.view) (λ h. let o = cleared_ended x.order (length x.ends) x.clear fine.cleared (own v.view) h in
-        let q = same_place x.order fine.legal.numbered o.0 v.place (own v.view) o.2 placed in let b = o.1 in omega arith)
-
     roll_node : NodeOk about (roll_past x) v.view.node (roll_entry x)
     roll_node = record {
       node = refl;
@@ -74,6 +69,7 @@ module _ (good : List ℕ → Type 0) (allows : List ℕ → List ℕ → Type 0
       walking = λ e. cc;
       freeing = λ e. cc;
       unmarked = λ e. cc;
+      unclear = λ e. cc;
       rolled = λ _. here;
       holds = λ e. cc;
       lacks = λ _. ok.lacks (ap has_line queued);
@@ -86,7 +82,7 @@ module _ (good : List ℕ → Type 0) (allows : List ℕ → List ℕ → Type 0
           (λ ne. has_left v.view.marked (own v.view ∷ []) r (ok.own_marks p r at mine (subst (λ q. 0 < q) (elsewhere p ne) h)));
       marked_last = λ p r at mine h lacks. dite (ℕ_discrete p v.place) (λ e. (refl, sym e))
           (λ ne. let k = (ok.marked_last p r at mine (subst (λ q. 0 < q) (elsewhere p ne) h) lacks).0 in let q = queued in absurd (cc));
-      own_flag = λ _. ok.no_flag (λ e. let q = queued in cc) ∙ ap (λ b. if b then 1 else 0) (sym unclear);
+      own_flag = λ _. ok.no_flag (λ e. let q = queued in cc) ∙ ap (λ b. if b then 1 else 0) (sym (ok.unclear (ap is_kept queued)));
       no_flag = λ ne. absurd (ne refl);
       own_joined = ok.own_joined;
       all_joined = ok.all_joined;

@@ -82,6 +82,7 @@ module _ (good : List ℕ → Type 0) (allows : List ℕ → List ℕ → Type 0
     walking = λ e. cc;
     freeing = λ e. cc;
     unmarked = λ _. ok.unmarked (ap is_kept queued);
+    unclear = λ _. ok.unclear (ap is_kept queued);
     rolled = λ e. cc;
     holds = λ _. (refl, refl, refl);
     lacks = λ e. cc;
