@@ -1,3 +1,15 @@
 pub mod Turning
 pub mod Walking
 pub mod Releasing
+pub mod Lists
+pub mod Nodes
+pub mod Histories
+pub mod Keeping
+pub mod Ask
+pub mod Taking
+pub mod Look
+pub mod Roll
+pub mod Darken
+pub mod Reset
+pub mod Clearing
+pub mod Free
