@@ -11,3 +11,4 @@ pub mod Dealing
 pub mod Meets
 pub mod Turning
 pub mod Lasting
+pub mod Finishing

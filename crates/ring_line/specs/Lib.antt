@@ -2,3 +2,4 @@ pub mod Words
 pub mod Ring
 pub mod Steps
 pub mod Ports
+pub mod Finish

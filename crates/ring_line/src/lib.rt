@@ -3,6 +3,7 @@
 
 mod closing;
 mod entry;
+mod finish;
 mod hand;
 mod line;
 mod open;
