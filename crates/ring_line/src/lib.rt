@@ -12,6 +12,7 @@ mod port;
 mod rule;
 mod seating;
 mod steps;
+mod sync;
 mod words;
 
 pub use line::RingLine;
