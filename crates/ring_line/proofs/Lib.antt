@@ -12,3 +12,4 @@ pub mod Meets
 pub mod Turning
 pub mod Lasting
 pub mod Finishing
+pub mod Trials

@@ -3,3 +3,4 @@ pub mod Ring
 pub mod Steps
 pub mod Ports
 pub mod Finish
+pub mod Trial
