@@ -13,3 +13,4 @@ pub mod Turning
 pub mod Lasting
 pub mod Finishing
 pub mod Trials
+pub mod Handing

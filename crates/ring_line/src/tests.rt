@@ -1,10 +1,12 @@
 ghost use Rattle.std.specs.Prelude.{◌≡◌, IfSome};
 ghost use Rattle.ring_line.specs.Ports.{BelongsTo};
 
+mod handing;
+mod raising;
 mod row;
 
 use super::*;
-use line_lanes::{Line64, Mask, placed};
+use line_lanes::{Line64, Mask, lane, placed};
 use linked_list_allocator::LocalHeap;
 use qolb_model::{Enq, FinishError, Free, Keep, OpenError, Poll, PortState};
 use row::Row;
@@ -74,7 +76,10 @@ fn finish_wants_a_quiet_port_of_each_node(rt: HostRuntime) -> Result<(), Fail> {
     assert_eq!(rt; row.release(1), Some(true));
     assert_eq!(rt; row.poll(2), Some(Poll::Granted));
     assert_eq!(rt; row.release(2), Some(true));
-    let line = row.finish(rt.alloc()).ok().ok_or("idle ports do not finish")?;
+    let line = row
+        .finish(rt.alloc())
+        .ok()
+        .ok_or("idle ports do not finish")?;
     assert_eq!(rt; line.to_bytes(), [7; 64]);
     Ok(())
 }
@@ -116,7 +121,9 @@ fn each_growth_of_finish_is_refused(rt: HostRuntime) -> Result<(), Fail> {
                 assert_eq!(rt; why, FinishError::Memory, "at {step}");
                 assert!(rt; !finished, "at {step}");
                 refused = refused.saturating_add(1);
-                row.finish(rt.alloc()).ok().ok_or("nothing was handed back")?
+                row.finish(rt.alloc())
+                    .ok()
+                    .ok_or("nothing was handed back")?
             }
         };
         assert_eq!(rt; line.to_bytes(), want, "at {step}");
@@ -160,5 +167,52 @@ fn a_line_is_handed_over_with_its_bytes(rt: HostRuntime) -> Result<(), Fail> {
     want[1] = 0xb2;
     assert_eq!(rt; row.bytes(2), Some(want));
     assert_eq!(rt; row.release(2), Some(true));
+    Ok(())
+}
+
+#[test]
+fn four_threads_raise_one_count(rt: HostRuntime) -> Result<(), Fail> {
+    let row = Row::open(rt.alloc(), 7, 4, Line64::zero())?;
+    let row = row.raise_all(&rt).ok_or("no memory")?;
+    let line = row.finish(rt.alloc()).ok().ok_or("no end")?;
+    assert_eq!(rt; lane(&line, 0), 4_000);
+    Ok(())
+}
+
+#[test]
+fn any_line_is_handed_over(rt: HostRuntime) -> Result<(), Fail> {
+    let mut row = Row::open(rt.alloc(), 7, 3, Line64::zero())?;
+    let fives = Line64::from_bytes([5; 64]);
+    let (released, seen) = row
+        .hand_over(3, 1, Mask(0b1000), &fives)
+        .ok_or("not handed over")?;
+    let mut want = [0; 64];
+    want[3] = 5;
+    assert_eq!(rt; released.to_bytes(), want);
+    assert_eq!(rt; seen.to_bytes(), want);
+    Ok(())
+}
+
+/// To be run with each allocation failing in turn, by `rt try --test --fail-alloc 1`, `2` and so on.
+#[test]
+fn want_of_memory_is_answered(rt: HostRuntime) -> Result<(), Fail> {
+    let bytes = Line64::from_bytes([3; 64]);
+    let row = match Row::open(rt.alloc(), 7, 32, bytes) {
+        Ok(row) => row,
+        Err(why) => {
+            assert_eq!(rt; why, OpenError::Memory);
+            return Ok(());
+        }
+    };
+    let line = match row.finish(rt.alloc()) {
+        Ok(line) => line,
+        Err((why, row)) => {
+            assert_eq!(rt; why, FinishError::Memory);
+            row.finish(rt.alloc())
+                .ok()
+                .ok_or("nothing was handed back")?
+        }
+    };
+    assert_eq!(rt; line.to_bytes(), [3; 64]);
     Ok(())
 }

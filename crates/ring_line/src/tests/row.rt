@@ -1,9 +1,17 @@
 //! A line with ports, which a test calls by node.
+ghost use Rattle.std.specs.Prelude.{IfSome};
+ghost use Rattle.ring_line.specs.Trial.{IsTheirs, AreTheirs};
+
 use super::super::*;
+use super::handing::hand_over;
+use super::raising::raise_often;
 use line_lanes::{Line64, Mask};
 use qolb_model::{Enq, FinishError, Free, OpenError, Poll, PortState, Unfinished};
 use std::alloc::{Allocator, Global};
 use std::marker::Model;
+use std::sync::Wait;
+use std::thread;
+use std::thread::Threads;
 
 /// A line and some ports, each of which is the line's own if it has its label.
 #[derive(Drop)]
@@ -14,9 +22,7 @@ pub(super) struct Row {
 
 impl Model for Row {
     ghost use Rattle.ring_line.specs.declared.rule.Setup.{Setup};
-
     ghost use Rattle.atomic_table.specs.Seated.{TableId};
-
     ghost use Rattle.ring_line.specs.Trial.{AreTheirs};
 
     ghost Value = { Setup × TableId };
@@ -28,7 +34,6 @@ impl Model for Row {
 
 impl Row {
     ghost use Rattle.std.specs.Prelude.{◌≡◌, ◌↔◌, IsTrue, IfOk, IfErr, IfSome};
-
     ghost use Rattle.ring_line.specs.Trial.{IsTheirs};
 
     /// A new line and all its ports.
@@ -143,4 +148,53 @@ impl Row {
             }
         }
     }
+
+    /// Each node raises the count, in a thread of its own. `None` where memory was refused.
+    pub(super) fn raise_all<R: Threads + Wait + Sync>(self, rt: &R) -> Option<Row> {
+        let Row { line, ports } = self;
+        let ports = raise_together(rt, &line, ports)?;
+        Some(Row { line, ports })
+    }
+
+    /// The node `one` hands the line to the node `two`.
+    pub(super) fn hand_over(
+        &mut self,
+        one: u64,
+        two: u64,
+        mask: Mask,
+        bytes: &Line64,
+    ) -> Option<(Line64, Line64)> {
+        let mut one = self.take(one)?;
+        let mut two = self.take(two)?;
+        if !self.owns(&one) || RingLine::<Free>::state(&one) != PortState::Idle {
+            return None;
+        }
+        if !self.owns(&two) || RingLine::<Free>::state(&two) != PortState::Idle {
+            return None;
+        }
+        let handed = hand_over(&self.line, &mut one, &mut two, mask, bytes);
+        self.put(one);
+        self.put(two);
+        handed
+    }
+}
+
+/// Calls `raise_often` for each port, in a thread of its own.
+fn raise_together<R: Threads + Wait + Sync>(
+    rt: &R,
+    line: &RingLine<Free>,
+    ports: Vec<Port>,
+) -> Option<Vec<Port>>
+    requires { AreTheirs line.now.table.shared.key line.now.table.shared.table_id ports.items }
+    ensures { IfSome result (λ back. AreTheirs line.now.table.shared.key line.now.table.shared.table_id back.items) }
+{
+    thread::map_vec(
+        rt,
+        ports,
+        &|port: Port| -> Port
+            requires { IsTheirs line.now.table.shared.key line.now.table.shared.table_id port }
+            ensures { IsTheirs line.entry.now.table.shared.key line.entry.now.table.shared.table_id result }
+        { raise_often(rt, line, port) },
+    )
+    .ok()
 }
