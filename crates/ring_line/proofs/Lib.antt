@@ -11,3 +11,6 @@ pub mod Dealing
 pub mod Meets
 pub mod Turning
 pub mod Lasting
+pub mod Finishing
+pub mod Trials
+pub mod Handing

@@ -2,3 +2,5 @@ pub mod Words
 pub mod Ring
 pub mod Steps
 pub mod Ports
+pub mod Finish
+pub mod Trial

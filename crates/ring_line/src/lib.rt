@@ -3,6 +3,7 @@
 
 mod closing;
 mod entry;
+mod finish;
 mod hand;
 mod line;
 mod open;
@@ -11,6 +12,7 @@ mod port;
 mod rule;
 mod seating;
 mod steps;
+mod sync;
 mod words;
 
 pub use line::RingLine;
