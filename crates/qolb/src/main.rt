@@ -6,6 +6,7 @@ mod replay;
 mod serve;
 mod steps;
 mod tally;
+mod task;
 
 use std::env;
 use std::io::{self, ErrorKind};

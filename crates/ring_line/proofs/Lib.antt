@@ -13,3 +13,6 @@ pub mod Darken
 pub mod Reset
 pub mod Clearing
 pub mod Free
+pub mod Finishing
+pub mod Trials
+pub mod Handing

@@ -10,6 +10,7 @@ ghost use Rattle.qolb_model.specs.Asking.{IsBusy, Asks, IsJoined};
 ghost use Rattle.qolb_model.specs.Turns.{IsGranted, IsQueued, IsWithdrawn};
 ghost use Rattle.qolb_model.specs.LettingGo.{Releases, IsTold};
 ghost use Rattle.qolb_model.specs.Meeting.{Meets};
+ghost use Rattle.qolb_model.specs.Finishing.{is_quiet};
 ghost use Rattle.qolb_model.specs.declared.end.End.TheVariants.{Served};
 ghost use Rattle.ring_line.specs.Words.{word_count};
 ghost use Rattle.ring_line.specs.Ports.{BelongsTo};
@@ -37,7 +38,8 @@ pub struct RingLine<K: Keep> {
     ghost sized: { table.shared.table_id.words ≡ word_count },
     ghost labelled: { label ≡ table.shared.key.label },
     ghost counted: { nodes ≡ table.shared.key.nodes },
-    ghost few: { nodes ≤ 32 },
+    ghost some_nodes: { 1 ≤ nodes },
+    ghost few_nodes: { nodes ≤ 32 },
 }
 
 impl<K: Keep> RingLine<K> {
@@ -273,6 +275,30 @@ impl<K: Keep> RingLine<K> {
 }
 
 impl Port {
+    /// The label of the port's line.
+    pub(crate) fn label(&self) -> u64
+        ensures { result ≡ self.now.view.label }
+    {
+        self.label
+    }
+
+    /// The port's node.
+    pub(crate) fn node(&self) -> u64
+        ensures { result ≡ self.now.view.node }
+    {
+        self.node
+    }
+
+    /// Whether the port has no request that waits or holds.
+    pub(crate) fn is_quiet(&self) -> bool
+        ensures { result ≡ is_quiet self.now.view.state }
+    {
+        !matches!(
+            self.state,
+            PortState::Linking | PortState::Queued | PortState::Holding
+        )
+    }
+
     /// Whether the port holds the line.
     pub(crate) fn holds(&self) -> bool
         ensures { IsTrue result ↔ (self.now.view.state ≡ PortState.Holding) }
