@@ -25,8 +25,8 @@ gather-whole-requires-clause-some g c = let l = c.args.self in let key = l.table
     some_port g.K.Keep.good g.K.Keep.allows key l.table.shared.table_id c.args.ports.items c.lay_by_node.result.items c.lay_by_node.ensures
     (finishes_so l.label key.label l.nodes key.nodes c.deref.result.now c.args.ports.items l.labelled l.counted c.deref.ensures.value c.in_default.ensures) c.requires.belong (subst (λ n. 1 ≤ n) l.counted l.some_nodes)
 
-pub close-requires-clause-idle : goal.close-requires-clause-idle
-close-requires-clause-idle g c = let l = c.args.self in let key = l.table.shared.key in
+pub close-requires-clause-at_rest : goal.close-requires-clause-at_rest
+close-requires-clause-at_rest g c = let l = c.args.self in let key = l.table.shared.key in
     all_at_rest key.label key.nodes key.opening.bytes c.args.ports.items c.lay_by_node.result.items l.table.shared.table_id c.gather-whole.result c.lay_by_node.ensures c.gather-whole.ensures
     (finishes_so l.label key.label l.nodes key.nodes c.deref.result.now c.args.ports.items l.labelled l.counted c.deref.ensures.value c.in_default.ensures)
 
