@@ -10,3 +10,6 @@ pub mod Darken
 pub mod Reset
 pub mod Clearing
 pub mod Free
+pub mod Passed
+pub mod Ending
+pub mod Grant
