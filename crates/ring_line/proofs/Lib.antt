@@ -13,3 +13,7 @@ pub mod Free
 pub mod Passed
 pub mod Ending
 pub mod Grant
+pub mod Seats
+pub mod Dealing
+pub mod Meets
+pub mod Lasting
