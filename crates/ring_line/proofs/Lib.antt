@@ -16,3 +16,10 @@ pub mod Free
 pub mod Finishing
 pub mod Trials
 pub mod Handing
+pub mod Passed
+pub mod Ending
+pub mod Grant
+pub mod Seats
+pub mod Dealing
+pub mod Meets
+pub mod Lasting

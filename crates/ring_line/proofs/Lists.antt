@@ -2,7 +2,9 @@
 use Rattle.std.proofs.Common.{◌≡◌, ◌≢◌, ◌⊎◌, ℕ, zero, suc, ◌+◌, ◌<◌, ◌≤◌, List, [], ◌∷◌, ◌++◌, length, drop, Bool, true, false, ◌||◌, cond, eqb, sym, refl, ap, ◌∙◌, inl, inr, ⊎_elim, subst, arith, length-append, zero-add, eq-eqb, ne_eqb, Some, None}
 use mathlib.Core.Logic.{dite}
 use mathlib.Core.List.{IsPrefix}
+use mathlib.Core.Option.{some, some-ne-none}
 use native.Mathlib.Decide.{ℕ_discrete}
+use lib.ListN.{get_elem?}
 use Rattle.std.proofs.lemmas.Option.{slice_get_within}
 use Rattle.qolb_model.specs.declared.request.Request.{Request}
 use Rattle.qolb_model.specs.declared.end.End.{End}
@@ -159,3 +161,8 @@ lacked_push xs x r h = lacks_from xs r (λ was. never (has_left xs (x ∷ []) r 
 
 pub has_prefix : (xs ys : List Request) (r : Request) → IsPrefix xs ys → Has xs r → Has ys r
 has_prefix xs ys r p h = subst (λ z. Has z r) p.1 (has_left xs p.0 r h)
+
+pub elem_within : {A : Type 0} (xs : List A) (p : ℕ) (x : A) → get_elem? xs p ≡ some x → p < length xs
+elem_within [] p x e = absurd (some-ne-none x (sym e))
+elem_within (y ∷ ys) zero x e = omega arith
+elem_within (y ∷ ys) (suc p) x e = let h = elem_within ys p x e in omega arith
