@@ -1,17 +1,23 @@
 -- What a release as a whole tells a port.
-use Rattle.std.specs.Prelude.{◌≡◌, ◌≤◌, ℕ, suc, List, [], ◌∷◌, ◌++◌, length, replicate}
+use Rattle.std.specs.Prelude.{◌≡◌, ◌≤◌, ℕ, suc, List, [], ◌∷◌, ◌++◌, length, replicate, Option, Some, None}
+use Rattle.qolb_model.specs.declared.answer.PortState.{PortState}
 use Rattle.qolb_model.specs.declared.answer.PortState.TheVariants as shows
 use Rattle.qolb_model.specs.declared.request.Request.{Request}
 use Rattle.qolb_model.specs.declared.end.End.TheVariants.{Gone}
-use Rattle.qolb_model.specs.Requests.{Has}
+use Rattle.qolb_model.specs.Requests.{Has, Lacks}
 use Rattle.qolb_model.specs.Ends.{is_closed}
 use Rattle.qolb_model.specs.Views.{own, bytes_of}
 use Rattle.qolb_model.specs.LettingGo.{LetsGo, Releases, IsTold}
-use Rattle.ring_line.specs.declared.entry.Point.TheVariants.{Idle, Lit}
+use Rattle.ring_line.specs.declared.entry.Point.TheVariants.{Idle, Lit, Rolled}
 use Rattle.ring_line.specs.declared.entry.Entry.{Entry}
 use Rattle.ring_line.specs.declared.rule.Parcel.{Parcel}
 use Rattle.ring_line.specs.Ring.{At}
 use Rattle.ring_line.specs.Steps.{own_end, left_by}
+
+-- the node may ask, after that many word steps; or its last request was withdrawn and is not clear, so it may not
+abbrev pub IsRenewed : PortState → Entry → Entry → Option ℕ → Type 0
+IsRenewed state v w (Some steps) = (w.point ≡ Idle) × (steps ≤ 2)
+IsRenewed state v w None = (state ≡ shows.Rolled) × (w.point ≡ Rolled) × (w.view.state ≡ v.view.state) × Lacks w.view.clear (own w.view)
 
 -- the line lies as the known ends leave it
 pub record IsBare (v : Entry) (y : Parcel) : Type 0 where
