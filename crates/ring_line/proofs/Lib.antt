@@ -17,3 +17,6 @@ pub mod Seats
 pub mod Dealing
 pub mod Meets
 pub mod Lasting
+pub mod Turning
+pub mod Walking
+pub mod Releasing

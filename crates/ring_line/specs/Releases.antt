@@ -1,14 +1,23 @@
 -- What a release as a whole tells a port.
-use Rattle.std.specs.Prelude.{◌≡◌, ℕ, suc, List, [], ◌∷◌, ◌++◌, length, replicate}
+use Rattle.std.specs.Prelude.{◌≡◌, ◌≤◌, ℕ, suc, List, [], ◌∷◌, ◌++◌, length, replicate, Option, Some, None}
+use Rattle.qolb_model.specs.declared.answer.PortState.{PortState}
 use Rattle.qolb_model.specs.declared.answer.PortState.TheVariants as shows
+use Rattle.qolb_model.specs.declared.request.Request.{Request}
 use Rattle.qolb_model.specs.declared.end.End.TheVariants.{Gone}
+use Rattle.qolb_model.specs.Requests.{Has, Lacks}
 use Rattle.qolb_model.specs.Ends.{is_closed}
-use Rattle.qolb_model.specs.Views.{bytes_of}
+use Rattle.qolb_model.specs.Views.{own, bytes_of}
 use Rattle.qolb_model.specs.LettingGo.{LetsGo, Releases, IsTold}
-use Rattle.ring_line.specs.declared.entry.Point.TheVariants.{Idle, Lit}
+use Rattle.ring_line.specs.declared.entry.Point.TheVariants.{Idle, Lit, Rolled}
 use Rattle.ring_line.specs.declared.entry.Entry.{Entry}
 use Rattle.ring_line.specs.declared.rule.Parcel.{Parcel}
+use Rattle.ring_line.specs.Ring.{At}
 use Rattle.ring_line.specs.Steps.{own_end, left_by}
+
+-- the node may ask, after that many word steps; or its last request was withdrawn and is not clear, so it may not
+abbrev pub IsRenewed : PortState → Entry → Entry → Option ℕ → Type 0
+IsRenewed state v w (Some steps) = (w.point ≡ Idle) × (steps ≤ 2)
+IsRenewed state v w None = (state ≡ shows.Rolled) × (w.point ≡ Rolled) × (w.view.state ≡ v.view.state) × Lacks w.view.clear (own w.view)
 
 -- the line lies as the known ends leave it
 pub record IsBare (v : Entry) (y : Parcel) : Type 0 where
@@ -18,11 +27,13 @@ pub record IsBare (v : Entry) (y : Parcel) : Type 0 where
 -- the release of the line y is over
 pub record LetsLineGo (v : Entry) (y : Parcel) (w : Entry) : Type 0 where
   pub point : w.point ≡ Idle
+  pub state : w.view.state ≡ left_by y.closed
   pub releases : Releases v.view (own_end (is_closed v.view.ends) y) (left_by y.closed) w.view
 
 -- a release that had passed the request at its turn, and none before, is over
 pub record WalksOn (v w : Entry) : Type 0 where
   pub point : w.point ≡ Idle
+  pub state : w.view.state ≡ v.view.state
   pub count : w.view.count ≡ v.view.count
   pub passed : ℕ
   pub ends : w.view.ends ≡ v.view.ends ++ replicate (suc passed) Gone
@@ -34,3 +45,19 @@ pub record IsPassedOn (v w : Entry) : Type 0 where
   pub state : w.view.state ≡ shows.Shut
   pub count : w.view.count ≡ v.view.count
   pub told : IsTold w.view
+
+-- each of these nodes, which are of a line's, made the request at the place that stands where the node does
+pub record AreNodesAt (order : List Request) (places nodes : List ℕ) : Type 0 where
+  pub each : (k p n : ℕ) → At places k p → At nodes k n → (r : Request) × At order p r × (r.node ≡ n) × (n ≤ 32)
+
+-- all requests that the node had passed are freed and clear, and so is its own, and nothing else has changed
+pub record FreesAll (v w : Entry) : Type 0 where
+  pub point : w.point ≡ Idle
+  pub state : w.view.state ≡ v.view.state
+  pub count : w.view.count ≡ v.view.count
+  pub order : w.view.order ≡ v.view.order
+  pub ends : w.view.ends ≡ v.view.ends
+  pub marked : w.view.marked ≡ v.view.marked
+  pub freed : (k p : ℕ) (r : Request) → At v.passed k p → At v.view.order p r → Has w.view.freed r
+  pub clear : (k p : ℕ) (r : Request) → At v.passed k p → At v.view.order p r → Has w.view.clear r
+  pub own_clear : Has w.view.clear (own w.view)

@@ -55,9 +55,10 @@ pub record Asked (v : Entry) (found : ℕ) (w : Entry) : Type 0 where
   pub asks : Asks v.view w.view
   pub joined : Has w.view.joined (own w.view)
 
--- the request has not come to its turn
+-- the request has not come to its turn, and is not withdrawn
 pub record IsEarly (v w : Entry) : Type 0 where
   pub point : w.point ≡ Queued
+  pub unmarked : Lacks w.view.marked (own w.view)
   pub state : w.view.state ≡ shows.Queued
   pub count : w.view.count ≡ v.view.count
   pub place : w.place ≡ v.place
@@ -73,6 +74,7 @@ pub record Comes (v w : Entry) (y : Parcel) : Type 0 where
   pub here : w.place ≡ length w.view.ends
   pub passed : w.passed ≡ []
   pub turn : At w.view.order (length w.view.ends) (own w.view)
+  pub unmarked : Lacks w.view.marked (own w.view)
   pub clear : IsClearBefore w.view (length w.view.ends)
   pub bytes : y.bytes.bytes ≡ bytes_of w.view
   pub closed : y.closed ≡ is_closed w.view.ends
@@ -129,8 +131,9 @@ pub record Carries (allows : List ℕ → List ℕ → Type 0) (v : Entry) (y : 
   pub closed : is_closed (v.view.ends ++ next_end v y ∷ []) ≡ y.closed
   pub allowed : AreAllowed allows (bytes_of v.view) (next_end v y ∷ [])
 
--- the request at its turn has ended
+-- the request at its turn has ended, and the node knows it
 pub record Ended (v w : Entry) (y : Parcel) : Type 0 where
+  pub known : length w.view.ends ≤ length w.view.order
   pub ends : w.view.ends ≡ v.view.ends ++ next_end v y ∷ []
   pub state : w.view.state ≡ left_by y.closed
   pub count : w.view.count ≡ v.view.count

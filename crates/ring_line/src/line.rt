@@ -18,10 +18,10 @@ ghost use Rattle.ring_line.specs.declared.rule.Parcel.{Parcel};
 use crate::entry::Entry;
 use crate::hand::{park, put};
 use crate::port::Port;
-use crate::release::{arrive, release};
+use crate::release::{arrive, release, renew};
 use crate::rule::{Parcel, Ring, Setup};
 use crate::seating::meet_seats;
-use crate::steps::{ask, is_free, look, reset, roll};
+use crate::steps::{ask, look, roll};
 use atomic_table::Table;
 use line_lanes::{Line64, Mask, merge};
 use qolb_model::{Enq, Keep, Out, Poll, PortState};
@@ -118,17 +118,12 @@ impl<K: Keep> RingLine<K> {
         ensures bound { port.new.steps ≤ 3 * self.now.table.shared.key.nodes + 3 }
     {
         let ground = &self.table.shared;
-        port.steps = 0;
-        if port.state == PortState::Rolled {
-            port.steps = 1;
-            if !is_free(ground, &mut port.place, port.node) {
-                return Enq::Busy;
-            }
-            reset(ground, &mut port.place, port.node);
-            port.steps = 2;
-        }
+        port.steps = 1;
+        let Some(renewing) = renew(ground, &mut port.place, port.node, port.state) else {
+            return Enq::Busy;
+        };
+        port.steps = renewing + 2;
         port.cell = ask(ground, &mut port.place);
-        port.steps += 2;
         if !look(ground, &mut port.place, port.cell) {
             port.state = PortState::Queued;
             return Enq::Queued;

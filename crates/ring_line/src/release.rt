@@ -6,21 +6,48 @@ ghost use Rattle.qolb_model.specs.Sound.{Continues};
 ghost use Rattle.ring_line.specs.Words.{word_count};
 ghost use Rattle.ring_line.specs.Ring.{At};
 ghost use Rattle.ring_line.specs.Steps.{Alone, entry_of, Comes, Carries, left_by};
-ghost use Rattle.ring_line.specs.Releases.{IsBare, LetsLineGo, WalksOn, IsPassedOn};
+ghost use Rattle.ring_line.specs.Releases.{IsRenewed, IsBare, LetsLineGo, WalksOn, IsPassedOn, AreNodesAt, FreesAll};
 ghost use Rattle.ring_line.specs.Ports.{Arrived};
 ghost use Rattle.ring_line.specs.declared.entry.Entry.{Entry};
 ghost use Rattle.ring_line.specs.declared.rule.Parcel.{Parcel};
-ghost use Rattle.ring_line.specs.declared.entry.Point.TheVariants.{Holding, Lit};
+ghost use Rattle.ring_line.specs.declared.entry.Point.TheVariants.{Idle, Holding, Lit, Freeing, Rolled};
 
 use crate::hand::take;
 use crate::rule::{Ground, Parcel, Place};
-use crate::steps::{darken, free, grant};
+use crate::steps::{darken, free, grant, is_free, reset};
 use crate::words::{WITHDRAWN, cell_after};
 use arrayvec::ArrayVec;
-use qolb_model::Keep;
+use qolb_model::{Keep, PortState};
 
 /// The most requests that a release passes: those of all nodes but its own.
 const MOST_PASSED: usize = 31;
+
+/// Makes a node ready to ask, and returns how many word steps that took. A withdrawn request that still stands in the queue keeps
+/// it from asking: then `None`.
+#[inline]
+pub(crate) fn renew<K: Keep>(
+    ground: &Ground<K>,
+    place: &mut Place,
+    node: u64,
+    state: PortState,
+) -> Option<u64>
+    requires table { (place.old.table_id ≡ ground.now.table_id) × (ground.now.table_id.words ≡ word_count) }
+    requires ready { Alone place.old.me × (state ≡ PortState.Rolled → (entry_of place.old).point ≡ Rolled) × (state ≢ PortState.Rolled → (entry_of place.old).point ≡ Idle) }
+    requires own { (node ≡ (entry_of place.old).view.node) × (node ≤ 32) }
+    ensures seat { (place.new.table_id ≡ place.old.table_id) × (place.new.id ≡ place.old.id) × (place.new.me.1 ≡ place.old.me.1) × Alone place.new.me }
+    ensures continues { (v : View) → Continues K.allows v (entry_of place.old).view → Continues K.allows v (entry_of place.new).view }
+    ensures count { (entry_of place.new).view.count ≡ (entry_of place.old).view.count }
+    ensures renewed { IsRenewed state (entry_of place.old) (entry_of place.new) result }
+{
+    if state != PortState::Rolled {
+        return Some(0);
+    }
+    if !is_free(ground, place, node) {
+        return None;
+    }
+    reset(ground, place, node);
+    Some(2)
+}
 
 /// Takes in the line that has come to its turn. A closed one is passed on at once: then returns how many word steps that took.
 #[inline]
@@ -92,7 +119,7 @@ fn walk<K: Keep>(ground: &Ground<K>, place: &mut Place, cell: u64, found: u64) -
     requires nodes { (2 ≤ (entry_of place.old).view.nodes) × ((entry_of place.old).view.nodes ≤ 32) }
     requires parcel { (y : Parcel) × (place.old.me.1 ≡ (0, y) ∷ []) × IsBare (entry_of place.old) y × ((entry_of place.old).view.state ≡ left_by y.closed) }
     ensures seat { (place.new.table_id ≡ place.old.table_id) × (place.new.id ≡ place.old.id) × Alone place.new.me × (place.new.me.1 ≡ []) }
-    ensures continues { Continues K.allows (entry_of place.old).view (entry_of place.new).view }
+    ensures continues { (v : View) → Continues K.allows v (entry_of place.old).view → Continues K.allows v (entry_of place.new).view }
     ensures walks_on { WalksOn (entry_of place.old) (entry_of place.new) }
     ensures bound { result + 3 ≤ 3 * (entry_of place.old).view.nodes }
 {
@@ -105,8 +132,20 @@ fn walk<K: Keep>(ground: &Ground<K>, place: &mut Place, cell: u64, found: u64) -
         found = grant(ground, place, cell);
         cell = cell_after(cell);
     }
-    for node in &passed {
+    free_passed(ground, place, &passed);
+    3 * passed.len() as u64
+}
+
+/// Frees the nodes of all requests that were passed, in their order.
+fn free_passed<K: Keep>(ground: &Ground<K>, place: &mut Place, nodes: &[u64])
+    requires table { (place.old.table_id ≡ ground.now.table_id) × (ground.now.table_id.words ≡ word_count) }
+    requires ready { Alone place.old.me × ((entry_of place.old).point ≡ Freeing) × ((entry_of place.old).passed ≢ []) }
+    requires nodes { (length nodes.now ≡ length (entry_of place.old).passed) × AreNodesAt (entry_of place.old).view.order (entry_of place.old).passed nodes.now }
+    ensures seat { (place.new.table_id ≡ place.old.table_id) × (place.new.id ≡ place.old.id) × (place.new.me.1 ≡ place.old.me.1) × Alone place.new.me }
+    ensures continues { (v : View) → Continues K.allows v (entry_of place.old).view → Continues K.allows v (entry_of place.new).view }
+    ensures frees { FreesAll (entry_of place.old) (entry_of place.new) }
+{
+    for node in nodes {
         free(ground, place, *node);
     }
-    3 * passed.len() as u64
 }

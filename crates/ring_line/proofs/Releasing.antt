@@ -1,0 +1,126 @@
+-- A release, and a line that comes to its turn.
+use Rattle.std.proofs.Common.{◌≡◌, ℕ, zero, suc, ◌+◌, ◌%◌, ◌≤◌, ◌<◌, Bool, true, false, ◌||◌, length, List, [], ◌∷◌, ◌++◌, sym, refl, ap, ◌∙◌, subst, Some, slice_get, arith, replicate, append_assoc, length-append}
+use Rattle.std.proofs.Math.Bool.{or-false}
+use Rattle.std.proofs.lemmas.Option.{slice_get_within}
+use Rattle.line_lanes.specs.Line.{merged}
+use Rattle.line_lanes.proofs.Masked.{merged-none}
+use Rattle.qolb_model.specs.declared.answer.PortState.TheVariants as shows
+use Rattle.qolb_model.specs.declared.request.Request.{Request}
+use Rattle.qolb_model.specs.declared.end.End.{End}
+use Rattle.qolb_model.specs.declared.end.End.TheVariants.{Served, Gone, Told}
+use Rattle.qolb_model.specs.declared.view.View.{View}
+use Rattle.qolb_model.specs.Ends.{is_closed, bytes_after, written}
+use Rattle.qolb_model.specs.Views.{own, bytes_of, Extends}
+use Rattle.qolb_model.specs.Kept.{AreAllowed, MayRelease}
+use Rattle.qolb_model.specs.Turns.{IsClearBefore, IsGranted}
+use Rattle.qolb_model.specs.LettingGo.{LetsGo, Releases, IsTold}
+use Rattle.qolb_model.proofs.Lists.{element_at, same_some}
+use Rattle.qolb_model.proofs.Prefixes.{prefix_get}
+use Rattle.qolb_model.proofs.Histories.{bytes_after-append, is_closed-append}
+use Rattle.ring_line.specs.declared.entry.Point.TheVariants.{Holding, Dark}
+use Rattle.ring_line.specs.declared.entry.Entry.{Entry}
+use Rattle.ring_line.specs.declared.rule.Parcel.{Parcel}
+use Rattle.ring_line.specs.Ring.{At}
+use Rattle.ring_line.specs.Steps.{entry_of, sole, write_of, own_end, end_of, next_end, left_by, Carries, Comes, Ended}
+use Rattle.ring_line.specs.Releases.{LetsLineGo, WalksOn, IsPassedOn}
+use Rattle.ring_line.specs.Ports.{Spot, IsMerged, Holds}
+use Rattle.ring_line.proofs.Turning.{has_begun, same_own}
+
+-- who has passed none ends its own request next
+ends_own : (w : Entry) (y : Parcel) (closed : Bool) → w.passed ≡ [] → is_closed w.view.ends ≡ closed → next_end w y ≡ own_end closed y
+ends_own w y closed none is = (λ i. end_of (none i) (is i) y)
+
+-- a release that walked on is a release
+pub lets_on : (v u t : Entry) (y : Parcel) → v.passed ≡ [] → Ended (record v { point = Dark }) u y → Extends u.view t.view → WalksOn u t → LetsLineGo v y t
+lets_on v u t y none e more w =
+    let ended : u.view.ends ≡ v.view.ends ++ own_end (is_closed v.view.ends) y ∷ [] = e.ends ∙ ap (λ x. v.view.ends ++ x ∷ []) (ends_own (record v { point = Dark }) y (is_closed v.view.ends) none refl) in
+    let from : length u.view.ends ≡ length v.view.ends + 1 = omega (arith, ap length ended, length-append v.view.ends (own_end (is_closed v.view.ends) y ∷ [])) in
+    record {
+      point = w.point;
+      state = w.state ∙ e.state;
+      releases = record {
+        passed = suc w.passed;
+        ends = w.ends ∙ (ap (λ es. es ++ replicate (suc w.passed) Gone) ended ∙ append_assoc v.view.ends (own_end (is_closed v.view.ends) y ∷ []) (replicate (suc w.passed) Gone));
+        at_turn = prefix_get u.view.order t.view.order (length v.view.ends) (own u.view) more.order (e.own_turn none) ∙ ap Some (sym (same_own u.view t.view more w.count));
+        count = w.count ∙ e.count;
+        lets_go = subst (λ n. LetsGo n (left_by y.closed) t.view) from (subst (λ leaves. LetsGo (length u.view.ends) leaves t.view) e.state w.lets_go);
+      };
+    }
+
+-- the line that a holder lets go is the one after its turn
+pub carries_served : (allows : List ℕ → List ℕ → Type 0) (w : Entry) (y : Parcel) → w.passed ≡ [] → is_closed w.view.ends ≡ false → IsMerged w.view y → MayRelease allows w.view (write_of y) → Carries allows w y
+carries_served allows w y none unclosed merged may =
+    let end : next_end w y ≡ Served (write_of y) y.closed = ends_own w y false none unclosed in
+    record {
+      bytes = ap (λ e. bytes_after w.view.opening.bytes (w.view.ends ++ e ∷ [])) end ∙ (bytes_after-append w.view.opening.bytes w.view.ends (Served (write_of y) y.closed ∷ []) ∙ merged);
+      closed = ap (λ e. is_closed (w.view.ends ++ e ∷ [])) end ∙ (is_closed-append w.view.ends (Served (write_of y) y.closed ∷ []) ∙ (ap (λ b. b || (y.closed || false)) unclosed ∙ or-false y.closed));
+      allowed = subst (λ e. AreAllowed allows (bytes_of w.view) (e ∷ [])) (sym end) (subst (allows (bytes_of w.view)) (sym merged) may, tt);
+    }
+
+-- a closed line that came is let go as it is
+pub carries_told : (allows : List ℕ → List ℕ → Type 0) (v w : Entry) (y : Parcel) → Comes v w y → y.closed ≡ true → Carries allows w y
+carries_told allows v w y c closed =
+    let end : next_end w y ≡ Told = ends_own w y true c.passed (sym c.closed ∙ closed) in
+    record {
+      bytes = ap (λ e. bytes_after w.view.opening.bytes (w.view.ends ++ e ∷ [])) end ∙ (bytes_after-append w.view.opening.bytes w.view.ends (Told ∷ []) ∙ sym c.bytes);
+      closed = ap (λ e. is_closed (w.view.ends ++ e ∷ [])) end ∙ (is_closed-append w.view.ends (Told ∷ []) ∙ (or-false (is_closed w.view.ends) ∙ sym c.closed));
+      allowed = subst (λ e. AreAllowed allows (bytes_of w.view) (e ∷ [])) (sym end) tt;
+    }
+
+-- what was clear before a place is so later
+clear_goes : (v w : View) (place : ℕ) → place ≤ length v.order → place ≤ length v.ends → Extends v w → IsClearBefore v place → IsClearBefore w place
+clear_goes v w place low ended more c = λ p r e next at end kept.
+    let made = element_at v.order p (omega (arith, next, low)) in
+    let was = element_at v.ends p (omega (arith, next, ended)) in
+    let same : made.0 ≡ r = same_some (sym (prefix_get v.order w.order p made.0 more.order made.1) ∙ at) in
+    let same_end : was.0 ≡ e = same_some (sym (prefix_get v.ends w.ends p was.0 more.ends was.1) ∙ end) in
+    has_begun v.clear w.clear r more.clear (c p r e next (made.1 ∙ ap Some same) (was.1 ∙ ap Some same_end) kept)
+
+-- and its port was told
+pub told_by : (v w t : Entry) (y : Parcel) → Comes v w y → y.closed ≡ true → Extends w.view t.view → LetsLineGo w y t → IsPassedOn w t
+told_by v w t y c closed more l =
+    let is : is_closed w.view.ends ≡ true = sym c.closed ∙ closed in
+    record {
+      point = l.point;
+      state = l.state ∙ ap left_by closed;
+      count = l.releases.count;
+      told = record {
+        before = w.view.ends;
+        passed = l.releases.passed;
+        ends = l.releases.ends ∙ ap (λ b. w.view.ends ++ own_end b y ∷ replicate l.releases.passed Gone) is;
+        at_turn = l.releases.at_turn;
+        closed = is;
+        lets_go = subst (λ b. LetsGo (length w.view.ends + 1) (left_by b) t.view) closed l.releases.lets_go;
+        clear_before = clear_goes w.view t.view (length w.view.ends) (omega (arith, slice_get_within w.view.order (length w.view.ends) (own w.view) c.turn)) (omega arith) more c.clear;
+      };
+    }
+
+-- an open line that came is in the port's hand, and not written yet
+merged_fresh : (base : List ℕ) (z : Parcel) → length z.bytes.bytes ≡ 64 → z.mask.0 ≡ 0 → z.bytes.bytes ≡ base → written base (write_of z) ≡ z.bytes.bytes
+merged_fresh base z line mask is = ap (λ m. merged base z.bytes.bytes m) mask ∙ merged-none base z.bytes.bytes (ap length (sym is) ∙ line) ∙ sym is
+
+pub arrives : (v : Entry) (s t : Spot) (y z : Parcel) (cell : ℕ) → Comes v (entry_of s) y → s.me.1 ≡ (0, y) ∷ [] → t.me ≡ s.me → z.bytes ≡ y.bytes → z.closed ≡ y.closed → z.mask.0 ≡ 0 → z.closed ≡ false → cell ≡ (entry_of s).place % 128
+    → Holds t z cell × ((entry_of t).view.state ≡ shows.Holding) × IsGranted (entry_of t).view (write_of z)
+arrives v s t y z cell c slot same bytes closed mask unclosed at =
+    let entry : entry_of s ≡ entry_of t = ap (λ m. sole m.0) (sym same) in
+    let here : Comes v (entry_of t) y = subst (λ e. Comes v e y) entry c in
+    let base : z.bytes.bytes ≡ bytes_of (entry_of t).view = ap (λ l. l.bytes) bytes ∙ here.bytes in
+    let unshut : is_closed (entry_of t).view.ends ≡ false = sym here.closed ∙ (sym closed ∙ unclosed) in
+    (record {
+      point = here.point;
+      none_passed = here.passed;
+      slot = y;
+      carried = ap (λ m. m.1) same ∙ slot;
+      cell_is = at ∙ (ap (λ (e : Entry). e.place % 128) entry ∙ ap (λ k. k % 128) here.here);
+      merged = merged_fresh (bytes_of (entry_of t).view) z (ap (λ l. length l.bytes) bytes ∙ here.line) mask base;
+      is_open = unshut;
+      unclosed = unclosed;
+    }, here.state, record {
+      state = here.state;
+      at_turn = here.turn;
+      unmarked = here.unmarked;
+      is_open = unshut;
+      no_mask = mask;
+      bytes = base;
+      clear_before = here.clear;
+    })

@@ -1,0 +1,363 @@
+-- A walk over withdrawn requests, and the freeing of their nodes.
+use Rattle.std.proofs.Common.{◌≡◌, ◌≢◌, ℕ, zero, suc, ◌+◌, ◌-◌, ◌/◌, ◌%◌, ◌≤◌, ◌<◌, ◌⊎◌, inl, inr, Bool, false, ◌||◌, length, drop, List, [], ◌∷◌, ◌++◌, sym, refl, ap, ◌∙◌, subst, Some, None, slice_get, arith, replicate, append-nil, append_assoc, length-append}
+use Rattle.std.proofs.Math.Bool.{or-false}
+use Rattle.qolb_model.specs.Kept.{AreAllowed}
+use Rattle.qolb_model.specs.Views.{bytes_of}
+use Rattle.std.proofs.lemmas.Option.{slice_get_within}
+use Rattle.std.proofs.lemmas.List.{length-replicate}
+use Rattle.qolb_model.specs.declared.request.Request.{Request}
+use Rattle.line_lanes.specs.declared.line.Line64.{Line64}
+use Rattle.qolb_model.specs.declared.end.End.{End}
+use Rattle.qolb_model.specs.declared.end.End.TheVariants.{Gone}
+use Rattle.qolb_model.specs.declared.view.View.{View}
+use Rattle.qolb_model.specs.Requests.{Has, Lacks}
+use Rattle.qolb_model.specs.Ends.{is_closed, bytes_after}
+use Rattle.qolb_model.specs.Histories.{turn_of}
+use Rattle.qolb_model.specs.Views.{own, Extends}
+use Rattle.qolb_model.specs.LettingGo.{LetsGo}
+use Rattle.qolb_model.proofs.Lists.{element_at, drop_with, push_cases, same_some}
+use Rattle.qolb_model.proofs.Prefixes.{prefix_get}
+use Rattle.qolb_model.proofs.Histories.{bytes_after-append, is_closed-append}
+use Rattle.qolb_model.proofs.Writes.{bytes_after-passed}
+use Rattle.ring_line.specs.declared.entry.Point.TheVariants.{Idle, Lit, Dark, Freeing}
+use Rattle.ring_line.specs.declared.entry.Entry.{Entry}
+use Rattle.ring_line.specs.declared.rule.Parcel.{Parcel}
+use Rattle.ring_line.specs.Ring.{At}
+use Rattle.qolb_model.specs.Sound.{Continues}
+use Rattle.ring_line.specs.Steps.{Alone, entry_of, sole, left_by, after_walk, end_of, next_end, Carries, Ended, GoesHome, Passes, Frees}
+use Rattle.ring_line.specs.Releases.{IsBare, WalksOn, AreNodesAt, FreesAll}
+use Rattle.ring_line.specs.Ports.{Spot}
+use Rattle.ring_line.proofs.Turning.{has_begun, continues_trans}
+
+-- the first of the requests that were passed are freed
+pub record FreesFirst (v : Entry) (i : ℕ) (w : Entry) : Type 0 where
+  pub point : w.point ≡ after_walk (drop i v.passed)
+  pub passed : w.passed ≡ drop i v.passed
+  pub state : w.view.state ≡ v.view.state
+  pub count : w.view.count ≡ v.view.count
+  pub order : w.view.order ≡ v.view.order
+  pub ends : w.view.ends ≡ v.view.ends
+  pub marked : w.view.marked ≡ v.view.marked
+  pub freed : (k p : ℕ) (r : Request) → k < i → At v.passed k p → At v.view.order p r → Has w.view.freed r
+  pub clear : (k p : ℕ) (r : Request) → k < i → At v.passed k p → At v.view.order p r → Has w.view.clear r
+  pub own_clear : drop i v.passed ≡ [] → Has w.view.clear (own w.view)
+
+-- at first none is
+pub frees_none : (v : Entry) → v.point ≡ Freeing → v.passed ≢ [] → FreesFirst v 0 v
+frees_none v p some = record {
+  point = p ∙ by v.passed some;
+  passed = refl;
+  state = refl;
+  count = refl;
+  order = refl;
+  ends = refl;
+  marked = refl;
+  freed = λ k p r lt at is. absurd (omega (arith, lt));
+  clear = λ k p r lt at is. absurd (omega (arith, lt));
+  own_clear = λ none. absurd (some none);
+}
+  where
+    by : (ps : List ℕ) → ps ≢ [] → Freeing ≡ after_walk ps
+    by [] n = absurd (n refl)
+    by (q ∷ ps) n = refl
+
+-- the node that is freed next
+pub frees_which : (v w : Entry) (nodes : List ℕ) (i node : ℕ) → FreesFirst v i w → length nodes ≡ length v.passed → AreNodesAt v.view.order v.passed nodes → At nodes i node
+    → (w.point ≡ Freeing) × (node ≤ 32) × ((q : ℕ) × (ps : List ℕ) × (r : Request) × (w.passed ≡ q ∷ ps) × At w.view.order q r × (r.node ≡ node))
+frees_which v w nodes i node f many are is =
+    let here = element_at v.passed i (omega (arith, many, slice_get_within nodes i node is)) in
+    let cut : drop i v.passed ≡ here.0 ∷ drop (i + 1) v.passed = drop_with v.passed i here.0 here.1 in
+    let made = are.each i here.0 node here.1 is in
+    (f.point ∙ ap after_walk cut, made.3, (here.0, drop (i + 1) v.passed, made.0, f.passed ∙ cut, subst (λ o. At o here.0 made.0) (sym f.order) made.1, made.2))
+
+-- and one more is freed
+pub frees_next : (v w x : Entry) (nodes : List ℕ) (i node : ℕ) → FreesFirst v i w → length nodes ≡ length v.passed → AreNodesAt v.view.order v.passed nodes → At nodes i node → Extends w.view x.view
+    → ((q : ℕ) (ps : List ℕ) (r : Request) → w.passed ≡ q ∷ ps → At w.view.order q r → Frees w ps r x) → FreesFirst v (i + 1) x
+frees_next v w x nodes i node f many are is more frees =
+    let here = element_at v.passed i (omega (arith, many, slice_get_within nodes i node is)) in
+    let cut : drop i v.passed ≡ here.0 ∷ drop (i + 1) v.passed = drop_with v.passed i here.0 here.1 in
+    let made = are.each i here.0 node here.1 is in
+    let one = frees here.0 (drop (i + 1) v.passed) made.0 (f.passed ∙ cut) (subst (λ o. At o here.0 made.0) (sym f.order) made.1) in
+    record {
+      point = one.point;
+      passed = one.passed;
+      state = one.state ∙ f.state;
+      count = one.count ∙ f.count;
+      order = one.order ∙ f.order;
+      ends = one.ends ∙ f.ends;
+      marked = one.marked ∙ f.marked;
+      freed = λ k p r lt at on. elim (upto k i (omega (arith, lt))) [
+        | inl early ↦ more.freed r (f.freed k p r early at on)
+        | inr last ↦ subst (Has x.view.freed) (same v.view.order v.passed i k here.0 p made.0 r last here.1 at made.1 on) one.freed
+      ];
+      clear = λ k p r lt at on. elim (upto k i (omega (arith, lt))) [
+        | inl early ↦ has_begun w.view.clear x.view.clear r more.clear (f.clear k p r early at on)
+        | inr last ↦ subst (Has x.view.clear) (same v.view.order v.passed i k here.0 p made.0 r last here.1 at made.1 on) one.clear
+      ];
+      own_clear = one.own_clear;
+    }
+  where
+    upto : (k i : ℕ) → k ≤ i → (k < i) ⊎ (k ≡ i)
+    upto zero zero h = inr refl
+    upto zero (suc i) h = inl (omega arith)
+    upto (suc k) zero h = absurd (omega (arith, h))
+    upto (suc k) (suc i) h = elim (upto k i (omega (arith, h))) [
+      | inl lt ↦ inl (omega (arith, lt))
+      | inr e ↦ inr (ap suc e)
+    ]
+    same : (order : List Request) (places : List ℕ) (i k q p : ℕ) (s r : Request) → k ≡ i → At places i q → At places k p → At order q s → At order p r → s ≡ r
+    same order places i k q p s r e a b c d =
+        let places_same : q ≡ p = same_some (sym a ∙ (ap (slice_get places) (sym e) ∙ b)) in
+        same_some (sym c ∙ (ap (slice_get order) places_same ∙ d))
+
+-- until all are
+pub frees_all : (v w : Entry) (i : ℕ) → FreesFirst v i w → length v.passed ≤ i → FreesAll v w
+frees_all v w i f le = let none : drop i v.passed ≡ [] = past i v.passed le in record {
+  point = f.point ∙ ap after_walk none;
+  state = f.state;
+  count = f.count;
+  order = f.order;
+  ends = f.ends;
+  marked = f.marked;
+  freed = λ k p r at on. f.freed k p r (omega (arith, le, slice_get_within v.passed k p at)) at on;
+  clear = λ k p r at on. f.clear k p r (omega (arith, le, slice_get_within v.passed k p at)) at on;
+  own_clear = f.own_clear none;
+}
+  where
+    past : (i : ℕ) (xs : List ℕ) → length xs ≤ i → drop i xs ≡ []
+    past zero [] h = refl
+    past zero (x ∷ xs) h = absurd (omega (arith, h))
+    past (suc i) [] h = refl
+    past (suc i) (x ∷ xs) h = past i xs (omega (arith, h))
+
+-- a walk that began at v has passed the requests of these nodes
+pub record Walked (v : Entry) (nodes : List ℕ) (w : Entry) : Type 0 where
+  pub opening : w.view.opening ≡ v.view.opening
+  pub nodes_are : w.view.nodes ≡ v.view.nodes
+  pub state : w.view.state ≡ v.view.state
+  pub count : w.view.count ≡ v.view.count
+  pub ends : w.view.ends ≡ v.view.ends ++ replicate (length nodes) Gone
+  pub run : (i p : ℕ) → At w.passed i p → p ≡ length v.view.ends + i
+  pub made : AreNodesAt w.view.order w.passed nodes
+  pub few : length w.passed + 1 ≤ v.view.nodes
+
+-- it stands at one more withdrawn request, that of the node which the last grant found
+pub record StandsAt (nodes : List ℕ) (found : ℕ) (w : Entry) : Type 0 where
+  pub point : w.point ≡ Lit
+  pub many : length w.passed ≡ length nodes + 1
+  pub request : Request
+  pub at : At w.view.order (length w.view.ends) request
+  pub node : request.node ≡ found / 256
+  pub high : request.node ≤ w.view.nodes
+
+-- the line is home
+pub record IsHome (nodes : List ℕ) (w : Entry) : Type 0 where
+  pub point : w.point ≡ Freeing
+  pub many : length w.passed ≡ length nodes
+  pub some : w.passed ≢ []
+  pub known : length w.view.ends ≤ length w.view.order
+  pub unmarked : (r : Request) → turn_of w.view.order w.view.ends ≡ Some r → Lacks w.view.marked r
+
+-- so it begins
+pub walk_begins : (v : Entry) → v.passed ≡ length v.view.ends ∷ [] → 2 ≤ v.view.nodes → Walked v [] v
+walk_begins v passed two = record {
+  opening = refl;
+  nodes_are = refl;
+  state = refl;
+  count = refl;
+  ends = sym (append-nil v.view.ends);
+  run = λ i p at. by (length v.view.ends) i p (subst (λ ps. At ps i p) passed at);
+  made = record { each = λ k p n at none. absurd (let h : None ≡ Some n = none in cc h) };
+  few = omega (arith, ap length passed, two);
+}
+  where
+    by : (f i p : ℕ) → At (f ∷ []) i p → p ≡ f + i
+    by f zero p at = omega (arith, same_some at)
+    by f (suc i) p at = absurd (let h : None ≡ Some p = at in cc h)
+
+pub stands_first : (v : Entry) (found : ℕ) → v.point ≡ Lit → v.passed ≡ length v.view.ends ∷ [] → (r : Request) × At v.view.order (length v.view.ends) r × (r.node ≡ found / 256) × (r.node ≤ v.view.nodes) → StandsAt [] found v
+stands_first v found lit passed first = record { point = lit; many = omega (arith, ap length passed); request = first.0; at = first.1; node = first.2; high = first.3 }
+
+-- who has passed one ends a withdrawn request next
+ends_gone : (ps : List ℕ) (closed : Bool) (y : Parcel) (k : ℕ) → length ps ≡ k + 1 → end_of ps closed y ≡ Gone
+ends_gone [] closed y k e = absurd (omega (arith, e))
+ends_gone (p ∷ ps) closed y k e = refl
+
+pub carries_gone : (allows : List ℕ → List ℕ → Type 0) (v w : Entry) (nodes : List ℕ) (found : ℕ) (y : Parcel) → Walked v nodes w → StandsAt nodes found w → IsBare v y → Carries allows (record w { point = Dark }) y
+carries_gone allows v w nodes found y k s b =
+    let gone : next_end (record w { point = Dark }) y ≡ Gone = ends_gone w.passed (is_closed w.view.ends) y (length nodes) s.many in
+    let opened : w.view.opening.bytes ≡ v.view.opening.bytes = ap (λ (l : Line64). l.bytes) k.opening in
+    let bytes : bytes_after w.view.opening.bytes w.view.ends ≡ y.bytes.bytes = (λ i. bytes_after (opened i) (k.ends i)) ∙ (bytes_after-append v.view.opening.bytes v.view.ends (replicate (length nodes) Gone) ∙ (bytes_after-passed (bytes_after v.view.opening.bytes v.view.ends) (length nodes) ∙ b.bytes)) in
+    let closed : is_closed w.view.ends ≡ y.closed = ap is_closed k.ends ∙ (is_closed-append v.view.ends (replicate (length nodes) Gone) ∙ (ap (λ c. is_closed v.view.ends || c) (is_closed-passed (length nodes)) ∙ (or-false (is_closed v.view.ends) ∙ b.closed))) in
+    record {
+      bytes = ap (λ e. bytes_after w.view.opening.bytes (w.view.ends ++ e ∷ [])) gone ∙ (bytes_after-append w.view.opening.bytes w.view.ends (Gone ∷ []) ∙ bytes);
+      closed = ap (λ e. is_closed (w.view.ends ++ e ∷ [])) gone ∙ (is_closed-append w.view.ends (Gone ∷ []) ∙ (or-false (is_closed w.view.ends) ∙ closed));
+      allowed = subst (λ e. AreAllowed allows (bytes_of w.view) (e ∷ [])) (sym gone) tt;
+    }
+  where
+    is_closed-passed : (n : ℕ) → is_closed (replicate n Gone) ≡ false
+    is_closed-passed zero = refl
+    is_closed-passed (suc n) = is_closed-passed n
+
+-- what a grant that passes one or goes home does to the places
+record Grows (w x : Entry) (first : ℕ) : Type 0 where
+  run : (i p : ℕ) → At x.passed i p → p ≡ first + i
+  front : (i p : ℕ) → i < length w.passed → At x.passed i p → At w.passed i p
+  few : length x.passed + 1 ≤ w.view.nodes
+
+grows : (v w x : Entry) (nodes : List ℕ) (found next : ℕ) (y : Parcel) → Walked v nodes w → StandsAt nodes found w → length x.view.ends ≡ length v.view.ends + (length nodes + 1) → x.view.nodes ≡ w.view.nodes
+    → (next ≡ 0 → GoesHome (record w { point = Dark }) x) → (next ≢ 0 → Passes (record w { point = Dark }) next x) → Grows w x (length v.view.ends)
+grows v w x nodes found zero y k s many n home passes = let h = home refl in record {
+  run = λ i p at. k.run i p (subst (λ ps. At ps i p) h.passed at);
+  front = λ i p lt at. subst (λ ps. At ps i p) h.passed at;
+  few = omega (arith, ap length h.passed, k.few, k.nodes_are);
+}
+grows v w x nodes found (suc next) y k s many n home passes = let h = passes (λ e. let f : suc next ≡ 0 = e in omega (arith, f)) in record {
+  run = λ i p at. elim (push_cases w.passed (length x.view.ends) i p (subst (λ ps. At ps i p) h.passed at)) [
+    | inl old ↦ k.run i p old.1
+    | inr last ↦ omega (arith, last.0, last.1, s.many, many)
+  ];
+  front = λ i p lt at. elim (push_cases w.passed (length x.view.ends) i p (subst (λ ps. At ps i p) h.passed at)) [
+    | inl old ↦ old.1
+    | inr last ↦ absurd (omega (arith, last.0, lt))
+  ];
+  few = omega (arith, h.few, n);
+}
+
+replicate-push : (n : ℕ) (e : End) → replicate n e ++ e ∷ [] ≡ replicate (suc n) e
+replicate-push zero e = refl
+replicate-push (suc n) e = ap (λ es. e ∷ es) (replicate-push n e)
+
+-- a grant ends one more withdrawn request
+pub walked_on : (v w x : Entry) (nodes : List ℕ) (found next : ℕ) (y : Parcel) → v.view.nodes ≤ 32 → Walked v nodes w → StandsAt nodes found w → Ended (record w { point = Dark }) x y → Extends w.view x.view → x.view.state ≡ w.view.state
+    → (next ≡ 0 → GoesHome (record w { point = Dark }) x) → (next ≢ 0 → Passes (record w { point = Dark }) next x) → Walked v (nodes ++ found / 256 ∷ []) x
+walked_on v w x nodes found next y low k s e more stays home passes =
+    let gone : next_end (record w { point = Dark }) y ≡ Gone = ends_gone w.passed (is_closed w.view.ends) y (length nodes) s.many in
+    let pushed : length (nodes ++ found / 256 ∷ []) ≡ suc (length nodes) = omega (arith, length-append nodes (found / 256 ∷ [])) in
+    let ends : x.view.ends ≡ v.view.ends ++ replicate (length (nodes ++ found / 256 ∷ [])) Gone =
+        e.ends ∙ ((λ i. k.ends i ++ gone i ∷ []) ∙ (append_assoc v.view.ends (replicate (length nodes) Gone) (Gone ∷ []) ∙ (ap (λ es. v.view.ends ++ es) (replicate-push (length nodes) Gone) ∙ ap (λ n. v.view.ends ++ replicate n Gone) (sym pushed)))) in
+    let before : length w.view.ends ≡ length v.view.ends + length nodes = ap length k.ends ∙ omega (arith, length-append v.view.ends (replicate (length nodes) Gone), length-replicate (length nodes) Gone) in
+    let many : length x.view.ends ≡ length v.view.ends + (length nodes + 1) = ap length ends ∙ omega (arith, pushed, length-append v.view.ends (replicate (length (nodes ++ found / 256 ∷ [])) Gone), length-replicate (length (nodes ++ found / 256 ∷ [])) Gone) in
+    let g = grows v w x nodes found next y k s many more.nodes home passes in
+    record {
+      opening = more.opening ∙ k.opening;
+      nodes_are = more.nodes ∙ k.nodes_are;
+      state = stays ∙ k.state;
+      count = e.count ∙ k.count;
+      ends = ends;
+      run = g.run;
+      made = record {
+        each = λ j p n at is. elim (push_cases nodes (found / 256) j n is) [
+          | inl old ↦ let one = k.made.each j p n (g.front j p (omega (arith, old.0, s.many)) at) old.1 in (one.0, prefix_get w.view.order x.view.order p one.0 more.order one.1, one.2, one.3)
+          | inr last ↦
+              let place : length w.view.ends ≡ p = omega (arith, before, g.run j p at, last.0) in
+              (s.request, prefix_get w.view.order x.view.order p s.request more.order (subst (λ q. At w.view.order q s.request) place s.at), s.node ∙ sym last.1, omega (arith, last.1, s.node, s.high, k.nodes_are, low))
+        ]
+      };
+      few = omega (arith, g.few, k.nodes_are);
+    }
+
+pub stands_next : (w x : Entry) (nodes : List ℕ) (found next : ℕ) → StandsAt nodes found w → Passes (record w { point = Dark }) next x → StandsAt (nodes ++ found / 256 ∷ []) next x
+stands_next w x nodes found next s p = record {
+  point = p.point;
+  many = omega (arith, ap length p.passed, length-append w.passed (length x.view.ends ∷ []), length-append nodes (found / 256 ∷ []), s.many);
+  request = p.request;
+  at = p.at;
+  node = p.node;
+  high = p.high;
+}
+
+pub is_home : (w x : Entry) (nodes : List ℕ) (found : ℕ) (y : Parcel) → StandsAt nodes found w → Ended (record w { point = Dark }) x y → GoesHome (record w { point = Dark }) x → IsHome (nodes ++ found / 256 ∷ []) x
+is_home w x nodes found y s e h = record {
+  point = h.point ∙ by w.passed (length nodes) s.many;
+  many = omega (arith, ap length h.passed, length-append nodes (found / 256 ∷ []), s.many);
+  some = λ none. absurd (omega (arith, s.many, ap length (sym h.passed ∙ none)));
+  known = e.known;
+  unmarked = h.unmarked;
+}
+  where
+    by : (ps : List ℕ) (k : ℕ) → length ps ≡ k + 1 → after_walk ps ≡ Freeing
+    by [] k e = absurd (omega (arith, e))
+    by (p ∷ ps) k e = refl
+
+-- when the line is home and the passed requests are freed, the walk is over
+pub walk_over : (v w x : Entry) (nodes : List ℕ) → Walked v nodes w → IsHome nodes w → FreesAll w x → WalksOn v x
+walk_over v w x nodes k h f =
+    let last = nonempty w.passed h.some in
+    let many : length nodes ≡ suc last.0 = sym h.many ∙ last.1 in
+    let ends : x.view.ends ≡ v.view.ends ++ replicate (suc last.0) Gone = f.ends ∙ (k.ends ∙ ap (λ n. v.view.ends ++ replicate n Gone) many) in
+    let long : length x.view.ends ≡ length v.view.ends + length w.passed = ap length ends ∙ omega (arith, last.1, length-append v.view.ends (replicate (suc last.0) Gone), length-replicate (suc last.0) Gone) in
+    record {
+      point = f.point;
+      state = f.state ∙ k.state;
+      count = f.count ∙ k.count;
+      passed = last.0;
+      ends = ends;
+      lets_go = record {
+        known = omega (arith, h.known, ap length f.order, ap length f.ends);
+        unmarked = λ r is. subst (λ ms. Lacks ms r) (sym f.marked) (h.unmarked r (sym (λ i. turn_of (f.order i) (f.ends i)) ∙ is));
+        freed = λ p r low high at. let one = passed_at v w nodes p k low (omega (arith, high, long)) in f.freed one.0 p r one.1 (subst (λ o. At o p r) f.order at);
+        cleared = λ p r low high at. let one = passed_at v w nodes p k low (omega (arith, high, long)) in inl (f.clear one.0 p r one.1 (subst (λ o. At o p r) f.order at));
+        state = inr (f.state ∙ k.state, f.own_clear);
+      };
+    }
+  where
+    nonempty : (xs : List ℕ) → xs ≢ [] → (n : ℕ) × (length xs ≡ suc n)
+    nonempty [] h = absurd (h refl)
+    nonempty (x ∷ xs) h = (length xs, omega arith)
+    passed_at : (v w : Entry) (nodes : List ℕ) (p : ℕ) → Walked v nodes w → length v.view.ends ≤ p → p < length v.view.ends + length w.passed → (i : ℕ) × At w.passed i p
+    passed_at v w nodes p k low high =
+        let i = p - length v.view.ends in
+        let one = element_at w.passed i (omega (arith, low, high)) in
+        (i, subst (At w.passed i) (k.run i one.0 one.1 ∙ omega (arith, low)) one.1)
+
+-- what a walk that began at the seat s has done so far
+pub record IsWalking (allows : List ℕ → List ℕ → Type 0) (s : Spot) (nodes : List ℕ) (cell found : ℕ) (t : Spot) : Type 0 where
+  pub table : t.table_id ≡ s.table_id
+  pub id : t.id ≡ s.id
+  pub alone : Alone t.me
+  pub cell_is : cell ≡ length (entry_of t).view.ends % 128
+  pub continues : (v : View) → Continues allows v (entry_of s).view → Continues allows v (entry_of t).view
+  pub walked : Walked (entry_of s) nodes (entry_of t)
+  pub stands : found ≢ 0 → (t.me.1 ≡ s.me.1) × StandsAt nodes found (entry_of t)
+  pub home : found ≡ 0 → (t.me.1 ≡ []) × IsHome nodes (entry_of t)
+
+-- the seat once the cell is cleared
+abbrev pub IsDarkened : Spot → Spot → Type 0
+IsDarkened t d = (d.table_id ≡ t.table_id) × (d.id ≡ t.id) × (d.me ≡ (record (entry_of t) { point = Dark } ∷ [], t.me.1))
+
+pub dark_entry : (t d : Spot) → IsDarkened t d → entry_of d ≡ record (entry_of t) { point = Dark }
+dark_entry t d e = ap (λ m. sole m.0) e.2
+
+-- what the next grant asks
+pub walk_carries : (allows : List ℕ → List ℕ → Type 0) (s t d : Spot) (nodes : List ℕ) (cell found : ℕ) (y : Parcel) → IsWalking allows s nodes cell found t → found ≢ 0 → IsDarkened t d → s.me.1 ≡ (0, y) ∷ [] → IsBare (entry_of s) y
+    → (d.me.1 ≡ (0, y) ∷ []) × Carries allows (entry_of d) y
+walk_carries allows s t d nodes cell found y k more dark slot bare =
+    let here = k.stands more in (
+      ap (λ m. m.1) dark.2 ∙ (here.0 ∙ slot),
+      subst (λ e. Carries allows e y) (sym (dark_entry t d dark)) (carries_gone allows (entry_of s) (entry_of t) nodes found y k.walked here.1 bare),
+    )
+
+-- and what the walk has done after it
+pub walk_step : (allows : List ℕ → List ℕ → Type 0) (s t d u : Spot) (nodes : List ℕ) (cell found after next : ℕ) (y : Parcel) → IsWalking allows s nodes cell found t → found ≢ 0 → (entry_of s).view.nodes ≤ 32 → IsDarkened t d
+    → s.me.1 ≡ (0, y) ∷ [] → (entry_of s).view.state ≡ left_by y.closed → (u.table_id ≡ d.table_id) × (u.id ≡ d.id) × Alone u.me → Continues allows (entry_of d).view (entry_of u).view → ((x : Parcel) → d.me.1 ≡ (0, x) ∷ [] → Ended (entry_of d) (entry_of u) x)
+    → (next ≡ 0 → (u.me.1 ≡ []) × GoesHome (entry_of d) (entry_of u)) → (next ≢ 0 → (u.me.1 ≡ d.me.1) × Passes (entry_of d) next (entry_of u)) → after ≡ (cell + 1) % 128
+    → IsWalking allows s (nodes ++ found / 256 ∷ []) after next u
+walk_step allows s t d u nodes cell found after next y k more low dark slot state seat went end home passes step =
+    let here = k.stands more in
+    let entry = dark_entry t d dark in
+    let goes : Continues allows (entry_of t).view (entry_of u).view = subst (λ (e : Entry). Continues allows e.view (entry_of u).view) entry went in
+    let ended : Ended (record (entry_of t) { point = Dark }) (entry_of u) y = subst (λ e. Ended e (entry_of u) y) entry (end y (ap (λ m. m.1) dark.2 ∙ (here.0 ∙ slot))) in
+    let homes : next ≡ 0 → GoesHome (record (entry_of t) { point = Dark }) (entry_of u) = λ z. subst (λ e. GoesHome e (entry_of u)) entry (home z).1 in
+    let passed : next ≢ 0 → Passes (record (entry_of t) { point = Dark }) next (entry_of u) = λ z. subst (λ e. Passes e next (entry_of u)) entry (passes z).1 in
+    let longer : length (entry_of u).view.ends ≡ length (entry_of t).view.ends + 1 = omega (arith, ap length ended.ends, length-append (entry_of t).view.ends (next_end (record (entry_of t) { point = Dark }) y ∷ [])) in
+    record {
+      table = seat.0 ∙ (dark.0 ∙ k.table);
+      id = seat.1 ∙ (dark.1 ∙ k.id);
+      alone = seat.2;
+      cell_is = omega (arith, step, k.cell_is, longer);
+      continues = λ v had. continues_trans allows v (entry_of t).view (entry_of u).view (k.continues v had) goes;
+      walked = walked_on (entry_of s) (entry_of t) (entry_of u) nodes found next y low k.walked here.1 ended goes.extends (ended.state ∙ (sym state ∙ sym k.walked.state)) homes passed;
+      stands = λ z. ((passes z).0 ∙ (ap (λ m. m.1) dark.2 ∙ here.0), stands_next (entry_of t) (entry_of u) nodes found next here.1 (passed z));
+      home = λ z. ((home z).0, is_home (entry_of t) (entry_of u) nodes found y here.1 ended (homes z));
+    }
