@@ -383,10 +383,10 @@ module _ (good : List ℕ → Type 0) (allows : List ℕ → List ℕ → Type 0
     }
 
     ended_home : Ended v (home_entry r.past) y
-    ended_home = record { ends = ap (λ l. l ++ e ∷ []) (sym same_ends); state = refl; count = refl; own_turn = own_turn_of r.past ok }
+    ended_home = record { known = (ended_fine r.past r.fine ok above r.past.passer).legal.ended; ends = ap (λ l. l ++ e ∷ []) (sym same_ends); state = refl; count = refl; own_turn = own_turn_of r.past ok }
 
     ended_walk : Ended v (walk_entry r.past) y
-    ended_walk = record { ends = ap (λ l. l ++ e ∷ []) (sym same_ends); state = refl; count = refl; own_turn = own_turn_of r.past ok }
+    ended_walk = record { known = (ended_fine r.past r.fine ok above r.past.passer).legal.ended; ends = ap (λ l. l ++ e ∷ []) (sym same_ends); state = refl; count = refl; own_turn = own_turn_of r.past ok }
 
   pub grants_next : (me slots i : ℕ) (m : Sat) → m ≡ (v ∷ [], (0, y) ∷ []) → i ≡ cell_at ((length v.view.ends + 1) % 128) → Allows Rule slots me m i (λ n. (n + 1) % 2 ^ 64) (granted allows (step slots i 1 0 none) m)
   grants_next me slots i m is word = subst (λ (z : Sat). Allows Rule slots me z i (λ n. (n + 1) % 2 ^ 64) (granted allows (step slots i 1 0 none) z)) (sym is) (λ s r deep at small.

@@ -1,5 +1,5 @@
 -- What the rule says of nodes makes their ports' views of one history.
-use Rattle.std.proofs.Common.{◌≡◌, ℕ, ◌<◌, List, [], ◌∷◌, length, true, false, sym, refl, ap, ◌∙◌, subst, Some, arith}
+use Rattle.std.proofs.Common.{◌≡◌, ℕ, ◌<◌, ◌≤◌, List, [], ◌∷◌, length, true, false, sym, refl, ap, ◌∙◌, subst, Some, arith}
 use mathlib.Core.List.{IsPrefix}
 use Rattle.std.proofs.lemmas.Option.{slice_get_within}
 use Rattle.line_lanes.specs.declared.line.Line64.{Line64}
@@ -7,30 +7,35 @@ use Rattle.qolb_model.specs.declared.answer.PortState.TheVariants as shows
 use Rattle.qolb_model.specs.declared.request.Request.{Request}
 use Rattle.qolb_model.specs.declared.view.View.{View}
 use Rattle.qolb_model.specs.EndKinds.{is_gone}
-use Rattle.qolb_model.specs.Requests.{Has, has, count_of}
+use Rattle.qolb_model.specs.Requests.{Has, Lacks, has, count_of}
 use Rattle.qolb_model.specs.Views.{own}
 use Rattle.qolb_model.specs.OneHistory.{IsAmong, Knows, OneHistory}
 use Rattle.qolb_model.specs.Kept.{AreAllowed}
 use Rattle.qolb_model.specs.Sound.{Continues}
 use Rattle.qolb_model.proofs.Lists.{element_at}
 use Rattle.qolb_model.proofs.Prefixes.{prefix_get}
-use Rattle.qolb_model.proofs.Requests.{place_of_request, same_place}
+use Rattle.qolb_model.proofs.Requests.{place_of_request, same_place, lacks_from}
 use Rattle.qolb_model.proofs.Writes.{allowed-begins}
 use Rattle.qolb_model.proofs.Agreeing.{among_one}
 use Rattle.ring_line.specs.declared.entry.Point.TheVariants.{Idle}
 use Rattle.ring_line.specs.declared.entry.Entry.{Entry}
 use Rattle.ring_line.specs.declared.rule.Setup.{Setup}
-use Rattle.ring_line.specs.Ring.{At, Past, NodeOk, PastOk, has_line}
+use Rattle.ring_line.specs.Ring.{At, Past, NodeOk, PastOk, has_line, is_kept}
 use Rattle.ring_line.proofs.Lists.{at_same, same_bool}
-use Rattle.ring_line.proofs.Nodes.{placed_at, clash_at}
+use Rattle.ring_line.proofs.Nodes.{placed_at, clash_at, kept_asked}
 
 module _ (good : List ℕ → Type 0) (allows : List ℕ → List ℕ → Type 0) (about : Setup) where
   -- a request that a node knows to be withdrawn is marked at its place
   pub marked_at : (x : Past) → PastOk good allows about x → (n : ℕ) (v : Entry) → NodeOk about x n v → (p : ℕ) (r : Request) → At x.order p r → Has v.view.marked r → 0 < x.marks p
   marked_at x f n v ok p r at h = let k = ok.all_marked r h in subst (λ q. 0 < x.marks q) (same_place x.order f.legal.numbered k.0 p r k.1 at) k.2
 
+  -- a request that is kept is not withdrawn
+  pub not_withdrawn : (x : Past) → PastOk good allows about x → (n : ℕ) (v : Entry) → NodeOk about x n v → is_kept v.point ≡ true → Lacks v.view.marked (own v.view)
+  not_withdrawn x f n v ok kept = lacks_from v.view.marked (own v.view) (λ h. let m = marked_at x f n v ok v.place (own v.view) (placed_at about x n v ok (ok.asked (kept_asked v.point kept))) h in let z = ok.unmarked kept in omega arith)
+
   pub knows_of : (x : Past) → PastOk good allows about x → (n : ℕ) (v : Entry) → NodeOk about x n v → Knows x.order x.ends x.clear v.view
   knows_of x f n v ok = record {
+    of_line = λ p r at. let l = f.nodes p r at in let a = l.0 in let b = l.1 in let k = ok.nodes in (omega arith, omega arith);
     order_begins = ok.orders;
     ends_begin = ok.endings;
     clear_begins = ok.clears;

@@ -12,10 +12,10 @@ use Rattle.ring_line.specs.declared.entry.Point.TheVariants.{Queued}
 use Rattle.ring_line.specs.declared.entry.Entry.{Entry}
 use Rattle.ring_line.specs.declared.rule.Setup.{Setup}
 use Rattle.ring_line.specs.Words.{cell_at}
-use Rattle.ring_line.specs.Ring.{Past, NodeOk, RingRule}
+use Rattle.ring_line.specs.Ring.{Past, NodeOk, RingRule, is_kept}
 use Rattle.ring_line.specs.Steps.{sole, Sat, IsEarly, Comes, looked}
 use Rattle.ring_line.proofs.Nodes.{fresh, fresh_ok}
-use Rattle.ring_line.proofs.Histories.{continues}
+use Rattle.ring_line.proofs.Histories.{not_withdrawn, continues}
 use Rattle.ring_line.proofs.Keeping.{St, rule_step, mine_ok}
 use Rattle.ring_line.proofs.Taking.{take_entry, asked_at, home, lit, unlit, takes_rule, comes, learns_take}
 
@@ -43,6 +43,7 @@ module _ (good : List ℕ → Type 0) (allows : List ℕ → List ℕ → Type 0
     early : v.place ≢ length r.past.ends → IsEarly v wait_entry
     early later = record {
       point = queued;
+      unmarked = not_withdrawn good allows about r.past r.fine v.view.node v ok (ap is_kept queued);
       state = refl;
       count = refl;
       place = refl;

@@ -24,7 +24,7 @@ use Rattle.ring_line.specs.Ring.{At, Past, NodeOk, PastOk, Shown, RingRule, has_
 use Rattle.ring_line.specs.Steps.{Comes}
 use Rattle.ring_line.proofs.Lists.{at_same, has_prefix}
 use Rattle.ring_line.proofs.Nodes.{clash_at, placed_at, none_passed, others_hand}
-use Rattle.ring_line.proofs.Histories.{continues}
+use Rattle.ring_line.proofs.Histories.{not_withdrawn, continues}
 use Rattle.ring_line.proofs.Keeping.{St, Homes, rule_step, mine_ok, mine_low, window}
 
 -- the cells behind one are others
@@ -183,6 +183,7 @@ module _ (good : List ℕ → Type 0) (allows : List ℕ → List ℕ → Type 0
         here = here;
         passed = nothing_passed r.past ok;
         turn = subst (λ q. At r.past.order q (own v.view)) here (asked_at r.past ok);
+        unmarked = not_withdrawn good allows about r.past r.fine v.view.node v ok (ap is_kept queued);
         clear = λ p q e before a b kind. r.fine.settled hand p q e before a b kind;
         bytes = home.2 ∙ ap (λ (l : Line64). bytes_after l.bytes r.past.ends) (sym ok.opening);
         closed = home.3;

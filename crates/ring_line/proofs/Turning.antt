@@ -11,13 +11,16 @@ use Rattle.qolb_model.specs.Sound.{Continues, IsSound}
 use Rattle.qolb_model.specs.Asking.{Asks, IsJoined}
 use Rattle.qolb_model.proofs.Prefixes.{prefix_self, prefix_get, prefix_length}
 use Rattle.qolb_model.proofs.Requests.{same_request, has_left}
-use Rattle.qolb_model.proofs.Agreeing.{extends_trans}
+use Rattle.qolb_model.proofs.Agreeing.{extends_trans, history_of_two, among_first, among_second}
+use Rattle.qolb_model.specs.OneHistory.{OneHistory}
 use Rattle.qolb_model.specs.declared.answer.PortState.{PortState}
 use Rattle.qolb_model.specs.declared.answer.PortState.TheVariants as shows
 use Rattle.ring_line.specs.declared.rule.Parcel.{Parcel}
 use Rattle.ring_line.specs.declared.rule.Setup.{Setup}
-use Rattle.ring_line.specs.Steps.{Alone, entry_of}
-use Rattle.ring_line.specs.Ports.{Spot, Standing, standing, IsPort, BelongsTo, Arrived}
+use Rattle.ring_line.specs.declared.entry.Entry.{Entry}
+use Rattle.ring_line.specs.Steps.{Alone, entry_of, IsEarly}
+use Rattle.ring_line.specs.Releases.{IsRenewed}
+use Rattle.ring_line.specs.Ports.{Spot, Standing, standing, Stands, IsPort, BelongsTo, Arrived}
 
 -- who is in a beginning is in the whole
 pub has_begun : (xs ys : List Request) (r : Request) → IsPrefix xs ys → Has xs r → Has ys r
@@ -88,8 +91,8 @@ pub joined_goes : (v w : View) → Has v.joined (own v) → Extends v w → w.co
 joined_goes v w h e c = subst (Has w.joined) (sym (same_own v w e c)) (e.joined (own v) h)
 
 -- what is asked of what a port knew later was asked of what it knew before
-pub asks_from : (u v w : View) → Extends u v → v.count ≡ u.count → Asks v w → Extends v w → Asks u w
-asks_from u v w e same a more = record {
+pub asks_from : (u v w : View) → Extends u v → v.count ≡ u.count → Asks v w → Asks u w
+asks_from u v w e same a = record {
   was_clear = λ some. subst (Has w.clear) (same_own u v e same) (a.was_clear (omega (arith, some, same)));
   count = omega (arith, a.count, same);
   behind = (a.behind.0, omega (arith, prefix_length u.order v.order e.order, a.behind.1), a.behind.2);
@@ -119,3 +122,44 @@ port_shut label node s t y z was cell steps state p more alone a = record { alon
 pub arrived_steps : (good : List ℕ → Type 0) (allows : List ℕ → List ℕ → Type 0) (key : Setup) (table_id : TableId) (p : Standing) (t : Spot) (z : Parcel) (cell steps : ℕ) → BelongsTo good allows key table_id p → Continues allows p.view (entry_of t).view
     → Arrived t z cell (Some steps) → steps + 1 ≤ 3 * key.nodes
 arrived_steps good allows key table_id p t z cell steps b c a = omega (arith, a.4, c.extends.nodes, b.sound.nodes_are)
+
+-- a port that belongs to a line goes on with itself
+pub continues_open : (good : List ℕ → Type 0) (allows : List ℕ → List ℕ → Type 0) (key : Setup) (table_id : TableId) (s : Spot) (y : Parcel) (n : ℕ) (p : Standing) → BelongsTo good allows key table_id p → standing s y n ≡ p → Continues allows (entry_of s).view (entry_of s).view
+continues_open good allows key table_id s y n p b is = subst (λ (q : Standing). Continues allows q.view q.view) (sym is) (continues_sound good allows key.label key.nodes key.opening.bytes p.view b.sound)
+
+-- a node that is made ready, asks and looks goes on
+pub asking_continues : (allows : List ℕ → List ℕ → Type 0) (u r a l : View) → Continues allows u r → Continues allows r a → Continues allows a l → Continues allows u l
+asking_continues allows u r a l x y z = continues_trans allows u a l (continues_trans allows u r a x y) z
+
+-- and has asked
+pub asking_asks : (allows : List ℕ → List ℕ → Type 0) (s : Spot) (y : Parcel) (n : ℕ) (p : Standing) (r a l : View) → standing s y n ≡ p → Continues allows (entry_of s).view r → r.count ≡ (entry_of s).view.count → Asks r a → Continues allows a l → l.count ≡ a.count → Asks p.view l
+asking_asks allows s y n p r a l is x same asks z later =
+    subst (λ (q : Standing). Asks q.view l) is (asks_goes (entry_of s).view a l (asks_from (entry_of s).view r a x.extends same asks) z.extends later)
+
+-- a node that is busy stays withdrawn
+pub busy_port : (label node : ℕ) (s r : Spot) (y : Parcel) (cell : ℕ) (state : PortState) → IsPort label node s y cell state → Extends (entry_of s).view (entry_of r).view → Alone r.me → r.me.1 ≡ s.me.1 → IsRenewed state (entry_of s) (entry_of r) None → IsPort label node r y cell state
+busy_port label node s r y cell state p more alone slot busy = record {
+  alone = alone;
+  stands = subst (λ q. Stands r y cell q) (sym busy.0) (busy.1, slot ∙ (subst (λ q. Stands s y cell q) busy.0 p.stands).1);
+  shows_state = busy.2 ∙ p.shows_state;
+  label_is = more.label ∙ p.label_is;
+  node_is = more.node ∙ p.node_is;
+}
+
+-- one that waits is queued
+pub queued_port : (label node : ℕ) (s l : Spot) (a : Entry) (y : Parcel) (was cell : ℕ) (state : PortState) → IsPort label node s y was state → Extends (entry_of s).view (entry_of l).view → Alone l.me → l.me.1 ≡ [] → IsEarly a (entry_of l) → cell ≡ a.place % 128 → IsPort label node l y cell shows.Queued
+queued_port label node s l a y was cell state p more alone slot early is = record {
+  alone = alone;
+  stands = (early.point, slot, is ∙ ap (λ k. k % 128) (sym early.place));
+  shows_state = early.state;
+  label_is = more.label ∙ p.label_is;
+  node_is = more.node ∙ p.node_is;
+}
+
+-- a line has a node
+pub some_nodes : (good : List ℕ → Type 0) (allows : List ℕ → List ℕ → Type 0) (key : Setup) (table_id : TableId) (p : Standing) (w : View) → BelongsTo good allows key table_id p → Continues allows p.view w → 1 ≤ w.nodes
+some_nodes good allows key table_id p w b c = omega (arith, c.extends.nodes, b.sound.nodes_are, b.sound.first_node, b.sound.last_node)
+
+-- the order of two views does not matter
+pub swapped : (v u : View) → OneHistory (v ∷ u ∷ []) → OneHistory (u ∷ v ∷ [])
+swapped v u h = history_of_two (v ∷ u ∷ []) u v h (among_second v u []) (among_first v (u ∷ []))
