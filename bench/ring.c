@@ -50,8 +50,14 @@ static int enqolb(struct port *p) {
 }
 
 static void write_masked(struct port *p, uint64_t mask, const uint8_t bytes[64]) {
-    for (int k = 0; k < 64; k++)
-        if (mask >> k & 1) p->parcel.bytes[k] = bytes[k];
+    for (int lane = 0; lane < 8; lane++) {
+        uint64_t part = mask >> (8 * lane) & 0xff;
+        if (part == 0xff)
+            memcpy(p->parcel.bytes + 8 * lane, bytes + 8 * lane, 8);
+        else
+            for (int k = 8 * lane; part; k++, part >>= 1)
+                if (part & 1) p->parcel.bytes[k] = bytes[k];
+    }
     p->parcel.mask |= mask;
 }
 
