@@ -85,7 +85,7 @@ overflow_add-port-in-Some-arrive g c =
     let ready = c.renew.ensures.continues (entry_of c.port.inside.place).view self in
     let went = asking_continues g.K.Keep.allows (entry_of c.port.inside.place).view (entry_of c.renew.new.place).view (entry_of c.ask-port-inside.new.place).view (entry_of c.look.new.place).view ready c.ask-port-inside.ensures.continues c.look.ensures.continues in
     let came = c.arrive.ensures.continues (entry_of c.port.inside.place).view went in
-    omega (arith, c.args.self.now.few, c.args.self.now.counted, c.in-Some.ensures.renewed.1, arrived_steps g.K.Keep.good g.K.Keep.allows c.args.self.now.table.shared.key c.args.self.now.table.shared.table_id c.args.port.now c.arrive.new.place c.arrive.new.parcel c.ask-port-inside.result c.in-Some-arrive.steps c.requires.belongs (continues_from g.K.Keep.allows c.port.inside.place c.port.inside.parcel c.port.inside.steps c.args.port.now (entry_of c.arrive.new.place).view c.port.view_is came) c.in-Some-arrive.ensures.arrived)
+    omega (arith, c.args.self.now.few_nodes, c.args.self.now.counted, c.in-Some.ensures.renewed.1, arrived_steps g.K.Keep.good g.K.Keep.allows c.args.self.now.table.shared.key c.args.self.now.table.shared.table_id c.args.port.now c.arrive.new.place c.arrive.new.parcel c.ask-port-inside.result c.in-Some-arrive.steps c.requires.belongs (continues_from g.K.Keep.allows c.port.inside.place c.port.inside.parcel c.port.inside.steps c.args.port.now (entry_of c.arrive.new.place).view c.port.view_is came) c.in-Some-arrive.ensures.arrived)
 
 pub returns-in-Some-arrive-clause-bound : goal.returns-in-Some-arrive-clause-bound
 returns-in-Some-arrive-clause-bound g c =

@@ -17,7 +17,7 @@ pub overflow_add-port : goal.overflow_add-port
 overflow_add-port g c =
     let went = c.arrive.ensures.continues (entry_of c.port.inside.place).view c.look.ensures.continues in
     let came = continues_from g.K.Keep.allows c.port.inside.place c.port.inside.parcel c.port.inside.steps c.args.port.now (entry_of c.arrive.new.place).view c.port.view_is went in
-    omega (arith, c.args.self.now.few, c.args.self.now.counted, arrived_steps g.K.Keep.good g.K.Keep.allows c.args.self.now.table.shared.key c.args.self.now.table.shared.table_id c.args.port.now c.arrive.new.place c.arrive.new.parcel c.port.inside.cell c.in-Some.steps c.requires.belongs came c.in-Some.ensures.arrived)
+    omega (arith, c.args.self.now.few_nodes, c.args.self.now.counted, arrived_steps g.K.Keep.good g.K.Keep.allows c.args.self.now.table.shared.key c.args.self.now.table.shared.table_id c.args.port.now c.arrive.new.place c.arrive.new.parcel c.port.inside.cell c.in-Some.steps c.requires.belongs came c.in-Some.ensures.arrived)
 
 pub returns-in-None-clause-belongs : goal.returns-in-None-clause-belongs
 returns-in-None-clause-belongs g c =
