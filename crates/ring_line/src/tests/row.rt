@@ -1,12 +1,13 @@
 //! A line with ports, which a test calls by node.
-ghost use Rattle.std.specs.Prelude.{IfSome};
+ghost use Rattle.std.specs.Prelude.{◌≡◌, IfSome};
+ghost use Rattle.qolb_model.specs.Plain as spec;
 ghost use Rattle.ring_line.specs.Trial.{IsTheirs, AreTheirs};
 
 use super::super::*;
 use super::handing::hand_over;
 use super::raising::raise_often;
 use line_lanes::{Line64, Mask};
-use qolb_model::{Enq, FinishError, Free, OpenError, Poll, PortState, Unfinished};
+use qolb_model::{Enq, FinishError, Free, OpenError, Out, Poll, PortState, Unfinished};
 use std::alloc::{Allocator, Global};
 use std::marker::Model;
 use std::sync::Wait;
@@ -77,7 +78,7 @@ impl Row {
     /// Asks for the node, if its port may ask.
     pub(super) fn ask(&mut self, node: u64) -> Option<Enq> {
         let mut port = self.take(node)?;
-        let answer = if self.owns(&port) && RingLine::<Free>::state(&port) == PortState::Idle {
+        let answer = if self.owns(&port) && may_ask(RingLine::<Free>::state(&port)) {
             Some(self.line.enqolb(&mut port))
         } else {
             None
@@ -98,6 +99,27 @@ impl Row {
         answer
     }
 
+    /// Withdraws for the node, if its port waits.
+    pub(super) fn withdraw(&mut self, node: u64) -> Option<Out> {
+        let mut port = self.take(node)?;
+        let answer = if self.owns(&port) && RingLine::<Free>::state(&port) == PortState::Queued {
+            Some(self.line.withdraw(&mut port))
+        } else {
+            None
+        };
+        self.put(port);
+        answer
+    }
+
+    /// How many word steps the port's last call took.
+    pub(super) fn steps(&self, node: u64) -> Option<u64> {
+        let port = self
+            .ports
+            .iter()
+            .find(|port| RingLine::<Free>::node(port) == node)?;
+        Some(self.line.steps(port))
+    }
+
     /// Releases for the node, and says whether its port held the line.
     pub(super) fn release(&mut self, node: u64) -> Option<bool> {
         let mut port = self.take(node)?;
@@ -106,6 +128,18 @@ impl Row {
             return Some(false);
         }
         self.line.deqolb(&mut port);
+        self.put(port);
+        Some(true)
+    }
+
+    /// Releases for the node and closes the line, and says whether its port held the line.
+    pub(super) fn shut(&mut self, node: u64) -> Option<bool> {
+        let mut port = self.take(node)?;
+        if !self.owns(&port) || RingLine::<Free>::state(&port) != PortState::Holding {
+            self.put(port);
+            return Some(false);
+        }
+        self.line.shut(&mut port);
         self.put(port);
         Some(true)
     }
@@ -177,6 +211,16 @@ impl Row {
         self.put(two);
         handed
     }
+}
+
+/// Whether a port in this state may ask.
+fn may_ask(state: PortState) -> bool
+    ensures { result ≡ spec.may_ask state }
+{
+    !matches!(
+        state,
+        PortState::Linking | PortState::Queued | PortState::Holding
+    )
 }
 
 /// Calls `raise_often` for each port, in a thread of its own.
