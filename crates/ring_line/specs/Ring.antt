@@ -122,6 +122,7 @@ pub record NodeOk (about : Setup) (x : Past) (n : ℕ) (e : Entry) : Type 0 wher
   pub walking : lets_go e.point ≡ true → has_line e.point ≡ true → Walks x e
   pub freeing : e.point ≡ Freeing → (e.place < length x.ends) × ((i p : ℕ) → At e.passed i p → p < length x.ends)
   pub unmarked : is_kept e.point ≡ true → x.marks e.place ≡ 0
+  pub unclear : is_kept e.point ≡ true → Lacks x.clear (own e.view)
   pub rolled : e.point ≡ Rolled → x.marks e.place ≡ n
   pub holds : has_line e.point ≡ true → (e.view.ends ≡ x.ends) × (x.hand ≡ n) × (x.dark ≡ is_dark e.point)
   pub lacks : has_line e.point ≡ false → x.hand ≢ n

@@ -110,16 +110,17 @@ fn deal<K: Keep>(
 {
     let mut rest = rest;
     let label = setup.label;
+    let parcel = Parcel {
+        bytes: Line64::zero(),
+        mask: Mask(0),
+        closed: false,
+    };
     let mut ports = Vec::with_capacity(alloc, setup.nodes as usize)?;
     for dealt in 0..setup.nodes {
         let others = ground.split_seat::<Cut>(&mut rest);
         let place = mem::replace(&mut rest, others);
         ports.push(Port {
-            parcel: Parcel {
-                bytes: Line64::zero(),
-                mask: Mask(0),
-                closed: false,
-            },
+            parcel,
             place,
             cell: 0,
             label,

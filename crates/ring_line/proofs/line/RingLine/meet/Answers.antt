@@ -1,7 +1,7 @@
 use Rattle.std.proofs.Common.{subst, [], ◌∷◌}
 use Rattle.qolb_model.specs.OneHistory.{OneHistory}
 use Rattle.ring_line.specs.Ports.{Standing}
-use Rattle.ring_line.proofs.Turning.{swapped}
+use Rattle.ring_line.proofs.Meets.{swapped}
 use Rattle.ring_line.proofs.line.RingLine.meet.Goals as goal
 
 pub returns-then-not-holds-2-clause-before : goal.returns-then-not-holds-2-clause-before

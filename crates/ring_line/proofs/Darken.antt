@@ -1,0 +1,115 @@
+-- A node that has the line clears the cell at its turn.
+use Rattle.std.proofs.Common.{◌≡◌, ◌≢◌, ◌⊎◌, ℕ, ◌+◌, ◌%◌, ◌<◌, List, [], ◌∷◌, length, set, get_or, Bool, true, false, sym, refl, ap, ◌∙◌, subst, inl, inr, ⊎_elim, arith, length-set, mod-lt, get_or-set_same, get_or-set_other}
+use mathlib.Core.Option.{none, some}
+use lib.ListN.{get_elem?}
+use Rattle.atomic_table.specs.Table.{step, keeps, Allows}
+use Rattle.ring_line.specs.declared.entry.Point.{Point}
+use Rattle.ring_line.specs.declared.entry.Point.TheVariants.{Idle, Holding, Lit, Dark, Rolled}
+use Rattle.ring_line.specs.declared.entry.Entry.{Entry}
+use Rattle.ring_line.specs.declared.rule.Setup.{Setup}
+use Rattle.ring_line.specs.Words.{ticket_at, cell_at, node_at}
+use Rattle.ring_line.specs.Ring.{Past, Walks, NodeOk, Shown, RingRule, has_line, lets_go, is_kept}
+use Rattle.ring_line.specs.Steps.{sole, Sat, darkened}
+use Rattle.qolb_model.proofs.Prefixes.{prefix_self}
+use Rattle.ring_line.proofs.Nodes.{clash_at, passed_goes, none_passed, others_hand}
+use Rattle.ring_line.proofs.Keeping.{Homes, rule_step, mine_ok, mine_low}
+use Rattle.ring_line.proofs.Taking.{cells_apart}
+
+module _ (good : List ℕ → Type 0) (allows : List ℕ → List ℕ → Type 0) (about : Setup) (v : Entry) (lit : (v.point ≡ Holding) ⊎ (v.point ≡ Lit)) where
+  abbrev dark_entry : Entry
+  dark_entry = record v { point = Dark }
+
+  abbrev dark_past : Past → Past
+  dark_past x = record x { dark = true }
+
+  has_it : has_line v.point ≡ true
+  has_it = ⊎_elim (λ e. ap has_line e) (λ e. ap has_line e) lit
+
+  keeps_it : is_kept v.point ≡ true
+  keeps_it = ⊎_elim (λ e. ap is_kept e) (λ e. ap is_kept e) lit
+
+  not_idle : v.point ≢ Idle
+  not_idle e = clash_at has_line Idle has_it e refl
+
+  not_rolled : v.point ≢ Rolled
+  not_rolled e = clash_at has_line Rolled has_it e refl
+
+  dark_node : (x : Past) → NodeOk about x v.view.node v → NodeOk about (dark_past x) v.view.node dark_entry
+  dark_node x ok = record {
+    node = refl;
+    label = ok.label;
+    nodes = ok.nodes;
+    opening = ok.opening;
+    orders = ok.orders;
+    endings = ok.endings;
+    clears = ok.clears;
+    counts = ok.counts;
+    asked = λ _. ok.asked not_idle;
+    placed = ok.placed;
+    last_open = ok.last_open;
+    idle = λ e. cc;
+    queued = λ e. cc;
+    holding = λ e. cc;
+    walking = λ _ _. walks;
+    freeing = λ e. cc;
+    unmarked = λ _. ok.unmarked keeps_it;
+    unclear = λ _. ok.unclear keeps_it;
+    rolled = λ e. cc;
+    holds = λ _. let h = ok.holds has_it in (h.0, h.1, refl);
+    lacks = λ e. cc;
+    holder = λ e. (refl, (ok.holder e).1);
+    passed = λ i p at. let h = ok.passed i p at in passed_goes x (dark_past x) v.view.node v dark_entry p h refl refl (omega arith) h.marked (prefix_self v.view.order) h.unclear;
+    passed_once = ok.passed_once;
+    own_ends = ok.own_ends;
+    own_marks = ok.own_marks;
+    marked_last = λ p r at mine h lacks. absurd (not_rolled (ok.marked_last p r at mine h lacks).0);
+    own_flag = λ e. cc;
+    no_flag = λ _. ok.no_flag not_rolled;
+    own_joined = ok.own_joined;
+    all_joined = ok.all_joined;
+    all_marked = ok.all_marked;
+    freed_clear = ok.freed_clear;
+  }
+    where
+      walks : Walks x v
+      walks = ⊎_elim (λ e. inl (ok.holding e, none_passed about x v.view.node v ok (ap lets_go e))) (λ e. ok.walking (ap lets_go e) has_it) lit
+
+  dark_shown : (x : Past) (words : List ℕ) (homes : Homes) (i : ℕ) → i ≡ cell_at (length x.ends % 128) → x.hand ≡ v.view.node → 0 < v.view.node → Shown good allows about x words homes → Shown good allows about (dark_past x) (set words i 0) homes
+  dark_shown x words homes i is mine low h = let small : length x.ends % 128 < 128 = mod-lt (length x.ends) (omega arith) in record {
+    wide = length-set words i 0 ∙ h.wide;
+    deep = h.deep;
+    ticket = get_or-set_other words i ticket_at 0 0 (λ e. omega arith) ∙ h.ticket;
+    dark = λ _. ap (λ k. get_or (set words i 0) k 0) (sym is) ∙ get_or-set_same words i 0 0 (let w = h.wide in omega arith);
+    lit = λ e. absurd (omega arith);
+    later = λ k a b. get_or-set_other words i (cell_at ((length x.ends + k) % 128)) 0 0 (λ e. cells_apart (length x.ends) k a b (omega arith)) ∙ h.later k a b;
+    flags = λ n a b. get_or-set_other words i (node_at n) 0 0 (λ e. omega arith) ∙ h.flags n a b;
+    home = h.home;
+  }
+
+  pub darkens_next : (me slots i : ℕ) (m : Sat) → m.0 ≡ v ∷ [] → i ≡ cell_at (length v.view.ends % 128) → Allows (RingRule good allows about) slots me m i (λ _. 0) (λ _. darkened (step slots i 0 0 none) m 0)
+  darkens_next me slots i m is word s r deep at small = (
+    dark_entry ∷ [],
+    keeps,
+    tt,
+    rule_step good allows about s r me v dark_entry (dark_past r.past) (set s.words i 0) s.homes at' refl
+        (record { legal = r.fine.legal; nodes = r.fine.nodes; kept = r.fine.kept; sound = r.fine.sound; within = r.fine.within; cleared = r.fine.cleared; nobody = λ e. absurd (held e); settled = λ e. absurd (held e); marked = r.fine.marked; gone = r.fine.gone })
+        (dark_shown r.past s.words s.homes i (word ∙ ap (λ es. cell_at (length es % 128)) (ok.holds has_it).0) mine low r.shown)
+        (dark_node r.past ok)
+        (λ n a b ne. others_hand about r.past n (r.who n) (r.each n a b) r.past.hand true (λ e. ne (sym e ∙ mine)) (λ e. ne (sym e ∙ mine))),
+    (λ j. (record (sole (sym is j)) { point = Dark } ∷ [], m.1)),
+  )
+    where
+      at' : get_elem? s.views me ≡ some (v ∷ [])
+      at' = at ∙ ap some is
+
+      ok : NodeOk about r.past v.view.node v
+      ok = mine_ok good allows about s r me v at'
+
+      low : 0 < v.view.node
+      low = (mine_low good allows about s r me v at').0
+
+      mine : r.past.hand ≡ v.view.node
+      mine = (ok.holds has_it).1
+
+      held : r.past.hand ≡ 0 → ⊥
+      held e = let h = mine in let l = low in omega arith

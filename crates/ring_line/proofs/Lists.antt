@@ -1,0 +1,168 @@
+-- Lists of requests and ends.
+use Rattle.std.proofs.Common.{◌≡◌, ◌≢◌, ◌⊎◌, ℕ, zero, suc, ◌+◌, ◌<◌, ◌≤◌, List, [], ◌∷◌, ◌++◌, length, drop, Bool, true, false, ◌||◌, cond, eqb, sym, refl, ap, ◌∙◌, inl, inr, ⊎_elim, subst, arith, length-append, zero-add, eq-eqb, ne_eqb, Some, None}
+use mathlib.Core.Logic.{dite}
+use mathlib.Core.List.{IsPrefix}
+use mathlib.Core.Option.{some, some-ne-none}
+use native.Mathlib.Decide.{ℕ_discrete}
+use lib.ListN.{get_elem?}
+use Rattle.std.proofs.lemmas.Option.{slice_get_within}
+use Rattle.qolb_model.specs.declared.request.Request.{Request}
+use Rattle.qolb_model.specs.declared.end.End.{End}
+use Rattle.qolb_model.specs.Requests.{Has, Lacks, has, count_of}
+use Rattle.qolb_model.specs.Histories.{IsLegal, Clears, none, more}
+use Rattle.qolb_model.proofs.Lists.{never, same_some, slice_get-append_left, slice_get-drop}
+use Rattle.qolb_model.proofs.Prefixes.{prefix_append, prefix_trans}
+use Rattle.qolb_model.proofs.Requests.{count_of-append, count_of-push_same, count_of-push_other, lacks_from, has_left, has_push, same_place}
+use Rattle.ring_line.specs.Ring.{At}
+
+module _ {A : Type 0} where
+  pub at_same : (xs : List A) (p : ℕ) (x y : A) → At xs p x → At xs p y → x ≡ y
+  at_same xs p x y a b = same_some (sym a ∙ b)
+
+  -- a list begins the same list with more
+  pub prefix_more : (xs ys zs : List A) → IsPrefix xs ys → IsPrefix xs (ys ++ zs)
+  prefix_more xs ys zs p = prefix_trans xs ys (ys ++ zs) p (prefix_append ys zs)
+
+  pub at_longer : (xs ys : List A) (p : ℕ) (x : A) → At xs p x → At (xs ++ ys) p x
+  at_longer xs ys p x e = slice_get-append_left xs ys p (slice_get_within xs p x e) ∙ e
+
+  -- an append is read in its first part or in its second
+  pub at_either : (xs ys : List A) (i : ℕ) (x : A) → At (xs ++ ys) i x → At xs i x ⊎ ((j : ℕ) × (i ≡ length xs + j) × At ys j x)
+  at_either [] ys i x e = inr (i, omega arith, e)
+  at_either (y ∷ xs) ys zero x e = inl e
+  at_either (y ∷ xs) ys (suc i) x e = ⊎_elim (λ t. inl t) (λ t. let a = t.1 in inr (t.0, omega arith, t.2)) (at_either xs ys i x e)
+
+  pub at_drop : (k : ℕ) (xs : List A) (p : ℕ) (x : A) → At (drop k xs) p x → At xs (k + p) x
+  at_drop k xs p x e = sym (slice_get-drop k xs p) ∙ e
+
+  pub at_one : (x y : A) (i : ℕ) → At (x ∷ []) i y → x ≡ y
+  at_one x y zero e = same_some e
+  at_one x y (suc i) e = absurd (let h : None ≡ Some y = e in cc h)
+
+  pub at_none : (i : ℕ) (y : A) → At [] i y → ⊥
+  at_none i y e = let h : None ≡ Some y = e in cc h
+
+-- one request alone
+pub count_of-one : (n k m : ℕ) → n ≡ m → count_of m (record { node = n; number = k } ∷ []) ≡ 1
+count_of-one n k m e = count_of-push_same m [] (record { node = n; number = k }) e
+
+pub count_of-cons_other : (n : ℕ) (r : Request) (xs : List Request) → r.node ≢ n → count_of n (r ∷ xs) ≡ count_of n xs
+count_of-cons_other n r xs other = let a = count_of-append n (r ∷ []) xs in let b : count_of n (r ∷ []) ≡ count_of n [] = count_of-push_other n [] r other in
+    let c : count_of n [] ≡ 0 = refl in omega arith
+
+pub count_of-cons_same : (n : ℕ) (r : Request) (xs : List Request) → r.node ≡ n → count_of n (r ∷ xs) ≡ 1 + count_of n xs
+count_of-cons_same n r xs same = let a = count_of-append n (r ∷ []) xs in let b : count_of n (r ∷ []) ≡ count_of n [] + 1 = count_of-push_same n [] r same in
+    let c : count_of n [] ≡ 0 = refl in omega arith
+
+-- a request on the clear list has ended
+cleared_since : (order : List Request) (ended : ℕ) (a b : List Request) → Clears order ended a b → (r : Request) → Has b r → Has a r ⊎ ((p : ℕ) × (p < ended) × At order p r)
+cleared_since order ended a b none r h = inl h
+cleared_since order ended a b (more p q c l at new) r h = elim (has_push _ q r h) [
+  | inl was ↦ cleared_since order ended a _ c r was
+  | inr is ↦ inr (p, l, at ∙ ap Some (sym is))
+]
+
+pub cleared_ended : (order : List Request) (ended : ℕ) (clear : List Request) → Clears order ended [] clear → (r : Request) → Has clear r → (p : ℕ) × (p < ended) × At order p r
+cleared_ended order ended clear c r h = elim (cleared_since order ended [] clear c r h) [ inl was ↦ absurd (let e : false ≡ true = was in cc e) | inr is ↦ is ]
+
+-- the order grows, and the number of ends
+pub clears_wider : (order more_order : List Request) (ended later : ℕ) (a b : List Request) → ended ≤ later → Clears order ended a b → Clears (order ++ more_order) later a b
+clears_wider order ms ended later a b le none = none
+clears_wider order ms ended later a b le (more p q c l at new) = more p q (clears_wider order ms ended later a _ le c) (omega arith) (at_longer order ms p q at) new
+
+pub clears_later : (order : List Request) (ended later : ℕ) (a b : List Request) → ended ≤ later → Clears order ended a b → Clears order later a b
+clears_later order ended later a b le none = none
+clears_later order ended later a b le (more p q c l at new) = more p q (clears_later order ended later a _ le c) (omega arith) at new
+
+-- the request at its turn ends, and is cleared
+pub clears_push : (order : List Request) (ends : List End) (clear : List Request) (r : Request) (e : End) → IsLegal order ends → At order (length ends) r → Clears order (length ends) [] clear
+    → Clears order (length (ends ++ e ∷ [])) [] (clear ++ r ∷ [])
+clears_push order ends clear r e legal turn c =
+    let l : length (ends ++ e ∷ []) ≡ length ends + 1 = length-append ends (e ∷ []) in
+    more (length ends) r (clears_later order (length ends) (length (ends ++ e ∷ [])) [] clear (omega arith) c) (omega arith) turn
+    (lacks_from clear r (λ h. let o = cleared_ended order (length ends) clear c r h in let s = same_place order legal.numbered o.0 (length ends) r o.2 turn in let b = o.1 in absurd (omega arith)))
+
+-- Nodes that stand at most once each are not more than there are nodes
+pub sum_to : (ℕ → ℕ) → ℕ → ℕ
+sum_to f zero = 0
+sum_to f (suc n) = sum_to f n + f (suc n)
+
+abbrev one_if : Bool → ℕ
+one_if b = cond b 1 0
+
+sum_to-add : (f g h : ℕ → ℕ) → ((k : ℕ) → h k ≡ f k + g k) → (n : ℕ) → sum_to h n ≡ sum_to f n + sum_to g n
+unfolding sum_to
+sum_to-add f g h e zero = refl
+sum_to-add f g h e (suc n) = let a = sum_to-add f g h e n in let b = e (suc n) in omega arith
+
+pub sum_to-zero : (f : ℕ → ℕ) (n : ℕ) → ((k : ℕ) → 0 < k → k ≤ n → f k ≡ 0) → sum_to f n ≡ 0
+unfolding sum_to
+sum_to-zero f zero e = refl
+sum_to-zero f (suc n) e = let a = sum_to-zero f n (λ k l h. e k l (omega arith)) in let b = e (suc n) (omega arith) (omega arith) in omega arith
+
+sum_to-unit : (m n : ℕ) → 0 < m → m ≤ n → sum_to (λ k. one_if (eqb m k)) n ≡ 1
+unfolding sum_to
+sum_to-unit m zero l h = absurd (omega arith)
+sum_to-unit m (suc n) l h = dite (ℕ_discrete m (suc n))
+    (λ e. let a = sum_to-zero (λ k. one_if (eqb m k)) n (λ k _ u. ap one_if (ne_eqb m k (λ q. omega arith))) in let b = ap one_if (eq-eqb m (suc n) e) in omega arith)
+    (λ ne. let a = sum_to-unit m n l (omega arith) in let b = ap one_if (ne_eqb m (suc n) ne) in omega arith)
+
+count_of-cons : (k : ℕ) (x : Request) (xs : List Request) → count_of k (x ∷ xs) ≡ one_if (eqb x.node k) + count_of k xs
+count_of-cons k x xs = dite (ℕ_discrete x.node k)
+    (λ e. count_of-cons_same k x xs e ∙ ap (λ b. one_if b + count_of k xs) (sym (eq-eqb x.node k e)))
+    (λ ne. count_of-cons_other k x xs ne ∙ sym (zero-add (count_of k xs)) ∙ ap (λ b. one_if b + count_of k xs) (sym (ne_eqb x.node k ne)))
+
+pub sum_counts : (n : ℕ) (xs : List Request) → ((p : ℕ) (r : Request) → At xs p r → (0 < r.node) × (r.node ≤ n)) → sum_to (λ k. count_of k xs) n ≡ length xs
+sum_counts n [] h = sum_to-zero (λ k. count_of k []) n (λ k _ _. refl)
+sum_counts n (x ∷ xs) h =
+    let a = sum_to-add (λ k. one_if (eqb x.node k)) (λ k. count_of k xs) (λ k. count_of k (x ∷ xs)) (λ k. count_of-cons k x xs) n in
+    let b = sum_counts n xs (λ p r e. h (suc p) r e) in
+    let c = sum_to-unit x.node n (h 0 x refl).0 (h 0 x refl).1 in omega arith
+
+sum_to-le : (f : ℕ → ℕ) (n : ℕ) → ((k : ℕ) → 0 < k → k ≤ n → f k ≤ 1) → sum_to f n ≤ n
+unfolding sum_to
+sum_to-le f zero h = omega arith
+sum_to-le f (suc n) h = let a = sum_to-le f n (λ k l u. h k l (omega arith)) in let b = h (suc n) (omega arith) (omega arith) in omega arith
+
+pub few_if_once : (n : ℕ) (xs : List Request) → ((p : ℕ) (r : Request) → At xs p r → (0 < r.node) × (r.node ≤ n)) → ((k : ℕ) → 0 < k → k ≤ n → count_of k xs ≤ 1) → length xs ≤ n
+few_if_once n xs h once = let a = sum_counts n xs h in let b = sum_to-le (λ k. count_of k xs) n once in omega arith
+
+count_none : (k : ℕ) (xs : List Request) → ((i : ℕ) (r : Request) → At xs i r → r.node ≢ k) → count_of k xs ≡ 0
+count_none k [] h = refl
+count_none k (x ∷ xs) h = count_of-cons_other k x xs (h 0 x refl) ∙ count_none k xs (λ i r e. h (suc i) r e)
+
+-- a node that stands at one place at most
+pub count_once : (k : ℕ) (xs : List Request) → ((i j : ℕ) (r s : Request) → At xs i r → At xs j s → r.node ≡ k → s.node ≡ k → i ≡ j) → count_of k xs ≤ 1
+count_once k [] h = let e : count_of k [] ≡ 0 = refl in omega arith
+count_once k (x ∷ xs) h = dite (ℕ_discrete x.node k)
+    (λ e. let a = count_none k xs (λ i r at mine. clash i (h 0 (suc i) x r refl at e mine)) in let b = count_of-cons_same k x xs e in omega arith)
+    (λ ne. let a = count_once k xs (λ i j r s p q u w. back i j (h (suc i) (suc j) r s p q u w)) in let b = count_of-cons_other k x xs ne in omega arith)
+  where
+    clash : (i : ℕ) → 0 ≡ suc i → ⊥
+    clash i e = omega arith
+
+    back : (i j : ℕ) → suc i ≡ suc j → i ≡ j
+    back i j e = omega arith
+
+pub same_bool : (a b : Bool) → (a ≡ true → b ≡ true) → (b ≡ true → a ≡ true) → a ≡ b
+same_bool true b f g = sym (f refl)
+same_bool false true f g = g refl
+same_bool false false f g = refl
+
+-- a request that is not pushed
+pub has_push_other : (xs : List Request) (x r : Request) → r ≢ x → has (xs ++ x ∷ []) r ≡ has xs r
+has_push_other xs x r ne = same_bool (has (xs ++ x ∷ []) r) (has xs r) (λ h. ⊎_elim (λ t. t) (λ t. absurd (ne t)) (has_push xs x r h)) (λ h. has_left xs (x ∷ []) r h)
+
+pub lacks_push : (xs : List Request) (x r : Request) → r ≢ x → Lacks xs r → Lacks (xs ++ x ∷ []) r
+lacks_push xs x r ne h = has_push_other xs x r ne ∙ h
+
+pub lacked_push : (xs : List Request) (x r : Request) → Lacks (xs ++ x ∷ []) r → Lacks xs r
+lacked_push xs x r h = lacks_from xs r (λ was. never (has_left xs (x ∷ []) r was) h)
+
+pub has_prefix : (xs ys : List Request) (r : Request) → IsPrefix xs ys → Has xs r → Has ys r
+has_prefix xs ys r p h = subst (λ z. Has z r) p.1 (has_left xs p.0 r h)
+
+pub elem_within : {A : Type 0} (xs : List A) (p : ℕ) (x : A) → get_elem? xs p ≡ some x → p < length xs
+elem_within [] p x e = absurd (some-ne-none x (sym e))
+elem_within (y ∷ ys) zero x e = omega arith
+elem_within (y ∷ ys) (suc p) x e = let h = elem_within ys p x e in omega arith

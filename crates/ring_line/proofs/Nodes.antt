@@ -1,0 +1,456 @@
+-- What stays true of one node, and of the seats' entries, over a step of another.
+use Rattle.std.proofs.Common.{◌≡◌, ◌≢◌, ◌⊎◌, ℕ, zero, suc, ◌+◌, ◌<◌, ◌≤◌, List, [], ◌∷◌, ◌++◌, length, set, Bool, true, false, if◌then◌else◌, sym, refl, ap, ◌∙◌, subst, inl, inr, ⊎_elim, arith, length-append, Some, None}
+use mathlib.Core.Logic.{dite}
+use mathlib.Core.List.{IsPrefix}
+use mathlib.Core.Option.{some}
+use native.Mathlib.Decide.{ℕ_discrete}
+use lib.ListN.{get_elem?}
+use Rattle.std.proofs.lemmas.Option.{slice_get_within}
+use Rattle.atomic_table.proofs.Lists.{at_set}
+use Rattle.qolb_model.specs.declared.answer.PortState.{PortState}
+use Rattle.qolb_model.specs.declared.answer.PortState.TheVariants as shows
+use Rattle.qolb_model.specs.declared.request.Request.{Request}
+use Rattle.qolb_model.specs.declared.end.End.{End}
+use Rattle.qolb_model.specs.Requests.{Has, Lacks, has, count_of}
+use Rattle.qolb_model.specs.EndKinds.{is_gone}
+use Rattle.qolb_model.specs.Histories.{IsLegal}
+use Rattle.qolb_model.specs.Views.{own}
+use Rattle.qolb_model.proofs.Lists.{never, push_cases}
+use Rattle.qolb_model.proofs.Prefixes.{prefix_get, prefix_self}
+use Rattle.qolb_model.proofs.Requests.{count_of-push_other, has_left, has_last, same_place}
+use Rattle.ring_line.specs.declared.entry.Point.{Point}
+use Rattle.ring_line.specs.declared.entry.Point.TheVariants.{Idle, Queued, Holding, Lit, Dark, Freeing, Rolled}
+use Rattle.ring_line.specs.declared.entry.Entry.{Entry}
+use Rattle.ring_line.specs.declared.rule.Setup.{Setup}
+use Rattle.ring_line.specs.Ring.{At, has_line, lets_go, is_kept, is_dark, Past, HasPassed, Walks, NodeOk, Member}
+use Rattle.ring_line.proofs.Lists.{at_same, at_one, at_longer, prefix_more, has_prefix, has_push_other, lacks_push, lacked_push}
+
+abbrev pub pick : {P A : Type 0} → Dec P → A → A → A
+pick (yes _) a b = a
+pick (no _) a b = b
+
+module _ {A : Type 0} where
+  pub put : (ℕ → A) → ℕ → A → ℕ → A
+  put f i c j = pick (ℕ_discrete j i) c (f j)
+
+  pub put_here : (f : ℕ → A) (i : ℕ) (c : A) → put f i c i ≡ c
+  unfolding put
+  put_here f i c = go (ℕ_discrete i i)
+    where
+      go : (d : Dec (i ≡ i)) → pick d c (f i) ≡ c
+      go (yes _) = refl
+      go (no n) = absurd (n refl)
+
+  pub put_else : (f : ℕ → A) (i : ℕ) (c : A) (j : ℕ) → j ≢ i → put f i c j ≡ f j
+  unfolding put
+  put_else f i c j other = go (ℕ_discrete j i)
+    where
+      go : (d : Dec (j ≡ i)) → pick d c (f j) ≡ f j
+      go (yes e) = absurd (other e)
+      go (no _) = refl
+
+-- what two points can't share
+pub clash_at : {q : Point} → (f : Point → Bool) (a : Point) → f q ≡ true → q ≡ a → f a ≡ false → ⊥
+clash_at f a k e no_a = never k (ap f e ∙ no_a)
+
+-- a node whose request is not clear has asked
+pub kept_asked : (q : Point) → is_kept q ≡ true → q ≢ Idle
+kept_asked q k e = clash_at is_kept Idle k e refl
+
+pub passed_goes : (x x' : Past) (n : ℕ) (v w : Entry) (p : ℕ) (h : HasPassed x n v p) → lets_go w.point ≡ true → x'.passer p ≡ x.passer p → length x.ends ≤ length x'.ends → 0 < x'.marks p → IsPrefix v.view.order w.view.order → Lacks x'.clear h.request
+    → HasPassed x' n w p
+passed_goes x x' n v w p h going passer longer marked orders unclear = record {
+  in_release = going;
+  passer = passer ∙ h.passer;
+  within = let a = h.within in omega arith;
+  marked = marked;
+  request = h.request;
+  at = prefix_get v.view.order w.view.order p h.request orders h.at;
+  unclear = unclear;
+}
+
+module _ (about : Setup) (x : Past) (n : ℕ) (v : Entry) (ok : NodeOk about x n v) where
+  -- the node's last request stands in the order
+  pub placed_at : 0 < v.view.count → At x.order v.place (own v.view)
+  placed_at c = prefix_get v.view.order x.order v.place (own v.view) ok.orders (ok.placed c)
+
+  -- outside a release nothing is passed
+  pub none_passed : lets_go v.point ≡ false → v.passed ≡ []
+  none_passed idle = go v.passed refl
+    where
+      go : (l : List ℕ) → v.passed ≡ l → v.passed ≡ []
+      go [] e = e
+      go (p ∷ ps) e = absurd (never (ok.passed 0 p (subst (λ (z : List ℕ). At z 0 p) (sym e) refl)).in_release idle)
+
+  -- a request that another node adds
+  pub others_ask : (q : Request) → length x.ends ≤ length x.order → q.node ≢ n → NodeOk about (record x { order = x.order ++ q ∷ [] }) n v
+  others_ask q fits other = record {
+    node = ok.node;
+    label = ok.label;
+    nodes = ok.nodes;
+    opening = ok.opening;
+    orders = prefix_more v.view.order x.order (q ∷ []) ok.orders;
+    endings = ok.endings;
+    clears = ok.clears;
+    counts = count_of-push_other n x.order q other ∙ ok.counts;
+    asked = ok.asked;
+    placed = ok.placed;
+    last_open = λ p r at mine h. ok.last_open p r (old p r at mine) mine h;
+    idle = ok.idle;
+    queued = ok.queued;
+    holding = ok.holding;
+    walking = ok.walking;
+    freeing = ok.freeing;
+    unmarked = ok.unmarked;
+    unclear = ok.unclear;
+    rolled = ok.rolled;
+    holds = ok.holds;
+    lacks = ok.lacks;
+    holder = ok.holder;
+    passed = λ i p at. let h = ok.passed i p at in passed_goes x (record x { order = x.order ++ q ∷ [] }) n v v p h h.in_release refl (omega arith) h.marked (prefix_self v.view.order) h.unclear;
+    passed_once = ok.passed_once;
+    own_ends = λ p r end at mine en kind. ok.own_ends p r end (old p r at mine) mine en kind;
+    own_marks = λ p r at mine h. ok.own_marks p r (old p r at mine) mine h;
+    marked_last = λ p r at mine h lacks. ok.marked_last p r (old p r at mine) mine h lacks;
+    own_flag = ok.own_flag;
+    no_flag = ok.no_flag;
+    own_joined = λ p r at mine. ok.own_joined p r (old p r at mine) mine;
+    all_joined = λ r h. has_left x.order (q ∷ []) r (ok.all_joined r h);
+    all_marked = λ r h. let k = ok.all_marked r h in (k.0, at_longer x.order (q ∷ []) k.0 r k.1, k.2);
+    freed_clear = ok.freed_clear;
+  }
+    where
+      old : (p : ℕ) (r : Request) → At (x.order ++ q ∷ []) p r → r.node ≡ n → At x.order p r
+      old p r at mine = ⊎_elim (λ t. t.1) (λ t. absurd (other (sym (ap (λ (z : Request). z.node) t.1) ∙ mine))) (push_cases x.order q p r at)
+
+  -- the line comes into another hand, or the cell at its turn is cleared
+  pub others_hand : (hand : ℕ) (dark : Bool) → x.hand ≢ n → hand ≢ n → NodeOk about (record x { hand = hand; dark = dark }) n v
+  others_hand hand dark was is = record {
+    node = ok.node;
+    label = ok.label;
+    nodes = ok.nodes;
+    opening = ok.opening;
+    orders = ok.orders;
+    endings = ok.endings;
+    clears = ok.clears;
+    counts = ok.counts;
+    asked = ok.asked;
+    placed = ok.placed;
+    last_open = ok.last_open;
+    idle = ok.idle;
+    queued = ok.queued;
+    holding = ok.holding;
+    walking = ok.walking;
+    freeing = ok.freeing;
+    unmarked = ok.unmarked;
+    unclear = ok.unclear;
+    rolled = ok.rolled;
+    holds = λ e. absurd (was (ok.holds e).1);
+    lacks = λ _. is;
+    holder = ok.holder;
+    passed = λ i p at. let h = ok.passed i p at in passed_goes x (record x { hand = hand; dark = dark }) n v v p h h.in_release refl (omega arith) h.marked (prefix_self v.view.order) h.unclear;
+    passed_once = ok.passed_once;
+    own_ends = ok.own_ends;
+    own_marks = ok.own_marks;
+    marked_last = ok.marked_last;
+    own_flag = ok.own_flag;
+    no_flag = ok.no_flag;
+    own_joined = ok.own_joined;
+    all_joined = ok.all_joined;
+    all_marked = ok.all_marked;
+    freed_clear = ok.freed_clear;
+  }
+
+  -- the request t at its turn ends, by a step of m, which has the line: it is m's own, or it is withdrawn and ends so
+  pub others_end : (m : ℕ) (t : Request) (e : End) (passer : ℕ → ℕ) → At x.order (length x.ends) t → (t.node ≡ m) ⊎ (0 < x.marks (length x.ends)) → (0 < x.marks (length x.ends) → is_gone e ≡ true) → n ≢ m → x.hand ≡ m
+      → ((p : ℕ) → p ≤ length x.ends → passer p ≡ x.passer p) → NodeOk about (record x { ends = x.ends ++ e ∷ []; dark = false; passer = passer }) n v
+  others_end m t e passer turn whose gone other had passes = record {
+    node = ok.node;
+    label = ok.label;
+    nodes = ok.nodes;
+    opening = ok.opening;
+    orders = ok.orders;
+    endings = prefix_more v.view.ends x.ends (e ∷ []) ok.endings;
+    clears = ok.clears;
+    counts = ok.counts;
+    asked = ok.asked;
+    placed = ok.placed;
+    last_open = λ p r at mine h. ok.last_open p r at mine (let l = longer in omega arith);
+    idle = λ i c. let h = ok.idle i c in ((let l = longer in let a = h.0 in omega arith), h.1);
+    queued = λ i. let h = ok.queued i in let q = not_turn i in let l = longer in omega arith;
+    holding = λ i. absurd (no_line (ap has_line i));
+    walking = λ _ l. absurd (no_line l);
+    freeing = λ i. let h = ok.freeing i in ((let l = longer in let a = h.0 in omega arith), (λ j p at. let l = longer in let a = h.1 j p at in omega arith));
+    unmarked = ok.unmarked;
+    unclear = ok.unclear;
+    rolled = ok.rolled;
+    holds = λ l. absurd (no_line l);
+    lacks = ok.lacks;
+    holder = λ h. absurd (no_line (ok.holder h).0);
+    passed = λ i p at. let h = ok.passed i p at in passed_goes x (record x { ends = x.ends ++ e ∷ []; dark = false; passer = passer }) n v v p h h.in_release (passes p h.within) (let l = longer in omega arith) h.marked (prefix_self v.view.order) h.unclear;
+    passed_once = ok.passed_once;
+    own_ends = λ p r end at mine en kind. ⊎_elim (λ z. ok.own_ends p r end at mine z.1 kind)
+        (λ z. absurd (never (ap is_gone z.1 ∙ gone (marked_turn r (subst (λ q. At x.order q r) z.0 at) mine)) kind)) (push_cases x.ends e p end en);
+    own_marks = ok.own_marks;
+    marked_last = ok.marked_last;
+    own_flag = ok.own_flag;
+    no_flag = ok.no_flag;
+    own_joined = ok.own_joined;
+    all_joined = ok.all_joined;
+    all_marked = ok.all_marked;
+    freed_clear = ok.freed_clear;
+  }
+    where
+      longer : length (x.ends ++ e ∷ []) ≡ length x.ends + 1
+      longer = length-append x.ends (e ∷ [])
+
+      no_line : has_line v.point ≡ true → ⊥
+      no_line l = other (sym (ok.holds l).1 ∙ had)
+
+      -- a request of n at its turn is withdrawn
+      marked_turn : (r : Request) → At x.order (length x.ends) r → r.node ≡ n → 0 < x.marks (length x.ends)
+      marked_turn r at mine = ⊎_elim (λ own_end. absurd (other (sym mine ∙ ap (λ (q : Request). q.node) (at_same x.order (length x.ends) r t at turn) ∙ own_end))) (λ h. h) whose
+
+      not_turn : v.point ≡ Queued → v.place ≢ length x.ends
+      not_turn i z = let k = marked_turn (own v.view) (subst (λ q. At x.order q (own v.view)) z (placed_at (ok.asked (λ idle. cc)))) ok.node in
+          let w : x.marks (length x.ends) ≡ 0 = ap x.marks (sym z) ∙ ok.unmarked (ap is_kept i) in omega arith
+
+  -- another node's request, which is not withdrawn, goes on the clear list
+  pub others_clear : (q : Request) (place : ℕ) → q.node ≢ n → At x.order place q → x.marks place ≡ 0 → IsLegal x.order x.ends → NodeOk about (record x { clear = x.clear ++ q ∷ [] }) n v
+  others_clear q place other there unmarked legal = record {
+    node = ok.node;
+    label = ok.label;
+    nodes = ok.nodes;
+    opening = ok.opening;
+    orders = ok.orders;
+    endings = ok.endings;
+    clears = prefix_more v.view.clear x.clear (q ∷ []) ok.clears;
+    counts = ok.counts;
+    asked = ok.asked;
+    placed = ok.placed;
+    last_open = ok.last_open;
+    idle = ok.idle;
+    queued = ok.queued;
+    holding = ok.holding;
+    walking = ok.walking;
+    freeing = ok.freeing;
+    unmarked = ok.unmarked;
+    unclear = λ k. lacks_push x.clear q (own v.view) (λ e. other (sym (ap (λ (z : Request). z.node) e) ∙ ok.node)) (ok.unclear k);
+    rolled = ok.rolled;
+    holds = ok.holds;
+    lacks = ok.lacks;
+    holder = ok.holder;
+    passed = λ i p at. let h = ok.passed i p at in passed_goes x (record x { clear = x.clear ++ q ∷ [] }) n v v p h h.in_release refl (omega arith) h.marked (prefix_self v.view.order)
+        (lacks_push x.clear q h.request (λ e. let s = same_place x.order legal.numbered p place h.request (prefix_get v.view.order x.order p h.request ok.orders h.at) (subst (At x.order place) (sym e) there) in
+            let w : x.marks p ≡ 0 = ap x.marks s ∙ unmarked in let m = h.marked in omega arith) h.unclear);
+    passed_once = ok.passed_once;
+    own_ends = ok.own_ends;
+    own_marks = ok.own_marks;
+    marked_last = λ p r at mine h lacks. ok.marked_last p r at mine h (lacked_push x.clear q r lacks);
+    own_flag = λ i. ok.own_flag i ∙ ap (λ b. if b then 1 else 0) (sym (has_push_other x.clear q (own v.view) (λ e. other (sym (ap (λ (z : Request). z.node) e) ∙ ok.node))));
+    no_flag = ok.no_flag;
+    own_joined = ok.own_joined;
+    all_joined = ok.all_joined;
+    all_marked = ok.all_marked;
+    freed_clear = ok.freed_clear;
+  }
+
+  -- the node m withdraws its request, which is at the place q
+  pub others_roll : (m q : ℕ) (r : Request) → At x.order q r → r.node ≡ m → 0 < m → n ≢ m → NodeOk about (record x { marks = put x.marks q m }) n v
+  others_roll m q r asked mine low other = record {
+    node = ok.node;
+    label = ok.label;
+    nodes = ok.nodes;
+    opening = ok.opening;
+    orders = ok.orders;
+    endings = ok.endings;
+    clears = ok.clears;
+    counts = ok.counts;
+    asked = ok.asked;
+    placed = ok.placed;
+    last_open = ok.last_open;
+    idle = ok.idle;
+    queued = ok.queued;
+    holding = ok.holding;
+    walking = λ a l. ⊎_elim (λ z. inl z) (λ z. inr (z.0, more (length x.ends) z.1, z.2)) (ok.walking a l);
+    freeing = ok.freeing;
+    unmarked = λ k. own_place (ok.asked (kept_asked v.point k)) ∙ ok.unmarked k;
+    unclear = ok.unclear;
+    rolled = λ i. own_place (ok.asked (λ e. cc)) ∙ ok.rolled i;
+    holds = ok.holds;
+    lacks = ok.lacks;
+    holder = ok.holder;
+    passed = λ i p at. let h = ok.passed i p at in passed_goes x (record x { marks = put x.marks q m }) n v v p h h.in_release refl (omega arith) (more p h.marked) (prefix_self v.view.order) h.unclear;
+    passed_once = ok.passed_once;
+    own_ends = ok.own_ends;
+    own_marks = λ p s at is h. ok.own_marks p s at is (subst (λ z. 0 < z) (place_else p s at is) h);
+    marked_last = λ p s at is h lacks. ok.marked_last p s at is (subst (λ z. 0 < z) (place_else p s at is) h) lacks;
+    own_flag = ok.own_flag;
+    no_flag = ok.no_flag;
+    own_joined = ok.own_joined;
+    all_joined = ok.all_joined;
+    all_marked = λ s h. let k = ok.all_marked s h in (k.0, k.1, more k.0 k.2);
+    freed_clear = ok.freed_clear;
+  }
+    where
+      -- marks only grow
+      more : (p : ℕ) → 0 < x.marks p → 0 < put x.marks q m p
+      more p h = dite (ℕ_discrete p q) (λ e. subst (λ k. 0 < k) (sym (ap (put x.marks q m) e ∙ put_here x.marks q m)) low) (λ ne. subst (λ k. 0 < k) (sym (put_else x.marks q m p ne)) h)
+
+      place_else : (p : ℕ) (s : Request) → At x.order p s → s.node ≡ n → put x.marks q m p ≡ x.marks p
+      place_else p s at is = put_else x.marks q m p (λ e. other (sym is ∙ ap (λ (z : Request). z.node) (at_same x.order q s r (subst (λ k. At x.order k s) e at) asked) ∙ mine))
+
+      own_place : 0 < v.view.count → put x.marks q m v.place ≡ x.marks v.place
+      own_place c = place_else v.place (own v.view) (placed_at c) ok.node
+
+  -- the release of m frees the node of the request r, at the place q, which it passed
+  pub others_free : (m q : ℕ) (r : Request) → At x.order q r → x.passer q ≡ m → 0 < x.marks q → Lacks x.clear r → n ≢ m → IsLegal x.order x.ends → NodeOk about (record x { clear = x.clear ++ r ∷ []; flags = put x.flags r.node 1 }) n v
+  others_free m q r asked passer marked unclear other legal = record {
+    node = ok.node;
+    label = ok.label;
+    nodes = ok.nodes;
+    opening = ok.opening;
+    orders = ok.orders;
+    endings = ok.endings;
+    clears = prefix_more v.view.clear x.clear (r ∷ []) ok.clears;
+    counts = ok.counts;
+    asked = ok.asked;
+    placed = ok.placed;
+    last_open = ok.last_open;
+    idle = ok.idle;
+    queued = ok.queued;
+    holding = ok.holding;
+    walking = ok.walking;
+    freeing = ok.freeing;
+    unmarked = ok.unmarked;
+    unclear = λ k. lacks_push x.clear r (own v.view) (λ e. clash_at is_kept Rolled k (last (sym (ap (λ (z : Request). z.node) e) ∙ ok.node)).0 refl) (ok.unclear k);
+    rolled = ok.rolled;
+    holds = ok.holds;
+    lacks = ok.lacks;
+    holder = ok.holder;
+    passed = λ i p at. let h = ok.passed i p at in passed_goes x (record x { clear = x.clear ++ r ∷ []; flags = put x.flags r.node 1 }) n v v p h h.in_release refl (omega arith) h.marked (prefix_self v.view.order)
+        (lacks_push x.clear r h.request (λ e. other (sym h.passer ∙ ap x.passer (same_place x.order legal.numbered p q h.request (prefix_get v.view.order x.order p h.request ok.orders h.at) (subst (At x.order q) (sym e) asked)) ∙ passer)) h.unclear);
+    passed_once = ok.passed_once;
+    own_ends = ok.own_ends;
+    own_marks = ok.own_marks;
+    marked_last = λ p s at is h lacks. ok.marked_last p s at is h (lacked_push x.clear r s lacks);
+    own_flag = λ i. dite (ℕ_discrete n r.node)
+        (λ e. ap (put x.flags r.node 1) e ∙ put_here x.flags r.node 1 ∙ ap (λ b. if b then 1 else 0) (sym (subst (Has (x.clear ++ r ∷ [])) (is_own i e) (has_last x.clear r))))
+        (λ ne. put_else x.flags r.node 1 n ne ∙ ok.own_flag i ∙ ap (λ b. if b then 1 else 0) (sym (has_push_other x.clear r (own v.view) (λ e. ne (sym ok.node ∙ ap (λ (z : Request). z.node) e)))));
+    no_flag = λ i. dite (ℕ_discrete n r.node) (λ e. absurd (i (last (sym e)).0)) (λ ne. put_else x.flags r.node 1 n ne ∙ ok.no_flag i);
+    own_joined = ok.own_joined;
+    all_joined = ok.all_joined;
+    all_marked = ok.all_marked;
+    freed_clear = ok.freed_clear;
+  }
+    where
+      last : r.node ≡ n → (v.point ≡ Rolled) × (v.place ≡ q)
+      last e = ok.marked_last q r asked e marked unclear
+
+      is_own : v.point ≡ Rolled → n ≡ r.node → r ≡ own v.view
+      is_own i e = at_same x.order q r (own v.view) asked (subst (λ k. At x.order k (own v.view)) (last (sym e)).1 (placed_at (ok.asked (λ z. cc))))
+
+  -- another node clears its own word
+  pub others_reset : (m : ℕ) → n ≢ m → NodeOk about (record x { flags = put x.flags m 0 }) n v
+  others_reset m other = record {
+    node = ok.node;
+    label = ok.label;
+    nodes = ok.nodes;
+    opening = ok.opening;
+    orders = ok.orders;
+    endings = ok.endings;
+    clears = ok.clears;
+    counts = ok.counts;
+    asked = ok.asked;
+    placed = ok.placed;
+    last_open = ok.last_open;
+    idle = ok.idle;
+    queued = ok.queued;
+    holding = ok.holding;
+    walking = ok.walking;
+    freeing = ok.freeing;
+    unmarked = ok.unmarked;
+    unclear = ok.unclear;
+    rolled = ok.rolled;
+    holds = ok.holds;
+    lacks = ok.lacks;
+    holder = ok.holder;
+    passed = λ i p at. let h = ok.passed i p at in passed_goes x (record x { flags = put x.flags m 0 }) n v v p h h.in_release refl (omega arith) h.marked (prefix_self v.view.order) h.unclear;
+    passed_once = ok.passed_once;
+    own_ends = ok.own_ends;
+    own_marks = ok.own_marks;
+    marked_last = ok.marked_last;
+    own_flag = λ i. put_else x.flags m 0 n other ∙ ok.own_flag i;
+    no_flag = λ i. put_else x.flags m 0 n other ∙ ok.no_flag i;
+    own_joined = ok.own_joined;
+    all_joined = ok.all_joined;
+    all_marked = ok.all_marked;
+    freed_clear = ok.freed_clear;
+  }
+
+  -- the node learns the whole history, and shows the state
+  abbrev pub fresh : PortState → Entry
+  fresh state = record v { view = record v.view { state = state; order = x.order; ends = x.ends; clear = x.clear } }
+
+  pub fresh_ok : (state : PortState) → (state ≡ shows.Holding → (has_line v.point ≡ true) × (v.place ≡ length x.ends)) → NodeOk about x n (fresh state)
+  fresh_ok state holder = record {
+    node = ok.node;
+    label = ok.label;
+    nodes = ok.nodes;
+    opening = ok.opening;
+    orders = prefix_self x.order;
+    endings = prefix_self x.ends;
+    clears = prefix_self x.clear;
+    counts = ok.counts;
+    asked = ok.asked;
+    placed = placed_at;
+    last_open = ok.last_open;
+    idle = λ i c. let h = ok.idle i c in (h.0, has_prefix v.view.clear x.clear (own v.view) ok.clears h.1);
+    queued = ok.queued;
+    holding = ok.holding;
+    walking = ok.walking;
+    freeing = ok.freeing;
+    unmarked = ok.unmarked;
+    unclear = ok.unclear;
+    rolled = ok.rolled;
+    holds = λ l. let h = ok.holds l in (refl, h.1, h.2);
+    lacks = ok.lacks;
+    holder = holder;
+    passed = λ i p at. let h = ok.passed i p at in passed_goes x x n v (fresh state) p h h.in_release refl (omega arith) h.marked ok.orders h.unclear;
+    passed_once = ok.passed_once;
+    own_ends = λ p r end _ _ en _. slice_get_within x.ends p end en;
+    own_marks = ok.own_marks;
+    marked_last = ok.marked_last;
+    own_flag = ok.own_flag;
+    no_flag = ok.no_flag;
+    own_joined = ok.own_joined;
+    all_joined = ok.all_joined;
+    all_marked = ok.all_marked;
+    freed_clear = λ r h. has_prefix v.view.clear x.clear r ok.clears (ok.freed_clear r h);
+  }
+
+-- the seat j with the entry v alone gets the entry w of the same node
+pub members_step : (nodes : ℕ) (who : ℕ → Entry) (owner : ℕ → ℕ × ℕ) (views : List (List Entry)) (me : ℕ) (v w : Entry) → get_elem? views me ≡ some (v ∷ []) → w.view.node ≡ v.view.node
+    → ((j i : ℕ) (vs : List Entry) (u : Entry) → get_elem? views j ≡ some vs → At vs i u → Member nodes who owner j i u)
+    → (j i : ℕ) (vs : List Entry) (u : Entry) → get_elem? (set views me (w ∷ [])) j ≡ some vs → At vs i u → Member nodes (put who v.view.node w) owner j i u
+members_step nodes who owner views me v w at same all j i vs u there here = ⊎_elim
+    (λ (t : (j ≡ me) × (w ∷ [] ≡ vs)). subst (λ (z : ℕ × List Entry). At z.1 i u → Member nodes (put who v.view.node w) owner z.0 i u) (λ c. (sym t.0 c, t.1 c)) (changed i u) here)
+    (λ (t : (j ≢ me) × (get_elem? views j ≡ some vs)). let m = all j i vs u t.1 here in record {
+      low = m.low;
+      high = m.high;
+      is = put_else who v.view.node w u.view.node (λ e. t.0 (ap (λ (z : ℕ × ℕ). z.0) (sym m.at ∙ ap owner e ∙ mine.at))) ∙ m.is;
+      at = m.at;
+    })
+    (at_set views me j (w ∷ []) vs there)
+  where
+    mine : Member nodes who owner me 0 v
+    mine = all me 0 (v ∷ []) v at refl
+
+    changed : (i : ℕ) (u : Entry) → At (w ∷ []) i u → Member nodes (put who v.view.node w) owner me i u
+    changed zero u e = subst (Member nodes (put who v.view.node w) owner me 0) (at_one w u 0 e) record {
+      low = subst (λ q. 0 < q) (sym same) mine.low;
+      high = subst (λ q. q ≤ nodes) (sym same) mine.high;
+      is = ap (put who v.view.node w) same ∙ put_here who v.view.node w;
+      at = ap owner same ∙ mine.at;
+    }
+    changed (suc i) u e = absurd (let h : None ≡ Some u = e in cc h)
