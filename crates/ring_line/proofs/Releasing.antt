@@ -29,7 +29,8 @@ use Rattle.ring_line.specs.Ring.{At}
 use Rattle.ring_line.specs.Steps.{Alone, entry_of, sole, write_of, own_end, end_of, next_end, left_by, Carries, Comes, Ended}
 use Rattle.ring_line.specs.Releases.{LetsLineGo, WalksOn, IsPassedOn}
 use Rattle.ring_line.specs.Ports.{Spot, Standing, standing, IsMerged, Holds, Stands, IsPort}
-use Rattle.ring_line.proofs.Turning.{has_begun, same_own}
+use Rattle.ring_line.proofs.Lists.{has_prefix}
+use Rattle.ring_line.proofs.Turning.{same_own}
 
 -- who has passed none ends its own request next
 ends_own : (w : Entry) (y : Parcel) (closed : Bool) → w.passed ≡ [] → is_closed w.view.ends ≡ closed → next_end w y ≡ own_end closed y
@@ -79,7 +80,7 @@ clear_goes v w place low ended more c = λ p r e next at end kept.
     let was = element_at v.ends p (omega (arith, next, ended)) in
     let same : made.0 ≡ r = same_some (sym (prefix_get v.order w.order p made.0 more.order made.1) ∙ at) in
     let same_end : was.0 ≡ e = same_some (sym (prefix_get v.ends w.ends p was.0 more.ends was.1) ∙ end) in
-    has_begun v.clear w.clear r more.clear (c p r e next (made.1 ∙ ap Some same) (was.1 ∙ ap Some same_end) kept)
+    has_prefix v.clear w.clear r more.clear (c p r e next (made.1 ∙ ap Some same) (was.1 ∙ ap Some same_end) kept)
 
 -- and its port was told
 pub told_by : (v w t : Entry) (y : Parcel) → Comes v w y → y.closed ≡ true → Extends w.view t.view → LetsLineGo w y t → IsPassedOn w t

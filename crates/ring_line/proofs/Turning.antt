@@ -20,11 +20,8 @@ use Rattle.ring_line.specs.declared.rule.Setup.{Setup}
 use Rattle.ring_line.specs.declared.entry.Entry.{Entry}
 use Rattle.ring_line.specs.Steps.{Alone, entry_of, IsEarly}
 use Rattle.ring_line.specs.Releases.{IsRenewed}
+use Rattle.ring_line.proofs.Lists.{has_prefix}
 use Rattle.ring_line.specs.Ports.{Spot, Standing, standing, Stands, IsPort, BelongsTo, Arrived}
-
--- who is in a beginning is in the whole
-pub has_begun : (xs ys : List Request) (r : Request) → IsPrefix xs ys → Has xs r → Has ys r
-has_begun xs ys r p h = subst (λ z. Has z r) p.1 (has_left xs p.0 r h)
 
 pub continues_trans : (allows : List ℕ → List ℕ → Type 0) (u v w : View) → Continues allows u v → Continues allows v w → Continues allows u w
 continues_trans allows u v w a b = record { extends = extends_trans u v w a.extends b.extends; history = b.history; kept = b.kept; freed_clear = b.freed_clear }
@@ -82,7 +79,7 @@ same_own v w e c = same_request w.node v.node w.count v.count e.node c
 -- what was asked stays asked
 pub asks_goes : (u v w : View) → Asks u v → Extends v w → w.count ≡ v.count → Asks u w
 asks_goes u v w a e c = record {
-  was_clear = λ h. has_begun v.clear w.clear (own u) e.clear (a.was_clear h);
+  was_clear = λ h. has_prefix v.clear w.clear (own u) e.clear (a.was_clear h);
   count = c ∙ a.count;
   behind = (a.behind.0, a.behind.1, prefix_get v.order w.order a.behind.0 (own w) e.order (a.behind.2 ∙ ap Some (sym (same_own v w e c))));
 }
@@ -159,7 +156,3 @@ queued_port label node s l a y was cell state p more alone slot early is = recor
 -- a line has a node
 pub some_nodes : (good : List ℕ → Type 0) (allows : List ℕ → List ℕ → Type 0) (key : Setup) (table_id : TableId) (p : Standing) (w : View) → BelongsTo good allows key table_id p → Continues allows p.view w → 1 ≤ w.nodes
 some_nodes good allows key table_id p w b c = omega (arith, c.extends.nodes, b.sound.nodes_are, b.sound.first_node, b.sound.last_node)
-
--- the order of two views does not matter
-pub swapped : (v u : View) → OneHistory (v ∷ u ∷ []) → OneHistory (u ∷ v ∷ [])
-swapped v u h = history_of_two (v ∷ u ∷ []) u v h (among_second v u []) (among_first v (u ∷ []))

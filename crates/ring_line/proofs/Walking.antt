@@ -27,7 +27,8 @@ use Rattle.qolb_model.specs.Sound.{Continues}
 use Rattle.ring_line.specs.Steps.{Alone, entry_of, sole, left_by, after_walk, end_of, next_end, Carries, Ended, GoesHome, Passes, Frees}
 use Rattle.ring_line.specs.Releases.{IsBare, WalksOn, AreNodesAt, FreesAll}
 use Rattle.ring_line.specs.Ports.{Spot}
-use Rattle.ring_line.proofs.Turning.{has_begun, continues_trans}
+use Rattle.ring_line.proofs.Lists.{has_prefix}
+use Rattle.ring_line.proofs.Turning.{continues_trans}
 
 -- the first of the requests that were passed are freed
 pub record FreesFirst (v : Entry) (i : ℕ) (w : Entry) : Type 0 where
@@ -91,7 +92,7 @@ frees_next v w x nodes i node f many are is more frees =
         | inr last ↦ subst (Has x.view.freed) (same v.view.order v.passed i k here.0 p made.0 r last here.1 at made.1 on) one.freed
       ];
       clear = λ k p r lt at on. elim (upto k i (omega (arith, lt))) [
-        | inl early ↦ has_begun w.view.clear x.view.clear r more.clear (f.clear k p r early at on)
+        | inl early ↦ has_prefix w.view.clear x.view.clear r more.clear (f.clear k p r early at on)
         | inr last ↦ subst (Has x.view.clear) (same v.view.order v.passed i k here.0 p made.0 r last here.1 at made.1 on) one.clear
       ];
       own_clear = one.own_clear;
