@@ -242,7 +242,7 @@ module _ (about : Setup) (x : Past) (n : ℕ) (v : Entry) (ok : NodeOk about x n
     holder = ok.holder;
     passed = λ i p at. let h = ok.passed i p at in passed_goes x (record x { clear = x.clear ++ q ∷ [] }) n v v p h h.in_release refl (omega arith) h.marked (prefix_self v.view.order)
         (lacks_push x.clear q h.request (λ e. let s = same_place x.order legal.numbered p place h.request (prefix_get v.view.order x.order p h.request ok.orders h.at) (subst (At x.order place) (sym e) there) in
-            let w : x.marks p ≡ 0 = ap x.marks s ∙ unmarked in let m = h.marked in omega arith) h.unclear);
+        let w : x.marks p ≡ 0 = ap x.marks s ∙ unmarked in let m = h.marked in omega arith) h.unclear);
     passed_once = ok.passed_once;
     own_ends = ok.own_ends;
     own_marks = ok.own_marks;

@@ -111,25 +111,28 @@ arrives v s t y z cell c slot same bytes closed mask unclosed at =
     let entry : entry_of s ≡ entry_of t = ap (λ m. sole m.0) (sym same) in
     let here : Comes v (entry_of t) y = subst (λ e. Comes v e y) entry c in
     let base : z.bytes.bytes ≡ bytes_of (entry_of t).view = ap (λ l. l.bytes) bytes ∙ here.bytes in
-    let unshut : is_closed (entry_of t).view.ends ≡ false = sym here.closed ∙ (sym closed ∙ unclosed) in
-    (record {
-      point = here.point;
-      none_passed = here.passed;
-      slot = y;
-      carried = ap (λ m. m.1) same ∙ slot;
-      cell_is = at ∙ (ap (λ (e : Entry). e.place % 128) entry ∙ ap (λ k. k % 128) here.here);
-      merged = merged_fresh (bytes_of (entry_of t).view) z (ap (λ l. length l.bytes) bytes ∙ here.line) mask base;
-      is_open = unshut;
-      unclosed = unclosed;
-    }, here.state, record {
-      state = here.state;
-      at_turn = here.turn;
-      unmarked = here.unmarked;
-      is_open = unshut;
-      no_mask = mask;
-      bytes = base;
-      clear_before = here.clear;
-    })
+    let unshut : is_closed (entry_of t).view.ends ≡ false = sym here.closed ∙ (sym closed ∙ unclosed) in (
+      record {
+        point = here.point;
+        none_passed = here.passed;
+        slot = y;
+        carried = ap (λ m. m.1) same ∙ slot;
+        cell_is = at ∙ (ap (λ (e : Entry). e.place % 128) entry ∙ ap (λ k. k % 128) here.here);
+        merged = merged_fresh (bytes_of (entry_of t).view) z (ap (λ l. length l.bytes) bytes ∙ here.line) mask base;
+        is_open = unshut;
+        unclosed = unclosed;
+      },
+      here.state,
+      record {
+        state = here.state;
+        at_turn = here.turn;
+        unmarked = here.unmarked;
+        is_open = unshut;
+        no_mask = mask;
+        bytes = base;
+        clear_before = here.clear;
+      },
+    )
 
 -- a port that shows that it holds holds
 pub holds_of : (label node : ℕ) (s : Spot) (y : Parcel) (cell n : ℕ) (state : PortState) (p : Standing) → IsPort label node s y cell state → standing s y n ≡ p → p.view.state ≡ shows.Holding → Holds s y cell

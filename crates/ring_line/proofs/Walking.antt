@@ -106,6 +106,7 @@ frees_next v w x nodes i node f many are is more frees =
       | inl lt ↦ inl (omega (arith, lt))
       | inr e ↦ inr (ap suc e)
     ]
+
     same : (order : List Request) (places : List ℕ) (i k q p : ℕ) (s r : Request) → k ≡ i → At places i q → At places k p → At order q s → At order p r → s ≡ r
     same order places i k q p s r e a b c d =
         let places_same : q ≡ p = same_some (sym a ∙ (ap (slice_get places) (sym e) ∙ b)) in
@@ -236,7 +237,7 @@ walked_on v w x nodes found next y low k s e more stays home passes =
     let gone : next_end (record w { point = Dark }) y ≡ Gone = ends_gone w.passed (is_closed w.view.ends) y (length nodes) s.many in
     let pushed : length (nodes ++ found / 256 ∷ []) ≡ suc (length nodes) = omega (arith, length-append nodes (found / 256 ∷ [])) in
     let ends : x.view.ends ≡ v.view.ends ++ replicate (length (nodes ++ found / 256 ∷ [])) Gone =
-        e.ends ∙ ((λ i. k.ends i ++ gone i ∷ []) ∙ (append_assoc v.view.ends (replicate (length nodes) Gone) (Gone ∷ []) ∙ (ap (λ es. v.view.ends ++ es) (replicate-push (length nodes) Gone) ∙ ap (λ n. v.view.ends ++ replicate n Gone) (sym pushed)))) in
+    e.ends ∙ ((λ i. k.ends i ++ gone i ∷ []) ∙ (append_assoc v.view.ends (replicate (length nodes) Gone) (Gone ∷ []) ∙ (ap (λ es. v.view.ends ++ es) (replicate-push (length nodes) Gone) ∙ ap (λ n. v.view.ends ++ replicate n Gone) (sym pushed)))) in
     let before : length w.view.ends ≡ length v.view.ends + length nodes = ap length k.ends ∙ omega (arith, length-append v.view.ends (replicate (length nodes) Gone), length-replicate (length nodes) Gone) in
     let many : length x.view.ends ≡ length v.view.ends + (length nodes + 1) = ap length ends ∙ omega (arith, pushed, length-append v.view.ends (replicate (length (nodes ++ found / 256 ∷ [])) Gone), length-replicate (length (nodes ++ found / 256 ∷ [])) Gone) in
     let g = grows v w x nodes found next y k s many more.nodes home passes in
@@ -253,7 +254,7 @@ walked_on v w x nodes found next y low k s e more stays home passes =
           | inr last ↦
               let place : length w.view.ends ≡ p = omega (arith, before, g.run j p at, last.0) in
               (s.request, prefix_get w.view.order x.view.order p s.request more.order (subst (λ q. At w.view.order q s.request) place s.at), s.node ∙ sym last.1, omega (arith, last.1, s.node, s.high, k.nodes_are, low))
-        ]
+        ];
       };
       few = omega (arith, g.few, k.nodes_are);
     }
@@ -306,6 +307,7 @@ walk_over v w x nodes k h f =
     nonempty : (xs : List ℕ) → xs ≢ [] → (n : ℕ) × (length xs ≡ suc n)
     nonempty [] h = absurd (h refl)
     nonempty (x ∷ xs) h = (length xs, omega arith)
+
     passed_at : (v w : Entry) (nodes : List ℕ) (p : ℕ) → Walked v nodes w → length v.view.ends ≤ p → p < length v.view.ends + length w.passed → (i : ℕ) × At w.passed i p
     passed_at v w nodes p k low high =
         let i = p - length v.view.ends in

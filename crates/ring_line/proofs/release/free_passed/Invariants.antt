@@ -14,6 +14,5 @@ pub record IsFreeing (allows : List ℕ → List ℕ → Type 0) (s : Spot) (i :
   pub continues : (v : View) → Continues allows v (entry_of s).view → Continues allows v (entry_of t).view
   pub frees : FreesFirst (entry_of s) i (entry_of t)
 
-
 abbrev pub invariant-loop-node : goal.invariant-loop-node
 invariant-loop-node g l = IsFreeing g.K.Keep.allows l.initial.place l.node-index l.place

@@ -160,4 +160,3 @@ returns-in-Some-arrive-clause-joined g c _ =
     let comes = c.look.ensures.comes c.if-not-look.false in
     let on = c.arrive.ensures.continues (entry_of c.ask-port-inside.new.place).view c.look.ensures.continues in
     joined_goes (entry_of c.ask-port-inside.new.place).view (entry_of c.arrive.new.place).view c.ask-port-inside.ensures.asked.joined on.extends (c.arrive.ensures.count ∙ comes.2.count)
-
