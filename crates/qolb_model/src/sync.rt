@@ -8,12 +8,12 @@ ghost use Rattle.qolb_model.specs.OneHistory.{OneHistory};
 ghost use Rattle.qolb_model.specs.Kept.{MayRelease};
 ghost use Rattle.qolb_model.specs.Sound.{Continues, IsSound};
 ghost use Rattle.qolb_model.specs.Asking.{IsBusy, Asks, IsJoined};
-ghost use Rattle.qolb_model.specs.Turns.{IsGranted, IsQueued};
+ghost use Rattle.qolb_model.specs.Turns.{IsGranted, IsQueued, IsWithdrawn};
 ghost use Rattle.qolb_model.specs.LettingGo.{Releases, IsTold};
 ghost use Rattle.qolb_model.specs.Meeting.{Meets};
 ghost use Rattle.qolb_model.specs.Finishing.{MayRefuse, IsFinished};
 
-use crate::answer::{Enq, Poll, PortState};
+use crate::answer::{Enq, Out, Poll, PortState};
 use crate::end::End;
 use crate::keep::Keep;
 use crate::unfinished::Unfinished;
@@ -101,6 +101,17 @@ pub trait LineSync<K: Keep> {
         ensures waiting { result ≡ Poll.Waiting → IsQueued (view port.new) }
         ensures told { result ≡ Poll.Closed → IsTold (view port.new) };
 
+    /// Gives the request up, unless it has come to its turn.
+    fn withdraw(&self, port: &mut Self::Port) -> Out
+        requires belongs { belongs self.now port.old }
+        requires state { (view port.old).state ≡ PortState.Queued }
+        ensures belongs { belongs self.now port.new }
+        ensures continues { Continues K.allows (view port.old) (view port.new) }
+        ensures count { (view port.new).count ≡ (view port.old).count }
+        ensures withdrawn { result ≡ Out.Withdrawn → IsWithdrawn (view port.new) }
+        ensures granted { result ≡ Out.Granted → IsGranted (view port.new) (turn port.new) }
+        ensures told { result ≡ Out.Closed → IsTold (view port.new) };
+
     /// Releases the line: the request has been served.
     fn deqolb(&self, port: &mut Self::Port)
         requires belongs { belongs self.now port.old }
@@ -109,6 +120,16 @@ pub trait LineSync<K: Keep> {
         ensures belongs { belongs self.now port.new }
         ensures continues { Continues K.allows (view port.old) (view port.new) }
         ensures releases { Releases (view port.old) (End.Served (turn port.old) false) PortState.Idle (view port.new) }
+        ensures bytes { bytes_of (view port.new) ≡ (turn port.old).bytes.bytes };
+
+    /// Releases the line and closes it: nobody will be served any more.
+    fn shut(&self, port: &mut Self::Port)
+        requires belongs { belongs self.now port.old }
+        requires state { (view port.old).state ≡ PortState.Holding }
+        requires allowed { MayRelease K.allows (view port.old) (turn port.old) }
+        ensures belongs { belongs self.now port.new }
+        ensures continues { Continues K.allows (view port.old) (view port.new) }
+        ensures releases { Releases (view port.old) (End.Served (turn port.old) true) PortState.Shut (view port.new) }
         ensures bytes { bytes_of (view port.new) ≡ (turn port.old).bytes.bytes };
 
     /// Two ports of the line tell each other what they know.
