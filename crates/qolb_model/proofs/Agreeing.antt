@@ -158,6 +158,7 @@ nothing_legal = record {
 
 new_knows : (label nodes : ℕ) (opening : List ℕ) (node : ℕ) → Knows [] [] [] (new_view label nodes opening node)
 new_knows label nodes opening node = record {
+  of_line = λ p r at. absurd (nothing_there p r at);
   order_begins = ([], refl);
   ends_begin = ([], refl);
   clear_begins = ([], refl);

@@ -18,9 +18,10 @@ abbrev pub IsShort : View → Type 0
 IsShort v = (r : Request) × (turn_of v.order v.ends ≡ Some r) × Lacks v.joined r
 
 -- what holds when the line was let go, and the withdrawn requests from place `from` on were passed:
--- the next request is not withdrawn; each passed one is freed, and clear too, but perhaps the last where the release is short;
+-- the port knows each request that it ended; the next request is not withdrawn; each passed one is freed, and clear too, but perhaps the last where the release is short;
 -- the line stays in the node's own mailbox only where the release is short and passed none, else its request is clear
 pub record LetsGo (from : ℕ) (leaves : PortState) (new : View) : Type 0 where
+  pub known : length new.ends ≤ length new.order
   pub unmarked : (r : Request) → turn_of new.order new.ends ≡ Some r → Lacks new.marked r
   pub freed : (p : ℕ) (r : Request) → from ≤ p → p < length new.ends → slice_get new.order p ≡ Some r → Has new.freed r
   pub cleared : (p : ℕ) (r : Request) → from ≤ p → p < length new.ends → slice_get new.order p ≡ Some r → Has new.clear r ⊎ ((p + 1 ≡ length new.ends) × IsShort new)

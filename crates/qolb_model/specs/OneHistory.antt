@@ -1,5 +1,5 @@
 -- Views of ports that are all true of one history of a line. (Of this project.)
-use Rattle.std.specs.Prelude.{◌≡◌, ℕ, false, List, [], length, slice_get, Some}
+use Rattle.std.specs.Prelude.{◌≡◌, ℕ, ◌≤◌, false, List, [], length, slice_get, Some}
 use mathlib.Core.List.{IsPrefix}
 use Rattle.qolb_model.specs.declared.answer.PortState.TheVariants.{Holding}
 use Rattle.qolb_model.specs.declared.request.Request.{Request}
@@ -14,9 +14,11 @@ use Rattle.qolb_model.specs.Views.{own}
 abbrev pub IsAmong : List View → View → Type 0
 IsAmong views v = (i : ℕ) × (slice_get views i ≡ Some v)
 
--- What a view knows of a history: a beginning of each of its lists; how many requests its own node has made; of these, each
--- end by service or by telling, and which of the ended ones were withdrawn. A holder's request is at its turn.
+-- What a view knows of a history: that all requests are of its line's nodes; a beginning of each of its lists; how many requests
+-- its own node has made; of these, each end by service or by telling, and which of the ended ones were withdrawn. A holder's
+-- request is at its turn.
 pub record Knows (order : List Request) (ends : List End) (clear : List Request) (v : View) : Type 0 where
+  pub of_line : (p : ℕ) (r : Request) → slice_get order p ≡ Some r → (1 ≤ r.node) × (r.node ≤ v.nodes)
   pub order_begins : IsPrefix v.order order
   pub ends_begin : IsPrefix v.ends ends
   pub clear_begins : IsPrefix v.clear clear

@@ -5,7 +5,7 @@ use Rattle.qolb_model.specs.declared.request.Request.{Request}
 use Rattle.qolb_model.specs.declared.write.Write.{Write}
 use Rattle.qolb_model.specs.declared.end.End.{End}
 use Rattle.qolb_model.specs.declared.view.View.{View}
-use Rattle.qolb_model.specs.Requests.{Has}
+use Rattle.qolb_model.specs.Requests.{Has, Lacks}
 use Rattle.qolb_model.specs.Ends.{is_closed}
 use Rattle.qolb_model.specs.EndKinds.{is_gone}
 use Rattle.qolb_model.specs.Histories.{turn_of}
@@ -19,19 +19,22 @@ Waits v = (p : ℕ) × (length v.ends < p) × (slice_get v.order p ≡ Some (own
 abbrev pub IsClearBefore : View → ℕ → Type 0
 IsClearBefore v place = (p : ℕ) (r : Request) (e : End) → p + 1 ≡ place → slice_get v.order p ≡ Some r → slice_get v.ends p ≡ Some e → is_gone e ≡ false → Has v.clear r
 
--- granted: the port holds the open line at its turn, with the bytes that all earlier ends left, and has written nothing yet
+-- granted: the port holds the open line at its turn, not withdrawn, with the bytes that all earlier ends left, and has written
+-- nothing yet
 pub record IsGranted (new : View) (turn : Write) : Type 0 where
   pub state : new.state ≡ Holding
   pub at_turn : turn_of new.order new.ends ≡ Some (own new)
+  pub unmarked : Lacks new.marked (own new)
   pub is_open : is_closed new.ends ≡ false
   pub no_mask : turn.mask.0 ≡ 0
   pub bytes : turn.bytes.bytes ≡ bytes_of new
   pub clear_before : IsClearBefore new (length new.ends)
 
--- queued, or waiting: the port's request is behind another
+-- queued, or waiting: the port's request is behind another, and is not withdrawn
 pub record IsQueued (new : View) : Type 0 where
   pub state : new.state ≡ Queued
   pub waits : Waits new
+  pub unmarked : Lacks new.marked (own new)
 
 -- withdrawn: the port's request was marked while it was behind another, and is to be passed
 pub record IsWithdrawn (new : View) : Type 0 where

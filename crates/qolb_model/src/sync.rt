@@ -1,4 +1,4 @@
-ghost use Rattle.std.specs.Prelude.{◌≡◌, ◌≢◌, ◌↔◌, ℕ, ◌∷◌, [], List, false, All, IsTrue, IfOk, IfErr, map};
+ghost use Rattle.std.specs.Prelude.{◌≡◌, ◌≢◌, ◌↔◌, ℕ, ◌∷◌, [], List, true, false, All, IsTrue, IfOk, IfErr, map};
 ghost use Rattle.qolb_model.specs.declared.view.View.{View};
 ghost use Rattle.qolb_model.specs.declared.write.Write.{Write};
 ghost use Rattle.qolb_model.specs.OneOwner.{turn_after};
