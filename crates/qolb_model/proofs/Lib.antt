@@ -11,3 +11,6 @@ pub mod Clearing
 pub mod Writes
 pub mod Agreeing
 pub mod Longer
+pub mod Bounds
+pub mod Follows
+pub mod Passing
