@@ -35,7 +35,7 @@ use Rattle.qolb_model.proofs.Runs.{passed, passed_by}
 use Rattle.qolb_model.proofs.Bounds.{Bounds, count_at, open_at, ended_at, place_open, place_ended}
 
 -- two tests are one where each passes with the other
-same_test : (a b : Bool) → (a ≡ true → b ≡ true) → (b ≡ true → a ≡ true) → a ≡ b
+pub same_test : (a b : Bool) → (a ≡ true → b ≡ true) → (b ≡ true → a ≡ true) → a ≡ b
 same_test true true f g = refl
 same_test true false f g = absurd (let no : false ≡ true = f refl in cc no)
 same_test false true f g = absurd (let no : false ≡ true = g refl in cc no)

@@ -14,3 +14,5 @@ pub mod Longer
 pub mod Bounds
 pub mod Follows
 pub mod Passing
+pub mod Leaving
+pub mod Meetings

@@ -49,6 +49,12 @@ append_two : (xs ys : List End) (e : End) → xs ++ e ∷ ys ≡ (xs ++ e ∷ []
 append_two [] ys e = refl
 append_two (x ∷ xs) ys e = ap (λ zs. x ∷ zs) (append_two xs ys e)
 
+-- the queue when the request at its turn has ended, and the withdrawn ones behind it
+pub goes_queue : (s : LineState) (e : End) → moved_by s.queue (ends_with e s.queue) ≡ passed_by (moved s.queue (finish e)) (passed s.queue.marked (drop (length s.queue.ends + 1) s.queue.order))
+goes_queue s e =
+    ap (λ xs. moved_by s.queue (finish e ∷ passes_each xs)) (take_while-passed s.queue.marked (drop (length s.queue.ends + 1) s.queue.order))
+    ∙ moved_by-passes (moved s.queue (finish e)) (passed s.queue.marked (drop (length s.queue.ends + 1) s.queue.order))
+
 module _ (nodes : ℕ) (s : LineState) (n : ℕ) (a : View) (reached : IsReached nodes s) (f : Follows nodes s n a)
     (e : End) (k : ℕ) (leaves : PortState) (ends : a.ends ≡ s.queue.ends ++ e ∷ replicate k Gone) (turn : turn_of s.queue.order s.queue.ends ≡ Some (last_of n s.queue.order))
     (go : LetsGo (length s.queue.ends + 1) leaves a) (quiet : seen leaves ≡ port.Idle) where
@@ -146,10 +152,7 @@ module _ (nodes : ℕ) (s : LineState) (n : ℕ) (a : View) (reached : IsReached
     turn = λ h. absurd (let no : port.Holding ≡ port.Idle = ap seen (sym h ∙ own_clear.0) ∙ quiet in cc no);
   }
 
-  queue_is : moved_by s.queue (ends_with e s.queue) ≡ passed_by (moved s.queue (finish e)) gone
-  queue_is = ap (λ xs. moved_by s.queue (finish e ∷ passes_each xs)) (take_while-passed s.queue.marked behind) ∙ moved_by-passes (moved s.queue (finish e)) gone
-
   -- let go
   pub goes_whole : (w : Write) → KnowsWhole nodes (after_end (after_moves (ends_with e s.queue) s)) (record { view = a; turn = w })
   goes_whole w =
-      subst (λ q. let t : LineState = record s { queue = q; granted = false; turn = new_turn s.opening q.ends } in KnowsWhole nodes t (record { view = a; turn = w })) (sym queue_is) (knows_ended w)
+      subst (λ q. let t : LineState = record s { queue = q; granted = false; turn = new_turn s.opening q.ends } in KnowsWhole nodes t (record { view = a; turn = w })) (sym (goes_queue s e)) (knows_ended w)
