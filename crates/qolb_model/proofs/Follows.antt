@@ -87,6 +87,24 @@ seen_holding port.Shut e = cc e
 same_write : (a b : Write) → a.mask.0 ≡ b.mask.0 → a.bytes.bytes ≡ b.bytes.bytes → a ≡ b
 same_write a b m e = λ i. record { mask = record { 0 = m i }; bytes = record { bytes = e i } }
 
+-- an open request of a node that may ask was withdrawn, and waits behind another node's
+asking_parts : (b m h c : Bool) → may_ask (state_from b m h c) ≡ true → b ≡ true → m ≡ true
+asking_parts true true h c e stands = refl
+asking_parts true false true c e stands = absurd (let no : false ≡ true = e in cc no)
+asking_parts true false false c e stands = absurd (let no : false ≡ true = e in cc no)
+asking_parts false m h c e stands = absurd (let no : false ≡ true = stands in cc no)
+
+pub rolled_behind : (nodes : ℕ) (s : LineState) (n : ℕ) → IsReached nodes s → is_open s.queue n ≡ true → may_ask (state_of s n) ≡ true → (has s.queue.marked (last_of n s.queue.order) ≡ true)
+    × (r : Request) × (turn_of s.queue.order s.queue.ends ≡ Some r) × (r.node ≢ n)
+rolled_behind nodes s n reached stands may =
+    let marked = asking_parts (is_open s.queue n) (has s.queue.marked (last_of n s.queue.order)) (s.granted && is_first s.queue n) (is_closed s.queue.ends) may stands in
+    let (p, le, at) = place_open s.queue.order s.queue.ends (last_of n s.queue.order) stands in
+    let within = slice_get_within s.queue.order p (last_of n s.queue.order) at in
+    let (r, turn) = element_at s.queue.order (length s.queue.ends) (omega arith) in
+    (marked, r, turn, λ e.
+        let is : r ≡ last_of n s.queue.order = reached.last_open (length s.queue.ends) r (omega arith) turn ∙ ap (λ m. last_of m s.queue.order) e in
+        never (subst (λ x. has s.queue.marked x ≡ true) (sym is) marked) (reached.passed r turn))
+
 module _ (nodes : ℕ) (s : LineState) (n : ℕ) (a : View) (reached : IsReached nodes s) (f : Follows nodes s n a) where
   pub mine : own a ≡ last_of n s.queue.order
   mine = same_request a.node n a.count (count_of n s.queue.order) f.node f.count
@@ -99,7 +117,7 @@ module _ (nodes : ℕ) (s : LineState) (n : ℕ) (a : View) (reached : IsReached
   last_mine p r le at e = reached.last_open p r le at ∙ ap (λ m. last_of m s.queue.order) e
 
   -- of another node's request at its turn nothing has become
-  still : (r : Request) → turn_of s.queue.order s.queue.ends ≡ Some r → r.node ≢ n → a.ends ≡ s.queue.ends
+  pub still : (r : Request) → turn_of s.queue.order s.queue.ends ≡ Some r → r.node ≢ n → a.ends ≡ s.queue.ends
   still r turn ne =
       let k = reached.nodes_known (length s.queue.ends) r turn in
       sym (prefix_whole s.queue.ends a.ends f.ends ((f.others r.node k.0 k.1 ne).stuck r turn refl).0)
@@ -229,29 +247,13 @@ module _ (nodes : ℕ) (s : LineState) (n : ℕ) (a : View) (reached : IsReached
         turn = λ h. absurd (let no : port.Rolled ≡ port.Holding = sym is.state ∙ h in cc no);
       })
 
-  -- an open request of a node that may ask was withdrawn
-  asking_parts : (b m h c : Bool) → may_ask (state_from b m h c) ≡ true → b ≡ true → m ≡ true
-  asking_parts true true h c e stands = refl
-  asking_parts true false true c e stands = absurd (let no : false ≡ true = e in cc no)
-  asking_parts true false false c e stands = absurd (let no : false ≡ true = e in cc no)
-  asking_parts false m h c e stands = absurd (let no : false ≡ true = stands in cc no)
-
-  pub stood : is_open s.queue n ≡ true → may_ask (state_of s n) ≡ true → (has s.queue.marked (last_of n s.queue.order) ≡ true)
-      × (r : Request) × (turn_of s.queue.order s.queue.ends ≡ Some r) × (r.node ≢ n)
-  stood stands may =
-      let marked = asking_parts (is_open s.queue n) (has s.queue.marked (last_of n s.queue.order)) (s.granted && is_first s.queue n) (is_closed s.queue.ends) may stands in
-      let (p, le, at) = place_open s.queue.order s.queue.ends (last_of n s.queue.order) stands in
-      let within = slice_get_within s.queue.order p (last_of n s.queue.order) at in
-      let (r, turn) = element_at s.queue.order (length s.queue.ends) (omega arith) in
-      (marked, r, turn, λ e. never (subst (λ x. has s.queue.marked x ≡ true) (sym (last_mine (length s.queue.ends) r (omega arith) turn e)) marked) (reached.passed r turn))
-
   -- busy
   pub busy_whole : (turn : Write) (u : View) → may_ask u.state ≡ true → seen u.state ≡ seen (state_of s n) → ((u.state ≡ port.Left) ⊎ (u.state ≡ port.Rolled) → 1 ≤ u.count) → IsBusy u a
       → may_ask (state_of s n) ≡ true → (is_rolled s.queue n ≡ true) × KnowsWhole nodes s (record { view = a; turn = turn })
   busy_whole turn u may as_seen asked is may_s =
       let one : 1 ≤ count_of n s.queue.order = let k = asked is.was in let e = is.count in let c = f.count in omega arith in
       let stands : is_open s.queue n ≡ true = by (is_open s.queue n) refl one in
-      let (marked, r, first, ne) = stood stands may_s in
+      let (marked, r, first, ne) = rolled_behind nodes s n reached stands may_s in
       (both (is_open s.queue n) (has s.queue.marked (last_of n s.queue.order)) stands marked, record {
         nodes_are = f.nodes_are;
         opening = f.opening;

@@ -9,23 +9,24 @@ use Rattle.qolb_model.specs.declared.answer.PortState.TheVariants as port
 use Rattle.qolb_model.specs.declared.request.Request.{Request}
 use Rattle.qolb_model.specs.declared.write.Write.{Write}
 use Rattle.qolb_model.specs.declared.end.End.{End}
-use Rattle.qolb_model.specs.declared.end.End.TheVariants.{Gone}
+use Rattle.qolb_model.specs.declared.end.End.TheVariants.{Gone, Told}
 use Rattle.qolb_model.specs.declared.view.View.{View}
 use Rattle.qolb_model.specs.Requests.{Has, Lacks, has, count_of, last_of}
 use Rattle.qolb_model.specs.Ends.{is_closed}
 use Rattle.qolb_model.specs.Histories.{turn_of, ended_of, open_of}
 use Rattle.qolb_model.specs.Views.{own}
-use Rattle.qolb_model.specs.LettingGo.{IsShort, LetsGo}
+use Rattle.qolb_model.specs.LettingGo.{IsShort, LetsGo, IsTold}
 use Rattle.qolb_model.specs.Queue.{Queue, moved, finish}
-use Rattle.qolb_model.specs.OneOwner.{LineState, new_turn, state_of, ends_with, moved_by, after_moves, after_end}
+use Rattle.qolb_model.specs.OneOwner.{LineState, new_turn, is_open, state_of, ends_with, moved_by, after_moves, after_end}
 use Rattle.qolb_model.specs.Plain.{IsReached}
 use Rattle.qolb_model.specs.Whole.{Stance, KnowsWhole, seen}
 use Rattle.qolb_model.proofs.Lists.{never, element_at, slice_get-drop}
 use Rattle.qolb_model.proofs.Requests.{has_at}
+use Rattle.qolb_model.proofs.Prefixes.{prefix_same}
 use Rattle.qolb_model.proofs.Histories.{gone_each}
 use Rattle.qolb_model.proofs.Runs.{passed, take_while-passed, passes_each, passed_by, moved_by-passes}
 use Rattle.qolb_model.proofs.Bounds.{Bounds, open_at, ended_at, place_open, place_ended}
-use Rattle.qolb_model.proofs.Follows.{Follows, false_from, mine, one_place, last_mine, own_at, others_marks, counted}
+use Rattle.qolb_model.proofs.Follows.{Follows, false_from, mine, one_place, last_mine, own_at, still, others_marks, counted}
 
 -- as many are passed as stand marked before the first that is not
 passed_count : (marked xs : List Request) (k : ℕ) → k ≤ length xs → ((i : ℕ) (r : Request) → i < k → slice_get xs i ≡ Some r → Has marked r) → ((r : Request) → slice_get xs k ≡ Some r → Lacks marked r)
@@ -156,3 +157,26 @@ module _ (nodes : ℕ) (s : LineState) (n : ℕ) (a : View) (reached : IsReached
   pub goes_whole : (w : Write) → KnowsWhole nodes (after_end (after_moves (ends_with e s.queue) s)) (record { view = a; turn = w })
   goes_whole w =
       subst (λ q. let t : LineState = record s { queue = q; granted = false; turn = new_turn s.opening q.ends } in KnowsWhole nodes t (record { view = a; turn = w })) (sym (goes_queue s e)) (knows_ended w)
+
+-- told: nothing had ended of what the state has open, and the line is closed
+pub told_whole : (nodes : ℕ) (s : LineState) (n : ℕ) (a : View) → IsReached nodes s → (f : Follows nodes s n a) → is_open s.queue n ≡ true → IsTold a
+    → (turn_of s.queue.order s.queue.ends ≡ Some (last_of n s.queue.order)) × (is_closed s.queue.ends ≡ true)
+    × ((w : Write) → KnowsWhole nodes (after_end (after_moves (ends_with Told s.queue) s)) (record { view = a; turn = w }))
+told_whole nodes s n a reached f stands is =
+    let at : slice_get s.queue.order (length is.before) ≡ Some (last_of n s.queue.order) = own_at nodes s n a reached f (length is.before) is.at_turn in
+    let (p, le, there) = place_open s.queue.order s.queue.ends (last_of n s.queue.order) stands in
+    let here : p ≡ length is.before = one_place nodes s n a reached f p (length is.before) (last_of n s.queue.order) there at in
+    let within = slice_get_within s.queue.order p (last_of n s.queue.order) there in
+    let (r, turn) = element_at s.queue.order (length s.queue.ends) (omega arith) in
+    let many : length a.ends ≡ length is.before + 1 + is.passed =
+        (let x = length-append is.before (Told ∷ replicate is.passed Gone) in let y = length-replicate is.passed Gone in let z = ap length is.ends in omega arith) in
+    let same : length is.before ≡ length s.queue.ends = elim (cases_eq r.node n) [
+      | inl e ↦ (let l = last_mine nodes s n a reached f (length s.queue.ends) r (omega arith) turn e in
+          let q : length s.queue.ends ≡ p = one_place nodes s n a reached f (length s.queue.ends) p r turn (subst (λ x. slice_get s.queue.order p ≡ Some x) (sym l) there) in omega arith)
+      | inr ne ↦ absurd (let z = ap length (still nodes s n a reached f r turn ne) in omega arith)
+    ] in
+    let before : is.before ≡ s.queue.ends = prefix_same is.before s.queue.ends a.ends (Told ∷ replicate is.passed Gone, sym is.ends) f.ends same in
+    let turn_is : turn_of s.queue.order s.queue.ends ≡ Some (last_of n s.queue.order) = ap (slice_get s.queue.order) (sym same) ∙ at in
+    (turn_is, ap is_closed (sym before) ∙ is.closed, λ w.
+        goes_whole nodes s n a reached f Told is.passed port.Shut (is.ends ∙ ap (λ es. es ++ Told ∷ replicate is.passed Gone) before) turn_is
+        (subst (λ m. LetsGo (m + 1) port.Shut a) same is.lets_go) refl w)
