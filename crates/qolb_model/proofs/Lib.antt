@@ -16,3 +16,5 @@ pub mod Follows
 pub mod Passing
 pub mod Leaving
 pub mod Meetings
+pub mod Reached
+pub mod Whole
