@@ -18,3 +18,4 @@ pub mod Leaving
 pub mod Meetings
 pub mod Reached
 pub mod Whole
+pub mod Forced
