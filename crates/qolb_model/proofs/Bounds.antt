@@ -1,5 +1,5 @@
 -- What a port's meets with the others tell of its last call.
-use Rattle.std.proofs.Common.{◌≡◌, ◌≢◌, ℕ, zero, suc, ◌+◌, ◌-◌, ◌<◌, ◌≤◌, ◌⊎◌, inl, inr, Bool, true, false, List, [], ◌∷◌, ◌++◌, length, take, drop, Option, Some, None, slice_get, refl, ap, sym, ◌∙◌, subst, arith, length-append}
+use Rattle.std.proofs.Common.{◌≡◌, ℕ, zero, suc, ◌+◌, ◌-◌, ◌<◌, ◌≤◌, inl, inr, Bool, true, false, List, [], ◌∷◌, ◌++◌, length, take, drop, Some, None, slice_get, refl, ap, sym, ◌∙◌, subst, arith}
 use Rattle.std.proofs.lemmas.Bool.{cases_lt}
 use Rattle.std.proofs.lemmas.Option.{slice_get_within}
 use Rattle.std.proofs.lemmas.List.{take-append-drop}
@@ -8,14 +8,14 @@ use Rattle.qolb_model.specs.declared.request.Request.{Request}
 use Rattle.qolb_model.specs.declared.end.End.{End}
 use Rattle.qolb_model.specs.declared.view.View.{View}
 use Rattle.qolb_model.specs.EndKinds.{is_gone}
-use Rattle.qolb_model.specs.Requests.{Has, Lacks, has, count_of}
+use Rattle.qolb_model.specs.Requests.{Has, count_of}
 use Rattle.qolb_model.specs.Histories.{Clears, none, more, turn_of, ended_of, open_of}
 use Rattle.qolb_model.specs.Views.{IsSubset}
 use Rattle.qolb_model.specs.OneHistory.{Knows, OneHistory}
 use Rattle.qolb_model.specs.OneOwner.{LineState}
 use Rattle.qolb_model.specs.Plain.{IsReached}
 use Rattle.qolb_model.specs.Whole.{Stance, KnowsWhole}
-use Rattle.qolb_model.proofs.Lists.{never, element_at, same_some, slice_get-append_left, slice_get-take, slice_get-drop, take_with}
+use Rattle.qolb_model.proofs.Lists.{never, element_at, slice_get-append_left, slice_get-take, slice_get-drop, take_with}
 use Rattle.qolb_model.proofs.Requests.{has_at, has_left, has_push, place_of_request, count_of-push_same, count_of-append}
 use Rattle.qolb_model.proofs.Prefixes.{prefix_length, prefix_get, prefix_trans}
 use Rattle.qolb_model.proofs.Agreeing.{among_first, among_second}

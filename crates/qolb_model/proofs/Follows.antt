@@ -1,38 +1,31 @@
 -- A port's call on a line whose other ports know its whole history: what it answers is what the state of one owner has, and what
 -- the port then knows is the state that this leaves.
-use Rattle.std.proofs.Common.{◌≡◌, ◌≢◌, ℕ, zero, suc, ◌+◌, ◌-◌, ◌<◌, ◌≤◌, ◌==◌, ◌⊎◌, inl, inr, Bool, true, false, ◌&&◌, ◌||◌, if◌then◌else◌, List, [], ◌∷◌, ◌++◌, length, take, drop, replicate, Option, Some, None, slice_get, refl, ap, sym, ◌∙◌, subst, arith, length-append}
+use Rattle.std.proofs.Common.{◌≡◌, ◌≢◌, ℕ, ◌≤◌, ◌==◌, ◌⊎◌, inl, inr, Bool, true, false, ◌&&◌, ◌||◌, if◌then◌else◌, List, [], ◌∷◌, ◌++◌, length, Some, slice_get, refl, ap, sym, ◌∙◌, subst, arith}
 use Rattle.std.specs.Option.{option_map_or}
-use Rattle.std.proofs.lemmas.Bool.{cases_lt, cases_eq, cases_order, eq-eqb, ne_eqb, or_cases}
+use Rattle.std.proofs.lemmas.Bool.{cases_eq, ne_eqb, or_cases}
 use Rattle.std.proofs.lemmas.List.Folds.{list_any-append}
-use Rattle.std.proofs.lemmas.List.{take-append-drop, length-replicate}
+use Rattle.std.proofs.lemmas.List.{take-append-drop}
 use Rattle.std.proofs.lemmas.Option.{slice_get_within}
 use mathlib.Core.List.{IsPrefix}
 use Rattle.qolb_model.specs.declared.answer.PortState.{PortState}
 use Rattle.qolb_model.specs.declared.answer.PortState.TheVariants as port
 use Rattle.qolb_model.specs.declared.request.Request.{Request}
 use Rattle.qolb_model.specs.declared.write.Write.{Write}
-use Rattle.qolb_model.specs.declared.end.End.{End}
-use Rattle.qolb_model.specs.declared.end.End.TheVariants.{Served, Gone, Told}
 use Rattle.qolb_model.specs.declared.view.View.{View}
-use Rattle.qolb_model.specs.EndKinds.{is_gone}
-use Rattle.qolb_model.specs.Requests.{is_same, Has, Lacks, has, count_of, last_of, next_of}
+use Rattle.qolb_model.specs.Requests.{is_same, Has, has, count_of, last_of}
 use Rattle.qolb_model.specs.Ends.{is_closed, bytes_after}
 use Rattle.qolb_model.specs.Histories.{turn_of, ended_of, open_of}
-use Rattle.qolb_model.specs.Views.{own, IsSubset}
-use Rattle.qolb_model.specs.OneHistory.{OneHistory}
-use Rattle.qolb_model.specs.Asking.{IsBusy, Asks}
+use Rattle.qolb_model.specs.Views.{own}
+use Rattle.qolb_model.specs.Asking.{IsBusy}
 use Rattle.qolb_model.specs.Turns.{Waits, IsGranted, IsQueued, IsWithdrawn}
-use Rattle.qolb_model.specs.LettingGo.{IsShort, LetsGo}
-use Rattle.qolb_model.specs.Queue.{Queue, EndsAs, moved, finish}
-use Rattle.qolb_model.specs.OneOwner.{LineState, new_turn, is_first, is_open, is_rolled, state_of, ends_with, moved_by, after_moves, after_grant, after_end, mark_last}
+use Rattle.qolb_model.specs.OneOwner.{LineState, new_turn, is_first, is_open, is_rolled, state_of, after_moves, after_grant, mark_last}
 use Rattle.qolb_model.specs.Plain.{IsReached, may_ask}
-use Rattle.qolb_model.specs.Whole.{Stance, KnowsWhole, seen}
-use Rattle.qolb_model.proofs.Lists.{never, element_at, same_some}
-use Rattle.qolb_model.proofs.Requests.{same_request, is_same-true, is_same-self, has_at, has_last, lacks_from, place_of_request, has_last_of_all}
-use Rattle.qolb_model.proofs.Histories.{gone_each, same_place_legal}
-use Rattle.qolb_model.proofs.Prefixes.{prefix_length, prefix_whole, prefix_append}
-use Rattle.qolb_model.proofs.Runs.{passed, passed_by}
-use Rattle.qolb_model.proofs.Bounds.{Bounds, count_at, open_at, ended_at, place_open, place_ended}
+use Rattle.qolb_model.specs.Whole.{KnowsWhole, seen}
+use Rattle.qolb_model.proofs.Lists.{never, element_at}
+use Rattle.qolb_model.proofs.Requests.{same_request, is_same-true, is_same-self, has_last, has_last_of_all}
+use Rattle.qolb_model.proofs.Histories.{same_place_legal}
+use Rattle.qolb_model.proofs.Prefixes.{prefix_length, prefix_whole}
+use Rattle.qolb_model.proofs.Bounds.{Bounds, count_at, open_at, place_open}
 
 -- two tests are one where each passes with the other
 pub same_test : (a b : Bool) → (a ≡ true → b ≡ true) → (b ≡ true → a ≡ true) → a ≡ b
@@ -100,10 +93,14 @@ rolled_behind nodes s n reached stands may =
     let marked = asking_parts (is_open s.queue n) (has s.queue.marked (last_of n s.queue.order)) (s.granted && is_first s.queue n) (is_closed s.queue.ends) may stands in
     let (p, le, at) = place_open s.queue.order s.queue.ends (last_of n s.queue.order) stands in
     let within = slice_get_within s.queue.order p (last_of n s.queue.order) at in
-    let (r, turn) = element_at s.queue.order (length s.queue.ends) (omega arith) in
-    (marked, r, turn, λ e.
-        let is : r ≡ last_of n s.queue.order = reached.last_open (length s.queue.ends) r (omega arith) turn ∙ ap (λ m. last_of m s.queue.order) e in
-        never (subst (λ x. has s.queue.marked x ≡ true) (sym is) marked) (reached.passed r turn))
+    let (r, turn) = element_at s.queue.order (length s.queue.ends) (omega arith) in (
+      marked,
+      r,
+      turn,
+      λ e.
+          let is : r ≡ last_of n s.queue.order = reached.last_open (length s.queue.ends) r (omega arith) turn ∙ ap (λ m. last_of m s.queue.order) e in
+          never (subst (λ x. has s.queue.marked x ≡ true) (sym is) marked) (reached.passed r turn),
+    )
 
 module _ (nodes : ℕ) (s : LineState) (n : ℕ) (a : View) (reached : IsReached nodes s) (f : Follows nodes s n a) where
   pub mine : own a ≡ last_of n s.queue.order
@@ -156,10 +153,11 @@ module _ (nodes : ℕ) (s : LineState) (n : ℕ) (a : View) (reached : IsReached
       let within = slice_get_within s.queue.order p (last_of n s.queue.order) at in
       let (r, turn) = element_at s.queue.order (length s.queue.ends) (omega arith) in
       let ne : r.node ≢ n = λ e. absurd (let is = last_mine (length s.queue.ends) r (omega arith) turn e in
-          let same : length s.queue.ends ≡ p = one_place (length s.queue.ends) p r turn (subst (λ x. slice_get s.queue.order p ≡ Some x) (sym is) at) in omega arith) in
-      (still r turn ne,
-       first_is r turn ∙ false_from _ (λ h. ne (sym (ap (λ x. x.node) (is_same-true (last_of n s.queue.order) r h)))),
-       open_at s.queue.order s.queue.ends p (last_of n s.queue.order) (omega arith) at)
+      let same : length s.queue.ends ≡ p = one_place (length s.queue.ends) p r turn (subst (λ x. slice_get s.queue.order p ≡ Some x) (sym is) at) in omega arith) in (
+        still r turn ne,
+        first_is r turn ∙ false_from _ (λ h. ne (sym (ap (λ x. x.node) (is_same-true (last_of n s.queue.order) r h)))),
+        open_at s.queue.order s.queue.ends p (last_of n s.queue.order) (omega arith) at,
+      )
 
   pub counted : (p : ℕ) → slice_get s.queue.order p ≡ Some (last_of n s.queue.order) → 1 ≤ a.count
   counted p at = let one = count_at s.queue.order p (last_of n s.queue.order) at in let e = f.count in omega arith
@@ -173,20 +171,22 @@ module _ (nodes : ℕ) (s : LineState) (n : ℕ) (a : View) (reached : IsReached
       let (ends, first, stands) = behind is.waits in
       let (p, le, at) = place_open s.queue.order s.queue.ends (last_of n s.queue.order) stands in
       let lacks : has a.marked (last_of n s.queue.order) ≡ false = ap (has a.marked) (sym mine) ∙ is.unmarked in
-      let none : has s.queue.marked (last_of n s.queue.order) ≡ false = false_from _ (λ h. never (f.marked (last_of n s.queue.order) stands h) lacks) in
-      (first, record {
-        nodes_are = f.nodes_are;
-        opening = f.opening;
-        order = f.order;
-        ends = ends;
-        clear = f.clear;
-        joined = f.joined;
-        marked = all_marks (lacks ∙ sym none);
-        count = f.count ∙ ap (λ m. count_of m s.queue.order) (sym f.node);
-        state = ap seen is.state ∙ sym (ap (λ m. seen (state_of s m)) f.node ∙ ap seen (node_state true stands false none false (both_false s.granted first)));
-        asked = λ _. counted p at;
-        turn = λ h. absurd (let no : port.Queued ≡ port.Holding = sym is.state ∙ h in cc no);
-      })
+      let none : has s.queue.marked (last_of n s.queue.order) ≡ false = false_from _ (λ h. never (f.marked (last_of n s.queue.order) stands h) lacks) in (
+        first,
+        record {
+          nodes_are = f.nodes_are;
+          opening = f.opening;
+          order = f.order;
+          ends = ends;
+          clear = f.clear;
+          joined = f.joined;
+          marked = all_marks (lacks ∙ sym none);
+          count = f.count ∙ ap (λ m. count_of m s.queue.order) (sym f.node);
+          state = ap seen is.state ∙ sym (ap (λ m. seen (state_of s m)) f.node ∙ ap seen (node_state true stands false none false (both_false s.granted first)));
+          asked = λ _. counted p at;
+          turn = λ h. absurd (let no : port.Queued ≡ port.Holding = sym is.state ∙ h in cc no);
+        },
+      )
     where
       both_false : (b : Bool) {c : Bool} → c ≡ false → (b && c) ≡ false
       both_false true e = e
@@ -208,20 +208,23 @@ module _ (nodes : ℕ) (s : LineState) (n : ℕ) (a : View) (reached : IsReached
       let stands : Has (open_of s.queue.order s.queue.ends) (last_of n s.queue.order) = open_at s.queue.order s.queue.ends (length s.queue.ends) (last_of n s.queue.order) (omega arith) turn_is in
       let lacks : has a.marked (last_of n s.queue.order) ≡ false = ap (has a.marked) (sym mine) ∙ is.unmarked in
       let none : has s.queue.marked (last_of n s.queue.order) ≡ false = false_from _ (λ h. never (f.marked (last_of n s.queue.order) stands h) lacks) in
-      let is_turn : is_first s.queue n ≡ true = first_is (last_of n s.queue.order) turn_is ∙ is_same-self (last_of n s.queue.order) in
-      (is_turn, ap is_closed (sym ends) ∙ is.is_open, record {
-        nodes_are = f.nodes_are;
-        opening = f.opening;
-        order = f.order;
-        ends = ends;
-        clear = f.clear;
-        joined = f.joined;
-        marked = all_marks (lacks ∙ sym none);
-        count = f.count ∙ ap (λ m. count_of m s.queue.order) (sym f.node);
-        state = ap seen is.state ∙ sym (ap (λ m. seen (state_of (after_grant s) m)) f.node ∙ (λ i. seen (state_from (stands i) (none i) (is_turn i) (is_closed s.queue.ends))));
-        asked = λ _. counted (length a.ends) at;
-        turn = λ _. same_write turn (new_turn s.opening s.queue.ends) is.no_mask (is.bytes ∙ (λ i. bytes_after (f.opening i) (ends i)));
-      })
+      let is_turn : is_first s.queue n ≡ true = first_is (last_of n s.queue.order) turn_is ∙ is_same-self (last_of n s.queue.order) in (
+        is_turn,
+        ap is_closed (sym ends) ∙ is.is_open,
+        record {
+          nodes_are = f.nodes_are;
+          opening = f.opening;
+          order = f.order;
+          ends = ends;
+          clear = f.clear;
+          joined = f.joined;
+          marked = all_marks (lacks ∙ sym none);
+          count = f.count ∙ ap (λ m. count_of m s.queue.order) (sym f.node);
+          state = ap seen is.state ∙ sym (ap (λ m. seen (state_of (after_grant s) m)) f.node ∙ (λ i. seen (state_from (stands i) (none i) (is_turn i) (is_closed s.queue.ends))));
+          asked = λ _. counted (length a.ends) at;
+          turn = λ _. same_write turn (new_turn s.opening s.queue.ends) is.no_mask (is.bytes ∙ (λ i. bytes_after (f.opening i) (ends i)));
+        },
+      )
 
   -- withdrawn
   pub withdrawn_whole : (turn : Write) → IsWithdrawn a → (is_first s.queue n ≡ false) × KnowsWhole nodes (after_moves (mark_last s n) s) (record { view = a; turn = turn })
@@ -229,23 +232,25 @@ module _ (nodes : ℕ) (s : LineState) (n : ℕ) (a : View) (reached : IsReached
       let (ends, first, stands) = behind is.waits in
       let (p, le, at) = place_open s.queue.order s.queue.ends (last_of n s.queue.order) stands in
       let marked : has a.marked (last_of n s.queue.order) ≡ true = ap (has a.marked) (sym mine) ∙ is.marked in
-      let now : has (s.queue.marked ++ last_of n s.queue.order ∷ []) (last_of n s.queue.order) ≡ true = has_last s.queue.marked (last_of n s.queue.order) in
-      (first, record {
-        nodes_are = f.nodes_are;
-        opening = f.opening;
-        order = f.order;
-        ends = ends;
-        clear = f.clear;
-        joined = f.joined;
-        marked = λ r open_now. elim (cases_eq r.node n) [
-          | inl e ↦ (let (q, le, there) = place_open s.queue.order s.queue.ends r open_now in subst (λ x. has a.marked x ≡ has (s.queue.marked ++ last_of n s.queue.order ∷ []) x) (sym (last_mine q r le there e)) (marked ∙ sym now))
-          | inr ne ↦ others_marks r open_now ne ∙ sym (has_push_other s.queue.marked (last_of n s.queue.order) r ne)
-        ];
-        count = f.count ∙ ap (λ m. count_of m s.queue.order) (sym f.node);
-        state = ap seen is.state ∙ sym (ap (λ m. seen (state_of (after_moves (mark_last s n) s) m)) f.node ∙ (λ i. seen (state_from (stands i) (now i) (s.granted && is_first s.queue n) (is_closed s.queue.ends))));
-        asked = λ _. counted p at;
-        turn = λ h. absurd (let no : port.Rolled ≡ port.Holding = sym is.state ∙ h in cc no);
-      })
+      let now : has (s.queue.marked ++ last_of n s.queue.order ∷ []) (last_of n s.queue.order) ≡ true = has_last s.queue.marked (last_of n s.queue.order) in (
+        first,
+        record {
+          nodes_are = f.nodes_are;
+          opening = f.opening;
+          order = f.order;
+          ends = ends;
+          clear = f.clear;
+          joined = f.joined;
+          marked = λ r open_now. elim (cases_eq r.node n) [
+            | inl e ↦ (let (q, le, there) = place_open s.queue.order s.queue.ends r open_now in subst (λ x. has a.marked x ≡ has (s.queue.marked ++ last_of n s.queue.order ∷ []) x) (sym (last_mine q r le there e)) (marked ∙ sym now))
+            | inr ne ↦ others_marks r open_now ne ∙ sym (has_push_other s.queue.marked (last_of n s.queue.order) r ne)
+          ];
+          count = f.count ∙ ap (λ m. count_of m s.queue.order) (sym f.node);
+          state = ap seen is.state ∙ sym (ap (λ m. seen (state_of (after_moves (mark_last s n) s) m)) f.node ∙ (λ i. seen (state_from (stands i) (now i) (s.granted && is_first s.queue n) (is_closed s.queue.ends))));
+          asked = λ _. counted p at;
+          turn = λ h. absurd (let no : port.Rolled ≡ port.Holding = sym is.state ∙ h in cc no);
+        },
+      )
 
   -- busy
   pub busy_whole : (turn : Write) (u : View) → may_ask u.state ≡ true → seen u.state ≡ seen (state_of s n) → ((u.state ≡ port.Left) ⊎ (u.state ≡ port.Rolled) → 1 ≤ u.count) → IsBusy u a
@@ -253,20 +258,22 @@ module _ (nodes : ℕ) (s : LineState) (n : ℕ) (a : View) (reached : IsReached
   busy_whole turn u may as_seen asked is may_s =
       let one : 1 ≤ count_of n s.queue.order = let k = asked is.was in let e = is.count in let c = f.count in omega arith in
       let stands : is_open s.queue n ≡ true = by (is_open s.queue n) refl one in
-      let (marked, r, first, ne) = rolled_behind nodes s n reached stands may_s in
-      (both (is_open s.queue n) (has s.queue.marked (last_of n s.queue.order)) stands marked, record {
-        nodes_are = f.nodes_are;
-        opening = f.opening;
-        order = f.order;
-        ends = still r first ne;
-        clear = f.clear;
-        joined = f.joined;
-        marked = all_marks (f.marked (last_of n s.queue.order) stands marked ∙ sym marked);
-        count = f.count ∙ ap (λ m. count_of m s.queue.order) (sym f.node);
-        state = ap seen is.state ∙ (as_seen ∙ ap (λ m. seen (state_of s m)) (sym f.node));
-        asked = λ h. (let k = asked is.was in let e = is.count in omega arith);
-        turn = λ h. absurd (let no : false ≡ true = ap may_ask (sym h ∙ is.state) ∙ may in cc no);
-      })
+      let (marked, r, first, ne) = rolled_behind nodes s n reached stands may_s in (
+        both (is_open s.queue n) (has s.queue.marked (last_of n s.queue.order)) stands marked,
+        record {
+          nodes_are = f.nodes_are;
+          opening = f.opening;
+          order = f.order;
+          ends = still r first ne;
+          clear = f.clear;
+          joined = f.joined;
+          marked = all_marks (f.marked (last_of n s.queue.order) stands marked ∙ sym marked);
+          count = f.count ∙ ap (λ m. count_of m s.queue.order) (sym f.node);
+          state = ap seen is.state ∙ (as_seen ∙ ap (λ m. seen (state_of s m)) (sym f.node));
+          asked = λ h. (let k = asked is.was in let e = is.count in omega arith);
+          turn = λ h. absurd (let no : false ≡ true = ap may_ask (sym h ∙ is.state) ∙ may in cc no);
+        },
+      )
     where
       both : (b m : Bool) → b ≡ true → m ≡ true → (b && m) ≡ true
       both true m e k = k

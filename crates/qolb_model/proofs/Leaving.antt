@@ -1,19 +1,18 @@
 -- What a node's call leaves of the other nodes' standing.
-use Rattle.std.proofs.Common.{◌≡◌, ◌≢◌, ℕ, zero, suc, ◌+◌, ◌-◌, ◌<◌, ◌≤◌, ◌⊎◌, inl, inr, Bool, true, false, ◌&&◌, if◌then◌else◌, List, [], ◌∷◌, ◌++◌, length, drop, Option, Some, None, slice_get, refl, ap, sym, ◌∙◌, subst, arith, length-append}
+use Rattle.std.proofs.Common.{◌≡◌, ◌≢◌, ℕ, zero, suc, ◌+◌, ◌-◌, ◌<◌, inl, inr, Bool, true, false, ◌&&◌, if◌then◌else◌, List, [], ◌∷◌, ◌++◌, length, drop, Option, Some, None, slice_get, refl, ap, sym, ◌∙◌, subst, arith, length-append}
 use Rattle.std.specs.Option.{option_map_or}
 use Rattle.std.proofs.lemmas.Bool.{cases_lt, cases_eq}
 use Rattle.std.proofs.lemmas.List.{length-map}
 use mathlib.Core.List.{IsPrefix}
-use Rattle.qolb_model.specs.declared.answer.PortState.{PortState}
 use Rattle.qolb_model.specs.declared.answer.PortState.TheVariants as port
 use Rattle.qolb_model.specs.declared.request.Request.{Request}
 use Rattle.qolb_model.specs.declared.end.End.{End}
 use Rattle.qolb_model.specs.declared.end.End.TheVariants.{Gone}
-use Rattle.qolb_model.specs.Requests.{is_same, Has, Lacks, has, count_of, last_of, next_of}
+use Rattle.qolb_model.specs.Requests.{is_same, Has, has, count_of, last_of, next_of}
 use Rattle.qolb_model.specs.Ends.{is_closed}
 use Rattle.qolb_model.specs.Histories.{turn_of, open_of}
 use Rattle.qolb_model.specs.Queue.{Queue, moved, finish}
-use Rattle.qolb_model.specs.OneOwner.{LineState, new_turn, is_first, is_open, state_of, ends_with, after_moves, after_grant, after_end, after_ask, mark_last}
+use Rattle.qolb_model.specs.OneOwner.{LineState, new_turn, is_first, is_open, state_of, ends_with, after_moves, after_grant, after_end, after_ask, mark_last, after_write}
 use Rattle.qolb_model.specs.Whole.{seen}
 use Rattle.qolb_model.proofs.Lists.{never, push_cases, same_some, slice_get-drop}
 use Rattle.qolb_model.proofs.Requests.{is_same-true, is_same-self, has_left, count_of-push_other}
@@ -129,20 +128,20 @@ leaves_ask n s = record {
     open_same m ne =
         ap (has (open_of (s.queue.order ++ next_of n s.queue.order ∷ []) s.queue.ends)) (last_same m ne)
         ∙ same_test _ _ (λ h. opens (last_of m s.queue.order) h ne) (λ h.
-            let (p, le, at) = place_open s.queue.order s.queue.ends (last_of m s.queue.order) h in
-            open_at (s.queue.order ++ next_of n s.queue.order ∷ []) s.queue.ends p (last_of m s.queue.order) le (prefix_get s.queue.order (s.queue.order ++ next_of n s.queue.order ∷ []) p (last_of m s.queue.order) (prefix_append s.queue.order (next_of n s.queue.order ∷ [])) at))
+        let (p, le, at) = place_open s.queue.order s.queue.ends (last_of m s.queue.order) h in
+        open_at (s.queue.order ++ next_of n s.queue.order ∷ []) s.queue.ends p (last_of m s.queue.order) le (prefix_get s.queue.order (s.queue.order ++ next_of n s.queue.order ∷ []) p (last_of m s.queue.order) (prefix_append s.queue.order (next_of n s.queue.order ∷ [])) at))
 
     first_same : (m : ℕ) → m ≢ n → is_first (after_ask s n).queue m ≡ is_first s.queue m
     first_same m ne = same_test _ _
         (λ h.
-            let turn : slice_get (s.queue.order ++ next_of n s.queue.order ∷ []) (length s.queue.ends) ≡ Some (last_of m s.queue.order) = first_turn (after_ask s n).queue m h ∙ ap Some (last_same m ne) in
-            elim (push_cases s.queue.order (next_of n s.queue.order) (length s.queue.ends) (last_of m s.queue.order) turn) [
-              | inl old ↦ turn_first s.queue m old.1
-              | inr new ↦ absurd (ne (ap (λ x. x.node) new.1))
-            ])
+        let turn : slice_get (s.queue.order ++ next_of n s.queue.order ∷ []) (length s.queue.ends) ≡ Some (last_of m s.queue.order) = first_turn (after_ask s n).queue m h ∙ ap Some (last_same m ne) in
+        elim (push_cases s.queue.order (next_of n s.queue.order) (length s.queue.ends) (last_of m s.queue.order) turn) [
+          | inl old ↦ turn_first s.queue m old.1
+          | inr new ↦ absurd (ne (ap (λ x. x.node) new.1))
+        ])
         (λ h. turn_first (after_ask s n).queue m
-            (prefix_get s.queue.order (s.queue.order ++ next_of n s.queue.order ∷ []) (length s.queue.ends) (last_of m s.queue.order) (prefix_append s.queue.order (next_of n s.queue.order ∷ [])) (first_turn s.queue m h)
-            ∙ ap Some (sym (last_same m ne))))
+        (prefix_get s.queue.order (s.queue.order ++ next_of n s.queue.order ∷ []) (length s.queue.ends) (last_of m s.queue.order) (prefix_append s.queue.order (next_of n s.queue.order ∷ [])) (first_turn s.queue m h)
+        ∙ ap Some (sym (last_same m ne))))
 
 -- the node is granted
 pub leaves_grant : (n : ℕ) (s : LineState) → is_first s.queue n ≡ true → Leaves n s (after_grant s)
@@ -169,6 +168,19 @@ leaves_mark n s = record {
   marks = λ r h. has_left s.queue.marked (last_of n s.queue.order ∷ []) r h;
   states = λ m ne. ap (λ k. seen (state_from (is_open s.queue m) k (s.granted && is_first s.queue m) (is_closed s.queue.ends))) (has_push_other s.queue.marked (last_of n s.queue.order) (last_of m s.queue.order) ne);
   turns = λ m ne h. refl;
+}
+
+-- the holder writes
+pub leaves_write : (n : ℕ) (s : LineState) (mask : ℕ) (bytes : List ℕ) → is_first s.queue n ≡ true → Leaves n s (after_write s mask bytes)
+leaves_write n s mask bytes first = record {
+  opening = refl;
+  order = prefix_self s.queue.order;
+  ends = prefix_self s.queue.ends;
+  counts = λ m ne. refl;
+  opens = λ r h ne. h;
+  marks = λ r h. h;
+  states = λ m ne. refl;
+  turns = λ m ne h. absurd (never (holds_first s m h) (not_first s.queue n m first ne));
 }
 
 -- what is passed was marked

@@ -1,5 +1,5 @@
 -- Rounds of meets: what they tell of the call before them, and that all ports then know the same whole history.
-use Rattle.std.proofs.Common.{◌≡◌, ◌≢◌, ℕ, zero, suc, ◌+◌, ◌<◌, ◌≤◌, ◌⊎◌, inl, inr, Bool, true, false, ◌||◌, List, [], ◌∷◌, ◌++◌, length, Option, Some, None, slice_get, refl, ap, sym, ◌∙◌, subst, arith, length-append}
+use Rattle.std.proofs.Common.{◌≡◌, ◌≢◌, ℕ, ◌+◌, ◌≤◌, ◌⊎◌, inl, inr, Bool, true, false, ◌||◌, List, [], ◌∷◌, ◌++◌, length, Some, None, slice_get, refl, ap, sym, ◌∙◌, subst, arith, length-append}
 use Rattle.std.proofs.lemmas.Bool.{cases_eq}
 use Rattle.std.proofs.lemmas.Option.{slice_get_within}
 use mathlib.Core.List.{IsPrefix}
@@ -8,14 +8,13 @@ use Rattle.qolb_model.specs.declared.request.Request.{Request}
 use Rattle.qolb_model.specs.declared.view.View.{View}
 use Rattle.qolb_model.specs.Requests.{Has, has, count_of}
 use Rattle.qolb_model.specs.Histories.{open_of}
-use Rattle.qolb_model.specs.Views.{IsSubset}
 use Rattle.qolb_model.specs.OneHistory.{Knows}
 use Rattle.qolb_model.specs.Meeting.{longer}
 use Rattle.qolb_model.specs.OneOwner.{LineState, state_of}
 use Rattle.qolb_model.specs.Plain.{IsReached}
 use Rattle.qolb_model.specs.Whole.{Stance, KnowsWhole, seen}
 use Rattle.qolb_model.specs.Rounds.{Meet, MeetsEach, nobody, another}
-use Rattle.qolb_model.proofs.Lists.{never, push_cases, slice_get-append_left, slice_get-push}
+use Rattle.qolb_model.proofs.Lists.{push_cases, slice_get-append_left, slice_get-push}
 use Rattle.qolb_model.proofs.Requests.{has_left}
 use Rattle.qolb_model.proofs.Prefixes.{prefix_length, prefix_trans}
 use Rattle.qolb_model.proofs.Longer.{longer_first, longer_swap, begins_longer}
@@ -127,10 +126,12 @@ round_whole nodes n s t leaves a ws b us (another {others = before} {others_then
         each = λ i x at. elim (push_cases after u i x at) [
           | inl old ↦ (let h = rest.2.each i x old.1 in (h.0, slice_get-append_left before (w ∷ []) i (slice_get_within before i h.0 h.1) ∙ h.1, h.2, h.3))
           | inr new ↦ (
-              let place : i ≡ length before = new.0 ∙ rest.2.many in
-              (w, ap (slice_get (before ++ w ∷ [])) place ∙ slice_get-push before w,
-               ap (λ y. y.view.node) new.1 ∙ meet.extends_b.node,
-               subst (λ y. KnowsWhole nodes t y) (sym new.1) (second_whole nodes n s t leaves now w later u meet rest.0 is.0 rest.1 is.1)))
+              let place : i ≡ length before = new.0 ∙ rest.2.many in (
+                w,
+                ap (slice_get (before ++ w ∷ [])) place ∙ slice_get-push before w,
+                ap (λ y. y.view.node) new.1 ∙ meet.extends_b.node,
+                subst (λ y. KnowsWhole nodes t y) (sym new.1) (second_whole nodes n s t leaves now w later u meet rest.0 is.0 rest.1 is.1),
+              ))
         ];
       },
     )

@@ -1,8 +1,8 @@
 -- A port's release, or its being told, on a line whose other ports know its whole history: the requests that it passed are those
 -- that the state of one owner passes, and what it then knows is the state that this leaves.
-use Rattle.std.proofs.Common.{◌≡◌, ◌≢◌, ℕ, zero, suc, ◌+◌, ◌-◌, ◌<◌, ◌≤◌, ◌⊎◌, inl, inr, Bool, true, false, ◌&&◌, if◌then◌else◌, List, [], ◌∷◌, ◌++◌, length, take, drop, replicate, Option, Some, None, slice_get, refl, ap, sym, ◌∙◌, subst, arith, length-append}
-use Rattle.std.proofs.lemmas.Bool.{cases_lt, cases_eq, cases_order}
-use Rattle.std.proofs.lemmas.List.{length-replicate, length-drop, length-map}
+use Rattle.std.proofs.Common.{◌≡◌, ◌≢◌, ℕ, zero, suc, ◌+◌, ◌<◌, ◌≤◌, inl, inr, Bool, true, false, if◌then◌else◌, List, [], ◌∷◌, ◌++◌, length, drop, replicate, Some, slice_get, refl, ap, sym, ◌∙◌, subst, arith, length-append}
+use Rattle.std.proofs.lemmas.Bool.{cases_eq, cases_order}
+use Rattle.std.proofs.lemmas.List.{length-replicate, length-drop}
 use Rattle.std.proofs.lemmas.Option.{slice_get_within}
 use Rattle.qolb_model.specs.declared.answer.PortState.{PortState}
 use Rattle.qolb_model.specs.declared.answer.PortState.TheVariants as port
@@ -13,19 +13,18 @@ use Rattle.qolb_model.specs.declared.end.End.TheVariants.{Gone, Told}
 use Rattle.qolb_model.specs.declared.view.View.{View}
 use Rattle.qolb_model.specs.Requests.{Has, Lacks, has, count_of, last_of}
 use Rattle.qolb_model.specs.Ends.{is_closed}
-use Rattle.qolb_model.specs.Histories.{turn_of, ended_of, open_of}
-use Rattle.qolb_model.specs.Views.{own}
+use Rattle.qolb_model.specs.Histories.{turn_of, open_of}
 use Rattle.qolb_model.specs.LettingGo.{IsShort, LetsGo, IsTold}
-use Rattle.qolb_model.specs.Queue.{Queue, moved, finish}
+use Rattle.qolb_model.specs.Queue.{moved, finish}
 use Rattle.qolb_model.specs.OneOwner.{LineState, new_turn, is_open, state_of, ends_with, moved_by, after_moves, after_end}
 use Rattle.qolb_model.specs.Plain.{IsReached}
-use Rattle.qolb_model.specs.Whole.{Stance, KnowsWhole, seen}
+use Rattle.qolb_model.specs.Whole.{KnowsWhole, seen}
 use Rattle.qolb_model.proofs.Lists.{never, element_at, slice_get-drop}
 use Rattle.qolb_model.proofs.Requests.{has_at}
 use Rattle.qolb_model.proofs.Prefixes.{prefix_same}
 use Rattle.qolb_model.proofs.Histories.{gone_each}
 use Rattle.qolb_model.proofs.Runs.{passed, take_while-passed, passes_each, passed_by, moved_by-passes}
-use Rattle.qolb_model.proofs.Bounds.{Bounds, open_at, ended_at, place_open, place_ended}
+use Rattle.qolb_model.proofs.Bounds.{open_at, ended_at, place_open, place_ended}
 use Rattle.qolb_model.proofs.Follows.{Follows, false_from, mine, one_place, last_mine, own_at, still, others_marks, counted}
 
 -- as many are passed as stand marked before the first that is not
@@ -89,17 +88,17 @@ module _ (nodes : ℕ) (s : LineState) (n : ℕ) (a : View) (reached : IsReached
   many = passed_count s.queue.marked behind k
       (let x = length-drop (length s.queue.ends + 1) s.queue.order in let y = within in let z = long in omega arith)
       (λ i r lt at.
-          let p : ℕ = length s.queue.ends + 1 + i in
-          let there = behind_at i r at in
-          let l = long in
-          let (x, end) = element_at a.ends (length s.queue.ends + 1 + i) (omega arith) in
-          let known = reached.nodes_known (length s.queue.ends + 1 + i) r there in
-          ((f.others r.node known.0 known.1 (other_node (length s.queue.ends + 1 + i) r (omega arith) there)).passed (length s.queue.ends + 1 + i) r x (omega arith) (ap (λ xs. slice_get xs (length s.queue.ends + 1 + i)) f.order ∙ there) end refl).1)
+      let p : ℕ = length s.queue.ends + 1 + i in
+      let there = behind_at i r at in
+      let l = long in
+      let (x, end) = element_at a.ends (length s.queue.ends + 1 + i) (omega arith) in
+      let known = reached.nodes_known (length s.queue.ends + 1 + i) r there in
+      ((f.others r.node known.0 known.1 (other_node (length s.queue.ends + 1 + i) r (omega arith) there)).passed (length s.queue.ends + 1 + i) r x (omega arith) (ap (λ xs. slice_get xs (length s.queue.ends + 1 + i)) f.order ∙ there) end refl).1)
       (λ r at.
-          let there = behind_at k r at in
-          let l = long in
-          let next : turn_of a.order a.ends ≡ Some r = (λ i. slice_get (f.order i) (l i)) ∙ there in
-          false_from _ (λ h. never (f.marked r (open_at s.queue.order s.queue.ends (length s.queue.ends + 1 + k) r (omega arith) there) h) (go.unmarked r next)))
+      let there = behind_at k r at in
+      let l = long in
+      let next : turn_of a.order a.ends ≡ Some r = (λ i. slice_get (f.order i) (l i)) ∙ there in
+      false_from _ (λ h. never (f.marked r (open_at s.queue.order s.queue.ends (length s.queue.ends + 1 + k) r (omega arith) there) h) (go.unmarked r next)))
 
   ends_are : a.ends ≡ (s.queue.ends ++ e ∷ []) ++ gone_each (passed s.queue.marked (drop (length s.queue.ends + 1) s.queue.order))
   ends_are = ends ∙ (append_two s.queue.ends (replicate k Gone) e ∙ ap (λ es. (s.queue.ends ++ e ∷ []) ++ es) (ap (λ m. replicate m Gone) (sym many) ∙ sym (gone_each_is gone)))
@@ -169,14 +168,17 @@ told_whole nodes s n a reached f stands is =
     let within = slice_get_within s.queue.order p (last_of n s.queue.order) there in
     let (r, turn) = element_at s.queue.order (length s.queue.ends) (omega arith) in
     let many : length a.ends ≡ length is.before + 1 + is.passed =
-        (let x = length-append is.before (Told ∷ replicate is.passed Gone) in let y = length-replicate is.passed Gone in let z = ap length is.ends in omega arith) in
+    (let x = length-append is.before (Told ∷ replicate is.passed Gone) in let y = length-replicate is.passed Gone in let z = ap length is.ends in omega arith) in
     let same : length is.before ≡ length s.queue.ends = elim (cases_eq r.node n) [
       | inl e ↦ (let l = last_mine nodes s n a reached f (length s.queue.ends) r (omega arith) turn e in
           let q : length s.queue.ends ≡ p = one_place nodes s n a reached f (length s.queue.ends) p r turn (subst (λ x. slice_get s.queue.order p ≡ Some x) (sym l) there) in omega arith)
       | inr ne ↦ absurd (let z = ap length (still nodes s n a reached f r turn ne) in omega arith)
     ] in
     let before : is.before ≡ s.queue.ends = prefix_same is.before s.queue.ends a.ends (Told ∷ replicate is.passed Gone, sym is.ends) f.ends same in
-    let turn_is : turn_of s.queue.order s.queue.ends ≡ Some (last_of n s.queue.order) = ap (slice_get s.queue.order) (sym same) ∙ at in
-    (turn_is, ap is_closed (sym before) ∙ is.closed, λ w.
-        goes_whole nodes s n a reached f Told is.passed port.Shut (is.ends ∙ ap (λ es. es ++ Told ∷ replicate is.passed Gone) before) turn_is
-        (subst (λ m. LetsGo (m + 1) port.Shut a) same is.lets_go) refl w)
+    let turn_is : turn_of s.queue.order s.queue.ends ≡ Some (last_of n s.queue.order) = ap (slice_get s.queue.order) (sym same) ∙ at in (
+      turn_is,
+      ap is_closed (sym before) ∙ is.closed,
+      λ w.
+          goes_whole nodes s n a reached f Told is.passed port.Shut (is.ends ∙ ap (λ es. es ++ Told ∷ replicate is.passed Gone) before) turn_is
+          (subst (λ m. LetsGo (m + 1) port.Shut a) same is.lets_go) refl w,
+    )

@@ -1,28 +1,17 @@
 -- The ports of a line after one of them made a call and then met all others.
-use Rattle.std.proofs.Common.{◌≡◌, ◌≢◌, ℕ, zero, suc, ◌+◌, ◌-◌, ◌<◌, ◌≤◌, ◌⊎◌, inl, inr, Bool, true, false, List, [], ◌∷◌, ◌++◌, length, set, Option, Some, None, slice_get, refl, ap, sym, ◌∙◌, subst, arith, length-append, length-set}
-use Rattle.std.proofs.lemmas.Bool.{cases_lt, cases_eq, cases_order}
+use Rattle.std.proofs.Common.{◌≡◌, ◌≢◌, ℕ, zero, suc, ◌+◌, ◌-◌, ◌<◌, ◌≤◌, inl, inr, List, [], ◌∷◌, ◌++◌, length, set, Some, slice_get, refl, ap, sym, ◌∙◌, subst, arith, length-append, length-set}
+use Rattle.std.proofs.lemmas.Bool.{cases_eq, cases_order}
 use Rattle.std.proofs.lemmas.Option.{slice_get_within}
 use mathlib.Core.List.{IsPrefix}
-use Rattle.qolb_model.specs.declared.request.Request.{Request}
-use Rattle.qolb_model.specs.declared.view.View.{View}
-use Rattle.qolb_model.specs.Requests.{Has, has, count_of, last_of, next_of}
-use Rattle.qolb_model.specs.Histories.{ended_of, open_of}
-use Rattle.qolb_model.specs.Views.{own, Extends}
-use Rattle.qolb_model.specs.OneHistory.{Knows, OneHistory}
-use Rattle.qolb_model.specs.Asking.{Asks, IsJoined}
-use Rattle.qolb_model.specs.OneOwner.{LineState, is_open, state_of, after_ask}
-use Rattle.qolb_model.specs.Plain.{IsReached, may_ask}
+use Rattle.qolb_model.specs.OneOwner.{LineState}
+use Rattle.qolb_model.specs.Plain.{IsReached}
 use Rattle.qolb_model.specs.Whole.{Stance, KnowsWhole, AreWhole}
-use Rattle.qolb_model.specs.Rounds.{MeetsEach, MeetsOthers}
-use Rattle.qolb_model.proofs.Lists.{never, element_at, same_some, push_cases, slice_get-append_left}
-use Rattle.qolb_model.proofs.Requests.{same_request, has_left, has_push, count_of-append, count_of-push_same, count_of-push_le}
-use Rattle.qolb_model.proofs.Histories.{same_place_legal}
-use Rattle.qolb_model.proofs.Prefixes.{prefix_self, prefix_length, prefix_whole, prefix_get, prefix_append, prefix_trans}
-use Rattle.qolb_model.proofs.Agreeing.{among_first}
-use Rattle.qolb_model.proofs.Bounds.{Bounds, IsAfter, count_at, count_of-prefix, count_of-behind, prefix_get_back, open_at, ended_at, place_open, place_ended}
-use Rattle.qolb_model.proofs.Follows.{Follows, rolled_behind}
-use Rattle.qolb_model.proofs.Leaving.{Leaves, leaves_ask}
-use Rattle.qolb_model.proofs.Meetings.{AreOthers, AreThen, round_whole, round_bounds}
+use Rattle.qolb_model.specs.Rounds.{MeetsOthers}
+use Rattle.qolb_model.proofs.Lists.{element_at, same_some, slice_get-append_left}
+use Rattle.qolb_model.proofs.Prefixes.{prefix_self}
+use Rattle.qolb_model.proofs.Bounds.{Bounds, IsAfter}
+use Rattle.qolb_model.proofs.Leaving.{Leaves}
+use Rattle.qolb_model.proofs.Meetings.{AreOthers, round_whole, round_bounds}
 
 -- an element that was put, and the others
 get_set_same : {X : Type 0} (xs : List X) (i : ℕ) (x : X) → i < length xs → slice_get (set xs i x) i ≡ Some x
@@ -123,22 +112,22 @@ module _ (nodes : ℕ) (s : LineState) (place : ℕ) (a : Stance) (ports new : L
       let at_then : length m.before_then ≡ place = then_.many ∙ m.at in
       let many : nodes ≡ length new = (let x = c.many in let y = long in let z = ap length m.is in let q = length-append m.before_then (m.port_then ∷ m.behind_then) in let b = rest.many in omega arith) in
       let each : (i : ℕ) (w : Stance) → slice_get new i ≡ Some w → (w.view.node ≡ i + 1) × KnowsWhole nodes t w = λ i w at.
-          elim (cases_order i place) [
-            | inl same ↦ (
-                let is : Some m.port_then ≡ Some w = sym (get_at m.before_then m.port_then m.behind_then) ∙ (ap (λ k. slice_get (m.before_then ++ m.port_then ∷ m.behind_then) k) (at_then ∙ sym same) ∙ (ap (λ xs. slice_get xs i) (sym m.is) ∙ at)) in
-                (sym (ap (λ x. x.view.node) (same_some is)) ∙ (last_node ∙ ap (λ k. k + 1) (sym same)), subst (λ x. KnowsWhole nodes t x) (same_some is) last))
-            | inr (inl less) ↦ (
-                let there : slice_get m.before_then i ≡ Some w = sym (slice_get-append_left m.before_then (m.port_then ∷ m.behind_then) i (omega (arith, less, at_then))) ∙ (ap (λ xs. slice_get xs i) (sym m.is) ∙ at) in
-                let h = then_.each i w there in
-                (h.2 ∙ c.node i h.0 (first_at i h.0 h.1), h.3))
-            | inr (inr greater) ↦ (
-                let j : ℕ = i - place - 1 in
-                let e : length m.before_then + 1 + j ≡ i = omega (arith, greater, at_then) in
-                let there : slice_get m.behind_then j ≡ Some w = sym (get_behind m.before_then m.port_then m.behind_then j) ∙ (ap (slice_get (m.before_then ++ m.port_then ∷ m.behind_then)) e ∙ (ap (λ xs. slice_get xs i) (sym m.is) ∙ at)) in
-                let h = rest.each j w there in
-                let back : place + 1 + j ≡ i = omega (arith, greater) in
-                (h.2 ∙ (c.node (place + 1 + j) h.0 (second_at j h.0 h.1) ∙ ap (λ k. k + 1) back), h.3))
-          ] in
+      elim (cases_order i place) [
+        | inl same ↦ (
+            let is : Some m.port_then ≡ Some w = sym (get_at m.before_then m.port_then m.behind_then) ∙ (ap (λ k. slice_get (m.before_then ++ m.port_then ∷ m.behind_then) k) (at_then ∙ sym same) ∙ (ap (λ xs. slice_get xs i) (sym m.is) ∙ at)) in
+            (sym (ap (λ x. x.view.node) (same_some is)) ∙ (last_node ∙ ap (λ k. k + 1) (sym same)), subst (λ x. KnowsWhole nodes t x) (same_some is) last))
+        | inr (inl less) ↦ (
+            let there : slice_get m.before_then i ≡ Some w = sym (slice_get-append_left m.before_then (m.port_then ∷ m.behind_then) i (omega (arith, less, at_then))) ∙ (ap (λ xs. slice_get xs i) (sym m.is) ∙ at) in
+            let h = then_.each i w there in
+            (h.2 ∙ c.node i h.0 (first_at i h.0 h.1), h.3))
+        | inr (inr greater) ↦ (
+            let j : ℕ = i - place - 1 in
+            let e : length m.before_then + 1 + j ≡ i = omega (arith, greater, at_then) in
+            let there : slice_get m.behind_then j ≡ Some w = sym (get_behind m.before_then m.port_then m.behind_then j) ∙ (ap (slice_get (m.before_then ++ m.port_then ∷ m.behind_then)) e ∙ (ap (λ xs. slice_get xs i) (sym m.is) ∙ at)) in
+            let h = rest.each j w there in
+            let back : place + 1 + j ≡ i = omega (arith, greater) in
+            (h.2 ∙ (c.node (place + 1 + j) h.0 (second_at j h.0 h.1) ∙ ap (λ k. k + 1) back), h.3))
+      ] in
       record {
         reached = subst (λ k. IsReached k t) many reached;
         node = λ i w at. (each i w at).0;
