@@ -4,3 +4,4 @@ pub mod Tallying
 pub mod Replayed
 pub mod StepsRun
 pub mod Answered
+pub mod Rounds

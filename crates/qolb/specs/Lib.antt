@@ -2,3 +2,4 @@ pub mod Tallies
 pub mod Outcome
 pub mod StepRuns
 pub mod StepCounts
+pub mod Stances

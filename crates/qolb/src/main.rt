@@ -2,6 +2,7 @@
 #![tactic(auto)]
 
 mod input;
+mod ported;
 mod replay;
 mod serve;
 mod steps;
