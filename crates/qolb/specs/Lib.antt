@@ -3,3 +3,4 @@ pub mod Outcome
 pub mod StepRuns
 pub mod StepCounts
 pub mod Stances
+pub mod Calls
