@@ -5,3 +5,4 @@ pub mod Replayed
 pub mod StepsRun
 pub mod Answered
 pub mod Rounds
+pub mod Forcing

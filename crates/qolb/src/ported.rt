@@ -1,12 +1,90 @@
 //! A line that each node calls through a port of its own.
-ghost use Rattle.std.specs.Prelude.{◌≡◌, ◌<◌, length, map, All};
+ghost use Rattle.std.specs.Prelude.{◌≡◌, ◌<◌, ◌≤◌, length, map, All};
+ghost use Rattle.qolb_model.specs.OneOwner.{LineState, state_of};
+ghost use Rattle.qolb_model.specs.Whole.{AreWhole, seen};
 ghost use Rattle.qolb_model.specs.Rounds.{MeetsEach, MeetsOthers};
+ghost use Rattle.qolb_script.specs.Commands.{node_of};
+ghost use Rattle.qolb_script.specs.Reply.{said_of, after_command};
 ghost use Rattle.qolb.specs.Stances.{stance_of};
 ghost use Rattle.qolb.specs.Calls.{Calls};
 
-use crate::line::allows;
-use qolb_model::{Free, LineSync};
+use crate::line::{ReplayLine, allows};
+use qolb_model::{Free, LineSync, PortState};
 use qolb_script::{Command, Said};
+use std::marker::Model;
+
+/// A line with the ports of its nodes, that of node 1 first.
+///
+/// Contracts see the ports alone: what each knows, and what its holder has written.
+#[derive(Drop)]
+pub struct PortedLine<L: LineSync<Free> + Drop>
+where
+    L::Port: Drop,
+{
+    line: L,
+    ports: Vec<L::Port>,
+}
+
+impl<L: LineSync<Free> + Drop> Model for PortedLine<L>
+where
+    L::Port: Drop,
+{
+    ghost use Rattle.std.specs.Prelude.{List, map, All};
+    ghost use Rattle.qolb_model.specs.Whole.{Stance};
+    ghost use Rattle.qolb.specs.Stances.{stance_of};
+
+    ghost Value = { List Stance };
+
+    ghost view = { λ p. map (stance_of L.view L.turn) p.ports.items };
+
+    ghost invariant = { λ p. All (L.belongs p.line) p.ports.items };
+}
+
+impl<L: LineSync<Free> + Drop> PortedLine<L>
+where
+    L::Port: Drop,
+{
+    /// A line, and a port for each of its nodes in their order.
+    pub fn new(line: L, ports: Vec<L::Port>) -> PortedLine<L>
+        requires { All (L.belongs line) ports.items }
+        ensures { result ≡ map (stance_of L.view L.turn) ports.items }
+    {
+        PortedLine { line, ports }
+    }
+}
+
+impl<L: LineSync<Free> + Drop> ReplayLine for PortedLine<L>
+where
+    L::Port: Drop,
+{
+    ghost shows = { λ ports s. AreWhole s ports };
+
+    ghost nodes_of = { λ ports. length ports };
+
+    fn state(&self, node: u64) -> PortState {
+        L::state(&self.ports[node as usize - 1])
+    }
+
+    fn answer(&mut self, command: &Command) -> Said {
+        answer(&self.line, &mut self.ports, command)
+    }
+}
+
+/// Does the command by the port of its node, which meets each other port before and after it.
+fn answer<L: LineSync<Free>>(line: &L, ports: &mut [L::Port], command: &Command) -> Said
+    requires first { 1 ≤ node_of command.now }
+    requires last { node_of command.now ≤ length ports.old }
+    requires belong { All (L.belongs line.now) ports.old }
+    ensures belong { All (L.belongs line.now) ports.new }
+    ensures said { (s : LineState) → AreWhole s (map (stance_of L.view L.turn) ports.old) → result ≡ said_of s command.now }
+    ensures shows { (s : LineState) → AreWhole s (map (stance_of L.view L.turn) ports.old) → AreWhole (after_command s command.now) (map (stance_of L.view L.turn) ports.new) }
+{
+    let place = command.node() as usize - 1;
+    meet_others(line, ports, place);
+    let said = call(line, &mut ports[place], command);
+    meet_others(line, ports, place);
+    said
+}
 
 /// The port does the command, where its state allows it.
 fn call<L: LineSync<Free>>(line: &L, port: &mut L::Port, command: &Command) -> Said
