@@ -1,7 +1,6 @@
 -- What the outcomes of schedules and of step scripts have in common.
-use Rattle.std.proofs.Common.{◌≡◌, ◌<◌, ℕ, List, length, Option, Some, None, IfSome, OnOk, IfErr, Result, Ok, Err, inl, inr, ◌⊎◌, arith}
+use Rattle.std.proofs.Common.{◌≡◌, ℕ, List, Option, Some, None, IfSome, OnOk, IfErr, Result, Ok, Err, inl, inr, arith}
 use Rattle.std.specs.Io.KnownBytes.{Appends}
-use Rattle.qolb_script.specs.declared.error.ScriptError.{ScriptError}
 use Rattle.qolb.specs.declared.replay.ReplayError.{ReplayError}
 use Rattle.qolb.specs.declared.replay.ReplayError.TheVariants as error
 use Rattle.qolb.specs.Outcome.{IsReply, MayFail, MayFailSteps, IsAnswered, IsRefused, status_of}

@@ -1,18 +1,19 @@
 -- Commands at a line by ports that all meet: what is said of each, and the state that it leaves, are those of one owner.
-use Rattle.std.proofs.Common.{◌≡◌, ◌≢◌, ℕ, ◌+◌, ◌<◌, Bool, true, false, if◌then◌else◌, List, map, length, get_or, set, option_map, Option, Some, slice_get, refl, sym, ap, ◌∙◌, subst}
+use Rattle.std.proofs.Common.{◌≡◌, ℕ, ◌+◌, ◌<◌, Bool, true, false, if◌then◌else◌, List, [], ◌∷◌, ◌++◌, map, length, get_or, set, option_map, Some, slice_get, refl, sym, ap, ◌∙◌, subst}
 use Rattle.std.proofs.lemmas.List.{map-set}
 use Rattle.std.proofs.lemmas.Option.{slice_get-map}
 use Rattle.qolb_model.specs.declared.answer.PortState.{PortState}
 use Rattle.qolb_model.specs.declared.answer.PortState.TheVariants as port
 use Rattle.qolb_model.specs.declared.view.View.{View}
 use Rattle.qolb_model.specs.declared.write.Write.{Write}
-use Rattle.qolb_model.specs.OneOwner.{LineState, state_of, enq_answer, after_enq, poll_answer, after_poll, out_answer, after_out, after_release, after_write, shown}
+use Rattle.qolb_model.specs.Opening.{AreNew}
+use Rattle.qolb_model.specs.OneOwner.{LineState, opened, state_of, enq_answer, after_enq, poll_answer, after_poll, out_answer, after_out}
 use Rattle.qolb_model.specs.Plain.{may_ask}
 use Rattle.qolb_model.specs.Whole.{Stance, KnowsWhole, AreWhole, seen}
 use Rattle.qolb_model.specs.Rounds.{MeetsOthers}
 use Rattle.qolb_model.proofs.Leaving.{leaves_so}
 use Rattle.qolb_model.proofs.Whole.{called, spreads}
-use Rattle.qolb_model.proofs.Forced.{asked, polled, withdrew, released, wrote, met_whole, shows_bytes}
+use Rattle.qolb_model.proofs.Forced.{asked, polled, withdrew, released, wrote, met_whole, shows_bytes, opened_whole}
 use Rattle.qolb_script.specs.declared.command.Command.{Command}
 use Rattle.qolb_script.specs.declared.command.Command.TheVariants as command
 use Rattle.qolb_script.specs.declared.said.Said.{Said}
@@ -20,7 +21,7 @@ use Rattle.qolb_script.specs.declared.said.Said.TheVariants as said
 use Rattle.qolb_script.specs.Commands.{node_of}
 use Rattle.qolb_script.specs.Reply.{is_allowed, is_queued, is_holding, answered, after_allowed, said_of, after_command}
 use Rattle.qolb.specs.Stances.{stance_of}
-use Rattle.qolb.specs.Calls.{Promises, Calls}
+use Rattle.qolb.specs.Calls.{Promises, Calls, AnswersByPort}
 use Rattle.qolb.proofs.Allowed.{queued_state, holding_state}
 use Rattle.qolb.proofs.Rounds.{get_of}
 
@@ -105,23 +106,47 @@ module _ (s : LineState) (ports : List Stance) (whole : AreWhole s ports) (place
           let d = calls.refused h in
           (d.0 ∙ sym (ap (λ b. if b then answered s c else said.Misuse) (test false h)), subst (λ b. AreWhole (if b then after_allowed s c else s) new) (sym (test false h)) (unchanged d.1))
 
+-- the same, with the round of meets before it
+pub answers_forced : (s : LineState) (old new : List Stance) (c : Command) (what : Said) → AreWhole s old → AnswersByPort c what old new → (what ≡ said_of s c) × AreWhole (after_command s c) new
+answers_forced s old new c what whole h =
+    let at : slice_get old h.place ≡ Some h.before.port = ap (λ xs. slice_get xs h.place) h.before.was ∙ (ap (slice_get (h.before.before ++ h.before.port ∷ h.before.behind)) (sym h.before.at) ∙ get_here h.before.before h.before.port h.before.behind) in
+    let met = met_whole s old whole h.place h.before.port at h.met h.before in
+    forced s h.met met h.place h.port h.port_then h.at new h.after c what h.of_node h.calls
+  where
+    get_here : (xs : List Stance) (x : Stance) (ys : List Stance) → slice_get (xs ++ x ∷ ys) (length xs) ≡ Some x
+    get_here [] x ys = refl
+    get_here (z ∷ xs) x ys = get_here xs x ys
+
 -- ports as a line has them
-module _ {P : Type 0} (view : P → View) (turn : P → Write) (s : LineState) (line : List Stance) (ports : List P) (is : map (stance_of view turn) ports ≡ line) (whole : AreWhole s line) (place : ℕ) where
-  whole_is : AreWhole s (map (stance_of view turn) ports)
-  whole_is = subst (AreWhole s) (sym is) whole
+module _ {P : Type 0} (view : P → View) (turn : P → Write) where
+  at_place : (xs : List P) (place : ℕ) (d : P) → place < length xs → slice_get (map (stance_of view turn) xs) place ≡ Some (stance_of view turn (get_or xs place d))
+  at_place xs place d lt = slice_get-map (stance_of view turn) xs place ∙ ap (option_map (stance_of view turn)) (get_of xs place d lt)
 
-  there : (xs : List P) (d : P) → place < length xs → slice_get (map (stance_of view turn) xs) place ≡ Some (stance_of view turn (get_or xs place d))
-  there xs d lt = slice_get-map (stance_of view turn) xs place ∙ ap (option_map (stance_of view turn)) (get_of xs place d lt)
+  pub state_seen : (s : LineState) (line : List Stance) (ports : List P) → map (stance_of view turn) ports ≡ line → AreWhole s line → (place : ℕ) (d : P) → place < length ports → (node : ℕ) → place + 1 ≡ node
+      → seen (view (get_or ports place d)).state ≡ seen (state_of s node)
+  state_seen s line ports is whole place d lt node n =
+      let at = ap (λ xs. slice_get xs place) (sym is) ∙ at_place ports place d lt in
+      (whole.knows place (stance_of view turn (get_or ports place d)) at).state ∙ ap (λ m. seen (state_of s m)) (whole.node place (stance_of view turn (get_or ports place d)) at ∙ n)
 
-  pub state_seen : (u : P) → place < length ports → u ≡ get_or ports place u → (node : ℕ) → place + 1 ≡ node → seen (view u).state ≡ seen (state_of s node)
-  state_seen u lt e node n =
-      let at : slice_get (map (stance_of view turn) ports) place ≡ Some (stance_of view turn u) = there ports u lt ∙ ap (λ x. Some (stance_of view turn x)) (sym e) in
-      (whole_is.knows place (stance_of view turn u) at).state ∙ ap (λ m. seen (state_of s m)) (whole_is.node place (stance_of view turn u) at ∙ n)
-
-  pub forced_ports : (met new : List P) (c : Command) (what : Said) (d a : P) → place < length ports → place < length met → place + 1 ≡ node_of c
+  pub answers_by : (ports met new : List P) (c : Command) (what : Said) (place : ℕ) (d a : P) → place < length met → place + 1 ≡ node_of c
       → MeetsOthers place (map (stance_of view turn) ports) (map (stance_of view turn) met) → Calls c what (stance_of view turn (get_or met place d)) (stance_of view turn a)
-      → MeetsOthers place (map (stance_of view turn) (set met place a)) (map (stance_of view turn) new) → (what ≡ said_of s c) × AreWhole (after_command s c) (map (stance_of view turn) new)
-  forced_ports met new c what d a lt lt_met n before calls after =
-      let whole_met : AreWhole s (map (stance_of view turn) met) = met_whole s (map (stance_of view turn) ports) whole_is place (stance_of view turn (get_or ports place d)) (there ports d lt) (map (stance_of view turn) met) before in
-      forced s (map (stance_of view turn) met) whole_met place (stance_of view turn (get_or met place d)) (stance_of view turn a) (there met d lt_met) (map (stance_of view turn) new)
-      (subst (λ xs. MeetsOthers place xs (map (stance_of view turn) new)) (map-set (stance_of view turn) met place a) after) c what n calls
+      → MeetsOthers place (map (stance_of view turn) (set met place a)) (map (stance_of view turn) new) → AnswersByPort c what (map (stance_of view turn) ports) (map (stance_of view turn) new)
+  answers_by ports met new c what place d a lt n before calls after = record {
+    place = place;
+    of_node = n;
+    met = map (stance_of view turn) met;
+    before = before;
+    port = stance_of view turn (get_or met place d);
+    at = at_place met place d lt;
+    port_then = stance_of view turn a;
+    calls = calls;
+    after = subst (λ xs. MeetsOthers place xs (map (stance_of view turn) new)) (map-set (stance_of view turn) met place a) after;
+  }
+
+  -- ports of a line that was just opened
+  pub new_whole : (label nodes : ℕ) (opening : List ℕ) (ports : List P) → length opening ≡ 64 → AreNew label nodes opening (map view ports) → AreWhole (opened opening) (map (stance_of view turn) ports)
+  new_whole label nodes opening ports long new = opened_whole label nodes opening (map (stance_of view turn) ports) long (subst (AreNew label nodes opening) (sym (again ports)) new)
+    where
+      again : (xs : List P) → map (λ p. p.view) (map (stance_of view turn) xs) ≡ map view xs
+      again [] = refl
+      again (x ∷ xs) = ap (λ ys. view x ∷ ys) (again xs)

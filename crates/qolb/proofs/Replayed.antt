@@ -1,7 +1,7 @@
 -- How far a replay has come: its lines and its text after some of the commands.
-use Rattle.std.proofs.Common.{◌≡◌, ℕ, zero, suc, ◌+◌, ◌-◌, ◌<◌, ◌≤◌, List, [], ◌∷◌, ◌++◌, length, map, take, get_or, set, refl, sym, ap, ◌∙◌, subst, arith, inl, inr, ◌⊎◌, replicate, Bool, ◌==◌, ◌&&◌, append-nil, append_assoc}
+use Rattle.std.proofs.Common.{◌≡◌, ℕ, zero, suc, ◌+◌, ◌<◌, ◌≤◌, List, [], ◌∷◌, ◌++◌, length, map, take, get_or, set, refl, sym, ap, ◌∙◌, subst, arith, inl, inr, ◌⊎◌, replicate, Bool, ◌==◌, ◌&&◌, append-nil, append_assoc}
 use Rattle.std.specs.List.{range_with_len, fold}
-use Rattle.std.proofs.lemmas.List.{length-replicate, get_or-replicate, get_or_append_left, get_or_push, replicate_more, length-append, length-set, take_all, map-append, get_or_default}
+use Rattle.std.proofs.lemmas.List.{length-replicate, get_or_append_left, get_or_push, length-append, length-set, take_all, map-append, get_or_default}
 use Rattle.std.proofs.lemmas.List.Sums.{fold_more, count_by-le-length}
 use Rattle.std.proofs.lemmas.Grind.{flat_map-append}
 use Rattle.std.proofs.lemmas.Bool.{cases_lt}

@@ -1,6 +1,6 @@
 -- Counts of what was said, and the lines of a replay after one more command.
-use Rattle.std.proofs.Common.{◌≡◌, ℕ, zero, suc, ◌+◌, ◌||◌, Bool, true, false, if◌then◌else◌, List, [], ◌∷◌, ◌++◌, refl, sym, ap, ◌∙◌, arith, cond, ◌≢◌, ◌==◌, ◌&&◌, ◌<◌, length, get_or, slice_set, subst, get_or-set_same, get_or-set_other, length-set, inl, inr, ◌⊎◌}
-use Rattle.std.specs.List.{range_with_len, count_by, sum_by}
+use Rattle.std.proofs.Common.{◌≡◌, ℕ, zero, suc, ◌+◌, ◌||◌, Bool, true, false, List, [], ◌∷◌, ◌++◌, refl, sym, ap, ◌∙◌, arith, cond, ◌≢◌, ◌==◌, ◌&&◌, ◌<◌, length, get_or, slice_set, subst, get_or-set_same, get_or-set_other, length-set, inl, inr, ◌⊎◌}
+use Rattle.std.specs.List.{range_with_len, count_by}
 use Rattle.std.proofs.lemmas.List.Sums.{sum_by-append}
 use Rattle.std.proofs.lemmas.Bool.{ne_eqb, eq-eqb, cases_eq}
 use Rattle.line_lanes.specs.Line.{zeros}

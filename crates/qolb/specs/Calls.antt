@@ -1,5 +1,5 @@
 -- What a command does at a line by the port of its node.
-use Rattle.std.specs.Prelude.{◌≡◌, ◌≢◌, true, false, [], ◌∷◌}
+use Rattle.std.specs.Prelude.{◌≡◌, ◌≢◌, ℕ, ◌+◌, true, false, List, [], ◌∷◌, Some, slice_get, slice_set}
 use Rattle.qolb_model.specs.declared.answer.Enq.{Enq}
 use Rattle.qolb_model.specs.declared.answer.Enq.TheVariants as enq
 use Rattle.qolb_model.specs.declared.answer.Poll.{Poll}
@@ -15,10 +15,12 @@ use Rattle.qolb_model.specs.Asking.{IsBusy, Asks, IsJoined}
 use Rattle.qolb_model.specs.Turns.{IsGranted, IsQueued, IsWithdrawn}
 use Rattle.qolb_model.specs.LettingGo.{Releases, IsTold}
 use Rattle.qolb_model.specs.Whole.{Stance}
+use Rattle.qolb_model.specs.Rounds.{MeetsOthers}
 use Rattle.qolb_script.specs.declared.command.Command.{Command}
 use Rattle.qolb_script.specs.declared.command.Command.TheVariants as command
 use Rattle.qolb_script.specs.declared.said.Said.{Said}
 use Rattle.qolb_script.specs.declared.said.Said.TheVariants as said
+use Rattle.qolb_script.specs.Commands.{node_of}
 use Rattle.qolb_script.specs.Reply.{is_allowed}
 
 -- the port forgot nothing, and what it knows is true of some history
@@ -66,3 +68,15 @@ Promises (command.Write node line mask bytes) what old new = (what ≡ said.Writ
 pub record Calls (c : Command) (what : Said) (old new : Stance) : Type 0 where
   pub allowed : is_allowed old.view.state c ≡ true → Promises c what old new
   pub refused : is_allowed old.view.state c ≡ false → (what ≡ said.Misuse) × (new ≡ old)
+
+-- the node's port met each other port, did the command, and met each of them again
+pub record AnswersByPort (c : Command) (what : Said) (old new : List Stance) : Type 0 where
+  pub place : ℕ
+  pub of_node : place + 1 ≡ node_of c
+  pub met : List Stance
+  pub before : MeetsOthers place old met
+  pub port : Stance
+  pub at : slice_get met place ≡ Some port
+  pub port_then : Stance
+  pub calls : Calls c what port port_then
+  pub after : MeetsOthers place (slice_set met place port_then) new

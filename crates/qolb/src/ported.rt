@@ -1,12 +1,12 @@
 //! A line that each node calls through a port of its own.
 ghost use Rattle.std.specs.Prelude.{◌≡◌, ◌<◌, ◌≤◌, length, map, All};
-ghost use Rattle.qolb_model.specs.OneOwner.{LineState, state_of};
-ghost use Rattle.qolb_model.specs.Whole.{AreWhole, seen};
+ghost use Rattle.qolb_model.specs.OneOwner.{opened};
+ghost use Rattle.qolb_model.specs.Opening.{AreNew};
+ghost use Rattle.qolb_model.specs.Whole.{AreWhole};
 ghost use Rattle.qolb_model.specs.Rounds.{MeetsEach, MeetsOthers};
 ghost use Rattle.qolb_script.specs.Commands.{node_of};
-ghost use Rattle.qolb_script.specs.Reply.{said_of, after_command};
 ghost use Rattle.qolb.specs.Stances.{stance_of};
-ghost use Rattle.qolb.specs.Calls.{Calls};
+ghost use Rattle.qolb.specs.Calls.{Calls, AnswersByPort};
 
 use crate::line::{ReplayLine, allows};
 use qolb_model::{Free, LineSync, PortState};
@@ -44,10 +44,13 @@ impl<L: LineSync<Free> + Drop> PortedLine<L>
 where
     L::Port: Drop,
 {
-    /// A line, and a port for each of its nodes in their order.
+    /// A line that was just opened, with a port for each of its nodes in their order.
     pub fn new(line: L, ports: Vec<L::Port>) -> PortedLine<L>
-        requires { All (L.belongs line) ports.items }
-        ensures { result ≡ map (stance_of L.view L.turn) ports.items }
+        requires belong { All (L.belongs line) ports.items }
+        requires bytes { length (L.opening_of line) ≡ 64 }
+        requires new { AreNew (L.label_of line) (L.nodes_of line) (L.opening_of line) (map L.view ports.items) }
+        ensures nodes { length result ≡ L.nodes_of line }
+        ensures shows { AreWhole (opened (L.opening_of line)) result }
     {
         PortedLine { line, ports }
     }
@@ -76,8 +79,7 @@ fn answer<L: LineSync<Free>>(line: &L, ports: &mut [L::Port], command: &Command)
     requires last { node_of command.now ≤ length ports.old }
     requires belong { All (L.belongs line.now) ports.old }
     ensures belong { All (L.belongs line.now) ports.new }
-    ensures said { (s : LineState) → AreWhole s (map (stance_of L.view L.turn) ports.old) → result ≡ said_of s command.now }
-    ensures shows { (s : LineState) → AreWhole s (map (stance_of L.view L.turn) ports.old) → AreWhole (after_command s command.now) (map (stance_of L.view L.turn) ports.new) }
+    ensures answers { AnswersByPort command.now result (map (stance_of L.view L.turn) ports.old) (map (stance_of L.view L.turn) ports.new) }
 {
     let place = command.node() as usize - 1;
     meet_others(line, ports, place);

@@ -1,5 +1,5 @@
 use Rattle.std.proofs.Common.{rules, ◌≡◌, ℕ, List, true, false, sym, ap, ◌∙◌, subst}
-use Rattle.qolb_model.specs.OneOwner.{LineState, state_of, after_poll}
+use Rattle.qolb_model.specs.OneOwner.{state_of, after_poll}
 use Rattle.qolb_model.specs.declared.answer.Poll.{Poll}
 use Rattle.qolb_model.specs.Plain.{Agrees}
 use Rattle.qolb_script.specs.declared.said.Said.TheVariants as said

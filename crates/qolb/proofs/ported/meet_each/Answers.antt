@@ -1,4 +1,4 @@
-use Rattle.std.proofs.Common.{rules, arith, ◌≤◌, ◌<◌, length}
+use Rattle.std.proofs.Common.{rules}
 use Rattle.qolb.proofs.Rounds.{round_start, round_step, round_end}
 use Rattle.qolb.proofs.ported.meet_each.Goals as goal
 

@@ -1,4 +1,3 @@
-use Rattle.std.proofs.Common.{◌≡◌, length}
 use Rattle.qolb.proofs.Replayed.{Stands, Ends}
 use Rattle.qolb.proofs.replay.reply.Given as goal
 

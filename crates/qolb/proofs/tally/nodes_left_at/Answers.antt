@@ -1,8 +1,7 @@
-use Rattle.std.proofs.Common.{rules, arith, ◌≡◌, ℕ, suc, ◌+◌, ◌-◌, ◌<◌, ◌||◌, Bool, true, false, sym, ap, ◌∙◌}
-use Rattle.qolb_model.specs.OneOwner.{LineState, state_of}
+use Rattle.std.proofs.Common.{rules, arith, ◌≡◌, suc, ◌+◌, ◌-◌, Bool, true, false, sym, ap, ◌∙◌}
+use Rattle.qolb_model.specs.OneOwner.{state_of}
 use Rattle.qolb_model.specs.Whole.{seen}
-use Rattle.qolb_script.specs.Reply.{nodes_left, is_queued, is_holding}
-use Rattle.qolb.specs.Tallies.{one_if}
+use Rattle.qolb_script.specs.Reply.{nodes_left}
 use Rattle.qolb.proofs.Tallying.{nodes_left_more, left_seen}
 use Rattle.qolb.proofs.tally.nodes_left_at.Goals as goal
 use Rattle.qolb.proofs.tally.nodes_left_at.Goals.{then-is_left, else-is_left}

@@ -1,4 +1,4 @@
-use Rattle.std.proofs.Common.{◌≡◌, ℕ, ◌<◌, ◌-◌}
+use Rattle.std.proofs.Common.{◌≡◌, ◌<◌, ◌-◌}
 use Rattle.qolb_model.specs.OneOwner.{LineState}
 use Rattle.qolb_script.specs.Reply.{nodes_left}
 use Rattle.qolb.proofs.tally.nodes_left_at.Given as goal

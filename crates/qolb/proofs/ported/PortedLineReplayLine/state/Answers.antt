@@ -1,4 +1,4 @@
-use Rattle.std.proofs.Common.{rules, arith, ◌≡◌, ℕ, ◌+◌, ◌-◌, ◌<◌, map, length, get_or, ap, ◌∙◌}
+use Rattle.std.proofs.Common.{arith, ◌≡◌, ◌+◌, ◌-◌, ◌<◌, map, length, ap, ◌∙◌}
 use Rattle.std.proofs.lemmas.List.{length-map}
 use Rattle.qolb.specs.Stances.{stance_of}
 use Rattle.qolb_model.specs.Whole.{seen}
@@ -11,5 +11,5 @@ returns g c = λ s whole.
     let many : length (map (stance_of g.L.LineSync.view g.L.LineSync.turn) c.self.inside.ports.items) ≡ length c.self.inside.ports.items = length-map c.self.inside.ports.items (stance_of g.L.LineSync.view g.L.LineSync.turn) in
     let line : length (map (stance_of g.L.LineSync.view g.L.LineSync.turn) c.self.inside.ports.items) ≡ length c.args.self.now = ap length c.self.view_is in
     let lt : c.args.node - 1 < length c.self.inside.ports.items = omega (arith, many, line, c.requires.first, c.requires.last) in
-    let at : c.index.result.now ≡ get_or c.self.inside.ports.items (c.args.node - 1) c.index.result.now = c.index.ensures in
-    ap seen c.state.ensures ∙ state_seen g.L.LineSync.view g.L.LineSync.turn s c.args.self.now c.self.inside.ports.items c.self.view_is whole (c.args.node - 1) c.index.result.now lt at c.args.node n
+    ap seen c.state.ensures ∙ ap (λ p. seen (g.L.LineSync.view p).state) c.index.ensures
+    ∙ state_seen g.L.LineSync.view g.L.LineSync.turn s c.args.self.now c.self.inside.ports.items c.self.view_is whole (c.args.node - 1) c.index.result.now lt c.args.node n
