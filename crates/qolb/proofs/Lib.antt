@@ -5,3 +5,5 @@ pub mod Replayed
 pub mod StepsRun
 pub mod Answered
 pub mod CommandLines
+pub mod Rounds
+pub mod Forcing

@@ -3,3 +3,5 @@ pub mod Outcome
 pub mod StepRuns
 pub mod StepCounts
 pub mod CommandLine
+pub mod Stances
+pub mod Calls

@@ -2,6 +2,9 @@
 #![tactic(auto)]
 
 mod input;
+mod line;
+mod plain;
+mod ported;
 mod replay;
 mod serve;
 mod steps;

@@ -6,7 +6,7 @@ use Rattle.qolb_script.specs.declared.said.Said.TheVariants as said
 use Rattle.qolb_script.specs.Commands.{node_of}
 use Rattle.qolb_script.specs.Reply.{is_allowed, answered, after_allowed}
 use Rattle.qolb.proofs.Allowed.{allowed_said, allowed_after, refused_said, refused_after}
-use Rattle.qolb.proofs.tally.answer.Goals as goal
+use Rattle.qolb.proofs.plain.answer.Goals as goal
 
 pub returns-then-not-allows-clause-said : goal.returns-then-not-allows-clause-said
 returns-then-not-allows-clause-said c s a =
