@@ -1,5 +1,5 @@
 //! A line over a table.
-ghost use Rattle.std.specs.Prelude.{◌≡◌, ◌≢◌, ◌↔◌, ◌+◌, ◌*◌, ◌≤◌, [], ◌∷◌, IsTrue, true, false};
+ghost use Rattle.std.specs.Prelude.{◌≡◌, ◌≢◌, ◌↔◌, ◌+◌, ◌*◌, ◌≤◌, [], ◌∷◌, length, IsTrue, true, false};
 ghost use Rattle.qolb_model.specs.OneOwner.{turn_after};
 ghost use Rattle.qolb_model.specs.Plain.{may_ask};
 ghost use Rattle.qolb_model.specs.Views.{bytes_of};
@@ -213,6 +213,7 @@ impl<K: Keep> RingLine<K> {
         ensures continues { Continues K.allows port.old.view port.new.view }
         ensures releases { Releases port.old.view (Served port.old.turn false) PortState.Idle port.new.view }
         ensures bytes { bytes_of port.new.view ≡ port.old.turn.bytes.bytes }
+        ensures counted { port.new.steps + 1 + 3 * length port.old.view.ends ≡ 3 * length port.new.view.ends }
         ensures bound { port.new.steps + 1 ≤ 3 * self.now.table.shared.key.nodes }
     {
         let ground = &self.table.shared;
@@ -230,6 +231,7 @@ impl<K: Keep> RingLine<K> {
         ensures continues { Continues K.allows port.old.view port.new.view }
         ensures releases { Releases port.old.view (Served port.old.turn true) PortState.Shut port.new.view }
         ensures bytes { bytes_of port.new.view ≡ port.old.turn.bytes.bytes }
+        ensures counted { port.new.steps + 1 + 3 * length port.old.view.ends ≡ 3 * length port.new.view.ends }
         ensures bound { port.new.steps + 1 ≤ 3 * self.now.table.shared.key.nodes }
     {
         let ground = &self.table.shared;
