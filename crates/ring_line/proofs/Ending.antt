@@ -1,7 +1,5 @@
 -- The end that a grant puts.
-use Rattle.std.proofs.Common.{◌≡◌, ◌≢◌, ◌⊎◌, ℕ, ◌+◌, ◌<◌, ◌≤◌, List, [], ◌∷◌, ◌++◌, length, Bool, true, false, sym, refl, ap, ◌∙◌, subst, ⊎_elim, arith, length-append}
-use mathlib.Core.Logic.{dite}
-use Rattle.std.proofs.lemmas.Option.{slice_get_within}
+use Rattle.std.proofs.Common.{◌≡◌, ◌≢◌, ℕ, ◌+◌, ◌<◌, List, [], ◌∷◌, ◌++◌, length, Bool, true, false, sym, refl, ap, ◌∙◌, subst, ⊎_elim, arith, length-append}
 use Rattle.qolb_model.specs.declared.answer.PortState.TheVariants as shows
 use Rattle.qolb_model.specs.declared.request.Request.{Request}
 use Rattle.qolb_model.specs.declared.end.End.{End}
@@ -16,7 +14,7 @@ use Rattle.qolb_model.proofs.Writes.{allowed-append}
 use Rattle.ring_line.specs.declared.rule.Setup.{Setup}
 use Rattle.ring_line.specs.declared.rule.Parcel.{Parcel}
 use Rattle.ring_line.specs.Ring.{At, Past, PastOk}
-use Rattle.ring_line.specs.Steps.{own_end, end_of, left_by}
+use Rattle.ring_line.specs.Steps.{end_of, left_by}
 use Rattle.ring_line.proofs.Lists.{clears_later}
 
 pub not_holding : (b : Bool) → left_by b ≢ shows.Holding

@@ -1,5 +1,5 @@
 -- A release frees the node of the first request that it passed.
-use Rattle.std.proofs.Common.{◌≡◌, ◌≢◌, ◌⊎◌, ℕ, suc, ◌+◌, ◌%◌, ◌<◌, ◌≤◌, List, [], ◌∷◌, ◌++◌, length, set, slice_index, get_or, true, false, sym, refl, ap, ◌∙◌, subst, ⊎_elim, arith, length-set, mod-lt, get_or-set_same, get_or-set_other}
+use Rattle.std.proofs.Common.{◌≡◌, ◌≢◌, ℕ, suc, ◌+◌, ◌%◌, ◌<◌, ◌≤◌, List, [], ◌∷◌, ◌++◌, length, set, get_or, true, sym, refl, ap, ◌∙◌, subst, ⊎_elim, arith, length-set, get_or-set_same, get_or-set_other}
 use mathlib.Core.Logic.{dite}
 use mathlib.Core.List.{IsPrefix}
 use mathlib.Core.Option.{none, some}
@@ -10,19 +10,19 @@ use Rattle.qolb_model.specs.declared.request.Request.{Request}
 use Rattle.qolb_model.specs.Requests.{Has, Lacks}
 use Rattle.qolb_model.specs.Views.{own}
 use Rattle.qolb_model.specs.Sound.{Continues}
-use Rattle.qolb_model.proofs.Prefixes.{prefix_self, prefix_get, prefix_append, prefix_trans}
+use Rattle.qolb_model.proofs.Prefixes.{prefix_self, prefix_get}
 use Rattle.qolb_model.proofs.Requests.{has_left, has_last, has_push, lacks_from, same_place}
 use Rattle.qolb_model.proofs.Lists.{never}
 use Rattle.ring_line.specs.declared.entry.Point.TheVariants.{Idle, Queued, Holding, Freeing, Rolled}
 use Rattle.ring_line.specs.declared.entry.Entry.{Entry}
 use Rattle.ring_line.specs.declared.rule.Setup.{Setup}
 use Rattle.ring_line.specs.Words.{ticket_at, cell_at, node_at}
-use Rattle.ring_line.specs.Ring.{At, Past, HasPassed, NodeOk, PastOk, Shown, RingRule, has_line, lets_go, is_kept}
+use Rattle.ring_line.specs.Ring.{At, Past, HasPassed, NodeOk, PastOk, Shown, RingRule, has_line, is_kept}
 use Rattle.ring_line.specs.Steps.{sole, Sat, after_walk, Frees, freed}
-use Rattle.ring_line.proofs.Lists.{at_same, prefix_more, has_prefix, lacks_push, lacked_push}
+use Rattle.ring_line.proofs.Lists.{at_same, prefix_more, has_prefix, lacks_push}
 use Rattle.ring_line.proofs.Nodes.{clash_at, passed_goes, put, put_here, put_else, placed_at, others_clear, others_free}
 use Rattle.ring_line.proofs.Histories.{continues}
-use Rattle.ring_line.proofs.Keeping.{St, Homes, rule_step, mine_ok, mine_low}
+use Rattle.ring_line.proofs.Keeping.{St, Homes, rule_step, mine_ok}
 use Rattle.ring_line.proofs.Clearing.{not_after, no_line_after, goes_after, clear_with, more_clear, still_unclear, fine_clear, fine_flags}
 
 module _ (good : List ℕ → Type 0) (allows : List ℕ → List ℕ → Type 0) (about : Setup) (v : Entry) (freeing : v.point ≡ Freeing) (q : ℕ) (ps : List ℕ) (whole : v.passed ≡ q ∷ ps) (r : Request) (known : At v.view.order q r) where

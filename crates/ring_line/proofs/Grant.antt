@@ -1,6 +1,6 @@
 -- A release grants the next cell: the request at its turn has ended. Where the next one is not withdrawn the line is at home, else it
 -- stays with the node, which passes that request.
-use Rattle.std.proofs.Common.{◌≡◌, ◌≢◌, ◌⊎◌, ℕ, ◌+◌, ◌*◌, ◌/◌, ◌%◌, ◌^◌, ◌<◌, ◌≤◌, List, [], ◌∷◌, ◌++◌, length, set, slice_index, get_or, Bool, true, false, sym, refl, ap, ◌∙◌, subst, inl, inr, ⊎_elim, arith, length-append, length-set, Some, mod-lt, get_or-set_same, get_or-set_other}
+use Rattle.std.proofs.Common.{◌≡◌, ◌≢◌, ◌⊎◌, ℕ, ◌+◌, ◌*◌, ◌/◌, ◌%◌, ◌^◌, ◌<◌, ◌≤◌, List, [], ◌∷◌, ◌++◌, length, set, slice_index, get_or, true, false, sym, refl, ap, ◌∙◌, subst, inl, inr, ⊎_elim, arith, length-append, length-set, mod-lt, get_or-set_same, get_or-set_other}
 use mathlib.Core.Logic.{dite}
 use mathlib.Core.List.{IsPrefix}
 use mathlib.Core.Option.{none, some}
@@ -8,21 +8,19 @@ use native.Mathlib.Decide.{ℕ_discrete}
 use lib.ListN.{get_elem?}
 use Rattle.std.proofs.lemmas.Option.{slice_get_within}
 use Rattle.atomic_table.specs.Table.{step, keeps, gives, Allows}
-use Rattle.atomic_table.proofs.Lists.{one_turn, set_here}
-use Rattle.line_lanes.specs.declared.line.Line64.{Line64}
+use Rattle.atomic_table.proofs.Lists.{set_here}
 use Rattle.qolb_model.specs.declared.request.Request.{Request}
 use Rattle.qolb_model.specs.declared.end.End.{End}
 use Rattle.qolb_model.specs.Requests.{Has, Lacks}
 use Rattle.qolb_model.specs.Ends.{is_closed, bytes_after, MayEnd}
 use Rattle.qolb_model.specs.EndKinds.{is_gone}
-use Rattle.qolb_model.specs.Histories.{turn_of}
-use Rattle.qolb_model.specs.Views.{own, bytes_of}
+use Rattle.qolb_model.specs.Views.{own}
 use Rattle.qolb_model.specs.Kept.{AreAllowed}
 use Rattle.qolb_model.specs.Sound.{Continues}
 use Rattle.qolb_model.proofs.Lists.{push_cases, never}
-use Rattle.qolb_model.proofs.Prefixes.{prefix_self, prefix_get}
+use Rattle.qolb_model.proofs.Prefixes.{prefix_self}
 use Rattle.qolb_model.proofs.Requests.{has_last, lacks_from, same_place}
-use Rattle.ring_line.specs.declared.entry.Point.TheVariants.{Idle, Queued, Holding, Lit, Dark, Freeing, Rolled}
+use Rattle.ring_line.specs.declared.entry.Point.TheVariants.{Idle, Queued, Holding, Lit, Dark, Rolled}
 use Rattle.ring_line.specs.declared.entry.Entry.{Entry}
 use Rattle.ring_line.specs.declared.rule.Setup.{Setup}
 use Rattle.ring_line.specs.declared.rule.Parcel.{Parcel}
@@ -30,7 +28,7 @@ use Rattle.ring_line.specs.Words.{ticket_at, cell_at, node_at}
 use Rattle.ring_line.specs.Ring.{At, Past, HasPassed, Walks, NodeOk, PastOk, Shown, RingRule, has_line, lets_go, is_kept, is_dark}
 use Rattle.ring_line.specs.Steps.{Sat, next_end, left_by, after_walk, Carries, Ended, GoesHome, Passes, granted}
 use Rattle.ring_line.proofs.Lists.{elem_within, at_same, prefix_more, has_prefix, cleared_ended}
-use Rattle.ring_line.proofs.Nodes.{clash_at, passed_goes, put, put_here, put_else, placed_at, others_end, others_clear, others_hand}
+use Rattle.ring_line.proofs.Nodes.{passed_goes, put, put_here, put_else, placed_at, others_end, others_clear, others_hand}
 use Rattle.ring_line.proofs.Histories.{marked_at, continues}
 use Rattle.ring_line.proofs.Keeping.{St, Homes, rule_step, mine_ok, mine_low, blank}
 use Rattle.ring_line.proofs.Taking.{cells_apart}

@@ -1,9 +1,7 @@
 -- What the rule says of nodes makes their ports' views of one history.
-use Rattle.std.proofs.Common.{◌≡◌, ℕ, ◌<◌, ◌≤◌, List, [], ◌∷◌, length, true, false, sym, refl, ap, ◌∙◌, subst, Some, arith}
+use Rattle.std.proofs.Common.{◌≡◌, ℕ, ◌<◌, List, [], ◌∷◌, true, sym, refl, ap, ◌∙◌, subst, Some, arith}
 use mathlib.Core.List.{IsPrefix}
-use Rattle.std.proofs.lemmas.Option.{slice_get_within}
 use Rattle.line_lanes.specs.declared.line.Line64.{Line64}
-use Rattle.qolb_model.specs.declared.answer.PortState.TheVariants as shows
 use Rattle.qolb_model.specs.declared.request.Request.{Request}
 use Rattle.qolb_model.specs.declared.view.View.{View}
 use Rattle.qolb_model.specs.EndKinds.{is_gone}

@@ -1,5 +1,5 @@
 -- A node looks at its cell, and takes the line where it has come.
-use Rattle.std.proofs.Common.{◌≡◌, ◌≢◌, ℕ, ◌%◌, ◌<◌, List, [], ◌∷◌, length, set, slice_index, sym, refl, ap, ◌∙◌, subst, arith}
+use Rattle.std.proofs.Common.{◌≡◌, ◌≢◌, ℕ, ◌%◌, List, [], ◌∷◌, length, set, slice_index, sym, refl, ap, ◌∙◌, subst, arith}
 use mathlib.Core.Logic.{dite}
 use mathlib.Core.Option.{none, some}
 use native.Mathlib.Decide.{ℕ_discrete}
@@ -12,7 +12,7 @@ use Rattle.ring_line.specs.declared.entry.Point.TheVariants.{Queued}
 use Rattle.ring_line.specs.declared.entry.Entry.{Entry}
 use Rattle.ring_line.specs.declared.rule.Setup.{Setup}
 use Rattle.ring_line.specs.Words.{cell_at}
-use Rattle.ring_line.specs.Ring.{Past, NodeOk, RingRule, is_kept}
+use Rattle.ring_line.specs.Ring.{NodeOk, RingRule, is_kept}
 use Rattle.ring_line.specs.Steps.{sole, Sat, IsEarly, Comes, looked}
 use Rattle.ring_line.proofs.Nodes.{fresh, fresh_ok}
 use Rattle.ring_line.proofs.Histories.{not_withdrawn, continues}

@@ -11,7 +11,7 @@ use Rattle.qolb_model.specs.declared.answer.PortState.{PortState}
 use Rattle.qolb_model.specs.declared.answer.PortState.TheVariants as shows
 use Rattle.qolb_model.specs.declared.request.Request.{Request}
 use Rattle.qolb_model.specs.declared.end.End.{End}
-use Rattle.qolb_model.specs.Requests.{Has, Lacks, has, count_of}
+use Rattle.qolb_model.specs.Requests.{Has, Lacks}
 use Rattle.qolb_model.specs.EndKinds.{is_gone}
 use Rattle.qolb_model.specs.Histories.{IsLegal}
 use Rattle.qolb_model.specs.Views.{own}
@@ -19,10 +19,10 @@ use Rattle.qolb_model.proofs.Lists.{never, push_cases}
 use Rattle.qolb_model.proofs.Prefixes.{prefix_get, prefix_self}
 use Rattle.qolb_model.proofs.Requests.{count_of-push_other, has_left, has_last, same_place}
 use Rattle.ring_line.specs.declared.entry.Point.{Point}
-use Rattle.ring_line.specs.declared.entry.Point.TheVariants.{Idle, Queued, Holding, Lit, Dark, Freeing, Rolled}
+use Rattle.ring_line.specs.declared.entry.Point.TheVariants.{Idle, Queued, Rolled}
 use Rattle.ring_line.specs.declared.entry.Entry.{Entry}
 use Rattle.ring_line.specs.declared.rule.Setup.{Setup}
-use Rattle.ring_line.specs.Ring.{At, has_line, lets_go, is_kept, is_dark, Past, HasPassed, Walks, NodeOk, Member}
+use Rattle.ring_line.specs.Ring.{At, has_line, lets_go, is_kept, Past, HasPassed, NodeOk, Member}
 use Rattle.ring_line.proofs.Lists.{at_same, at_one, at_longer, prefix_more, has_prefix, has_push_other, lacks_push, lacked_push}
 
 abbrev pub pick : {P A : Type 0} → Dec P → A → A → A
@@ -242,7 +242,7 @@ module _ (about : Setup) (x : Past) (n : ℕ) (v : Entry) (ok : NodeOk about x n
     holder = ok.holder;
     passed = λ i p at. let h = ok.passed i p at in passed_goes x (record x { clear = x.clear ++ q ∷ [] }) n v v p h h.in_release refl (omega arith) h.marked (prefix_self v.view.order)
         (lacks_push x.clear q h.request (λ e. let s = same_place x.order legal.numbered p place h.request (prefix_get v.view.order x.order p h.request ok.orders h.at) (subst (At x.order place) (sym e) there) in
-            let w : x.marks p ≡ 0 = ap x.marks s ∙ unmarked in let m = h.marked in omega arith) h.unclear);
+        let w : x.marks p ≡ 0 = ap x.marks s ∙ unmarked in let m = h.marked in omega arith) h.unclear);
     passed_once = ok.passed_once;
     own_ends = ok.own_ends;
     own_marks = ok.own_marks;

@@ -1,15 +1,12 @@
 -- A release, and a line that comes to its turn.
-use Rattle.std.proofs.Common.{◌≡◌, ℕ, zero, suc, ◌+◌, ◌%◌, ◌≤◌, ◌<◌, Bool, true, false, ◌||◌, length, List, [], ◌∷◌, ◌++◌, sym, refl, ap, ◌∙◌, subst, Some, slice_get, arith, replicate, bit_or, append_assoc, length-append}
+use Rattle.std.proofs.Common.{◌≡◌, ℕ, suc, ◌+◌, ◌%◌, ◌≤◌, Bool, true, false, ◌||◌, length, List, [], ◌∷◌, ◌++◌, sym, refl, ap, ◌∙◌, subst, Some, arith, replicate, bit_or, append_assoc, length-append}
 use Rattle.std.proofs.Math.Bool.{or-false}
 use Rattle.std.proofs.lemmas.Option.{slice_get_within}
 use Rattle.line_lanes.specs.Line.{merged}
 use Rattle.line_lanes.proofs.Masked.{merged-twice}
 use Rattle.line_lanes.proofs.Masked.{merged-none}
 use Rattle.qolb_model.specs.declared.answer.PortState.TheVariants as shows
-use Rattle.qolb_model.specs.declared.request.Request.{Request}
-use Rattle.qolb_model.specs.declared.end.End.{End}
 use Rattle.qolb_model.specs.declared.end.End.TheVariants.{Served, Gone, Told}
-use Rattle.line_lanes.specs.declared.line.Line64.{Line64}
 use Rattle.qolb_model.specs.declared.answer.PortState.{PortState}
 use Rattle.qolb_model.specs.declared.write.Write.{Write}
 use Rattle.qolb_model.specs.declared.view.View.{View}
@@ -17,15 +14,14 @@ use Rattle.qolb_model.specs.Ends.{is_closed, bytes_after, written}
 use Rattle.qolb_model.specs.Views.{own, bytes_of, Extends}
 use Rattle.qolb_model.specs.Kept.{AreAllowed, MayRelease}
 use Rattle.qolb_model.specs.Turns.{IsClearBefore, IsGranted}
-use Rattle.qolb_model.specs.LettingGo.{LetsGo, Releases, IsTold}
+use Rattle.qolb_model.specs.LettingGo.{LetsGo, Releases}
 use Rattle.qolb_model.proofs.Lists.{element_at, same_some}
 use Rattle.qolb_model.proofs.Prefixes.{prefix_get}
 use Rattle.qolb_model.proofs.Histories.{bytes_after-append, is_closed-append}
 use Rattle.qolb_model.proofs.Writes.{bytes_after-release}
-use Rattle.ring_line.specs.declared.entry.Point.TheVariants.{Idle, Holding, Dark}
+use Rattle.ring_line.specs.declared.entry.Point.TheVariants.{Idle, Dark}
 use Rattle.ring_line.specs.declared.entry.Entry.{Entry}
 use Rattle.ring_line.specs.declared.rule.Parcel.{Parcel}
-use Rattle.ring_line.specs.Ring.{At}
 use Rattle.ring_line.specs.Steps.{Alone, entry_of, sole, write_of, own_end, end_of, next_end, left_by, Carries, Comes, Ended}
 use Rattle.ring_line.specs.Releases.{LetsLineGo, WalksOn, IsPassedOn}
 use Rattle.ring_line.specs.Ports.{Spot, Standing, standing, IsMerged, Holds, Stands, IsPort}

@@ -1,18 +1,16 @@
 -- A node whose withdrawn request was passed reads its own word, and clears it before it asks again.
-use Rattle.std.proofs.Common.{◌≡◌, ◌≢◌, ℕ, ◌+◌, ◌%◌, ◌<◌, ◌≤◌, List, [], ◌∷◌, length, set, slice_index, get_or, Bool, true, false, if◌then◌else◌, sym, refl, ap, ◌∙◌, subst, arith, length-set, mod-lt, get_or-set_same, get_or-set_other}
+use Rattle.std.proofs.Common.{◌≡◌, ◌≢◌, ℕ, ◌+◌, ◌%◌, ◌<◌, ◌≤◌, List, [], ◌∷◌, length, set, slice_index, get_or, Bool, true, false, if◌then◌else◌, sym, refl, ap, ◌∙◌, subst, arith, length-set, get_or-set_same, get_or-set_other}
 use mathlib.Core.Logic.{dite}
 use mathlib.Core.Option.{none, some}
 use native.Mathlib.Decide.{ℕ_discrete}
 use lib.ListN.{get_elem?}
 use lib.Seq.{set-get_or}
 use Rattle.atomic_table.specs.Table.{step, keeps, Allows}
-use Rattle.qolb_model.specs.declared.request.Request.{Request}
 use Rattle.qolb_model.specs.Requests.{Has, has}
 use Rattle.qolb_model.specs.Views.{own}
 use Rattle.qolb_model.specs.Sound.{Continues}
 use Rattle.qolb_model.proofs.Requests.{same_place}
 use Rattle.qolb_model.proofs.Lists.{never}
-use Rattle.ring_line.specs.declared.entry.Point.{Point}
 use Rattle.ring_line.specs.declared.entry.Point.TheVariants.{Idle, Rolled}
 use Rattle.ring_line.specs.declared.entry.Entry.{Entry}
 use Rattle.ring_line.specs.declared.rule.Setup.{Setup}

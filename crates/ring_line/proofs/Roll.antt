@@ -1,5 +1,5 @@
 -- A waiting node adds its number to its cell: the line has come, or its request is withdrawn.
-use Rattle.std.proofs.Common.{◌≡◌, ◌≢◌, ℕ, ◌+◌, ◌-◌, ◌*◌, ◌%◌, ◌^◌, ◌<◌, ◌≤◌, List, [], ◌∷◌, ◌++◌, length, set, slice_index, get_or, false, if◌then◌else◌, sym, refl, ap, ◌∙◌, subst, ⊎_elim, arith, length-set, mod-lt, get_or-set_same, get_or-set_other}
+use Rattle.std.proofs.Common.{◌≡◌, ◌≢◌, ℕ, ◌+◌, ◌*◌, ◌%◌, ◌^◌, ◌<◌, ◌≤◌, List, [], ◌∷◌, ◌++◌, length, set, slice_index, get_or, if◌then◌else◌, sym, refl, ap, ◌∙◌, subst, ⊎_elim, arith, length-set, mod-lt, get_or-set_same, get_or-set_other}
 use mathlib.Core.Logic.{dite}
 use mathlib.Core.Option.{none, some}
 use native.Mathlib.Decide.{ℕ_discrete, dec_le}
@@ -8,19 +8,18 @@ use Rattle.std.proofs.lemmas.Option.{slice_get_within}
 use Rattle.atomic_table.specs.Table.{step, keeps, takes, Allows}
 use Rattle.atomic_table.proofs.Lists.{one_turn}
 use Rattle.qolb_model.specs.declared.answer.PortState.TheVariants as shows
-use Rattle.qolb_model.specs.declared.request.Request.{Request}
-use Rattle.qolb_model.specs.Requests.{Has, Lacks}
+use Rattle.qolb_model.specs.Requests.{Has}
 use Rattle.qolb_model.specs.Views.{own}
 use Rattle.qolb_model.specs.Sound.{Continues}
 use Rattle.qolb_model.proofs.Prefixes.{prefix_self}
-use Rattle.qolb_model.proofs.Requests.{has_left, has_last, has_push, lacks_from, same_place}
+use Rattle.qolb_model.proofs.Requests.{has_left, has_last, has_push}
 use Rattle.ring_line.specs.declared.entry.Point.TheVariants.{Queued, Rolled}
 use Rattle.ring_line.specs.declared.entry.Entry.{Entry}
 use Rattle.ring_line.specs.declared.rule.Setup.{Setup}
 use Rattle.ring_line.specs.Words.{ticket_at, cell_at, node_at}
 use Rattle.ring_line.specs.Ring.{At, Past, NodeOk, PastOk, Shown, RingRule, has_line, lets_go, is_kept}
 use Rattle.ring_line.specs.Steps.{sole, Sat, IsRolled, Comes, rolled}
-use Rattle.ring_line.proofs.Lists.{at_same, cleared_ended, has_prefix}
+use Rattle.ring_line.proofs.Lists.{at_same, has_prefix}
 use Rattle.ring_line.proofs.Nodes.{clash_at, put, put_here, put_else, others_roll}
 use Rattle.ring_line.proofs.Histories.{continues}
 use Rattle.ring_line.proofs.Keeping.{St, Homes, rule_step, mine_ok, mine_low}

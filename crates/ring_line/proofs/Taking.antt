@@ -1,5 +1,5 @@
 -- The line comes to a node that has asked: it is at home, and the request at its turn is the node's.
-use Rattle.std.proofs.Common.{◌≡◌, ◌≢◌, ◌⊎◌, ℕ, ◌+◌, ◌-◌, ◌*◌, ◌%◌, ◌<◌, ◌≤◌, List, [], ◌∷◌, length, set, slice_index, get_or, Bool, true, false, sym, refl, ap, ◌∙◌, subst, inl, inr, ⊎_elim, arith, length-set, mod-lt, get_or-set_other}
+use Rattle.std.proofs.Common.{◌≡◌, ◌≢◌, ◌⊎◌, ℕ, ◌+◌, ◌-◌, ◌*◌, ◌%◌, ◌<◌, ◌≤◌, List, [], ◌∷◌, length, set, slice_index, Bool, true, false, sym, refl, ap, ◌∙◌, subst, inl, inr, ⊎_elim, arith, length-set, mod-lt, get_or-set_other}
 use mathlib.Core.Logic.{dite}
 use mathlib.Core.Option.{none, some}
 use native.Mathlib.Decide.{ℕ_discrete}
@@ -25,7 +25,7 @@ use Rattle.ring_line.specs.Steps.{Comes}
 use Rattle.ring_line.proofs.Lists.{at_same, has_prefix}
 use Rattle.ring_line.proofs.Nodes.{clash_at, placed_at, none_passed, others_hand}
 use Rattle.ring_line.proofs.Histories.{not_withdrawn, continues}
-use Rattle.ring_line.proofs.Keeping.{St, Homes, rule_step, mine_ok, mine_low, window}
+use Rattle.ring_line.proofs.Keeping.{St, rule_step, mine_ok, mine_low, window}
 
 -- the cells behind one are others
 pub cells_apart : (m k : ℕ) → 0 < k → k < 128 → (m + k) % 128 ≢ m % 128

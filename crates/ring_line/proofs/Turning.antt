@@ -1,18 +1,15 @@
 -- What stays true of a port's view while its steps go on.
-use Rattle.std.proofs.Common.{◌≡◌, ℕ, ◌+◌, ◌*◌, ◌%◌, ◌≤◌, length, List, [], ◌∷◌, ◌++◌, sym, refl, ap, ◌∙◌, subst, Some, None, slice_get, arith}
+use Rattle.std.proofs.Common.{◌≡◌, ℕ, ◌+◌, ◌*◌, ◌%◌, ◌≤◌, List, [], sym, refl, ap, ◌∙◌, subst, Some, None, arith}
 use Rattle.atomic_table.specs.Seated.{TableId}
-use mathlib.Core.List.{IsPrefix}
 use Rattle.line_lanes.specs.declared.line.Line64.{Line64}
-use Rattle.qolb_model.specs.declared.request.Request.{Request}
 use Rattle.qolb_model.specs.declared.view.View.{View}
 use Rattle.qolb_model.specs.Requests.{Has}
 use Rattle.qolb_model.specs.Views.{own, Extends}
 use Rattle.qolb_model.specs.Sound.{Continues, IsSound}
 use Rattle.qolb_model.specs.Asking.{Asks, IsJoined}
 use Rattle.qolb_model.proofs.Prefixes.{prefix_self, prefix_get, prefix_length}
-use Rattle.qolb_model.proofs.Requests.{same_request, has_left}
-use Rattle.qolb_model.proofs.Agreeing.{extends_trans, history_of_two, among_first, among_second}
-use Rattle.qolb_model.specs.OneHistory.{OneHistory}
+use Rattle.qolb_model.proofs.Requests.{same_request}
+use Rattle.qolb_model.proofs.Agreeing.{extends_trans}
 use Rattle.qolb_model.specs.declared.answer.PortState.{PortState}
 use Rattle.qolb_model.specs.declared.answer.PortState.TheVariants as shows
 use Rattle.ring_line.specs.declared.rule.Parcel.{Parcel}

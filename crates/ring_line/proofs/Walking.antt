@@ -14,12 +14,11 @@ use Rattle.qolb_model.specs.Requests.{Has, Lacks}
 use Rattle.qolb_model.specs.Ends.{is_closed, bytes_after}
 use Rattle.qolb_model.specs.Histories.{turn_of}
 use Rattle.qolb_model.specs.Views.{own, Extends}
-use Rattle.qolb_model.specs.LettingGo.{LetsGo}
 use Rattle.qolb_model.proofs.Lists.{element_at, drop_with, push_cases, same_some}
 use Rattle.qolb_model.proofs.Prefixes.{prefix_get}
 use Rattle.qolb_model.proofs.Histories.{bytes_after-append, is_closed-append}
 use Rattle.qolb_model.proofs.Writes.{bytes_after-passed}
-use Rattle.ring_line.specs.declared.entry.Point.TheVariants.{Idle, Lit, Dark, Freeing}
+use Rattle.ring_line.specs.declared.entry.Point.TheVariants.{Lit, Dark, Freeing}
 use Rattle.ring_line.specs.declared.entry.Entry.{Entry}
 use Rattle.ring_line.specs.declared.rule.Parcel.{Parcel}
 use Rattle.ring_line.specs.Ring.{At}

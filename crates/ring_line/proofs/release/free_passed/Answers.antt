@@ -1,7 +1,5 @@
-use Rattle.std.proofs.Common.{rules, refl, ◌∙◌, get_or, arith, ◌≡◌, Some, slice_get}
+use Rattle.std.proofs.Common.{refl, ◌∙◌, get_or, arith, ◌≡◌, Some, slice_get}
 use Rattle.std.proofs.lemmas.Option.{slice_get-get_or}
-use Rattle.qolb_model.specs.declared.view.View.{View}
-use Rattle.qolb_model.specs.Sound.{Continues}
 use Rattle.ring_line.specs.Steps.{entry_of}
 use Rattle.ring_line.proofs.Turning.{continues_trans}
 use Rattle.ring_line.proofs.Walking.{frees_none, frees_which, frees_next, frees_all}

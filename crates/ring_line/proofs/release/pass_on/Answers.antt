@@ -1,4 +1,3 @@
-use Rattle.std.proofs.Common.{subst, sym, ap, ◌∙◌, ◌≡◌, ◌∷◌, []}
 use Rattle.ring_line.specs.Steps.{entry_of}
 use Rattle.ring_line.proofs.Releasing.{carries_told, told_by}
 use Rattle.ring_line.proofs.release.pass_on.Goals as goal

@@ -1,4 +1,4 @@
-use Rattle.std.proofs.Common.{refl, sym, subst, ◌≢◌, ℕ, List}
+use Rattle.std.proofs.Common.{refl, sym, subst, ℕ, List}
 use Rattle.ring_line.specs.Steps.{entry_of}
 use Rattle.ring_line.proofs.Walking.{IsWalking, walk_begins, stands_first, walk_carries, walk_step, walk_over}
 use Rattle.ring_line.proofs.release.walk.Goals as goal

@@ -1,4 +1,4 @@
-use Rattle.std.proofs.Common.{rules, arith, ap, ◌∙◌, ◌*◌, sym, ℕ, ◌≡◌}
+use Rattle.std.proofs.Common.{rules, arith, ap, ◌∙◌, ◌*◌, ℕ}
 use Rattle.ring_line.specs.Words.{cell_at}
 use Rattle.ring_line.specs.Steps.{entry_of}
 use Rattle.ring_line.proofs.Roll.{rolls_next}

@@ -1,5 +1,4 @@
-use Rattle.std.proofs.Common.{refl, sym, subst, ap, ◌∙◌, false}
-use Rattle.qolb_model.specs.declared.answer.PortState.TheVariants as shows
+use Rattle.std.proofs.Common.{refl, subst, ap, ◌∙◌}
 use Rattle.qolb_model.specs.declared.end.End.TheVariants.{Served}
 use Rattle.qolb_model.specs.LettingGo.{Releases}
 use Rattle.qolb_model.specs.Views.{Extends}

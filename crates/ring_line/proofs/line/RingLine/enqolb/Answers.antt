@@ -1,6 +1,6 @@
 use Rattle.std.proofs.Common.{arith, ◌∙◌, ◌+◌, sym, ap, ◌%◌}
 use Rattle.ring_line.specs.Steps.{entry_of}
-use Rattle.ring_line.proofs.Turning.{continues_from, continues_open, continues_trans, belongs_after, seat_of_table, asking_continues, asking_asks, joined_goes, busy_port, queued_port, port_holds, port_shut, arrived_steps, some_nodes}
+use Rattle.ring_line.proofs.Turning.{continues_from, continues_open, belongs_after, seat_of_table, asking_continues, asking_asks, joined_goes, busy_port, queued_port, port_holds, port_shut, arrived_steps, some_nodes}
 use Rattle.ring_line.proofs.line.RingLine.enqolb.Goals as goal
 
 pub invariant_of-port : goal.invariant_of-port

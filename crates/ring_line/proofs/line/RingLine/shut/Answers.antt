@@ -1,9 +1,7 @@
-use Rattle.std.proofs.Common.{refl, sym, subst, ap, ◌∙◌, true}
+use Rattle.std.proofs.Common.{refl, subst, ap, true}
 use Rattle.qolb_model.specs.declared.answer.PortState.TheVariants as shows
-use Rattle.qolb_model.specs.declared.end.End.TheVariants.{Served}
-use Rattle.qolb_model.specs.LettingGo.{Releases}
 use Rattle.qolb_model.specs.Views.{Extends}
-use Rattle.ring_line.specs.Steps.{entry_of, left_by}
+use Rattle.ring_line.specs.Steps.{entry_of}
 use Rattle.ring_line.specs.Ports.{Standing}
 use Rattle.ring_line.proofs.Releasing.{holds_of, put_carries, put_extends, released, released_bytes, shut_port}
 use Rattle.ring_line.proofs.line.RingLine.shut.Goals as goal
