@@ -20,3 +20,4 @@ pub mod Lasting
 pub mod Turning
 pub mod Walking
 pub mod Releasing
+pub mod Calling
