@@ -121,13 +121,16 @@ IsPutBack q z u = (u.table_id ≡ q.place.table_id) × (u.id ≡ q.place.id) × 
 put_entry : (q : Inside) (z : Parcel) (u : Spot) → IsPutBack q z u → entry_of u ≡ entry_of q.place
 put_entry q z u put = ap (λ m. sole m.0) put.2
 
+pub put_slot : (q : Inside) (z : Parcel) (u : Spot) → IsPutBack q z u → u.me.1 ≡ (0, z) ∷ []
+put_slot q z u put = ap (λ m. m.1) put.2
+
 pub put_carries : {p : Standing} (allows : List ℕ → List ℕ → Type 0) (q : Inside) (z : Parcel) (u : Spot) → IsBetween q → seen q ≡ p → p.view.state ≡ shows.Holding → MayRelease allows p.view p.turn → write_of z ≡ write_of q.parcel → IsPutBack q z u
     → (y : Parcel) × (u.me.1 ≡ (0, y) ∷ []) × Carries allows (entry_of u) y
 put_carries allows q z u between is held may same put =
     let h = holds_of q between is held in
     let here : MayRelease allows (known q) (write_of z) = subst (MayRelease allows (known q)) (sym same) (subst (λ (x : Standing). MayRelease allows x.view x.turn) (sym is) may) in
     let merged : IsMerged (known q) z = subst (λ (w : Write). written (bytes_of (known q)) w ≡ w.bytes.bytes) (sym same) h.merged in
-    (z, ap (λ m. m.1) put.2, subst (λ e. Carries allows e z) (sym (put_entry q z u put)) (carries_served allows (entry_of q.place) z h.none_passed h.is_open merged here))
+    (z, put_slot q z u put, subst (λ e. Carries allows e z) (sym (put_entry q z u put)) (carries_served allows (entry_of q.place) z h.none_passed h.is_open merged here))
 
 pub put_continues : {allows : List ℕ → List ℕ → Type 0} {w : View} (q : Inside) (z : Parcel) (u : Spot) → IsPutBack q z u → Continues allows (entry_of u).view w → Continues allows (known q) w
 put_continues {allows} {w} q z u put c = subst (λ (e : Entry). Continues allows e.view w) (put_entry q z u put) c

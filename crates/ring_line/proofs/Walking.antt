@@ -356,6 +356,9 @@ IsDarkened t d = (d.table_id ≡ t.table_id) × (d.id ≡ t.id) × (d.me ≡ (re
 pub dark_entry : (t d : Spot) → IsDarkened t d → entry_of d ≡ record (entry_of t) { point = Dark }
 dark_entry t d e = ap (λ m. sole m.0) e.2
 
+pub dark_slot : (t d : Spot) → IsDarkened t d → d.me.1 ≡ t.me.1
+dark_slot t d e = ap (λ m. m.1) e.2
+
 -- what the next grant asks
 pub walk_carries : (allows : List ℕ → List ℕ → Type 0) (s t d : Spot) (nodes : List ℕ) (cell found : ℕ) (y : Parcel) → IsWalking allows s nodes cell found t → found ≢ 0 → IsDarkened t d → s.me.1 ≡ (0, y) ∷ [] → IsBare (entry_of s) y
     → (d.me.1 ≡ (0, y) ∷ []) × Carries allows (entry_of d) y
