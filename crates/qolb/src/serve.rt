@@ -1,5 +1,5 @@
 //! The program behind its words: what it is asked for, and the status that it ends with.
-ghost use Rattle.std.specs.Prelude.{◌≡◌, ◌≢◌, ◌≤◌, map, string_bytes, IfSome, IfOk, IfErr, OnOk};
+ghost use Rattle.std.specs.Prelude.{◌≡◌, ◌≢◌, ◌≤◌, map, option_map, string_bytes, IfSome, IfOk, IfErr, OnOk};
 ghost use Rattle.clap.specs.Words.{app_of, found_of, kind_of, rows_of};
 ghost use Rattle.qolb_script.specs.Watched.{inner_of};
 ghost use Rattle.qolb.specs.CommandLine as spec;
@@ -134,11 +134,19 @@ fn task_at(name: &str, arguments: &ArgMatches<'_>) -> Task
     ensures { result ≡ spec.task_at (name.now, rows_of (found_of arguments.now)) }
 {
     if name == "steps" {
-        return Task::Steps;
+        Task::Steps
+    } else {
+        Task::Replay(kind_named(arguments.get_str("kind")))
     }
-    match arguments.get_str("kind") {
-        Some("ring") => Task::Replay(Kind::Ring),
-        _ => Task::Replay(Kind::Plain),
+}
+
+/// The kind of this name.
+fn kind_named(name: Option<&str>) -> Kind
+    ensures { result ≡ spec.kind_of_name (option_map (λ n. n.now) name.entry) }
+{
+    match name {
+        Some("ring") => Kind::Ring,
+        _ => Kind::Plain,
     }
 }
 
