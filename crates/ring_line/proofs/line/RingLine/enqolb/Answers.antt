@@ -1,6 +1,7 @@
 use Rattle.std.proofs.Common.{arith, ◌∙◌, ◌+◌, sym, ap, ◌%◌}
 use Rattle.ring_line.specs.Steps.{entry_of}
 use Rattle.ring_line.proofs.Turning.{continues_from, continues_open, belongs_after, seat_of_table, asking_continues, asking_asks, joined_goes, busy_port, queued_port, port_holds, port_shut, arrived_steps, some_nodes}
+use Rattle.ring_line.proofs.Releasing.{state_of_port}
 use Rattle.ring_line.proofs.line.RingLine.enqolb.Goals as goal
 
 pub invariant_of-port : goal.invariant_of-port
@@ -160,3 +161,23 @@ returns-in-Some-arrive-clause-joined g c _ =
     let comes = c.look.ensures.comes c.if-not-look.false in
     let on = c.arrive.ensures.continues (entry_of c.ask-port-inside.new.place).view c.look.ensures.continues in
     joined_goes (entry_of c.ask-port-inside.new.place).view (entry_of c.arrive.new.place).view c.ask-port-inside.ensures.asked.joined on.extends (c.arrive.ensures.count ∙ comes.2.count)
+
+pub returns-then-not-look-clause-counted : goal.returns-then-not-look-clause-counted
+returns-then-not-look-clause-counted g c _ fresh =
+    let shows = state_of_port c.port.inside.label c.port.inside.node c.port.inside.place c.port.inside.parcel c.port.inside.cell c.port.inside.steps c.port.inside.state c.args.port.now c.port.invariant c.port.view_is in
+    omega (arith, c.in-Some.ensures.renewed.2 (λ e. fresh (sym shows ∙ e)))
+
+pub returns-then-not-look-clause-counted_anew : goal.returns-then-not-look-clause-counted_anew
+returns-then-not-look-clause-counted_anew g c _ again =
+    let shows = state_of_port c.port.inside.label c.port.inside.node c.port.inside.place c.port.inside.parcel c.port.inside.cell c.port.inside.steps c.port.inside.state c.args.port.now c.port.invariant c.port.view_is in
+    omega (arith, c.in-Some.ensures.renewed.3 (shows ∙ again))
+
+pub returns-in-None-clause-counted : goal.returns-in-None-clause-counted
+returns-in-None-clause-counted g c _ fresh =
+    let shows = state_of_port c.port.inside.label c.port.inside.node c.port.inside.place c.port.inside.parcel c.port.inside.cell c.port.inside.steps c.port.inside.state c.args.port.now c.port.invariant c.port.view_is in
+    omega (arith, c.in-Some.ensures.renewed.2 (λ e. fresh (sym shows ∙ e)))
+
+pub returns-in-None-clause-counted_anew : goal.returns-in-None-clause-counted_anew
+returns-in-None-clause-counted_anew g c _ again =
+    let shows = state_of_port c.port.inside.label c.port.inside.node c.port.inside.place c.port.inside.parcel c.port.inside.cell c.port.inside.steps c.port.inside.state c.args.port.now c.port.invariant c.port.view_is in
+    omega (arith, c.in-Some.ensures.renewed.3 (shows ∙ again))
