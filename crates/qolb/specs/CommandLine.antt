@@ -1,17 +1,18 @@
 -- What the words of a command line ask for. (What a command makes of words is defined by the library that reads them, clap.)
-use Rattle.std.specs.Prelude.{◌≡◌, true, false, if◌then◌else◌, List, [], ◌∷◌, map, Some, option_map, codes}
+use Rattle.std.specs.Prelude.{◌≡◌, true, false, if◌then◌else◌, List, [], ◌∷◌, map, Option, Some, None, option_map, codes}
 use Rattle.std.specs.Borrow.{Bor}
 use Rattle.std.specs.Str.{bytes_eq}
-use Rattle.clap.specs.Words.{App, Row, Rule, Text, new_app, new_rule, subcommand_of, takes, with_rule, with_subcommand}
+use Rattle.clap.specs.Words.{App, Row, Rule, Text, first_of, new_app, new_rule, subcommand_of, takes, with_rule, with_subcommand}
 use Rattle.clap.specs.declared.builder.ArgAction.TheVariants.{Set}
 use Rattle.clap.specs.declared.builder.value_parser.ValueParser.TheVariants as parser
+use Rattle.qolb.specs.declared.replay.Kind.{Kind}
 use Rattle.qolb.specs.declared.replay.Kind.TheVariants as kind
 use Rattle.qolb.specs.declared.task.Task.{Task}
 use Rattle.qolb.specs.declared.task.Task.TheVariants as task
 
 -- the kinds that a replay takes
 abbrev pub kind_names : List Text
-kind_names = codes "plain" ∷ []
+kind_names = codes "plain" ∷ codes "ring" ∷ []
 
 abbrev pub Names : Type 0
 Names = Bor (List (Bor Text))
@@ -43,9 +44,14 @@ needs_subcommand app = record app { top = record app.top { subcommand_required =
 abbrev pub the_command : Names → App
 the_command names = with_subcommand (with_subcommand (needs_subcommand (new_app (codes "qolb"))) (replay_command names).top) steps_command.top
 
--- the task of a subcommand
+-- the kind of this name
+abbrev pub kind_of_name : Option Text → Kind
+kind_of_name None = kind.Plain
+kind_of_name (Some name) = if bytes_eq name (codes "ring") then kind.Ring else kind.Plain
+
+-- the task of a subcommand with these arguments
 abbrev pub task_at : Text × List Row → Task
-task_at entered = if bytes_eq entered.0 (codes "steps") then task.Steps else task.Replay kind.Plain
+task_at entered = if bytes_eq entered.0 (codes "steps") then task.Steps else task.Replay (kind_of_name (first_of (codes "kind") entered.1))
 
 -- the words name this task
 abbrev pub NamesTask : List Text → Task → Type 0

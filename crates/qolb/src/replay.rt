@@ -1,20 +1,24 @@
 //! Replays of schedules: what is said of each command, and then of each line.
-ghost use Rattle.std.specs.Prelude.{◌≡◌, ◌≢◌, ◌↔◌, ℕ, List, ◌≤◌, true, false, Ok, Err, OnOk, IfOk, IfErr, IfSome};
+ghost use Rattle.std.specs.Prelude.{◌≡◌, ◌≢◌, ◌⊎◌, ◌↔◌, ℕ, List, length, ◌≤◌, true, false, Ok, Err, OnOk, IfOk, IfErr, IfSome};
 ghost use Rattle.std.specs.Io.KnownBytes.{Appends};
 ghost use Rattle.qolb_script.specs.Watched.{inner_of, has_failed};
-ghost use Rattle.qolb_script.specs.Reply.{replay_start, reply_of};
+ghost use Rattle.qolb_script.specs.Reply.{replay_start, reply_of, reply_to};
 ghost use Rattle.qolb_model.specs.Plain.{PlainView, Agrees};
+ghost use Rattle.qolb_model.specs.OneOwner.{LineState};
+ghost use Rattle.qolb_model.specs.Whole.{Stance, AreWhole};
 ghost use Rattle.qolb.specs.Tallies.{AreLinesOf};
 ghost use Rattle.qolb.specs.declared.replay.ReplayError.TheVariants.{Memory, Write};
 ghost use Rattle.qolb.specs.Outcome.{IsReply, MayFail, as_replay_error, script_error};
 
 use crate::input::{InputError, read_all};
 use crate::line::ReplayLine;
+use crate::ported::PortedLine;
 use crate::tally::TalliedLine;
 use line_lanes::Line64;
-use qolb_model::PlainLine;
+use qolb_model::{Free, PlainLine};
 use qolb_script::{Fault, Schedule, ScriptError, Watched, push_said, read_schedule};
-use std::alloc::{AllocError, Allocator};
+use ring_line::RingLine;
+use std::alloc::{AllocError, Allocator, Global};
 use std::io::{Read, Write};
 use thiserror::Error;
 
@@ -23,6 +27,8 @@ use thiserror::Error;
 pub enum Kind {
     /// The plain reference, with one owner.
     Plain,
+    /// Rings, whose nodes call through ports of their own. The port that acts meets each other one before and after its call.
+    Ring,
 }
 
 /// Why a schedule could not be replayed.
@@ -84,12 +90,12 @@ impl From<Fault> for ReplayError {
     }
 }
 
-/// Replays the schedule that the reader gives, and writes its reply.
+/// Replays the schedule that the reader gives, and writes its reply, which is the same for each kind.
 ///
 /// The whole input is read first, and the reply is built whole before its first byte is written: with every error but `Write`
 /// nothing was written.
-pub fn run_schedule<A: Allocator, R: Read, W: Write>(
-    alloc: A,
+pub fn run_schedule<R: Read, W: Write>(
+    alloc: Global,
     reader: &mut Watched<R>,
     writer: &mut Watched<W>,
     kind: Kind,
@@ -102,16 +108,35 @@ pub fn run_schedule<A: Allocator, R: Read, W: Write>(
     ensures written { OnOk result (has_failed writer.new ≡ false) }
     ensures memory { result ≢ Err (ReplayError.Script ScriptError.Memory) }
 {
-    let input = read_all(&alloc, reader)?;
-    let schedule = read_schedule(&alloc, input.as_slice())?;
-    let text = match kind {
-        Kind::Plain => {
-            let lines = open_lines(&alloc, schedule.nodes(), schedule.lines())?;
-            reply(&alloc, &schedule, lines)?
-        }
-    };
+    let input = read_all(alloc, reader)?;
+    let text = answered(&alloc, alloc, input.as_slice(), kind)?;
     writer.write_all(text.as_slice())?;
     Ok(())
+}
+
+/// The reply of the schedule that the input is. Words and ports of rings lie in memory of `rings`, all else in memory of `alloc`.
+fn answered<'a, A: Allocator>(
+    alloc: &'a A,
+    rings: Global,
+    input: &[u8],
+    kind: Kind,
+) -> Result<Vec<u8, &'a A>, ReplayError>
+    ensures ok { IfOk result (λ text. reply_to input.now ≡ Ok text.items) }
+    ensures refused { IfErr result (λ error. (error ≡ ReplayError.Memory) ⊎ ((fault : ScriptError) × (error ≡ ReplayError.Script fault) × (reply_to input.now ≡ Err fault) × (fault ≢ ScriptError.Memory))) }
+{
+    let schedule = read_schedule(alloc, input)?;
+    let nodes = schedule.nodes();
+    let text = match kind {
+        Kind::Plain => {
+            let lines = open_lines(alloc, nodes, schedule.lines())?;
+            reply(alloc, &schedule, lines)?
+        }
+        Kind::Ring => {
+            let lines = open_rings(alloc, rings, nodes, schedule.lines())?;
+            reply(alloc, &schedule, lines)?
+        }
+    };
+    Ok(text)
 }
 
 /// The reply of a schedule, by these lines, of which nothing was said yet.
@@ -153,6 +178,32 @@ fn open_lines<A: Allocator>(
         };
         all.push(TalliedLine {
             line,
+            served: 0,
+            withdrawn: 0,
+            told: 0,
+        })?;
+    }
+    Ok(all)
+}
+
+/// Rings of zeros, of which nothing was said.
+fn open_rings<A: Allocator>(
+    alloc: A,
+    rings: Global,
+    nodes: u64,
+    lines: u64,
+) -> Result<Vec<TalliedLine<PortedLine<RingLine<Free>>>, A>, AllocError>
+    requires some { 1 ≤ nodes }
+    requires most { nodes ≤ 32 }
+    ensures { IfOk result (λ all. AreLinesOf (λ (ports : List Stance) (s : LineState). AreWhole s ports) (λ (ports : List Stance). length ports) nodes (replay_start lines) all.items) }
+{
+    let mut all = Vec::with_capacity(alloc, lines as usize)?;
+    for number in 0..lines {
+        let Ok((ring, ports)) = RingLine::open(rings, number, nodes, Line64::zero()) else {
+            return Err(AllocError);
+        };
+        all.push(TalliedLine {
+            line: PortedLine::new(ring, ports),
             served: 0,
             withdrawn: 0,
             told: 0,

@@ -17,7 +17,7 @@ use std::alloc::{AllocError, Global};
 use std::io::{self, Read, Write};
 
 /// The names of the kinds that replay a schedule.
-static KINDS: [&str; 1] = ["plain"];
+static KINDS: [&str; 2] = ["plain", "ring"];
 
 const ABOUT: &str =
     "Queued line locks: nodes queue at a line of 64 bytes, and a release hands lock and\nline to the next";
@@ -130,13 +130,15 @@ fn asked(alloc: Global, words: &[String]) -> Result<Task, Error>
 }
 
 /// The task of a subcommand with these arguments.
-fn task_at(name: &str, _arguments: &ArgMatches<'_>) -> Task
-    ensures { result ≡ spec.task_at (name.now, rows_of (found_of _arguments.now)) }
+fn task_at(name: &str, arguments: &ArgMatches<'_>) -> Task
+    ensures { result ≡ spec.task_at (name.now, rows_of (found_of arguments.now)) }
 {
     if name == "steps" {
-        Task::Steps
-    } else {
-        Task::Replay(Kind::Plain)
+        return Task::Steps;
+    }
+    match arguments.get_str("kind") {
+        Some("ring") => Task::Replay(Kind::Ring),
+        _ => Task::Replay(Kind::Plain),
     }
 }
 
@@ -146,7 +148,7 @@ fn command<'a>(alloc: Global) -> Result<Command<'a>, AllocError>
     let kind = Arg::new(alloc, "kind")
         .long("kind")
         .value_name("KIND")
-        .help("What represents the lines: the plain reference, with one owner")
+        .help("What represents the lines: the plain reference with one owner, or rings that nodes share")
         .required(true)
         .action(ArgAction::Set)
         .value_parser(KINDS.as_slice());

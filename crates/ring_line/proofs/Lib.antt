@@ -23,3 +23,4 @@ pub mod Seats
 pub mod Dealing
 pub mod Meets
 pub mod Lasting
+pub mod Calling

@@ -7,24 +7,21 @@ use Rattle.line_lanes.proofs.Masked.{merged-twice}
 use Rattle.line_lanes.proofs.Masked.{merged-none}
 use Rattle.qolb_model.specs.declared.answer.PortState.TheVariants as shows
 use Rattle.qolb_model.specs.declared.end.End.TheVariants.{Served, Gone, Told}
-use Rattle.qolb_model.specs.declared.answer.PortState.{PortState}
-use Rattle.qolb_model.specs.declared.write.Write.{Write}
 use Rattle.qolb_model.specs.declared.view.View.{View}
 use Rattle.qolb_model.specs.Ends.{is_closed, bytes_after, written}
 use Rattle.qolb_model.specs.Views.{own, bytes_of, Extends}
 use Rattle.qolb_model.specs.Kept.{AreAllowed, MayRelease}
 use Rattle.qolb_model.specs.Turns.{IsClearBefore, IsGranted}
-use Rattle.qolb_model.specs.LettingGo.{LetsGo, Releases}
+use Rattle.qolb_model.specs.LettingGo.{LetsGo}
 use Rattle.qolb_model.proofs.Lists.{element_at, same_some}
 use Rattle.qolb_model.proofs.Prefixes.{prefix_get}
 use Rattle.qolb_model.proofs.Histories.{bytes_after-append, is_closed-append}
-use Rattle.qolb_model.proofs.Writes.{bytes_after-release}
-use Rattle.ring_line.specs.declared.entry.Point.TheVariants.{Idle, Dark}
+use Rattle.ring_line.specs.declared.entry.Point.TheVariants.{Dark}
 use Rattle.ring_line.specs.declared.entry.Entry.{Entry}
 use Rattle.ring_line.specs.declared.rule.Parcel.{Parcel}
-use Rattle.ring_line.specs.Steps.{Alone, entry_of, sole, write_of, own_end, end_of, next_end, left_by, Carries, Comes, Ended}
+use Rattle.ring_line.specs.Steps.{entry_of, sole, write_of, own_end, end_of, next_end, left_by, Carries, Comes, Ended}
 use Rattle.ring_line.specs.Releases.{LetsLineGo, WalksOn, IsPassedOn}
-use Rattle.ring_line.specs.Ports.{Spot, Standing, standing, IsMerged, Holds, Stands, IsPort}
+use Rattle.ring_line.specs.Ports.{Spot, IsMerged, Holds}
 use Rattle.ring_line.proofs.Lists.{has_prefix}
 use Rattle.ring_line.proofs.Turning.{same_own}
 
@@ -130,49 +127,6 @@ arrives v s t y z cell c slot same bytes closed mask unclosed at =
       },
     )
 
--- a port that shows that it holds holds
-pub holds_of : (label node : ℕ) (s : Spot) (y : Parcel) (cell n : ℕ) (state : PortState) (p : Standing) → IsPort label node s y cell state → standing s y n ≡ p → p.view.state ≡ shows.Holding → Holds s y cell
-holds_of label node s y cell n state p port is held = let e : state ≡ shows.Holding = sym port.shows_state ∙ (ap (λ (q : Standing). q.view.state) is ∙ held) in subst (Stands s y cell) e port.stands
-
--- it puts the line back into its slot
-put_entry : (s u : Spot) (z : Parcel) → u.me ≡ (s.me.0, (0, z) ∷ []) → entry_of u ≡ entry_of s
-put_entry s u z put = ap (λ m. sole m.0) put
-
-pub put_carries : (allows : List ℕ → List ℕ → Type 0) (s u : Spot) (y z : Parcel) (cell n : ℕ) (p : Standing) → Holds s y cell → standing s y n ≡ p → MayRelease allows p.view p.turn → write_of z ≡ write_of y → u.me ≡ (s.me.0, (0, z) ∷ [])
-    → (u.me.1 ≡ (0, z) ∷ []) × Carries allows (entry_of u) z
-put_carries allows s u y z cell n p h is may same put =
-    let here : MayRelease allows (entry_of s).view (write_of z) = subst (MayRelease allows (entry_of s).view) (sym same) (subst (λ (q : Standing). MayRelease allows q.view q.turn) (sym is) may) in
-    let merged : IsMerged (entry_of s).view z = subst (λ (w : Write). written (bytes_of (entry_of s).view) w ≡ w.bytes.bytes) (sym same) h.merged in
-    (ap (λ m. m.1) put, subst (λ e. Carries allows e z) (sym (put_entry s u z put)) (carries_served allows (entry_of s) z h.none_passed h.is_open merged here))
-
--- and lets it go
-pub released : (s u t : Spot) (y z : Parcel) (cell n : ℕ) (p : Standing) → Holds s y cell → standing s y n ≡ p → write_of z ≡ write_of y → u.me ≡ (s.me.0, (0, z) ∷ []) → LetsLineGo (entry_of u) z (entry_of t)
-    → Releases p.view (Served p.turn z.closed) (left_by z.closed) (entry_of t).view
-released s u t y z cell n p h is same put l =
-    let here : LetsLineGo (entry_of s) z (entry_of t) = subst (λ e. LetsLineGo e z (entry_of t)) (put_entry s u z put) l in
-    let end : own_end (is_closed (entry_of s).view.ends) z ≡ Served (write_of y) z.closed = ap (λ b. own_end b z) h.is_open ∙ ap (λ w. Served w z.closed) same in
-    subst (λ (q : Standing). Releases q.view (Served q.turn z.closed) (left_by z.closed) (entry_of t).view) is (subst (λ e. Releases (entry_of s).view e (left_by z.closed) (entry_of t).view) end here.releases)
-
--- with the bytes that it wrote
-pub released_bytes : (s t : Spot) (y : Parcel) (cell n : ℕ) (p : Standing) (shut : Bool) (leaves : PortState) → Holds s y cell → standing s y n ≡ p → Extends p.view (entry_of t).view → Releases p.view (Served p.turn shut) leaves (entry_of t).view
-    → bytes_of (entry_of t).view ≡ p.turn.bytes.bytes
-released_bytes s t y cell n p shut leaves h is more r =
-    let merged : written (bytes_of p.view) p.turn ≡ p.turn.bytes.bytes = subst (λ (q : Standing). written (bytes_of q.view) q.turn ≡ q.turn.bytes.bytes) is h.merged in
-    (λ i. bytes_after (more.opening i).bytes (r.ends i)) ∙ (bytes_after-release p.view.opening.bytes p.view.ends p.turn shut r.passed ∙ merged)
-
--- it is then idle, or knows that the line is closed
-pub idle_port : (label node : ℕ) (s t : Spot) (y z : Parcel) (was cell : ℕ) (state : PortState) → IsPort label node s y was state → Extends (entry_of s).view (entry_of t).view → Alone t.me → t.me.1 ≡ [] → (entry_of t).point ≡ Idle → (entry_of t).view.state ≡ shows.Idle
-    → IsPort label node t z cell shows.Idle
-idle_port label node s t y z was cell state p more alone slot point shown = record { alone = alone; stands = (point, slot); shows_state = shown; label_is = more.label ∙ p.label_is; node_is = more.node ∙ p.node_is }
-
-pub shut_port : (label node : ℕ) (s t : Spot) (y z : Parcel) (was cell : ℕ) (state : PortState) → IsPort label node s y was state → Extends (entry_of s).view (entry_of t).view → Alone t.me → t.me.1 ≡ [] → (entry_of t).point ≡ Idle → (entry_of t).view.state ≡ shows.Shut
-    → IsPort label node t z cell shows.Shut
-shut_port label node s t y z was cell state p more alone slot point shown = record { alone = alone; stands = (point, slot); shows_state = shown; label_is = more.label ∙ p.label_is; node_is = more.node ∙ p.node_is }
-
--- what a release tells of the seat before the line was put back
-pub put_extends : (s u : Spot) (z : Parcel) (w : View) → u.me ≡ (s.me.0, (0, z) ∷ []) → Extends (entry_of u).view w → Extends (entry_of s).view w
-put_extends s u z w put more = subst (λ (e : Entry). Extends e.view w) (put_entry s u z put) more
-
 -- the holder writes
 pub holds_written : (s : Spot) (y z : Parcel) (cell mask : ℕ) (bytes : List ℕ) → Holds s y cell → z.bytes.bytes ≡ merged y.bytes.bytes bytes mask → z.mask.0 ≡ bit_or y.mask.0 mask → z.closed ≡ y.closed → Holds s z cell
 holds_written s y z cell mask bytes h b k c = record {
@@ -185,10 +139,3 @@ holds_written s y z cell mask bytes h b k c = record {
   is_open = h.is_open;
   unclosed = c ∙ h.unclosed;
 }
-
-pub holding_port : (label node : ℕ) (s : Spot) (y z : Parcel) (cell : ℕ) (state : PortState) → IsPort label node s y cell state → state ≡ shows.Holding → Holds s z cell → IsPort label node s z cell state
-holding_port label node s y z cell state p held h = record { alone = p.alone; stands = subst (Stands s z cell) (sym held) h; shows_state = p.shows_state; label_is = p.label_is; node_is = p.node_is }
-
--- what a port shows is its state
-pub state_of_port : (label node : ℕ) (s : Spot) (y : Parcel) (cell n : ℕ) (state : PortState) (p : Standing) → IsPort label node s y cell state → standing s y n ≡ p → state ≡ p.view.state
-state_of_port label node s y cell n state p port is = sym port.shows_state ∙ ap (λ (q : Standing). q.view.state) is

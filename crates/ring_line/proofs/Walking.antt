@@ -1,9 +1,9 @@
 -- A walk over withdrawn requests, and the freeing of their nodes.
-use Rattle.std.proofs.Common.{◌≡◌, ◌≢◌, ℕ, zero, suc, ◌+◌, ◌-◌, ◌/◌, ◌%◌, ◌≤◌, ◌<◌, ◌⊎◌, inl, inr, Bool, false, ◌||◌, length, drop, List, [], ◌∷◌, ◌++◌, sym, refl, ap, ◌∙◌, subst, Some, None, slice_get, arith, replicate, append-nil, append_assoc, length-append}
+use Rattle.std.proofs.Common.{◌≡◌, ◌≢◌, ℕ, zero, suc, ◌+◌, ◌-◌, ◌/◌, ◌%◌, ◌≤◌, ◌<◌, ◌⊎◌, inl, inr, Bool, false, ◌||◌, length, drop, List, [], ◌∷◌, ◌++◌, sym, refl, ap, ◌∙◌, subst, Some, None, get_or, slice_get, arith, replicate, append-nil, append_assoc, length-append}
 use Rattle.std.proofs.Math.Bool.{or-false}
 use Rattle.qolb_model.specs.Kept.{AreAllowed}
 use Rattle.qolb_model.specs.Views.{bytes_of}
-use Rattle.std.proofs.lemmas.Option.{slice_get_within}
+use Rattle.std.proofs.lemmas.Option.{slice_get_within, slice_get-get_or}
 use Rattle.std.proofs.lemmas.List.{length-replicate}
 use Rattle.qolb_model.specs.declared.request.Request.{Request}
 use Rattle.line_lanes.specs.declared.line.Line64.{Line64}
@@ -130,6 +130,31 @@ frees_all v w i f le = let none : drop i v.passed ≡ [] = past i v.passed le in
     past zero (x ∷ xs) h = absurd (omega (arith, h))
     past (suc i) [] h = refl
     past (suc i) (x ∷ xs) h = past i xs (omega (arith, h))
+
+-- what the freeing of the nodes of all passed requests has done so far, from the seat s on
+pub record IsFreeing (allows : List ℕ → List ℕ → Type 0) (s : Spot) (i : ℕ) (t : Spot) : Type 0 where
+  pub table : t.table_id ≡ s.table_id
+  pub id : t.id ≡ s.id
+  pub carried : t.me.1 ≡ s.me.1
+  pub alone : Alone t.me
+  pub continues : (v : View) → Continues allows v (entry_of s).view → Continues allows v (entry_of t).view
+  pub frees : FreesFirst (entry_of s) i (entry_of t)
+
+pub freeing_which : {allows : List ℕ → List ℕ → Type 0} (s t : Spot) (nodes : List ℕ) (i : ℕ) → IsFreeing allows s i t → (length nodes ≡ length (entry_of s).passed) × AreNodesAt (entry_of s).view.order (entry_of s).passed nodes → i < length nodes
+    → ((entry_of t).point ≡ Freeing) × (get_or nodes i 0 ≤ 32) × ((q : ℕ) × (ps : List ℕ) × (r : Request) × ((entry_of t).passed ≡ q ∷ ps) × At (entry_of t).view.order q r × (r.node ≡ get_or nodes i 0))
+freeing_which s t nodes i f all lt = frees_which (entry_of s) (entry_of t) nodes i (get_or nodes i 0) f.frees all.0 all.1 (slice_get-get_or nodes i 0 lt)
+
+pub freeing_next : (allows : List ℕ → List ℕ → Type 0) (s t u : Spot) (nodes : List ℕ) (i : ℕ) → IsFreeing allows s i t → (length nodes ≡ length (entry_of s).passed) × AreNodesAt (entry_of s).view.order (entry_of s).passed nodes → i < length nodes
+    → (u.table_id ≡ t.table_id) × (u.id ≡ t.id) × (u.me.1 ≡ t.me.1) × Alone u.me → Continues allows (entry_of t).view (entry_of u).view
+    → ((q : ℕ) (ps : List ℕ) (r : Request) → (entry_of t).passed ≡ q ∷ ps → At (entry_of t).view.order q r → Frees (entry_of t) ps r (entry_of u)) → IsFreeing allows s (i + 1) u
+freeing_next allows s t u nodes i f all lt seat went frees = record {
+  table = seat.0 ∙ f.table;
+  id = seat.1 ∙ f.id;
+  carried = seat.2 ∙ f.carried;
+  alone = seat.3;
+  continues = λ v had. continues_trans allows v (entry_of t).view (entry_of u).view (f.continues v had) went;
+  frees = frees_next (entry_of s) (entry_of t) (entry_of u) nodes i (get_or nodes i 0) f.frees all.0 all.1 (slice_get-get_or nodes i 0 lt) went.extends frees;
+}
 
 -- a walk that began at v has passed the requests of these nodes
 pub record Walked (v : Entry) (nodes : List ℕ) (w : Entry) : Type 0 where
@@ -330,6 +355,9 @@ IsDarkened t d = (d.table_id ≡ t.table_id) × (d.id ≡ t.id) × (d.me ≡ (re
 
 pub dark_entry : (t d : Spot) → IsDarkened t d → entry_of d ≡ record (entry_of t) { point = Dark }
 dark_entry t d e = ap (λ m. sole m.0) e.2
+
+pub dark_slot : (t d : Spot) → IsDarkened t d → d.me.1 ≡ t.me.1
+dark_slot t d e = ap (λ m. m.1) e.2
 
 -- what the next grant asks
 pub walk_carries : (allows : List ℕ → List ℕ → Type 0) (s t d : Spot) (nodes : List ℕ) (cell found : ℕ) (y : Parcel) → IsWalking allows s nodes cell found t → found ≢ 0 → IsDarkened t d → s.me.1 ≡ (0, y) ∷ [] → IsBare (entry_of s) y
