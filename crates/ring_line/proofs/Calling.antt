@@ -96,6 +96,10 @@ busy_port q r between c alone slot busy = record {
   node_is = c.extends.node ∙ between.node_is;
 }
 
+-- the state that a port shows is its own
+pub own_state : {p : Standing} (q : Inside) → IsBetween q → seen q ≡ p → p.view.state ≡ q.state
+own_state q between is = ap (λ (x : Standing). x.view.state) (sym is) ∙ between.shows_state
+
 -- a port that shows that it holds holds
 shown_state : {p : Standing} (q : Inside) → IsBetween q → seen q ≡ p → p.view.state ≡ shows.Holding → q.state ≡ shows.Holding
 shown_state q between is held = sym between.shows_state ∙ (ap (λ (x : Standing). x.view.state) is ∙ held)

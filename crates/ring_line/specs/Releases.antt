@@ -1,5 +1,5 @@
 -- What a release as a whole tells a port.
-use Rattle.std.specs.Prelude.{◌≡◌, ◌≤◌, ℕ, suc, List, ◌++◌, length, replicate, Option, Some, None}
+use Rattle.std.specs.Prelude.{◌≡◌, ◌≢◌, ◌≤◌, ℕ, suc, List, ◌++◌, length, replicate, Option, Some, None}
 use Rattle.qolb_model.specs.declared.answer.PortState.{PortState}
 use Rattle.qolb_model.specs.declared.answer.PortState.TheVariants as shows
 use Rattle.qolb_model.specs.declared.request.Request.{Request}
@@ -16,7 +16,7 @@ use Rattle.ring_line.specs.Steps.{own_end, left_by}
 
 -- the node may ask, after that many word steps; or its last request was withdrawn and is not clear, so it may not
 abbrev pub IsRenewed : PortState → Entry → Entry → Option ℕ → Type 0
-IsRenewed state v w (Some steps) = (w.point ≡ Idle) × (steps ≤ 2)
+IsRenewed state v w (Some steps) = (w.point ≡ Idle) × (steps ≤ 2) × (state ≢ shows.Rolled → steps ≡ 0) × (state ≡ shows.Rolled → steps ≡ 2)
 IsRenewed state v w None = (state ≡ shows.Rolled) × (w.point ≡ Rolled) × (w.view.state ≡ v.view.state) × Lacks w.view.clear (own w.view)
 
 -- the line lies as the known ends leave it

@@ -1,5 +1,5 @@
 //! A line over a table.
-ghost use Rattle.std.specs.Prelude.{◌≡◌, ◌≢◌, ◌↔◌, ◌+◌, ◌*◌, ◌≤◌, [], ◌∷◌, length, IsTrue, true, false};
+ghost use Rattle.std.specs.Prelude.{◌≡◌, ◌≢◌, ◌⊎◌, ◌↔◌, ◌+◌, ◌*◌, ◌≤◌, [], ◌∷◌, length, IsTrue, true, false};
 ghost use Rattle.qolb_model.specs.OneOwner.{turn_after};
 ghost use Rattle.qolb_model.specs.Plain.{may_ask};
 ghost use Rattle.qolb_model.specs.Views.{bytes_of};
@@ -117,6 +117,9 @@ impl<K: Keep> RingLine<K> {
         ensures granted { result ≡ Enq.Granted → IsGranted port.new.view port.new.turn }
         ensures queued { result ≡ Enq.Queued → IsQueued port.new.view }
         ensures told { result ≡ Enq.Closed → IsTold port.new.view }
+        ensures counted_busy { result ≡ Enq.Busy → port.new.steps ≡ 1 }
+        ensures counted { (result ≡ Enq.Granted) ⊎ (result ≡ Enq.Queued) → port.old.view.state ≢ PortState.Rolled → port.new.steps ≡ 2 }
+        ensures counted_anew { (result ≡ Enq.Granted) ⊎ (result ≡ Enq.Queued) → port.old.view.state ≡ PortState.Rolled → port.new.steps ≡ 4 }
         ensures bound { port.new.steps ≤ 3 * self.now.table.shared.key.nodes + 3 }
     {
         let ground = &self.table.shared;
@@ -153,6 +156,7 @@ impl<K: Keep> RingLine<K> {
         ensures granted { result ≡ Poll.Granted → IsGranted port.new.view port.new.turn }
         ensures waiting { result ≡ Poll.Waiting → IsQueued port.new.view }
         ensures told { result ≡ Poll.Closed → IsTold port.new.view }
+        ensures counted { result ≢ Poll.Closed → port.new.steps ≡ 1 }
         ensures bound { port.new.steps ≤ 3 * self.now.table.shared.key.nodes }
     {
         let ground = &self.table.shared;
@@ -183,6 +187,7 @@ impl<K: Keep> RingLine<K> {
         ensures withdrawn { result ≡ Out.Withdrawn → IsWithdrawn port.new.view }
         ensures granted { result ≡ Out.Granted → IsGranted port.new.view port.new.turn }
         ensures told { result ≡ Out.Closed → IsTold port.new.view }
+        ensures counted { result ≢ Out.Closed → port.new.steps ≡ 1 }
         ensures bound { port.new.steps ≤ 3 * self.now.table.shared.key.nodes }
     {
         let ground = &self.table.shared;

@@ -1,7 +1,7 @@
 use Rattle.std.proofs.Common.{arith, ◌∙◌, ◌+◌, sym, ap, ◌%◌}
 use Rattle.ring_line.specs.Steps.{entry_of}
 use Rattle.ring_line.proofs.Turning.{continues_trans, joined_goes}
-use Rattle.ring_line.proofs.Calling.{continues_from, continues_open, belongs_after, some_nodes, arrived_steps, asking_asks, holds_port, told_port, queued_port, busy_port}
+use Rattle.ring_line.proofs.Calling.{own_state, continues_from, continues_open, belongs_after, some_nodes, arrived_steps, asking_asks, holds_port, told_port, queued_port, busy_port}
 use Rattle.ring_line.proofs.line.RingLine.enqolb.Goals as goal
 
 pub invariant_of-port : goal.invariant_of-port
@@ -63,3 +63,15 @@ returns-in-Some-arrive-clause-asks g c _ = asking_asks c.port.inside c.port.view
 
 pub returns-in-Some-arrive-clause-joined : goal.returns-in-Some-arrive-clause-joined
 returns-in-Some-arrive-clause-joined g c _ = let on = (c.arrive.ensures.continues _ c.look.ensures.continues) in joined_goes (entry_of c.ask-port-inside.new.place).view (entry_of c.arrive.new.place).view c.ask-port-inside.ensures.asked.joined on.extends (c.arrive.ensures.count ∙ (c.look.ensures.comes c.if-not-look.false).2.count)
+
+pub returns-then-not-look-clause-counted : goal.returns-then-not-look-clause-counted
+returns-then-not-look-clause-counted g c _ fresh = omega (arith, c.in-Some.ensures.renewed.2 (λ e. fresh (own_state c.port.inside c.port.invariant c.port.view_is ∙ e)))
+
+pub returns-then-not-look-clause-counted_anew : goal.returns-then-not-look-clause-counted_anew
+returns-then-not-look-clause-counted_anew g c _ again = omega (arith, c.in-Some.ensures.renewed.3 (sym (own_state c.port.inside c.port.invariant c.port.view_is) ∙ again))
+
+pub returns-in-None-clause-counted : goal.returns-in-None-clause-counted
+returns-in-None-clause-counted g c _ fresh = omega (arith, c.in-Some.ensures.renewed.2 (λ e. fresh (own_state c.port.inside c.port.invariant c.port.view_is ∙ e)))
+
+pub returns-in-None-clause-counted_anew : goal.returns-in-None-clause-counted_anew
+returns-in-None-clause-counted_anew g c _ again = omega (arith, c.in-Some.ensures.renewed.3 (sym (own_state c.port.inside c.port.invariant c.port.view_is) ∙ again))
