@@ -1,10 +1,9 @@
 -- Commands that a node's state allows, and those that it does not.
-use Rattle.std.proofs.Common.{◌≡◌, ℕ, true, false, Bool, refl, sym, ap, ◌∙◌, if◌then◌else◌}
+use Rattle.std.proofs.Common.{◌≡◌, true, false, Bool, refl, sym, ap, ◌∙◌, if◌then◌else◌}
 use Rattle.qolb_model.specs.declared.answer.PortState.{PortState}
 use Rattle.qolb_model.specs.declared.answer.PortState.TheVariants.{Idle, Linking, Queued, Holding, Left, Rolled, Shut}
 use Rattle.qolb_model.specs.OneOwner.{LineState, state_of}
 use Rattle.qolb_script.specs.declared.command.Command.{Command}
-use Rattle.qolb_script.specs.declared.said.Said.{Said}
 use Rattle.qolb_script.specs.declared.said.Said.TheVariants.{Misuse}
 use Rattle.qolb_script.specs.Commands.{node_of}
 use Rattle.qolb_script.specs.Reply.{is_allowed, is_queued, is_holding, answered, after_allowed, said_of, after_command}

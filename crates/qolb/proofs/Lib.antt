@@ -4,3 +4,6 @@ pub mod Tallying
 pub mod Replayed
 pub mod StepsRun
 pub mod Answered
+pub mod CommandLines
+pub mod Rounds
+pub mod Forcing

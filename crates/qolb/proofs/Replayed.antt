@@ -1,14 +1,13 @@
 -- How far a replay has come: its lines and its text after some of the commands.
-use Rattle.std.proofs.Common.{◌≡◌, ℕ, zero, suc, ◌+◌, ◌-◌, ◌<◌, ◌≤◌, List, [], ◌∷◌, ◌++◌, length, map, take, get_or, set, refl, sym, ap, ◌∙◌, subst, arith, inl, inr, ◌⊎◌, replicate, Bool, ◌==◌, ◌&&◌, append-nil, append_assoc}
+use Rattle.std.proofs.Common.{◌≡◌, ℕ, zero, suc, ◌+◌, ◌<◌, ◌≤◌, List, [], ◌∷◌, ◌++◌, length, map, take, get_or, set, refl, sym, ap, ◌∙◌, subst, arith, inl, inr, ◌⊎◌, replicate, Bool, ◌==◌, ◌&&◌, append-nil, append_assoc}
 use Rattle.std.specs.List.{range_with_len, fold}
-use Rattle.std.proofs.lemmas.List.{length-replicate, get_or-replicate, get_or_append_left, get_or_push, replicate_more, length-append, length-set, take_all, map-append, get_or_default}
+use Rattle.std.proofs.lemmas.List.{length-replicate, get_or_append_left, get_or_push, length-append, length-set, take_all, map-append, get_or_default}
 use Rattle.std.proofs.lemmas.List.Sums.{fold_more, count_by-le-length}
 use Rattle.std.proofs.lemmas.Grind.{flat_map-append}
 use Rattle.std.proofs.lemmas.Bool.{cases_lt}
 use Rattle.std.proofs.lemmas.List.FromFn.{map-range_with_len_more}
 use Rattle.line_lanes.specs.Line.{zeros}
 use Rattle.qolb_model.specs.OneOwner.{LineState, opened}
-use Rattle.qolb_model.specs.Plain.{Agrees}
 use Rattle.qolb_script.specs.declared.command.Command.{Command}
 use Rattle.qolb_script.specs.declared.said.Said.{Said}
 use Rattle.qolb_script.specs.Commands.{line_of}
@@ -19,52 +18,10 @@ use Rattle.qolb.specs.declared.tally.TalliedLine.{TalliedLine}
 use Rattle.qolb.specs.Tallies.{Does, IsLineOf, AreLinesOf}
 use Rattle.qolb.proofs.Tallying.{lines_step, said_is}
 
--- a line that was just opened, of which nothing was said
-pub record IsNew (nodes : ℕ) (t : TalliedLine) : Type 0 where
-  pub nodes_are : t.line.nodes ≡ nodes
-  pub agrees : Agrees t.line (opened zeros)
-  pub none_served : t.served ≡ 0
-  pub none_withdrawn : t.withdrawn ≡ 0
-  pub none_told : t.told ≡ 0
-
 opened_at : (n k : ℕ) → opened zeros ≡ line_at (replicate n (opened zeros)) k
 opened_at zero k = refl
 opened_at (suc n) zero = refl
 opened_at (suc n) (suc k) = opened_at n k
-
-new_line : (nodes n k : ℕ) (t : TalliedLine) → IsNew nodes t → IsLineOf nodes (replay_start n) k t
-new_line nodes n k t new = record {
-  nodes_are = new.nodes_are;
-  agrees = subst (Agrees t.line) (opened_at n k) new.agrees;
-  served_are = new.none_served;
-  withdrawn_are = new.none_withdrawn;
-  told_are = new.none_told;
-}
-
--- no line, and one more
-pub none_opened : (nodes : ℕ) → AreLinesOf nodes (replay_start 0) []
-none_opened nodes = record { as_many = refl; each = λ number d lt. absurd (omega arith) }
-
-pub one_more_opened : (nodes n : ℕ) (lines : List TalliedLine) (t : TalliedLine) → AreLinesOf nodes (replay_start n) lines → length lines ≡ n → IsNew nodes t → AreLinesOf nodes (replay_start (n + 1)) (lines ++ t ∷ [])
-one_more_opened nodes n lines t are many new = record {
-  as_many = length-append lines (t ∷ []) ∙ (let e : length lines + 1 ≡ n + 1 = omega arith in e) ∙ sym (length-replicate (n + 1) (opened zeros));
-  each = λ number d lt. by_place number d lt (cases_lt number (length lines));
-}
-  where
-    again : (number : ℕ) (u : TalliedLine) → IsLineOf nodes (replay_start n) number u → IsLineOf nodes (replay_start (n + 1)) number u
-    again number u was = record {
-      nodes_are = was.nodes_are;
-      agrees = subst (Agrees u.line) (opened_at (n + 1) number) (subst (Agrees u.line) (sym (opened_at n number)) was.agrees);
-      served_are = was.served_are;
-      withdrawn_are = was.withdrawn_are;
-      told_are = was.told_are;
-    }
-
-    by_place : (number : ℕ) (d : TalliedLine) → number < length (lines ++ t ∷ []) → (number < length lines) ⊎ (length lines ≤ number) → IsLineOf nodes (replay_start (n + 1)) number (get_or (lines ++ t ∷ []) number d)
-    by_place number d lt (inl old) = subst (IsLineOf nodes (replay_start (n + 1)) number) (sym (get_or_append_left lines (t ∷ []) d number old)) (again number (get_or lines number d) (are.each number d old))
-    by_place number d lt (inr last) =
-        let at : length lines ≡ number = omega (arith, length-append lines (t ∷ [])) in
-        subst (IsLineOf nodes (replay_start (n + 1)) number) (sym (get_or_push lines t d number at)) (new_line nodes (n + 1) number t new)
 
 -- the replay after the first i commands
 abbrev pub replay_after : Script → ℕ → Replay
@@ -83,84 +40,9 @@ text_one_more said what = flat_map-append said_text said (what ∷ []) ∙ ap (�
 text_more : (said : List (ℕ × Said)) (at : ℕ) (what : Said) → text_of (map (λ s. s.1) (said ++ (at, what) ∷ [])) ≡ text_of (map (λ s. s.1) said) ++ said_text what
 text_more said at what = ap text_of (map-append (λ s. s.1) said ((at, what) ∷ [])) ∙ text_one_more (map (λ s. s.1) said) what
 
--- these lines and this text stand after the first i commands
-pub record Stands (script : Script) (i : ℕ) (lines : List TalliedLine) (text : List ℕ) : Type 0 where
-  pub lines_are : AreLinesOf script.nodes (replay_after script i) lines
-  pub many : length lines ≡ script.lines
-  pub text_is : text ≡ said_text_of (replay_after script i)
-  pub said_count : length (replay_after script i).said ≡ i
-
-pub stands_start : (script : Script) (lines : List TalliedLine) → AreLinesOf script.nodes (replay_start script.lines) lines → Stands script 0 lines []
-stands_start script lines are = record { lines_are = are; many = are.as_many ∙ length-replicate script.lines (opened zeros); text_is = refl; said_count = refl }
-
-pub stands_step : (script : Script) (i : ℕ) (lines : List TalliedLine) (text : List ℕ) (c : Command) (what : Said) (new : TalliedLine) (after : List ℕ)
-    → Stands script i lines text → i < length script.commands → get_or script.commands i c ≡ c → line_of c < script.lines
-    → Does c what (get_or lines (line_of c) new) new → after ≡ text ++ said_text what → Stands script (i + 1) (set lines (line_of c) new) after
-stands_step script i lines text c what new after s lt at place does more = record {
-  lines_are = subst (λ r. AreLinesOf script.nodes r (set lines (line_of c) new)) (sym next) (lines_step script.nodes r lines c what new s.lines_are there does);
-  many = length-set lines (line_of c) new ∙ s.many;
-  text_is = more ∙ ap (λ t. t ++ said_text what) s.text_is ∙ ap (λ w. said_text_of r ++ said_text w) told ∙ sym longer ∙ ap said_text_of (sym next);
-  said_count = ap (λ r. length r.said) next ∙ length-append r.said ((line_of c, said_of (line_at r.lines (line_of c)) c) ∷ []) ∙ (let e = s.said_count in omega arith);
-}
-  where
-    r : Replay
-    r = replay_after script i
-
-    next : replay_after script (i + 1) ≡ replay_step (replay_after script i) c
-    next = fold_more replay_step (replay_start script.lines) script.commands i c lt ∙ ap (replay_step (replay_after script i)) at
-
-    there : line_of c < length lines
-    there = let e = s.many in omega arith
-
-    told : what ≡ said_of (line_at (replay_after script i).lines (line_of c)) c
-    told = said_is script.nodes (replay_after script i) lines c what new s.lines_are there does
-
-    longer : said_text_of (replay_step (replay_after script i) c) ≡ said_text_of (replay_after script i) ++ said_text (said_of (line_at (replay_after script i).lines (line_of c)) c)
-    longer = text_more (replay_after script i).said (line_of c) (said_of (line_at (replay_after script i).lines (line_of c)) c)
-
--- the same, of a command in a list at a place, and of the line at its number
-pub command_done : (script : Script) (i at : ℕ) (lines : List TalliedLine) (text after : List ℕ) (commands : List Command) (d : Command) (what : Said) (old new : TalliedLine)
-    → Stands script i lines text → commands ≡ script.commands → i < length commands → at ≡ line_of (get_or commands i d) → IsInRange script
-    → old ≡ get_or lines at old → Does (get_or commands i d) what old new → after ≡ text ++ said_text what → Stands script (i + 1) (set lines at new) after
-command_done script i at lines text after commands d what old new s same lt number range was does more =
-    subst (λ n. Stands script (i + 1) (set lines n new) after) (sym number)
-    (stands_step script i lines text (get_or commands i d) what new after s lt_script here there
-    (subst (λ t. Does (get_or commands i d) what t new) old_is does) more)
-  where
-    lt_script : i < length script.commands
-    lt_script = subst (λ cs. i < length cs) same lt
-
-    here : get_or script.commands i (get_or commands i d) ≡ get_or commands i d
-    here = get_or_default script.commands i (get_or commands i d) d lt_script ∙ ap (λ cs. get_or cs i d) (sym same)
-
-    there : line_of (get_or commands i d) < script.lines
-    there = subst (λ cs. line_of (get_or cs i d) < script.lines) (sym same) (range i d lt_script).2
-
-    in_lines : line_of (get_or commands i d) < length lines
-    in_lines = let e = s.many in let h = there in omega arith
-
-    old_is : old ≡ get_or lines (line_of (get_or commands i d)) new
-    old_is = was ∙ ap (λ n. get_or lines n old) number ∙ get_or_default lines (line_of (get_or commands i d)) old new in_lines
-
--- no count is more than the number of commands done
-pub counts_fit : (script : Script) (i k : ℕ) (lines : List TalliedLine) (text : List ℕ) (d : TalliedLine) → Stands script i lines text → k < length lines
-    → (((get_or lines k d).served ≤ i) × ((get_or lines k d).withdrawn ≤ i) × ((get_or lines k d).told ≤ i) × ((get_or lines k d).line.nodes ≡ script.nodes))
-counts_fit script i k lines text d s lt =
-    let is = s.lines_are.each k d lt in
-    let few = s.said_count in
-    let all = (replay_after script i).said in
-    (fit is_served (get_or lines k d).served is.served_are, fit is_withdrawn (get_or lines k d).withdrawn is.withdrawn_are, fit is_told (get_or lines k d).told is.told_are, is.nodes_are)
-  where
-    fit : (test : Said → Bool) (n : ℕ) → n ≡ times_said test k (replay_after script i).said → n ≤ i
-    fit test n e = let most : times_said test k (replay_after script i).said ≤ length (replay_after script i).said = count_by-le-length (λ t. (t.0 == k) && test t.1) (replay_after script i).said in
-        let all : length (replay_after script i).said ≡ i = s.said_count in omega arith
-
 -- the text after the summaries of the first k lines
 pub record Ends (script : Script) (k : ℕ) (text : List ℕ) : Type 0 where
   pub text_is : text ≡ said_text_of (replay_of script) ++ text_of (map (summary_of script.nodes (replay_of script)) (range_with_len 0 k))
-
-pub ends_start : (script : Script) (i : ℕ) (lines : List TalliedLine) (text : List ℕ) → Stands script i lines text → length script.commands ≤ i → Ends script 0 text
-ends_start script i lines text s all = record { text_is = s.text_is ∙ ap said_text_of (whole script i all) ∙ sym (append-nil (said_text_of (replay_of script))) }
 
 pub ends_step : (script : Script) (k : ℕ) (text after : List ℕ) (what : Said) → Ends script k text → what ≡ summary_of script.nodes (replay_of script) k → after ≡ text ++ said_text what → Ends script (k + 1) after
 ends_step script k text after what e told more = record {
@@ -175,13 +57,132 @@ ends_step script k text after what e told more = record {
 pub ends_all : (script : Script) (k : ℕ) (text : List ℕ) → Ends script k text → k ≡ script.lines → text ≡ reply_of script
 ends_all script k text e all = e.text_is ∙ ap (λ n. said_text_of (replay_of script) ++ text_of (map (summary_of script.nodes (replay_of script)) (range_with_len 0 n))) all
 
--- the lines after all commands
-pub lines_at_end : (script : Script) (i : ℕ) (lines : List TalliedLine) (text : List ℕ) → Stands script i lines text → length script.commands ≤ i → AreLinesOf script.nodes (replay_of script) lines
-lines_at_end script i lines text s all = subst (λ r. AreLinesOf script.nodes r lines) (whole script i all) s.lines_are
+-- Lines of some kind: which state of one owner each shows, and how many nodes it has.
+module _ {R : Type 0} (shows : R → LineState → Type 0) (nodes_of : R → ℕ) where
+  -- a line that was just opened, of which nothing was said
+  pub record IsNew (nodes : ℕ) (t : TalliedLine R) : Type 0 where
+    pub nodes_are : nodes_of t.line ≡ nodes
+    pub agrees : shows t.line (opened zeros)
+    pub none_served : t.served ≡ 0
+    pub none_withdrawn : t.withdrawn ≡ 0
+    pub none_told : t.told ≡ 0
 
--- the summary of a line, after all commands
-pub summary_done : (script : Script) (i k : ℕ) (lines : List TalliedLine) (before text after : List ℕ) (what : Said) (line : TalliedLine)
-    → Stands script i lines before → length script.commands ≤ i → k < length lines → line ≡ get_or lines k line
-    → ((r : Replay) → IsLineOf script.nodes r k line → what ≡ summary_of script.nodes r k) → Ends script k text → after ≡ text ++ said_text what → Ends script (k + 1) after
-summary_done script i k lines before text after what line s all lt is tells e more =
-    ends_step script k text after what e (tells (replay_of script) (subst (IsLineOf script.nodes (replay_of script) k) (sym is) ((lines_at_end script i lines before s all).each k line lt))) more
+  new_line : (nodes n k : ℕ) (t : TalliedLine R) → IsNew nodes t → IsLineOf shows nodes_of nodes (replay_start n) k t
+  new_line nodes n k t new = record {
+    nodes_are = new.nodes_are;
+    agrees = subst (shows t.line) (opened_at n k) new.agrees;
+    served_are = new.none_served;
+    withdrawn_are = new.none_withdrawn;
+    told_are = new.none_told;
+  }
+
+  -- no line, and one more
+  pub none_opened : (nodes : ℕ) → AreLinesOf shows nodes_of nodes (replay_start 0) []
+  none_opened nodes = record { as_many = refl; each = λ number d lt. absurd (omega arith) }
+
+  pub one_more_opened : (nodes n : ℕ) (lines : List (TalliedLine R)) (t : TalliedLine R) → AreLinesOf shows nodes_of nodes (replay_start n) lines → length lines ≡ n → IsNew nodes t → AreLinesOf shows nodes_of nodes (replay_start (n + 1)) (lines ++ t ∷ [])
+  one_more_opened nodes n lines t are many new = record {
+    as_many = length-append lines (t ∷ []) ∙ (let e : length lines + 1 ≡ n + 1 = omega arith in e) ∙ sym (length-replicate (n + 1) (opened zeros));
+    each = λ number d lt. by_place number d lt (cases_lt number (length lines));
+  }
+    where
+      again : (number : ℕ) (u : TalliedLine R) → IsLineOf shows nodes_of nodes (replay_start n) number u → IsLineOf shows nodes_of nodes (replay_start (n + 1)) number u
+      again number u was = record {
+        nodes_are = was.nodes_are;
+        agrees = subst (shows u.line) (opened_at (n + 1) number) (subst (shows u.line) (sym (opened_at n number)) was.agrees);
+        served_are = was.served_are;
+        withdrawn_are = was.withdrawn_are;
+        told_are = was.told_are;
+      }
+
+      by_place : (number : ℕ) (d : TalliedLine R) → number < length (lines ++ t ∷ []) → (number < length lines) ⊎ (length lines ≤ number) → IsLineOf shows nodes_of nodes (replay_start (n + 1)) number (get_or (lines ++ t ∷ []) number d)
+      by_place number d lt (inl old) = subst (IsLineOf shows nodes_of nodes (replay_start (n + 1)) number) (sym (get_or_append_left lines (t ∷ []) d number old)) (again number (get_or lines number d) (are.each number d old))
+      by_place number d lt (inr last) =
+          let at : length lines ≡ number = omega (arith, length-append lines (t ∷ [])) in
+          subst (IsLineOf shows nodes_of nodes (replay_start (n + 1)) number) (sym (get_or_push lines t d number at)) (new_line nodes (n + 1) number t new)
+
+  -- these lines and this text stand after the first i commands
+  pub record Stands (script : Script) (i : ℕ) (lines : List (TalliedLine R)) (text : List ℕ) : Type 0 where
+    pub lines_are : AreLinesOf shows nodes_of script.nodes (replay_after script i) lines
+    pub many : length lines ≡ script.lines
+    pub text_is : text ≡ said_text_of (replay_after script i)
+    pub said_count : length (replay_after script i).said ≡ i
+
+  pub stands_start : (script : Script) (lines : List (TalliedLine R)) → AreLinesOf shows nodes_of script.nodes (replay_start script.lines) lines → Stands script 0 lines []
+  stands_start script lines are = record { lines_are = are; many = are.as_many ∙ length-replicate script.lines (opened zeros); text_is = refl; said_count = refl }
+
+  pub stands_step : (script : Script) (i : ℕ) (lines : List (TalliedLine R)) (text : List ℕ) (c : Command) (what : Said) (new : TalliedLine R) (after : List ℕ)
+      → Stands script i lines text → i < length script.commands → get_or script.commands i c ≡ c → line_of c < script.lines
+      → Does shows nodes_of c what (get_or lines (line_of c) new) new → after ≡ text ++ said_text what → Stands script (i + 1) (set lines (line_of c) new) after
+  stands_step script i lines text c what new after s lt at place does more = record {
+    lines_are = subst (λ r. AreLinesOf shows nodes_of script.nodes r (set lines (line_of c) new)) (sym next) (lines_step shows nodes_of script.nodes r lines c what new s.lines_are there does);
+    many = length-set lines (line_of c) new ∙ s.many;
+    text_is = more ∙ ap (λ t. t ++ said_text what) s.text_is ∙ ap (λ w. said_text_of r ++ said_text w) told ∙ sym longer ∙ ap said_text_of (sym next);
+    said_count = ap (λ r. length r.said) next ∙ length-append r.said ((line_of c, said_of (line_at r.lines (line_of c)) c) ∷ []) ∙ (let e = s.said_count in omega arith);
+  }
+    where
+      r : Replay
+      r = replay_after script i
+
+      next : replay_after script (i + 1) ≡ replay_step (replay_after script i) c
+      next = fold_more replay_step (replay_start script.lines) script.commands i c lt ∙ ap (replay_step (replay_after script i)) at
+
+      there : line_of c < length lines
+      there = let e = s.many in omega arith
+
+      told : what ≡ said_of (line_at (replay_after script i).lines (line_of c)) c
+      told = said_is shows nodes_of script.nodes (replay_after script i) lines c what new s.lines_are there does
+
+      longer : said_text_of (replay_step (replay_after script i) c) ≡ said_text_of (replay_after script i) ++ said_text (said_of (line_at (replay_after script i).lines (line_of c)) c)
+      longer = text_more (replay_after script i).said (line_of c) (said_of (line_at (replay_after script i).lines (line_of c)) c)
+
+  -- the same, of a command in a list at a place, and of the line at its number
+  pub command_done : (script : Script) (i at : ℕ) (lines : List (TalliedLine R)) (text after : List ℕ) (commands : List Command) (d : Command) (what : Said) (old new : TalliedLine R)
+      → Stands script i lines text → commands ≡ script.commands → i < length commands → at ≡ line_of (get_or commands i d) → IsInRange script
+      → old ≡ get_or lines at old → Does shows nodes_of (get_or commands i d) what old new → after ≡ text ++ said_text what → Stands script (i + 1) (set lines at new) after
+  command_done script i at lines text after commands d what old new s same lt number range was does more =
+      subst (λ n. Stands script (i + 1) (set lines n new) after) (sym number)
+      (stands_step script i lines text (get_or commands i d) what new after s lt_script here there
+      (subst (λ t. Does shows nodes_of (get_or commands i d) what t new) old_is does) more)
+    where
+      lt_script : i < length script.commands
+      lt_script = subst (λ cs. i < length cs) same lt
+
+      here : get_or script.commands i (get_or commands i d) ≡ get_or commands i d
+      here = get_or_default script.commands i (get_or commands i d) d lt_script ∙ ap (λ cs. get_or cs i d) (sym same)
+
+      there : line_of (get_or commands i d) < script.lines
+      there = subst (λ cs. line_of (get_or cs i d) < script.lines) (sym same) (range i d lt_script).2
+
+      in_lines : line_of (get_or commands i d) < length lines
+      in_lines = let e = s.many in let h = there in omega arith
+
+      old_is : old ≡ get_or lines (line_of (get_or commands i d)) new
+      old_is = was ∙ ap (λ n. get_or lines n old) number ∙ get_or_default lines (line_of (get_or commands i d)) old new in_lines
+
+  -- no count is more than the number of commands done
+  pub counts_fit : (script : Script) (i k : ℕ) (lines : List (TalliedLine R)) (text : List ℕ) (d : TalliedLine R) → Stands script i lines text → k < length lines
+      → (((get_or lines k d).served ≤ i) × ((get_or lines k d).withdrawn ≤ i) × ((get_or lines k d).told ≤ i) × (nodes_of (get_or lines k d).line ≡ script.nodes))
+  counts_fit script i k lines text d s lt =
+      let is = s.lines_are.each k d lt in
+      let few = s.said_count in
+      let all = (replay_after script i).said in
+      (fit is_served (get_or lines k d).served is.served_are, fit is_withdrawn (get_or lines k d).withdrawn is.withdrawn_are, fit is_told (get_or lines k d).told is.told_are, is.nodes_are)
+    where
+      fit : (test : Said → Bool) (n : ℕ) → n ≡ times_said test k (replay_after script i).said → n ≤ i
+      fit test n e = let most : times_said test k (replay_after script i).said ≤ length (replay_after script i).said = count_by-le-length (λ t. (t.0 == k) && test t.1) (replay_after script i).said in
+          let all : length (replay_after script i).said ≡ i = s.said_count in omega arith
+
+  pub ends_start : (script : Script) (i : ℕ) (lines : List (TalliedLine R)) (text : List ℕ) → Stands script i lines text → length script.commands ≤ i → Ends script 0 text
+  ends_start script i lines text s all = record { text_is = s.text_is ∙ ap said_text_of (whole script i all) ∙ sym (append-nil (said_text_of (replay_of script))) }
+
+  -- the lines after all commands
+  pub lines_at_end : (script : Script) (i : ℕ) (lines : List (TalliedLine R)) (text : List ℕ) → Stands script i lines text → length script.commands ≤ i → AreLinesOf shows nodes_of script.nodes (replay_of script) lines
+  lines_at_end script i lines text s all = subst (λ r. AreLinesOf shows nodes_of script.nodes r lines) (whole script i all) s.lines_are
+
+  -- the summary of a line, after all commands
+  pub summary_done : (script : Script) (i k : ℕ) (lines : List (TalliedLine R)) (before text after : List ℕ) (what : Said) (line : TalliedLine R)
+      → Stands script i lines before → length script.commands ≤ i → k < length lines → line ≡ get_or lines k line
+      → ((r : Replay) → IsLineOf shows nodes_of script.nodes r k line → what ≡ summary_of script.nodes r k) → Ends script k text → after ≡ text ++ said_text what → Ends script (k + 1) after
+  summary_done script i k lines before text after what line s all lt is tells e more =
+      ends_step script k text after what e (tells (replay_of script) (subst (IsLineOf shows nodes_of script.nodes (replay_of script) k) (sym is) ((lines_at_end script i lines before s all).each k line lt))) more

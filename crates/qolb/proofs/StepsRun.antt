@@ -1,5 +1,5 @@
 -- How far a run of a step script has come.
-use Rattle.std.proofs.Common.{◌≡◌, ℕ, suc, ◌+◌, ◌<◌, ◌≤◌, List, [], ◌∷◌, ◌++◌, Bool, length, map, take, get_or, refl, sym, ap, ◌∙◌, subst, arith, Option, Some, None, Result, Ok, Err, IfOk, IfErr, OnErr}
+use Rattle.std.proofs.Common.{◌≡◌, ℕ, suc, ◌+◌, ◌<◌, ◌≤◌, List, [], ◌∷◌, ◌++◌, Bool, length, map, take, get_or, refl, sym, ap, ◌∙◌, subst, arith, Option, None, Result, Ok, Err, IfOk, IfErr, OnErr}
 use Rattle.std.specs.Result.{result_ok}
 use Rattle.std.specs.List.{count_by, range_with_len}
 use Rattle.std.proofs.lemmas.List.{length-append, take_all, map-append, take_more}
@@ -20,7 +20,7 @@ use Rattle.qolb_script.specs.StepReply.{step_said, step_summary, is_step_served,
 use Rattle.qolb.specs.declared.steps.Counts.{Counts}
 use Rattle.qolb.specs.Tallies.{one_if}
 use Rattle.qolb.specs.StepCounts.{Adds}
-use Rattle.qolb.specs.StepRuns.{Tells, nothing, told, refused, IsStepReply, nodes_busy, step_text, is_busy}
+use Rattle.qolb.specs.StepRuns.{Tells, nothing, told, refused, IsStepReply, nodes_busy, is_busy}
 use Rattle.qolb.proofs.Tallying.{count_by_one_more, range_more}
 use Rattle.qolb.proofs.Replayed.{text_one_more}
 

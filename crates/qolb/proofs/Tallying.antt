@@ -1,11 +1,13 @@
 -- Counts of what was said, and the lines of a replay after one more command.
-use Rattle.std.proofs.Common.{◌≡◌, ℕ, zero, suc, ◌+◌, ◌||◌, Bool, true, false, if◌then◌else◌, List, [], ◌∷◌, ◌++◌, refl, sym, ap, ◌∙◌, arith, cond, ◌≢◌, ◌==◌, ◌&&◌, ◌<◌, length, get_or, slice_set, subst, get_or-set_same, get_or-set_other, length-set, inl, inr, ◌⊎◌}
-use Rattle.std.specs.List.{range_with_len, count_by, sum_by}
+use Rattle.std.proofs.Common.{◌≡◌, ℕ, zero, suc, ◌+◌, ◌||◌, Bool, true, false, List, [], ◌∷◌, ◌++◌, refl, sym, ap, ◌∙◌, arith, cond, ◌≢◌, ◌==◌, ◌&&◌, ◌<◌, length, get_or, slice_set, subst, get_or-set_same, get_or-set_other, length-set, inl, inr, ◌⊎◌}
+use Rattle.std.specs.List.{range_with_len, count_by}
 use Rattle.std.proofs.lemmas.List.Sums.{sum_by-append}
 use Rattle.std.proofs.lemmas.Bool.{ne_eqb, eq-eqb, cases_eq}
 use Rattle.line_lanes.specs.Line.{zeros}
+use Rattle.qolb_model.specs.declared.answer.PortState.{PortState}
+use Rattle.qolb_model.specs.declared.answer.PortState.TheVariants as port
 use Rattle.qolb_model.specs.OneOwner.{LineState, state_of, opened}
-use Rattle.qolb_model.specs.Plain.{Agrees}
+use Rattle.qolb_model.specs.Whole.{seen}
 use Rattle.qolb_script.specs.declared.command.Command.{Command}
 use Rattle.qolb_script.specs.declared.said.Said.{Said}
 use Rattle.qolb_script.specs.Commands.{line_of}
@@ -52,13 +54,26 @@ not_eq a b ne = ne_eqb a b ne
 eq_self : (a : ℕ) → (a == a) ≡ true
 eq_self a = eq-eqb a a refl
 
-module _ (nodes : ℕ) (r : Replay) (lines : List TalliedLine) (c : Command) (what : Said) (new : TalliedLine)
-    (are : AreLinesOf nodes r lines) (there : line_of c < length lines)
-    (does : Does c what (get_or lines (line_of c) new) new) where
-  abbrev old : TalliedLine
+-- what a node's state allows it tells whether it waits or holds
+pub left_seen : (a b : PortState) → seen a ≡ seen b → (is_queued a || is_holding a) ≡ (is_queued b || is_holding b)
+left_seen a b e = by a ∙ (ap (λ x. is_queued x || is_holding x) e ∙ sym (by b))
+  where
+    by : (x : PortState) → (is_queued x || is_holding x) ≡ (is_queued (seen x) || is_holding (seen x))
+    by port.Idle = refl
+    by port.Linking = refl
+    by port.Queued = refl
+    by port.Holding = refl
+    by port.Left = refl
+    by port.Rolled = refl
+    by port.Shut = refl
+
+module _ {R : Type 0} (shows : R → LineState → Type 0) (nodes_of : R → ℕ) (nodes : ℕ) (r : Replay) (lines : List (TalliedLine R)) (c : Command) (what : Said) (new : TalliedLine R)
+    (are : AreLinesOf shows nodes_of nodes r lines) (there : line_of c < length lines)
+    (does : Does shows nodes_of c what (get_or lines (line_of c) new) new) where
+  abbrev old : TalliedLine R
   old = get_or lines (line_of c) new
 
-  was : IsLineOf nodes r (line_of c) old
+  was : IsLineOf shows nodes_of nodes r (line_of c) old
   was = are.each (line_of c) new there
 
   pub said_is : what ≡ said_of (line_at r.lines (line_of c)) c
@@ -68,10 +83,10 @@ module _ (nodes : ℕ) (r : Replay) (lines : List TalliedLine) (c : Command) (wh
   in_replay = let e = are.as_many in omega arith
 
   -- the line that did the command
-  its_own : IsLineOf nodes (replay_step r c) (line_of c) new
+  its_own : IsLineOf shows nodes_of nodes (replay_step r c) (line_of c) new
   its_own = record {
     nodes_are = does.nodes ∙ was.nodes_are;
-    agrees = subst (Agrees new.line) (sym (get_or-set_same r.lines (line_of c) (after_command (line_at r.lines (line_of c)) c) (opened zeros) in_replay)) (does.agrees (line_at r.lines (line_of c)) was.agrees);
+    agrees = subst (shows new.line) (sym (get_or-set_same r.lines (line_of c) (after_command (line_at r.lines (line_of c)) c) (opened zeros) in_replay)) (does.agrees (line_at r.lines (line_of c)) was.agrees);
     served_are = does.served ∙ counted is_served old.served was.served_are;
     withdrawn_are = does.withdrawn ∙ counted is_withdrawn old.withdrawn was.withdrawn_are;
     told_are = does.told ∙ counted is_told old.told was.told_are;
@@ -82,10 +97,10 @@ module _ (nodes : ℕ) (r : Replay) (lines : List TalliedLine) (c : Command) (wh
           ∙ sym (times_more test (line_of c) (line_of c) r.said (said_of (line_at r.lines (line_of c)) c) true (eq_self (line_of c)))
 
   -- another line
-  others : (number : ℕ) (d : TalliedLine) → number < length lines → number ≢ line_of c → IsLineOf nodes (replay_step r c) number (get_or lines number d)
+  others : (number : ℕ) (d : TalliedLine R) → number < length lines → number ≢ line_of c → IsLineOf shows nodes_of nodes (replay_step r c) number (get_or lines number d)
   others number d lt ne = let was_so = are.each number d lt in record {
     nodes_are = was_so.nodes_are;
-    agrees = subst (Agrees (get_or lines number d).line) (sym (get_or-set_other r.lines (line_of c) number (after_command (line_at r.lines (line_of c)) c) (opened zeros) ne)) was_so.agrees;
+    agrees = subst (shows (get_or lines number d).line) (sym (get_or-set_other r.lines (line_of c) number (after_command (line_at r.lines (line_of c)) c) (opened zeros) ne)) was_so.agrees;
     served_are = was_so.served_are ∙ sym (uncounted is_served);
     withdrawn_are = was_so.withdrawn_are ∙ sym (uncounted is_withdrawn);
     told_are = was_so.told_are ∙ sym (uncounted is_told);
@@ -95,13 +110,13 @@ module _ (nodes : ℕ) (r : Replay) (lines : List TalliedLine) (c : Command) (wh
       uncounted test = times_more test number (line_of c) r.said (said_of (line_at r.lines (line_of c)) c) false (not_eq (line_of c) number (λ e. ne (sym e))) ∙ (omega arith)
 
   -- the lines of the replay after one more command
-  pub lines_step : AreLinesOf nodes (replay_step r c) (slice_set lines (line_of c) new)
+  pub lines_step : AreLinesOf shows nodes_of nodes (replay_step r c) (slice_set lines (line_of c) new)
   lines_step = record {
     as_many = length-set lines (line_of c) new ∙ are.as_many ∙ sym (length-set r.lines (line_of c) (after_command (line_at r.lines (line_of c)) c));
     each = λ number d lt. by_place number d (subst (λ n. number < n) (length-set lines (line_of c) new) lt) (cases_eq number (line_of c));
   }
     where
-      by_place : (number : ℕ) (d : TalliedLine) → number < length lines → (number ≡ line_of c) ⊎ (number ≢ line_of c) → IsLineOf nodes (replay_step r c) number (get_or (slice_set lines (line_of c) new) number d)
-      by_place number d lt (inl e) = subst (λ n. IsLineOf nodes (replay_step r c) n (get_or (slice_set lines (line_of c) new) n d)) (sym e)
-          (subst (IsLineOf nodes (replay_step r c) (line_of c)) (sym (get_or-set_same lines (line_of c) new d there)) its_own)
-      by_place number d lt (inr ne) = subst (IsLineOf nodes (replay_step r c) number) (sym (get_or-set_other lines (line_of c) number new d ne)) (others number d lt ne)
+      by_place : (number : ℕ) (d : TalliedLine R) → number < length lines → (number ≡ line_of c) ⊎ (number ≢ line_of c) → IsLineOf shows nodes_of nodes (replay_step r c) number (get_or (slice_set lines (line_of c) new) number d)
+      by_place number d lt (inl e) = subst (λ n. IsLineOf shows nodes_of nodes (replay_step r c) n (get_or (slice_set lines (line_of c) new) n d)) (sym e)
+          (subst (IsLineOf shows nodes_of nodes (replay_step r c) (line_of c)) (sym (get_or-set_same lines (line_of c) new d there)) its_own)
+      by_place number d lt (inr ne) = subst (IsLineOf shows nodes_of nodes (replay_step r c) number) (sym (get_or-set_other lines (line_of c) number new d ne)) (others number d lt ne)

@@ -10,6 +10,8 @@ use Rattle.qolb_script.specs.declared.error.ScriptError.TheVariants as script
 use Rattle.qolb_script.specs.Reply.{reply_to}
 use Rattle.qolb_script.specs.StepScript.{steps_of}
 use Rattle.qolb.specs.StepRuns.{IsStepReplyTo}
+use Rattle.qolb.specs.declared.task.Task.{Task}
+use Rattle.qolb.specs.declared.task.Task.TheVariants.{Replay, Steps}
 
 -- the bytes are a script, and this is its reply
 pub record IsReply (input text : List ℕ) : Type 0 where
@@ -38,13 +40,15 @@ script_error (script.BadLine n) = error.Script (script.BadLine n)
 script_error (script.Number n) = error.Script (script.Number n)
 script_error (script.TooMany n) = error.Script (script.TooMany n)
 
--- the bytes have a reply, as a schedule or as a step script
-abbrev pub IsAnswered : List ℕ → Type 0
-IsAnswered input = (text : List ℕ) × (IsReply input text ⊎ IsStepReplyTo input text)
+-- the bytes have a reply, as what the task takes
+abbrev pub IsAnswered : Task → List ℕ → Type 0
+IsAnswered (Replay kind) input = (text : List ℕ) × IsReply input text
+IsAnswered Steps input = (text : List ℕ) × IsStepReplyTo input text
 
--- the bytes are too many, or have a first fault, as a schedule or as a step script
-abbrev pub IsRefused : List ℕ → Type 0
-IsRefused input = (MOST_BYTES < length input) ⊎ ((fault : ScriptError) × ((reply_to input ≡ Err fault) ⊎ (steps_of input ≡ Err fault)))
+-- the bytes are too many, or have a first fault, as what the task takes
+abbrev pub IsRefused : Task → List ℕ → Type 0
+IsRefused (Replay kind) input = (MOST_BYTES < length input) ⊎ ((fault : ScriptError) × (reply_to input ≡ Err fault))
+IsRefused Steps input = (MOST_BYTES < length input) ⊎ ((fault : ScriptError) × (steps_of input ≡ Err fault))
 
 -- the exit status of each error
 abbrev pub status_of : ReplayError → ℕ

@@ -1,5 +1,5 @@
 -- The run of a step script on the core of reversed links, and its reply. (Of this project.)
-use Rattle.std.specs.Prelude.{◌≡◌, ◌≤◌, ℕ, Bool, true, false, not, List, [], ◌∷◌, ◌++◌, length, map, count_by, Option, Some, None, Ok}
+use Rattle.std.specs.Prelude.{◌≡◌, ◌≤◌, ℕ, Bool, true, false, List, [], ◌∷◌, ◌++◌, length, map, count_by, Option, Some, None, Ok}
 use Rattle.std.specs.List.{range_with_len}
 use Rattle.line_lanes.specs.Line.{zeros}
 use Rattle.link_core.specs.declared.event.Event.{Event}

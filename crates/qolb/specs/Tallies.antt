@@ -2,7 +2,6 @@
 use Rattle.std.specs.Prelude.{◌≡◌, ℕ, ◌+◌, ◌<◌, Bool, if◌then◌else◌, List, length}
 use Rattle.std.specs.List.{slice_index_or}
 use Rattle.qolb_model.specs.OneOwner.{LineState}
-use Rattle.qolb_model.specs.Plain.{Agrees}
 use Rattle.qolb_script.specs.declared.command.Command.{Command}
 use Rattle.qolb_script.specs.declared.said.Said.{Said}
 use Rattle.qolb_script.specs.Reply.{Replay, line_at, said_of, after_command, times_said, is_served, is_withdrawn, is_told}
@@ -13,30 +12,32 @@ abbrev pub one_if : Bool → ℕ
 one_if test = if test then 1 else 0
 
 -- one more thing was said of the line
-pub record Counts (what : Said) (old new : TalliedLine) : Type 0 where
+pub record Counts {R : Type 0} (what : Said) (old new : TalliedLine R) : Type 0 where
   pub line : new.line ≡ old.line
   pub served : new.served ≡ old.served + one_if (is_served what)
   pub withdrawn : new.withdrawn ≡ old.withdrawn + one_if (is_withdrawn what)
   pub told : new.told ≡ old.told + one_if (is_told what)
 
--- the line did a command, and this was said
-pub record Does (c : Command) (what : Said) (old new : TalliedLine) : Type 0 where
-  pub said : (s : LineState) → Agrees old.line s → what ≡ said_of s c
-  pub agrees : (s : LineState) → Agrees old.line s → Agrees new.line (after_command s c)
-  pub nodes : new.line.nodes ≡ old.line.nodes
-  pub served : new.served ≡ old.served + one_if (is_served what)
-  pub withdrawn : new.withdrawn ≡ old.withdrawn + one_if (is_withdrawn what)
-  pub told : new.told ≡ old.told + one_if (is_told what)
+-- Lines of some kind: which state of one owner each shows, and how many nodes it has.
+module _ {R : Type 0} (shows : R → LineState → Type 0) (nodes_of : R → ℕ) where
+  -- the line did a command, and this was said
+  pub record Does (c : Command) (what : Said) (old new : TalliedLine R) : Type 0 where
+    pub said : (s : LineState) → shows old.line s → what ≡ said_of s c
+    pub agrees : (s : LineState) → shows old.line s → shows new.line (after_command s c)
+    pub nodes : nodes_of new.line ≡ nodes_of old.line
+    pub served : new.served ≡ old.served + one_if (is_served what)
+    pub withdrawn : new.withdrawn ≡ old.withdrawn + one_if (is_withdrawn what)
+    pub told : new.told ≡ old.told + one_if (is_told what)
 
--- it is line `number` of the replay
-pub record IsLineOf (nodes : ℕ) (r : Replay) (number : ℕ) (t : TalliedLine) : Type 0 where
-  pub nodes_are : t.line.nodes ≡ nodes
-  pub agrees : Agrees t.line (line_at r.lines number)
-  pub served_are : t.served ≡ times_said is_served number r.said
-  pub withdrawn_are : t.withdrawn ≡ times_said is_withdrawn number r.said
-  pub told_are : t.told ≡ times_said is_told number r.said
+  -- it is line `number` of the replay
+  pub record IsLineOf (nodes : ℕ) (r : Replay) (number : ℕ) (t : TalliedLine R) : Type 0 where
+    pub nodes_are : nodes_of t.line ≡ nodes
+    pub agrees : shows t.line (line_at r.lines number)
+    pub served_are : t.served ≡ times_said is_served number r.said
+    pub withdrawn_are : t.withdrawn ≡ times_said is_withdrawn number r.said
+    pub told_are : t.told ≡ times_said is_told number r.said
 
--- these are the lines of the replay
-pub record AreLinesOf (nodes : ℕ) (r : Replay) (lines : List TalliedLine) : Type 0 where
-  pub as_many : length lines ≡ length r.lines
-  pub each : (number : ℕ) (d : TalliedLine) → number < length lines → IsLineOf nodes r number (slice_index_or lines number d)
+  -- these are the lines of the replay
+  pub record AreLinesOf (nodes : ℕ) (r : Replay) (lines : List (TalliedLine R)) : Type 0 where
+    pub as_many : length lines ≡ length r.lines
+    pub each : (number : ℕ) (d : TalliedLine R) → number < length lines → IsLineOf nodes r number (slice_index_or lines number d)

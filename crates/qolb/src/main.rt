@@ -2,10 +2,14 @@
 #![tactic(auto)]
 
 mod input;
+mod line;
+mod plain;
+mod ported;
 mod replay;
 mod serve;
 mod steps;
 mod tally;
+mod task;
 
 use std::env;
 use std::io::{self, ErrorKind};

@@ -3,11 +3,13 @@ ghost use Rattle.std.specs.Prelude.{◌≡◌, ◌≢◌, ◌↔◌, ℕ, List, 
 ghost use Rattle.std.specs.Io.KnownBytes.{Appends};
 ghost use Rattle.qolb_script.specs.Watched.{inner_of, has_failed};
 ghost use Rattle.qolb_script.specs.Reply.{replay_start, reply_of};
+ghost use Rattle.qolb_model.specs.Plain.{PlainView, Agrees};
 ghost use Rattle.qolb.specs.Tallies.{AreLinesOf};
 ghost use Rattle.qolb.specs.declared.replay.ReplayError.TheVariants.{Memory, Write};
 ghost use Rattle.qolb.specs.Outcome.{IsReply, MayFail, as_replay_error, script_error};
 
 use crate::input::{InputError, read_all};
+use crate::line::ReplayLine;
 use crate::tally::TalliedLine;
 use line_lanes::Line64;
 use qolb_model::PlainLine;
@@ -100,20 +102,29 @@ pub fn run_schedule<A: Allocator, R: Read, W: Write>(
     ensures written { OnOk result (has_failed writer.new ≡ false) }
     ensures memory { result ≢ Err (ReplayError.Script ScriptError.Memory) }
 {
-    let Kind::Plain = kind;
     let input = read_all(&alloc, reader)?;
     let schedule = read_schedule(&alloc, input.as_slice())?;
-    let text = reply(&alloc, &schedule)?;
+    let text = match kind {
+        Kind::Plain => {
+            let lines = open_lines(&alloc, schedule.nodes(), schedule.lines())?;
+            reply(&alloc, &schedule, lines)?
+        }
+    };
     writer.write_all(text.as_slice())?;
     Ok(())
 }
 
-/// The reply of a schedule.
-fn reply<A: Allocator + Clone>(alloc: A, schedule: &Schedule<A>) -> Result<Vec<u8, A>, AllocError>
+/// The reply of a schedule, by these lines, of which nothing was said yet.
+fn reply<A: Allocator, R: ReplayLine + Drop>(
+    alloc: A,
+    schedule: &Schedule<A>,
+    lines: Vec<TalliedLine<R>, A>,
+) -> Result<Vec<u8, A>, AllocError>
+    requires { AreLinesOf R.shows R.nodes_of schedule.now.nodes (replay_start schedule.now.lines) lines.items }
     ensures { IfOk result (λ text. text.items ≡ reply_of schedule.now) }
 {
     let nodes = schedule.nodes();
-    let mut lines = open_lines(alloc.clone()?, nodes, schedule.lines())?;
+    let mut lines = lines;
     let mut text = Vec::new(alloc);
     for command in schedule.commands() {
         let said = lines[command.line() as usize].take(command);
@@ -130,10 +141,10 @@ fn open_lines<A: Allocator>(
     alloc: A,
     nodes: u64,
     lines: u64,
-) -> Result<Vec<TalliedLine, A>, AllocError>
+) -> Result<Vec<TalliedLine<PlainLine>, A>, AllocError>
     requires some { 1 ≤ nodes }
     requires most { nodes ≤ 32 }
-    ensures { IfOk result (λ all. AreLinesOf nodes (replay_start lines) all.items) }
+    ensures { IfOk result (λ all. AreLinesOf Agrees (λ (line : PlainView). line.nodes) nodes (replay_start lines) all.items) }
 {
     let mut all = Vec::with_capacity(alloc, lines as usize)?;
     for _ in 0..lines {

@@ -1,12 +1,17 @@
 //! The program behind its words: what it is asked for, and the status that it ends with.
-ghost use Rattle.std.specs.Prelude.{◌≡◌, ◌≢◌, ◌≤◌, IfSome, IfErr, OnOk};
+ghost use Rattle.std.specs.Prelude.{◌≡◌, ◌≢◌, ◌≤◌, map, string_bytes, IfSome, IfOk, IfErr, OnOk};
+ghost use Rattle.clap.specs.Words.{app_of, found_of, kind_of, rows_of};
 ghost use Rattle.qolb_script.specs.Watched.{inner_of};
+ghost use Rattle.qolb.specs.CommandLine as spec;
+ghost use Rattle.qolb.specs.CommandLine.{AreKinds, Names, NamesTask, IsNotTaken, the_command};
 ghost use Rattle.qolb.specs.Outcome.{IsAnswered, IsRefused, status_of};
+ghost use Rattle.qolb.specs.declared.task.Task.{Task};
 
 use crate::replay::{Kind, ReplayError, run_schedule};
 use crate::steps::run_steps;
+use crate::task::Task;
 use clap::error::ErrorKind;
-use clap::{Arg, ArgAction, Command, Error};
+use clap::{Arg, ArgAction, ArgMatches, Command, Error};
 use qolb_script::Watched;
 use std::alloc::{AllocError, Global};
 use std::io::{self, Read, Write};
@@ -43,13 +48,6 @@ Example: with
   home 1
 it prints went, granted, released, and the counts of the line.";
 
-/// What the program is asked to do.
-#[derive(Clone, Copy)]
-enum Task {
-    Replay(Kind),
-    Steps,
-}
-
 /// Does what the words ask for, with the program's name first: reads from `reader`, writes to `out`, complains to `err`.
 /// Answers the exit status; a failed write to `err` changes none.
 pub fn serve<R: Read, W: Write, E: Write>(
@@ -60,8 +58,9 @@ pub fn serve<R: Read, W: Write, E: Write>(
     err: &mut E,
 ) -> u8
     ensures statuses { result ≤ 4 }
-    ensures done { result ≡ 0 → IfSome (R.remaining reader.old) IsAnswered }
-    ensures refused { result ≡ 1 → IfSome (R.remaining reader.old) IsRefused }
+    ensures done { result ≡ 0 → (task : Task) × NamesTask (map string_bytes words.now) task × IfSome (R.remaining reader.old) (IsAnswered task) }
+    ensures refused { result ≡ 1 → (task : Task) × NamesTask (map string_bytes words.now) task × IfSome (R.remaining reader.old) (IsRefused task) }
+    ensures usage { result ≡ 2 → IsNotTaken (map string_bytes words.now) }
     ensures unwritten { 1 ≤ result → result ≤ 3 → out.new ≡ out.old }
 {
     let task = match asked(alloc, words) {
@@ -93,8 +92,8 @@ fn run<R: Read, W: Write>(
     input: &mut Watched<R>,
     output: &mut Watched<W>,
 ) -> Result<(), ReplayError>
-    ensures answered { OnOk result (IfSome (R.remaining (inner_of input.old)) IsAnswered) }
-    ensures refused { IfErr result (λ error. status_of error ≡ 1 → IfSome (R.remaining (inner_of input.old)) IsRefused) }
+    ensures answered { OnOk result (IfSome (R.remaining (inner_of input.old)) (IsAnswered task)) }
+    ensures refused { IfErr result (λ error. status_of error ≡ 1 → IfSome (R.remaining (inner_of input.old)) (IsRefused task)) }
     ensures unwritten { IfErr result (λ error. error ≢ ReplayError.Write → output.new ≡ output.old) }
 {
     match task {
@@ -119,15 +118,31 @@ fn complain<E: Write>(err: &mut E, error: ReplayError) {
 }
 
 /// What the words ask for.
-fn asked(alloc: Global, words: &[String]) -> Result<Task, Error> {
+fn asked(alloc: Global, words: &[String]) -> Result<Task, Error>
+    ensures task { IfOk result (λ task. NamesTask (map string_bytes words.now) task) }
+    ensures usage { IfErr result (λ error. kind_of error ≢ ErrorKind.OutOfMemory → IsNotTaken (map string_bytes words.now)) }
+{
     let matches = command(alloc)?.try_get_matches_from(words)?;
-    Ok(match matches.subcommand() {
-        Some(("steps", _)) => Task::Steps,
-        _ => Task::Replay(Kind::Plain),
-    })
+    match matches.subcommand() {
+        Some((name, arguments)) => Ok(task_at(name, arguments)),
+        None => unreachable!(),
+    }
 }
 
-fn command<'a>(alloc: Global) -> Result<Command<'a>, AllocError> {
+/// The task of a subcommand with these arguments.
+fn task_at(name: &str, _arguments: &ArgMatches<'_>) -> Task
+    ensures { result ≡ spec.task_at (name.now, rows_of (found_of _arguments.now)) }
+{
+    if name == "steps" {
+        Task::Steps
+    } else {
+        Task::Replay(Kind::Plain)
+    }
+}
+
+fn command<'a>(alloc: Global) -> Result<Command<'a>, AllocError>
+    ensures { IfOk result (λ r. (names : Names) × AreKinds names × (app_of r ≡ the_command names)) }
+{
     let kind = Arg::new(alloc, "kind")
         .long("kind")
         .value_name("KIND")

@@ -11,3 +11,11 @@ pub mod Clearing
 pub mod Writes
 pub mod Agreeing
 pub mod Longer
+pub mod Bounds
+pub mod Follows
+pub mod Passing
+pub mod Leaving
+pub mod Meetings
+pub mod Reached
+pub mod Whole
+pub mod Forced

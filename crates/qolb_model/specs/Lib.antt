@@ -21,3 +21,5 @@ pub mod LettingGo
 pub mod Meeting
 pub mod Finishing
 pub mod Laws
+pub mod Whole
+pub mod Rounds

@@ -1,7 +1,7 @@
 -- The step script that some bytes are, or the first fault in them. (Of this project.)
 use Rattle.std.specs.Prelude.{ℕ, ◌≤◌, List, [], ◌∷◌, All, Result, Ok, Err}
 use Rattle.link_core.specs.declared.event.Event.{Event}
-use Rattle.link_core.specs.declared.event.Event.TheVariants.{Reset, Prepend, Link, Load, Home, Done, Grant, Roll, Freed, Write, Close}
+use Rattle.link_core.specs.Steps.{node_of}
 use Rattle.qolb_script.specs.declared.error.ScriptError.{ScriptError}
 use Rattle.qolb_script.specs.declared.error.ScriptError.TheVariants as error
 use Rattle.qolb_script.specs.Text.{numbered_lines, worded}
@@ -14,23 +14,9 @@ pub record StepScript : Type 0 where
   pub nodes : ℕ
   pub events : List Event
 
--- the node whose event it is
-abbrev pub event_node : Event → ℕ
-event_node (Reset node) = node
-event_node (Prepend node) = node
-event_node (Link node) = node
-event_node (Load node) = node
-event_node (Home node) = node
-event_node (Done node) = node
-event_node (Grant node) = node
-event_node (Roll node) = node
-event_node (Freed node) = node
-event_node (Write node mask bytes) = node
-event_node (Close node) = node
-
 -- every event is of a node that there is
 abbrev pub IsOfItsNodes : StepScript → Type 0
-IsOfItsNodes script = All (λ e. (1 ≤ event_node e) × (event_node e ≤ script.nodes)) script.events
+IsOfItsNodes script = All (λ e. (1 ≤ node_of e) × (node_of e ≤ script.nodes)) script.events
 
 -- the events on these lines, where `before` come before them
 abbrev pub events_of : ℕ → ℕ → List (ℕ × List ℕ) → Result (List Event) ScriptError

@@ -1,7 +1,7 @@
 ghost use Rattle.std.specs.Prelude.{◌≡◌, ◌≤◌, IfOk};
 ghost use Rattle.qolb_script.specs.Commands.{read_line};
 ghost use Rattle.qolb_script.specs.Events as spec;
-ghost use Rattle.qolb_script.specs.StepScript.{event_node};
+ghost use Rattle.link_core.specs.Steps.{node_of};
 
 use crate::items::ReadItem;
 use crate::number::number_within;
@@ -42,7 +42,7 @@ impl ReadItem for EventReader {
 
     ghost item_of = { λ r. spec.event_of r.nodes };
 
-    ghost in_range = { λ r e. (1 ≤ event_node e) × (event_node e ≤ r.nodes) };
+    ghost in_range = { λ r e. (1 ≤ node_of e) × (node_of e ≤ r.nodes) };
 
     fn read_item(&self, line: &[u8]) -> Result<Event, LineFault> {
         read_event(self.nodes, line)
@@ -70,7 +70,7 @@ pub fn read_step_header(text: &[u8]) -> Result<u64, LineFault>
 /// The event that a line writes, of one of so many nodes.
 fn read_event(nodes: u64, text: &[u8]) -> Result<Event, LineFault>
     ensures event { result ≡ read_line (spec.event_of nodes) text.now }
-    ensures range { IfOk result (λ e. (1 ≤ event_node e) × (event_node e ≤ nodes)) }
+    ensures range { IfOk result (λ e. (1 ≤ node_of e) × (node_of e ≤ nodes)) }
 {
     if !is_plain_line(text) {
         return Err(LineFault::Bad);
@@ -89,7 +89,7 @@ fn read_event(nodes: u64, text: &[u8]) -> Result<Event, LineFault>
 /// The event of a node that a first word names.
 fn plain_event(nodes: u64, first: &[u8], node: &[u8]) -> Result<Event, LineFault>
     ensures event { result ≡ spec.event_at nodes (spec.plain_event first.now) node.now }
-    ensures range { IfOk result (λ e. (1 ≤ event_node e) × (event_node e ≤ nodes)) }
+    ensures range { IfOk result (λ e. (1 ≤ node_of e) × (node_of e ≤ nodes)) }
 {
     let node = node_within(nodes, node);
     if first == RESET {
@@ -120,7 +120,7 @@ fn plain_event(nodes: u64, first: &[u8], node: &[u8]) -> Result<Event, LineFault
 /// The write of hex bytes from a place on, into the line in a node's hand.
 fn write_event(nodes: u64, node: &[u8], off: &[u8], hex: &[u8]) -> Result<Event, LineFault>
     ensures event { result ≡ spec.write_event nodes node.now off.now hex.now }
-    ensures range { IfOk result (λ e. (1 ≤ event_node e) × (event_node e ≤ nodes)) }
+    ensures range { IfOk result (λ e. (1 ≤ node_of e) × (node_of e ≤ nodes)) }
 {
     let node = node_within(nodes, node)?;
     let (mask, bytes) = read_placed(off, hex)?;

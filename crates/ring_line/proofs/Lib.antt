@@ -1,3 +1,7 @@
+pub mod Turning
+pub mod Walking
+pub mod Releasing
+pub mod Calling
 pub mod Lists
 pub mod Nodes
 pub mod Histories
@@ -10,6 +14,9 @@ pub mod Darken
 pub mod Reset
 pub mod Clearing
 pub mod Free
+pub mod Finishing
+pub mod Trials
+pub mod Handing
 pub mod Passed
 pub mod Ending
 pub mod Grant
@@ -17,7 +24,3 @@ pub mod Seats
 pub mod Dealing
 pub mod Meets
 pub mod Lasting
-pub mod Turning
-pub mod Walking
-pub mod Releasing
-pub mod Calling

@@ -3,3 +3,5 @@ pub mod Ring
 pub mod Steps
 pub mod Releases
 pub mod Ports
+pub mod Finish
+pub mod Trial

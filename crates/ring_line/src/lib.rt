@@ -3,6 +3,7 @@
 
 mod closing;
 mod entry;
+mod finish;
 mod hand;
 mod line;
 mod open;
@@ -12,6 +13,7 @@ mod release;
 mod rule;
 mod seating;
 mod steps;
+mod sync;
 mod words;
 
 pub use line::RingLine;

@@ -1,5 +1,5 @@
 //! A line over a table.
-ghost use Rattle.std.specs.Prelude.{◌≡◌, ◌≢◌, ◌↔◌, ◌+◌, ◌*◌, ◌≤◌, [], ◌∷◌, IsTrue, true, false};
+ghost use Rattle.std.specs.Prelude.{◌≡◌, ◌≢◌, ◌↔◌, ◌+◌, ◌*◌, ◌≤◌, [], ◌∷◌, length, IsTrue, true, false};
 ghost use Rattle.qolb_model.specs.OneOwner.{turn_after};
 ghost use Rattle.qolb_model.specs.Plain.{may_ask};
 ghost use Rattle.qolb_model.specs.Views.{bytes_of};
@@ -10,6 +10,7 @@ ghost use Rattle.qolb_model.specs.Asking.{IsBusy, Asks, IsJoined};
 ghost use Rattle.qolb_model.specs.Turns.{IsGranted, IsQueued, IsWithdrawn};
 ghost use Rattle.qolb_model.specs.LettingGo.{Releases, IsTold};
 ghost use Rattle.qolb_model.specs.Meeting.{Meets};
+ghost use Rattle.qolb_model.specs.Finishing.{is_quiet};
 ghost use Rattle.qolb_model.specs.declared.end.End.TheVariants.{Served};
 ghost use Rattle.ring_line.specs.Words.{word_count};
 ghost use Rattle.ring_line.specs.Ports.{BelongsTo};
@@ -37,7 +38,8 @@ pub struct RingLine<K: Keep> {
     ghost sized: { table.shared.table_id.words ≡ word_count },
     ghost labelled: { label ≡ table.shared.key.label },
     ghost counted: { nodes ≡ table.shared.key.nodes },
-    ghost few: { nodes ≤ 32 },
+    ghost some_nodes: { 1 ≤ nodes },
+    ghost few_nodes: { nodes ≤ 32 },
 }
 
 impl<K: Keep> RingLine<K> {
@@ -211,6 +213,7 @@ impl<K: Keep> RingLine<K> {
         ensures continues { Continues K.allows port.old.view port.new.view }
         ensures releases { Releases port.old.view (Served port.old.turn false) PortState.Idle port.new.view }
         ensures bytes { bytes_of port.new.view ≡ port.old.turn.bytes.bytes }
+        ensures counted { port.new.steps + 1 + 3 * length port.old.view.ends ≡ 3 * length port.new.view.ends }
         ensures bound { port.new.steps + 1 ≤ 3 * self.now.table.shared.key.nodes }
     {
         let ground = &self.table.shared;
@@ -228,6 +231,7 @@ impl<K: Keep> RingLine<K> {
         ensures continues { Continues K.allows port.old.view port.new.view }
         ensures releases { Releases port.old.view (Served port.old.turn true) PortState.Shut port.new.view }
         ensures bytes { bytes_of port.new.view ≡ port.old.turn.bytes.bytes }
+        ensures counted { port.new.steps + 1 + 3 * length port.old.view.ends ≡ 3 * length port.new.view.ends }
         ensures bound { port.new.steps + 1 ≤ 3 * self.now.table.shared.key.nodes }
     {
         let ground = &self.table.shared;
@@ -268,6 +272,30 @@ impl<K: Keep> RingLine<K> {
 }
 
 impl Port {
+    /// The label of the port's line.
+    pub(crate) fn label(&self) -> u64
+        ensures { result ≡ self.now.view.label }
+    {
+        self.label
+    }
+
+    /// The port's node.
+    pub(crate) fn node(&self) -> u64
+        ensures { result ≡ self.now.view.node }
+    {
+        self.node
+    }
+
+    /// Whether the port has no request that waits or holds.
+    pub(crate) fn is_quiet(&self) -> bool
+        ensures { result ≡ is_quiet self.now.view.state }
+    {
+        !matches!(
+            self.state,
+            PortState::Linking | PortState::Queued | PortState::Holding
+        )
+    }
+
     /// Whether the port holds the line.
     pub(crate) fn holds(&self) -> bool
         ensures { IsTrue result ↔ (self.now.view.state ≡ PortState.Holding) }

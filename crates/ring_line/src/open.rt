@@ -54,6 +54,7 @@ impl<K: Keep> RingLine<K> {
 
     /// The line, and one seat for all nodes.
     fn lay(alloc: Global, setup: &Setup) -> Result<(RingLine<K>, Place), AllocError>
+        requires some_nodes { 1 ≤ setup.now.nodes }
         requires nodes { setup.now.nodes ≤ 32 }
         requires line { length setup.now.opening.bytes ≡ 64 }
         requires good { K.good setup.now.opening.bytes }

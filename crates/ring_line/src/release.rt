@@ -98,6 +98,7 @@ pub(crate) fn release<K: Keep>(ground: &Ground<K>, place: &mut Place, cell: u64)
     ensures seat { (place.new.table_id ≡ place.old.table_id) × (place.new.id ≡ place.old.id) × Alone place.new.me × (place.new.me.1 ≡ []) }
     ensures continues { Continues K.allows (entry_of place.old).view (entry_of place.new).view }
     ensures lets_go { (y : Parcel) → place.old.me.1 ≡ (0, y) ∷ [] → LetsLineGo (entry_of place.old) y (entry_of place.new) }
+    ensures counted { result + 1 + 3 * length (entry_of place.old).view.ends ≡ 3 * length (entry_of place.new).view.ends }
     ensures bound { result + 1 ≤ 3 * (entry_of place.old).view.nodes }
 {
     darken(ground, place, cell);
@@ -121,6 +122,7 @@ fn walk<K: Keep>(ground: &Ground<K>, place: &mut Place, cell: u64, found: u64) -
     ensures seat { (place.new.table_id ≡ place.old.table_id) × (place.new.id ≡ place.old.id) × Alone place.new.me × (place.new.me.1 ≡ []) }
     ensures continues { (v : View) → Continues K.allows v (entry_of place.old).view → Continues K.allows v (entry_of place.new).view }
     ensures walks_on { WalksOn (entry_of place.old) (entry_of place.new) }
+    ensures counted { result + 3 * length (entry_of place.old).view.ends ≡ 3 * length (entry_of place.new).view.ends }
     ensures bound { result + 3 ≤ 3 * (entry_of place.old).view.nodes }
 {
     let mut passed = ArrayVec::<u64, MOST_PASSED>::new();

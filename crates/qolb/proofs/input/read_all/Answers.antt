@@ -1,4 +1,4 @@
-use Rattle.std.proofs.Common.{rules, ◌≡◌, ℕ, List, [], ◌++◌, ◌+◌, take, arith, refl, sym, ap, subst, ◌≤◌, ◌<◌, ◌∙◌, vec_len, length}
+use Rattle.std.proofs.Common.{rules, ◌≡◌, [], ◌++◌, ◌+◌, take, arith, sym, ap, subst, ◌<◌, ◌∙◌, length}
 use Rattle.std.proofs.lemmas.List.{length-append, length-take-le, append-nil}
 use Rattle.std.specs.Io.KnownBytes.{Consumes}
 use Rattle.qolb.proofs.InTurn.{consumes_none, consumes_more, consumes_all, consumes_long}

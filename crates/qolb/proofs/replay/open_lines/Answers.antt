@@ -1,7 +1,6 @@
-use Rattle.std.proofs.Common.{rules, arith, ◌≡◌, ℕ, List, ◌+◌, length, refl, sym, ap, ◌∙◌, subst, length-append}
-use Rattle.line_lanes.specs.Line.{zeros}
+use Rattle.std.proofs.Common.{arith, ◌≡◌, ℕ, List, ◌+◌, length, refl, sym, ap, ◌∙◌, subst, length-append}
 use Rattle.qolb_model.specs.OneOwner.{opened}
-use Rattle.qolb_model.specs.Plain.{Agrees}
+use Rattle.qolb_model.specs.Plain.{PlainView, Agrees}
 use Rattle.qolb_script.specs.Reply.{replay_start}
 use Rattle.qolb.specs.Tallies.{AreLinesOf}
 use Rattle.qolb.specs.declared.tally.TalliedLine.{TalliedLine}
@@ -10,14 +9,14 @@ use Rattle.qolb.proofs.replay.open_lines.Goals as goal
 
 pub loop-init : goal.loop-init
 loop-init g c = record {
-  opened = subst (AreLinesOf c.args.nodes (replay_start 0)) (sym c.in_ok-all.ensures.items) (none_opened c.args.nodes);
+  opened = subst (AreLinesOf Agrees (λ (l : PlainView). l.nodes) c.args.nodes (replay_start 0)) (sym c.in_ok-all.ensures.items) (none_opened Agrees (λ (l : PlainView). l.nodes) c.args.nodes);
   many = ap length c.in_ok-all.ensures.items;
 }
 
 pub loop-preserved : goal.loop-preserved
 loop-preserved g c =
-    let line : TalliedLine = record { line = c.in-Ok.line; served = 0; withdrawn = 0; told = 0 } in
-    let new : IsNew c.args.nodes line = record {
+    let line : TalliedLine PlainView = record { line = c.in-Ok.line; served = 0; withdrawn = 0; told = 0 } in
+    let new : IsNew Agrees (λ (l : PlainView). l.nodes) c.args.nodes line = record {
       nodes_are = c.in-Ok.ensures.nodes;
       agrees = subst (λ (bytes : List ℕ). Agrees c.in-Ok.line (opened bytes)) c.zero.ensures c.in-Ok.ensures.agrees;
       none_served = refl;
@@ -25,12 +24,12 @@ loop-preserved g c =
       none_told = refl;
     } in
     record {
-      opened = subst (AreLinesOf c.args.nodes (replay_start (c.loop.counter + 1))) (sym c.in_ok-push.ensures.items)
-          (one_more_opened c.args.nodes c.loop.counter c.loop.all.items line c.loop.invariant.opened c.loop.invariant.many new);
+      opened = subst (AreLinesOf Agrees (λ (l : PlainView). l.nodes) c.args.nodes (replay_start (c.loop.counter + 1))) (sym c.in_ok-push.ensures.items)
+          (one_more_opened Agrees (λ (l : PlainView). l.nodes) c.args.nodes c.loop.counter c.loop.all.items line c.loop.invariant.opened c.loop.invariant.many new);
       many = ap length c.in_ok-push.ensures.items ∙ length-append c.loop.all.items _ ∙ ap (λ n. n + 1) c.loop.invariant.many;
     }
 
 pub returns : goal.returns
 returns g c =
     let all : c.loop.counter ≡ c.args.lines = omega arith in
-    subst (λ (n : ℕ). AreLinesOf c.args.nodes (replay_start n) c.loop.all.items) all c.loop.invariant.opened
+    subst (λ (n : ℕ). AreLinesOf Agrees (λ (l : PlainView). l.nodes) c.args.nodes (replay_start n) c.loop.all.items) all c.loop.invariant.opened

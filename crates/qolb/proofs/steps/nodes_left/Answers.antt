@@ -1,5 +1,4 @@
-use Rattle.std.proofs.Common.{rules, arith, ◌≡◌, ℕ, ◌+◌, ◌≤◌, Bool, true, false, sym, ap, ◌∙◌}
-use Rattle.link_core.specs.State.{point}
+use Rattle.std.proofs.Common.{rules, arith, ◌≡◌, ◌+◌, Bool, true, false, sym, ap, ◌∙◌}
 use Rattle.qolb.specs.StepRuns.{is_busy, nodes_busy}
 use Rattle.qolb.proofs.StepsRun.{nodes_busy_more}
 use Rattle.qolb.proofs.steps.nodes_left.Goals as goal

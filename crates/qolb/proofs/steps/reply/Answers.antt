@@ -1,10 +1,8 @@
-use Rattle.std.proofs.Common.{rules, arith, ◌≡◌, ◌≤◌, ℕ, List, [], length, subst, sym, ap, ◌∙◌}
+use Rattle.std.proofs.Common.{◌≡◌, ℕ, List, subst, sym, ap, ◌∙◌}
 use Rattle.line_lanes.specs.Line.{zeros}
-use Rattle.line_lanes.specs.declared.line.Line64.{Line64}
 use Rattle.link_core.specs.declared.event.Event.TheVariants.{Reset}
-use Rattle.link_core.specs.declared.event.Event.{Event}
 use Rattle.link_core.specs.State.{first}
-use Rattle.qolb.proofs.StepsRun.{Reaches, start_of, reaches_start, step_done, reaches_end}
+use Rattle.qolb.proofs.StepsRun.{Reaches, start_of, reaches_start, step_done}
 use Rattle.qolb.proofs.steps.reply.Goals as goal
 
 pub loop-event-init : goal.loop-event-init

@@ -35,7 +35,7 @@ pub invariant_of-port-in-Some-arrive : goal.invariant_of-port-in-Some-arrive
 invariant_of-port-in-Some-arrive g c = told_port c.port.inside c.arrive.new.place c.arrive.new.parcel c.ask-port-inside.result c.in-Some-arrive.steps c.port.invariant (c.arrive.ensures.continues _ (continues_trans _ _ _ _ (continues_trans _ _ _ _ (c.renew.ensures.continues _ (continues_open c.port.inside c.requires.belongs c.port.view_is)) c.ask-port-inside.ensures.continues) c.look.ensures.continues)) c.arrive.ensures.seat.2 c.in-Some-arrive.ensures.arrived
 
 pub overflow_add-port-in-Some-arrive : goal.overflow_add-port-in-Some-arrive
-overflow_add-port-in-Some-arrive g c = omega (arith, c.args.self.now.few, c.args.self.now.counted, c.in-Some.ensures.renewed.1, arrived_steps c.port.inside c.arrive.new.place c.arrive.new.parcel c.ask-port-inside.result c.in-Some-arrive.steps c.requires.belongs c.port.view_is (c.arrive.ensures.continues _ (continues_trans _ _ _ _ (continues_trans _ _ _ _ (c.renew.ensures.continues _ (continues_open c.port.inside c.requires.belongs c.port.view_is)) c.ask-port-inside.ensures.continues) c.look.ensures.continues)) c.in-Some-arrive.ensures.arrived)
+overflow_add-port-in-Some-arrive g c = omega (arith, c.args.self.now.few_nodes, c.args.self.now.counted, c.in-Some.ensures.renewed.1, arrived_steps c.port.inside c.arrive.new.place c.arrive.new.parcel c.ask-port-inside.result c.in-Some-arrive.steps c.requires.belongs c.port.view_is (c.arrive.ensures.continues _ (continues_trans _ _ _ _ (continues_trans _ _ _ _ (c.renew.ensures.continues _ (continues_open c.port.inside c.requires.belongs c.port.view_is)) c.ask-port-inside.ensures.continues) c.look.ensures.continues)) c.in-Some-arrive.ensures.arrived)
 
 pub returns-in-Some-arrive-clause-bound : goal.returns-in-Some-arrive-clause-bound
 returns-in-Some-arrive-clause-bound g c = omega (arith, c.in-Some.ensures.renewed.1, arrived_steps c.port.inside c.arrive.new.place c.arrive.new.parcel c.ask-port-inside.result c.in-Some-arrive.steps c.requires.belongs c.port.view_is (c.arrive.ensures.continues _ (continues_trans _ _ _ _ (continues_trans _ _ _ _ (c.renew.ensures.continues _ (continues_open c.port.inside c.requires.belongs c.port.view_is)) c.ask-port-inside.ensures.continues) c.look.ensures.continues)) c.in-Some-arrive.ensures.arrived)

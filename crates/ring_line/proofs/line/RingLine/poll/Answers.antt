@@ -9,7 +9,7 @@ pub invariant_of-port-in-Some : goal.invariant_of-port-in-Some
 invariant_of-port-in-Some g c = told_port c.port.inside c.arrive.new.place c.arrive.new.parcel c.port.inside.cell c.in-Some.steps c.port.invariant (c.arrive.ensures.continues _ c.look.ensures.continues) c.arrive.ensures.seat.2 c.in-Some.ensures.arrived
 
 pub overflow_add-port : goal.overflow_add-port
-overflow_add-port g c = omega (arith, c.args.self.now.few, c.args.self.now.counted, arrived_steps c.port.inside c.arrive.new.place c.arrive.new.parcel c.port.inside.cell c.in-Some.steps c.requires.belongs c.port.view_is (c.arrive.ensures.continues _ c.look.ensures.continues) c.in-Some.ensures.arrived)
+overflow_add-port g c = omega (arith, c.args.self.now.few_nodes, c.args.self.now.counted, arrived_steps c.port.inside c.arrive.new.place c.arrive.new.parcel c.port.inside.cell c.in-Some.steps c.requires.belongs c.port.view_is (c.arrive.ensures.continues _ c.look.ensures.continues) c.in-Some.ensures.arrived)
 
 pub returns-in-None-clause-belongs : goal.returns-in-None-clause-belongs
 returns-in-None-clause-belongs g c = belongs_after c.port.inside c.arrive.new.place c.arrive.new.parcel 1 c.requires.belongs c.port.view_is (c.arrive.ensures.seat.0 ∙ c.look.ensures.seat.0) (c.arrive.ensures.continues _ c.look.ensures.continues)

@@ -1,0 +1,48 @@
+-- Ports that know the whole history of their line, as the state of its one owner has it: so it is where all ports meet after
+-- each call. (Of this project.)
+use Rattle.std.specs.Prelude.{◌≡◌, ◌⊎◌, ℕ, ◌+◌, ◌≤◌, List, length, Some, slice_get}
+use Rattle.qolb_model.specs.declared.answer.PortState.{PortState}
+use Rattle.qolb_model.specs.declared.answer.PortState.TheVariants.{Idle, Linking, Queued, Holding, Left, Rolled, Shut}
+use Rattle.qolb_model.specs.declared.request.Request.{Request}
+use Rattle.qolb_model.specs.declared.view.View.{View}
+use Rattle.qolb_model.specs.declared.write.Write.{Write}
+use Rattle.qolb_model.specs.Requests.{Has, has, count_of}
+use Rattle.qolb_model.specs.Histories.{ended_of, open_of}
+use Rattle.qolb_model.specs.OneOwner.{LineState, state_of}
+use Rattle.qolb_model.specs.Plain.{IsReached}
+
+-- what a node's state allows it to call: one with no request that waits or holds is as an idle one
+abbrev pub seen : PortState → PortState
+seen Idle = Idle
+seen Linking = Linking
+seen Queued = Queued
+seen Holding = Holding
+seen Left = Idle
+seen Rolled = Idle
+seen Shut = Idle
+
+-- a port: what it knows, and what its holder has written in this turn
+pub record Stance : Type 0 where
+  pub view : View
+  pub turn : Write
+
+-- the port knows the state's whole history: all requests, each of them joined, all ends, that all ended requests are clear, and
+-- which open ones are withdrawn; its node stands as the state has it, and a holder's turn is the state's
+pub record KnowsWhole (nodes : ℕ) (s : LineState) (port : Stance) : Type 0 where
+  pub nodes_are : port.view.nodes ≡ nodes
+  pub opening : port.view.opening.bytes ≡ s.opening
+  pub order : port.view.order ≡ s.queue.order
+  pub ends : port.view.ends ≡ s.queue.ends
+  pub clear : (r : Request) → Has (ended_of s.queue.order s.queue.ends) r → Has port.view.clear r
+  pub joined : (r : Request) → Has s.queue.order r → Has port.view.joined r
+  pub marked : (r : Request) → Has (open_of s.queue.order s.queue.ends) r → has port.view.marked r ≡ has s.queue.marked r
+  pub count : port.view.count ≡ count_of port.view.node s.queue.order
+  pub state : seen port.view.state ≡ seen (state_of s port.view.node)
+  pub asked : (port.view.state ≡ Left) ⊎ (port.view.state ≡ Rolled) → 1 ≤ port.view.count
+  pub turn : port.view.state ≡ Holding → port.turn ≡ s.turn
+
+-- the ports of nodes 1, 2 and so on, all of which know the whole history of a state that one owner's calls reach
+pub record AreWhole (s : LineState) (ports : List Stance) : Type 0 where
+  pub reached : IsReached (length ports) s
+  pub node : (i : ℕ) (port : Stance) → slice_get ports i ≡ Some port → port.view.node ≡ i + 1
+  pub knows : (i : ℕ) (port : Stance) → slice_get ports i ≡ Some port → KnowsWhole (length ports) s port

@@ -1,0 +1,94 @@
+//! The line as one that many nodes share.
+ghost use Rattle.std.specs.Prelude.{◌≡◌, map, All, IfOk, IfErr};
+ghost use Rattle.qolb_model.specs.Finishing.{MayRefuse, IsFinished};
+ghost use Rattle.ring_line.specs.Ports.{BelongsTo};
+
+use crate::line::RingLine;
+use crate::port::Port;
+use line_lanes::{Line64, Mask};
+use qolb_model::{Enq, Keep, LineSync, Out, Poll, PortState, Unfinished};
+use std::alloc::Global;
+
+impl<K: Keep> LineSync<K> for RingLine<K> {
+    type Port = Port;
+
+    ghost view = { λ port. port.view };
+
+    ghost turn = { λ port. port.turn };
+
+    ghost belongs = { λ line port. BelongsTo K.good K.allows line.table.shared.key line.table.shared.table_id port };
+
+    ghost label_of = { λ line. line.table.shared.key.label };
+
+    ghost nodes_of = { λ line. line.table.shared.key.nodes };
+
+    ghost opening_of = { λ line. line.table.shared.key.opening.bytes };
+
+    fn label(&self) -> u64 {
+        RingLine::<K>::label(self)
+    }
+
+    fn nodes(&self) -> u64 {
+        RingLine::<K>::nodes(self)
+    }
+
+    fn node(port: &Port) -> u64 {
+        RingLine::<K>::node(port)
+    }
+
+    fn state(port: &Port) -> PortState {
+        RingLine::<K>::state(port)
+    }
+
+    fn owns(&self, port: &Port) -> bool {
+        RingLine::<K>::owns(self, port)
+    }
+
+    fn bytes(port: &Port) -> &Line64 {
+        RingLine::<K>::bytes(port)
+    }
+
+    fn write(port: &mut Port, mask: Mask, bytes: &Line64) {
+        RingLine::<K>::write(port, mask, bytes)
+    }
+
+    fn enqolb(&self, port: &mut Port) -> Enq {
+        RingLine::<K>::enqolb(self, port)
+    }
+
+    fn poll(&self, port: &mut Port) -> Poll {
+        RingLine::<K>::poll(self, port)
+    }
+
+    fn withdraw(&self, port: &mut Port) -> Out {
+        RingLine::<K>::withdraw(self, port)
+    }
+
+    fn deqolb(&self, port: &mut Port) {
+        RingLine::<K>::deqolb(self, port)
+    }
+
+    fn shut(&self, port: &mut Port) {
+        RingLine::<K>::shut(self, port)
+    }
+
+    fn meet(&self, a: &mut Port, b: &mut Port) {
+        RingLine::<K>::meet(self, a, b)
+    }
+
+    fn finish(
+        self,
+        alloc: Global,
+        ports: Vec<Port>,
+    ) -> Result<Line64, Unfinished<RingLine<K>, Port>>
+        requires belong { All (λ port. port.view.label ≡ self.table.shared.key.label → BelongsTo K.good K.allows self.table.shared.key self.table.shared.table_id port) ports.items }
+        ensures finished { IfOk result (λ line. IsFinished self.table.shared.key.label self.table.shared.key.nodes self.table.shared.key.opening.bytes (map (λ port. port.view) ports.items) line.bytes) }
+        ensures why { IfErr result (λ back. MayRefuse self.table.shared.key.label self.table.shared.key.nodes (map (λ port. port.view) ports.items) back.why) }
+        ensures line { IfErr result (λ back. back.line ≡ self) }
+        ensures ports { IfErr result (λ back. back.ports.items ≡ ports.items) }
+    {
+        RingLine::<K>::finish(self, alloc, ports)
+    }
+
+    ghost sound = { λ line port belongs. belongs.sound };
+}
