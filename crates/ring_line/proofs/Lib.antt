@@ -1,6 +1,7 @@
 pub mod Turning
 pub mod Walking
 pub mod Releasing
+pub mod Calling
 pub mod Lists
 pub mod Nodes
 pub mod Histories
@@ -23,4 +24,3 @@ pub mod Seats
 pub mod Dealing
 pub mod Meets
 pub mod Lasting
-pub mod Calling
