@@ -4,29 +4,21 @@ use std::alloc::Global;
 use std::io;
 use std::test::Fail;
 
+const KINDS: [Kind; 2] = [Kind::Plain, Kind::Ring];
+
 /// What a replay of the script writes.
-fn reply_to(alloc: Global, script: &str) -> Result<String, Fail> {
+fn reply_to(alloc: Global, script: &str, kind: Kind) -> Result<String, Fail> {
     let mut reader = Watched::new(script.as_bytes());
     let mut text: Vec<u8> = Vec::new(alloc);
-    run_schedule(
-        alloc,
-        &mut reader,
-        &mut Watched::new(&mut text),
-        Kind::Plain,
-    )?;
+    run_schedule(alloc, &mut reader, &mut Watched::new(&mut text), kind)?;
     Ok(String::from_utf8(text)?)
 }
 
 /// The error of a replay of the script, and how many bytes were written.
-fn refused(alloc: Global, script: &str) -> (Option<ReplayError>, usize) {
+fn refused(alloc: Global, script: &str, kind: Kind) -> (Option<ReplayError>, usize) {
     let mut reader = Watched::new(script.as_bytes());
     let mut text: Vec<u8> = Vec::new(alloc);
-    let done = run_schedule(
-        alloc,
-        &mut reader,
-        &mut Watched::new(&mut text),
-        Kind::Plain,
-    );
+    let done = run_schedule(alloc, &mut reader, &mut Watched::new(&mut text), kind);
     (done.err(), text.len())
 }
 
@@ -93,11 +85,13 @@ fn answers_scripts(rt: HostRuntime) -> Result<(), Fail> {
         ),
     ];
     for (script, reply) in rows {
-        assert_eq!(rt;
-            reply_to(rt.alloc(), script)?.as_str(),
-            reply,
-            "of {script}"
-        );
+        for kind in KINDS {
+            assert_eq!(rt;
+                reply_to(rt.alloc(), script, kind)?.as_str(),
+                reply,
+                "of {script}"
+            );
+        }
     }
     Ok(())
 }
@@ -122,7 +116,9 @@ fn shows_what_holders_wrote(rt: HostRuntime) -> Result<(), Fail> {
     let handed = format!(in alloc;
         "granted\nok\nqueued\nwaiting\nreleased\ngranted\n{line}\nreleased\nline 0 served 2 withdrawn 0 told 0 left 0\n"
     )?;
-    assert_eq!(rt; reply_to(alloc, HAND_OVER)?, handed);
+    for kind in KINDS {
+        assert_eq!(rt; reply_to(alloc, HAND_OVER, kind)?, handed);
+    }
 
     // Masked writes leave the other bytes, of this turn and of earlier ones, as they were.
     let script =
@@ -131,7 +127,9 @@ fn shows_what_holders_wrote(rt: HostRuntime) -> Result<(), Fail> {
     let merged = format!(in alloc;
         "granted\nok\nok\nqueued\nreleased\ngranted\nok\n{line}\nline 0 served 1 withdrawn 0 told 0 left 1\n"
     )?;
-    assert_eq!(rt; reply_to(alloc, script)?, merged);
+    for kind in KINDS {
+        assert_eq!(rt; reply_to(alloc, script, kind)?, merged);
+    }
 
     // The last place of a line.
     let script = "nodes 1 lines 1\nenq 1 0\nwrite 1 0 63 ff\nshow 1 0\n";
@@ -139,7 +137,9 @@ fn shows_what_holders_wrote(rt: HostRuntime) -> Result<(), Fail> {
     let last = format!(in alloc;
         "granted\nok\n{line}\nline 0 served 0 withdrawn 0 told 0 left 1\n"
     )?;
-    assert_eq!(rt; reply_to(alloc, script)?, last);
+    for kind in KINDS {
+        assert_eq!(rt; reply_to(alloc, script, kind)?, last);
+    }
     Ok(())
 }
 
@@ -157,11 +157,13 @@ fn names_the_first_fault(rt: HostRuntime) -> Result<(), Fail> {
         ("nodes 2 lines 1\n\n\nenq 9 0\nenq", ScriptError::Number(4)),
     ];
     for (script, error) in rows {
-        assert_eq!(rt;
-            refused(rt.alloc(), script),
-            (Some(ReplayError::Script(error)), 0),
-            "of {script}"
-        );
+        for kind in KINDS {
+            assert_eq!(rt;
+                refused(rt.alloc(), script, kind),
+                (Some(ReplayError::Script(error)), 0),
+                "of {script}"
+            );
+        }
     }
     Ok(())
 }
@@ -260,34 +262,43 @@ fn takes_inputs_up_to_the_limit(rt: HostRuntime) -> Result<(), Fail> {
     Ok(())
 }
 
-#[test]
-fn each_allocation_is_refused(rt: HostRuntime) -> Result<(), Fail> {
+/// How many of the growing heaps were too small for the reply of a hand-over by lines of this kind, with rings in `rings`;
+/// `None` where a larger heap than one that served did not.
+fn heaps_refused(rings: Global, kind: Kind) -> Result<Option<u32>, Fail> {
     let mut refused = 0u32;
     let mut replayed = false;
     for step in 1..400usize {
+        let heap = LocalHeap::new(rings, 32 * step)?;
+        match answered(&&heap, rings, HAND_OVER.as_bytes(), kind) {
+            Ok(text) => {
+                replayed = true;
+                if text.len() < 128 {
+                    return Ok(None);
+                }
+            }
+            Err(ReplayError::Memory) if !replayed => refused = refused.saturating_add(1),
+            Err(_) => return Ok(None),
+        }
+        if heap.used() != 0 {
+            return Ok(None);
+        }
+    }
+    Ok(if replayed { Some(refused) } else { None })
+}
+
+#[test]
+fn each_allocation_is_refused(rt: HostRuntime) -> Result<(), Fail> {
+    for kind in KINDS {
+        let refused = heaps_refused(rt.alloc(), kind)?.ok_or("a heap did not serve")?;
+        assert!(rt; refused > 5);
+    }
+    for step in 1..400usize {
         let heap = LocalHeap::new(rt.alloc(), 32 * step)?;
         let mut reader = Watched::new(HAND_OVER.as_bytes());
-        let mut text: Vec<u8> = Vec::new(rt.alloc());
-        match run_schedule(
-            &heap,
-            &mut reader,
-            &mut Watched::new(&mut text),
-            Kind::Plain,
-        ) {
-            Ok(()) => {
-                replayed = true;
-                assert!(rt; text.len() > 128);
-            }
-            Err(error) => {
-                assert_eq!(rt; error, ReplayError::Memory, "at {step}");
-                assert!(rt; !replayed, "at {step}");
-                assert_eq!(rt; text.len(), 0, "at {step}");
-                refused = refused.saturating_add(1);
-            }
+        match read_all(&heap, &mut reader) {
+            Ok(input) => assert_eq!(rt; input.len(), HAND_OVER.len()),
+            Err(error) => assert_eq!(rt; error, InputError::Memory, "at {step}"),
         }
-        assert_eq!(rt; heap.used(), 0, "at {step}");
     }
-    assert!(rt; replayed);
-    assert!(rt; refused > 5);
     Ok(())
 }

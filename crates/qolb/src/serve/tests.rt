@@ -37,10 +37,12 @@ fn replays_and_refuses_scripts(rt: HostRuntime) -> Result<(), Fail> {
         ("nodes 2 lines 1\nenq 1", 1, "", "bad line 2\n"),
     ];
     for (script, status, out, err) in rows {
-        let found = run(&rt, &["replay", "--kind", "plain"], script)?;
-        assert_eq!(rt; found.0, status, "of {script}");
-        assert_eq!(rt; found.1.as_str(), out, "of {script}");
-        assert_eq!(rt; found.2.as_str(), err, "of {script}");
+        for kind in ["plain", "ring"] {
+            let found = run(&rt, &["replay", "--kind", kind], script)?;
+            assert_eq!(rt; found.0, status, "of {script}");
+            assert_eq!(rt; found.1.as_str(), out, "of {script}");
+            assert_eq!(rt; found.2.as_str(), err, "of {script}");
+        }
     }
     Ok(())
 }
@@ -51,7 +53,7 @@ fn refuses_command_lines(rt: HostRuntime) -> Result<(), Fail> {
         &[],
         &["replay"],
         &["replay", "--kind"],
-        &["replay", "--kind", "ring"],
+        &["replay", "--kind", "rings"],
         &["replay", "--kind", "link"],
         &["steps", "--kind", "plain"],
         &["--help"],
