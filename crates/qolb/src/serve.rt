@@ -156,7 +156,9 @@ fn command<'a>(alloc: Global) -> Result<Command<'a>, AllocError>
     let kind = Arg::new(alloc, "kind")
         .long("kind")
         .value_name("KIND")
-        .help("What represents the lines: the plain reference with one owner, or rings that nodes share")
+        .help(
+            "What represents the lines: the plain reference with one owner, or rings that nodes share",
+        )
         .required(true)
         .action(ArgAction::Set)
         .value_parser(KINDS.as_slice());

@@ -1,11 +1,11 @@
-use Rattle.std.proofs.Common.{arith, ◌≡◌, ℕ, List, ◌+◌, length, refl, sym, ap, ◌∙◌, subst, length-append}
+use Rattle.std.proofs.Common.{ℕ, List, ◌+◌, length, refl, sym, ap, ◌∙◌, subst, length-append}
 use Rattle.qolb_model.specs.OneOwner.{LineState, opened}
 use Rattle.qolb_model.specs.Whole.{Stance, AreWhole}
 use Rattle.ring_line.specs.declared.rule.Setup.{Setup}
 use Rattle.qolb_script.specs.Reply.{replay_start}
 use Rattle.qolb.specs.Tallies.{AreLinesOf}
 use Rattle.qolb.specs.declared.tally.TalliedLine.{TalliedLine}
-use Rattle.qolb.proofs.Replayed.{IsNew, none_opened, one_more_opened, all_from_each}
+use Rattle.qolb.proofs.Replayed.{IsNew, one_more_opened, all_from_each}
 use Rattle.qolb.proofs.replay.open_rings.Goals as goal
 
 abbrev shows : List Stance → LineState → Type 0
