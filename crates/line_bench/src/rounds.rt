@@ -82,36 +82,28 @@ where
         |scope| -> Option<Vec<L::Port>>
             requires line { IsSync L.row }
             requires port { IsSend L.Port.row }
+            requires ports { All (λ port. L.belongs line.now port) ports.items }
+            requires state { All (λ port. IsTrue (may_ask (L.view port).state)) ports.items }
+            ensures { IfSome result (λ back. All (λ port. L.belongs line.entry.now port) back.items) }
         {
             let mut handles: Vec<PromisedHandle<L::Port, OfLine<L>>> = Vec::with_capacity(
                 alloc,
                 ports.len(),
             ).ok()?;
             let mut back = Vec::with_capacity(alloc, ports.len()).ok()?;
-            let mut refused = false;
             for port in ports {
                 let promise = OfLine {
                     line: Snapshot::of(line),
                 };
-                match scope.spawn_with(promise, move || work(rt, line, port, rounds)) {
-                    Ok(handle) => {
-                        if handles.push(handle).is_err() {
-                            refused = true;
-                            break;
-                        }
-                    }
-                    Err(_) => {
-                        refused = true;
-                        break;
-                    }
-                }
+                let handle = scope
+                    .spawn_with(promise, move || work(rt, line, port, rounds))
+                    .ok()?;
+                handles.push(handle).ok()?;
             }
             for handle in handles {
-                if back.push(handle.join(rt)).is_err() {
-                    refused = true;
-                }
+                back.push(handle.join(rt)).ok()?;
             }
-            if refused { None } else { Some(back) }
+            Some(back)
         },
     )
 }
