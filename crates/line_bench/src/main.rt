@@ -89,7 +89,7 @@ fn measure<R: Threads + Wait + Clock + Print + Sync>(
     let sum = lane(&last, 0);
     let all = (u128::from(threads) * u128::from(rounds)).max(1);
     let tenths = nanos * 10 / all;
-    let each_second = all * 1_000_000_000 / nanos;
+    let each_second = all.saturating_mul(1_000_000_000) / nanos;
     println!(rt; "threads {threads} rounds {all} lane sum {sum} ns a round {}.{} rounds a second {each_second}", tenths / 10, tenths % 10)?;
     Ok(())
 }
