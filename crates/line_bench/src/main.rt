@@ -20,6 +20,7 @@ use stress::Stress;
 
 /// How many threads are measured, in turn; and how many are put under stress.
 static THREADS: [u64; 5] = [1, 2, 3, 4, 8];
+
 static STRESSED: [u64; 2] = [4, 8];
 
 /// Rounds of each thread where the words name none: enough to see that nothing is lost.
@@ -90,7 +91,11 @@ fn measure<R: Threads + Wait + Clock + Print + Sync>(
     let all = (u128::from(threads) * u128::from(rounds)).max(1);
     let tenths = nanos * 10 / all;
     let each_second = all.saturating_mul(1_000_000_000) / nanos;
-    println!(rt; "threads {threads} rounds {all} lane sum {sum} ns a round {}.{} rounds a second {each_second}", tenths / 10, tenths % 10)?;
+    println!(rt;
+        "threads {threads} rounds {all} lane sum {sum} ns a round {}.{} rounds a second {each_second}",
+        tenths / 10,
+        tenths % 10
+    )?;
     Ok(())
 }
 
@@ -106,7 +111,10 @@ fn put_under_stress<R: Threads + Wait + Clock + Print + Sync>(
     let last = run(rt, alloc, line, ports, &task)?;
     let counts = task.counts();
     let lost = counts.grants.abs_diff(lane(&last, 0));
-    println!(rt; "threads {threads} rounds {} grants {} withdrawals {} busy {} told {} lost {lost}", counts.asks, counts.grants, counts.withdrawals, counts.busy, counts.told)?;
+    println!(rt;
+        "threads {threads} rounds {} grants {} withdrawals {} busy {} told {} lost {lost}",
+        counts.rounds, counts.grants, counts.withdrawals, counts.busy, counts.told
+    )?;
     if lost > 0 {
         return Err(RunError::Lost(lost).into());
     }

@@ -37,11 +37,7 @@ pub fn open(alloc: Global, nodes: u64) -> Result<(RingLine<Free>, Vec<Port>), Ru
 }
 
 /// Each node does the task; then all ports meet, and the line's last bytes are left.
-pub fn run<
-    R: Threads + Wait + Clock + Sync,
-    L: LineSync<Free> + Sync + Drop,
-    T: Task<L> + Sync,
->(
+pub fn run<R: Threads + Wait + Clock + Sync, L: LineSync<Free> + Sync + Drop, T: Task<L> + Sync>(
     rt: &R,
     alloc: Global,
     line: L,
@@ -62,11 +58,7 @@ where
 }
 
 /// Each two ports meet. `None` where memory was refused.
-fn meet_all<L: LineSync<Free>>(
-    alloc: Global,
-    line: &L,
-    ports: Vec<L::Port>,
-) -> Option<Vec<L::Port>>
+fn meet_all<L: LineSync<Free>>(alloc: Global, line: &L, ports: Vec<L::Port>) -> Option<Vec<L::Port>>
 where
     L::Port: Drop,
     requires { All (λ port. L.belongs line.now port) ports.items }

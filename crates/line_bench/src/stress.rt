@@ -15,10 +15,10 @@ use std::thread::yield_now;
 use std::time::{Duration, Instant};
 
 /// What nodes did.
-#[derive(Clone, Copy, Debug, PartialEq, Eq)]
+#[derive(Clone, Copy)]
 pub struct Counts {
-    /// How often a node asked.
-    pub asks: u64,
+    /// How often a node asked, or tried to.
+    pub rounds: u64,
     /// How often it held the line, and added 1.
     pub grants: u64,
     /// How often it withdrew.
@@ -34,7 +34,7 @@ pub struct Counts {
 pub struct Stress {
     start: Instant,
     time: Duration,
-    asks: AtomicU64,
+    rounds: AtomicU64,
     grants: AtomicU64,
     withdrawals: AtomicU64,
     busy: AtomicU64,
@@ -42,7 +42,7 @@ pub struct Stress {
 }
 
 /// How an ask ended.
-#[derive(Clone, Copy, Debug, PartialEq, Eq)]
+#[derive(Clone, Copy)]
 enum Turn {
     /// The node holds the line.
     Granted,
@@ -60,7 +60,7 @@ impl Stress {
         Stress {
             start,
             time,
-            asks: AtomicU64::new(0),
+            rounds: AtomicU64::new(0),
             grants: AtomicU64::new(0),
             withdrawals: AtomicU64::new(0),
             busy: AtomicU64::new(0),
@@ -71,7 +71,7 @@ impl Stress {
     /// What all nodes did together.
     pub fn counts(&self) -> Counts {
         Counts {
-            asks: self.asks.load(Ordering::SeqCst),
+            rounds: self.rounds.load(Ordering::SeqCst),
             grants: self.grants.load(Ordering::SeqCst),
             withdrawals: self.withdrawals.load(Ordering::SeqCst),
             busy: self.busy.load(Ordering::SeqCst),
@@ -81,7 +81,7 @@ impl Stress {
 
     /// Adds what one node did.
     fn add(&self, counts: Counts) {
-        self.asks.fetch_add(counts.asks, Ordering::SeqCst);
+        self.rounds.fetch_add(counts.rounds, Ordering::SeqCst);
         self.grants.fetch_add(counts.grants, Ordering::SeqCst);
         self.withdrawals
             .fetch_add(counts.withdrawals, Ordering::SeqCst);
@@ -103,14 +103,14 @@ impl<L: LineSync<Free>> Task<L> for Stress {
         let mut port = port;
         let mut rng = Xoshiro256PlusPlus::seed_from_u64(L::node(&port));
         let mut counts = Counts {
-            asks: 0,
+            rounds: 0,
             grants: 0,
             withdrawals: 0,
             busy: 0,
             told: 0,
         };
         for _ in rt.forever() {
-            counts.asks = counts.asks.wrapping_add(1);
+            counts.rounds = counts.rounds.wrapping_add(1);
             match ask(rt, line, &mut port, &mut rng) {
                 Turn::Granted => {
                     add_one::<L>(&mut port);

@@ -11,7 +11,7 @@ use std::thread::yield_now;
 const LOOKS: u64 = 64;
 
 /// How an ask ended.
-#[derive(Clone, Copy, Debug, PartialEq, Eq)]
+#[derive(Clone, Copy)]
 pub enum Got {
     /// The node holds the line.
     Granted,
