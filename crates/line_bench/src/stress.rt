@@ -1,0 +1,206 @@
+//! Nodes that ask, look, withdraw, write and release at random, until one of them closes the line.
+ghost use Rattle.std.specs.Prelude.{◌≡◌, ◌≢◌, IsTrue};
+ghost use Rattle.qolb_model.specs.Plain.{may_ask};
+
+use crate::rounds::add_one;
+use crate::together::Task;
+use qolb_model::{Enq, Free, LineSync, Out, Poll, PortState};
+use rand::{RngExt, SeedableRng};
+use rand_xoshiro::Xoshiro256PlusPlus;
+use std::hint::spin_loop;
+use std::rt::Clock;
+use std::sync::Wait;
+use std::sync::atomic::{AtomicU64, Ordering};
+use std::thread::yield_now;
+use std::time::{Duration, Instant};
+
+/// What nodes did.
+#[derive(Clone, Copy)]
+pub struct Counts {
+    /// How often a node asked, or tried to.
+    pub rounds: u64,
+    /// How often it held the line, and added 1.
+    pub grants: u64,
+    /// How often it withdrew.
+    pub withdrawals: u64,
+    /// How often it was busy.
+    pub busy: u64,
+    /// How often it was told that the line is closed.
+    pub told: u64,
+}
+
+/// The nodes' work: until the time is over, and then until the line is closed.
+#[derive(Drop)]
+pub struct Stress {
+    start: Instant,
+    time: Duration,
+    rounds: AtomicU64,
+    grants: AtomicU64,
+    withdrawals: AtomicU64,
+    busy: AtomicU64,
+    told: AtomicU64,
+}
+
+/// How an ask ended.
+#[derive(Clone, Copy)]
+enum Turn {
+    /// The node holds the line.
+    Granted,
+    /// The node withdrew.
+    Withdrawn,
+    /// The node could not ask: its last request is not clear yet.
+    Busy,
+    /// The line is closed.
+    Closed,
+}
+
+impl Stress {
+    /// Work for this time from now on.
+    pub fn new(start: Instant, time: Duration) -> Stress {
+        Stress {
+            start,
+            time,
+            rounds: AtomicU64::new(0),
+            grants: AtomicU64::new(0),
+            withdrawals: AtomicU64::new(0),
+            busy: AtomicU64::new(0),
+            told: AtomicU64::new(0),
+        }
+    }
+
+    /// What all nodes did together.
+    pub fn counts(&self) -> Counts {
+        Counts {
+            rounds: self.rounds.load(Ordering::SeqCst),
+            grants: self.grants.load(Ordering::SeqCst),
+            withdrawals: self.withdrawals.load(Ordering::SeqCst),
+            busy: self.busy.load(Ordering::SeqCst),
+            told: self.told.load(Ordering::SeqCst),
+        }
+    }
+
+    /// Adds what one node did.
+    fn add(&self, counts: Counts) {
+        self.rounds.fetch_add(counts.rounds, Ordering::SeqCst);
+        self.grants.fetch_add(counts.grants, Ordering::SeqCst);
+        self.withdrawals
+            .fetch_add(counts.withdrawals, Ordering::SeqCst);
+        self.busy.fetch_add(counts.busy, Ordering::SeqCst);
+        self.told.fetch_add(counts.told, Ordering::SeqCst);
+    }
+
+    /// Whether the time is over. It is where the clock can't be read.
+    fn is_over<R: Clock>(&self, rt: &R) -> bool {
+        match self.start.elapsed(rt) {
+            Ok(spent) => spent >= self.time,
+            Err(_) => true,
+        }
+    }
+}
+
+impl<L: LineSync<Free>> Task<L> for Stress {
+    fn work<R: Wait + Clock>(&self, rt: &R, line: &L, port: L::Port) -> L::Port {
+        let mut port = port;
+        let mut rng = Xoshiro256PlusPlus::seed_from_u64(L::node(&port));
+        let mut counts = Counts {
+            rounds: 0,
+            grants: 0,
+            withdrawals: 0,
+            busy: 0,
+            told: 0,
+        };
+        for _ in rt.forever() {
+            counts.rounds = counts.rounds.wrapping_add(1);
+            match ask(rt, line, &mut port, &mut rng) {
+                Turn::Granted => {
+                    add_one::<L>(&mut port);
+                    counts.grants = counts.grants.wrapping_add(1);
+                    if self.is_over(rt) {
+                        line.shut(&mut port);
+                        break;
+                    }
+                    line.deqolb(&mut port);
+                }
+                Turn::Withdrawn => counts.withdrawals = counts.withdrawals.wrapping_add(1),
+                Turn::Busy => {
+                    counts.busy = counts.busy.wrapping_add(1);
+                    yield_now();
+                }
+                Turn::Closed => {
+                    counts.told = counts.told.wrapping_add(1);
+                    break;
+                }
+            }
+        }
+        self.add(counts);
+        port
+    }
+}
+
+/// Asks once, and waits or withdraws.
+fn ask<R: Wait, L: LineSync<Free>>(
+    rt: &R,
+    line: &L,
+    port: &mut L::Port,
+    rng: &mut Xoshiro256PlusPlus,
+) -> Turn
+    requires belongs { L.belongs line.now port.old }
+    requires state { IsTrue (may_ask (L.view port.old).state) }
+    ensures belongs { L.belongs line.now port.new }
+    ensures granted { result ≡ Turn.Granted → (L.view port.new).state ≡ PortState.Holding }
+    ensures ended { result ≢ Turn.Granted → IsTrue (may_ask (L.view port.new).state) }
+{
+    match line.enqolb(port) {
+        Enq::Granted => Turn::Granted,
+        Enq::Queued => wait_or_withdraw(rt, line, port, rng),
+        Enq::Busy => Turn::Busy,
+        Enq::Closed => Turn::Closed,
+    }
+}
+
+/// Looks for the turn, and at some looks withdraws, pauses or gives the processor away.
+fn wait_or_withdraw<R: Wait, L: LineSync<Free>>(
+    rt: &R,
+    line: &L,
+    port: &mut L::Port,
+    rng: &mut Xoshiro256PlusPlus,
+) -> Turn
+    requires belongs { L.belongs line.now port.old }
+    requires state { (L.view port.old).state ≡ PortState.Queued }
+    ensures belongs { L.belongs line.now port.new }
+    ensures granted { result ≡ Turn.Granted → (L.view port.new).state ≡ PortState.Holding }
+    ensures ended { result ≢ Turn.Granted → IsTrue (may_ask (L.view port.new).state) }
+{
+    for _ in rt.forever() {
+        match line.poll(port) {
+            Poll::Granted => return Turn::Granted,
+            Poll::Closed => return Turn::Closed,
+            Poll::Waiting => {
+                if rng.random_ratio(1, 64) {
+                    return withdraw(line, port);
+                }
+                if rng.random_ratio(1, 16) {
+                    yield_now();
+                } else {
+                    spin_loop();
+                }
+            }
+        }
+    }
+    unreachable!()
+}
+
+/// Gives the request up, unless it has come to its turn.
+fn withdraw<L: LineSync<Free>>(line: &L, port: &mut L::Port) -> Turn
+    requires belongs { L.belongs line.now port.old }
+    requires state { (L.view port.old).state ≡ PortState.Queued }
+    ensures belongs { L.belongs line.now port.new }
+    ensures granted { result ≡ Turn.Granted → (L.view port.new).state ≡ PortState.Holding }
+    ensures ended { result ≢ Turn.Granted → IsTrue (may_ask (L.view port.new).state) }
+{
+    match line.withdraw(port) {
+        Out::Withdrawn => Turn::Withdrawn,
+        Out::Granted => Turn::Granted,
+        Out::Closed => Turn::Closed,
+    }
+}
