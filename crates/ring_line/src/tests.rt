@@ -3,7 +3,7 @@ mod raising;
 mod row;
 
 use super::*;
-use line_lanes::{Line64, Mask, lane, placed};
+use line_lanes::{Line64, Mask, placed, with_lane};
 use linked_list_allocator::LocalHeap;
 use qolb_model::{Enq, FinishError, Free, OpenError, Out, Poll};
 use row::Row;
@@ -192,7 +192,8 @@ fn four_threads_raise_one_count(rt: HostRuntime) -> Result<(), Fail> {
     let row = Row::open(rt.alloc(), 7, 4, Line64::zero())?;
     let row = row.raise_all(&rt).ok_or("no memory")?;
     let line = row.finish(rt.alloc()).ok().ok_or("no end")?;
-    assert_eq!(rt; lane(&line, 0), 4_000);
+    let want = with_lane(&Line64::zero(), 0, 4_000);
+    assert_eq!(rt; line.to_bytes(), want.to_bytes());
     Ok(())
 }
 

@@ -3,7 +3,7 @@ ghost use Rattle.std.specs.Prelude.{◌≡◌};
 ghost use Rattle.ring_line.specs.Trial.{IsOwn, IsTheirs};
 
 use super::super::*;
-use line_lanes::{Mask, lane, with_lane};
+use line_lanes::{changed, lane, with_lane};
 use qolb_model::{Free, PortState};
 use std::sync::Wait;
 use std::thread;
@@ -54,5 +54,6 @@ fn add_one(port: &mut Port)
 {
     let held = RingLine::<Free>::bytes(port);
     let raised = with_lane(held, 0, lane(held, 0).wrapping_add(1));
-    RingLine::<Free>::write(port, Mask(0xff), &raised);
+    let mask = changed(held, &raised);
+    RingLine::<Free>::write(port, mask, &raised);
 }
