@@ -52,11 +52,41 @@ two_lines : reply_to (codes "nodes 2 lines 2\nenq 1 0\nenq 2 1\nenq 1 1\ndeq 2 1
 unfolding digits
 two_lines = refl
 
+-- the second of two turns closes the line
+leased : reply_to (codes "nodes 2 lines 1 lease 2\nenq 1 0\nwrite 1 0 0 07\nenq 2 0\ndeq 1 0\npoll 2 0\nenq 1 0\ndeq 2 0\npoll 1 0\nenq 2 0\n") ≡ Ok (codes "granted\nok\nqueued\nreleased\ngranted\nqueued\nreleased\nclosed\nclosed\nline 0 served 2 withdrawn 0 told 2 left 0\n")
+unfolding digits decode_pairs
+leased = refl
+
+-- a withdrawn request uses no turn
+leased_and_withdrawn : reply_to (codes "nodes 3 lines 1 lease 2\nenq 1 0\nenq 2 0\nenq 3 0\nout 2 0\ndeq 1 0\npoll 3 0\ndeq 3 0\nenq 1 0\n") ≡ Ok (codes "granted\nqueued\nqueued\nwithdrawn\nreleased\ngranted\nreleased\nclosed\nline 0 served 2 withdrawn 1 told 1 left 0\n")
+unfolding digits
+leased_and_withdrawn = refl
+
+no_turns : reply_to (codes "nodes 1 lines 1 lease 0") ≡ Err (Number 1)
+no_turns = refl
+
+no_number_of_turns : reply_to (codes "nodes 1 lines 1 lease") ≡ Err (BadLine 1)
+no_number_of_turns = refl
+
+-- of two faults of a header a wrong word comes first
+wrong_word_first : reply_to (codes "nodes 0 lines 1 leash 1") ≡ Err (BadLine 1)
+wrong_word_first = refl
+
+many_nodes : reply_to (codes "nodes 200 lines 1") ≡ Ok (codes "line 0 served 0 withdrawn 0 told 0 left 0\n")
+unfolding digits
+many_nodes = refl
+
+leased_steps : steps_of (codes "nodes 1 lease 1\nreset 1") ≡ Ok (record { nodes = 1; lease = Some 1; events = Reset 1 ∷ [] })
+leased_steps = refl
+
+no_turns_of_steps : steps_of (codes "nodes 1 lease 0") ≡ Err (Number 1)
+no_turns_of_steps = refl
+
 -- first faults: no header, a number out of its range, a missing word
 nothing : reply_to [] ≡ Err (BadLine 1)
 nothing = refl
 
-too_many_nodes : reply_to (codes "nodes 33 lines 1") ≡ Err (Number 1)
+too_many_nodes : reply_to (codes "nodes 201 lines 1") ≡ Err (Number 1)
 too_many_nodes = refl
 
 no_such_node : reply_to (codes "nodes 2 lines 1\nenq 3 0") ≡ Err (Number 2)
@@ -66,10 +96,10 @@ no_line : reply_to (codes "nodes 2 lines 1\nenq 1") ≡ Err (BadLine 2)
 no_line = refl
 
 -- step scripts: events in order, and first faults
-two_lines_of_steps : steps_of (codes "nodes 2\nlink 2") ≡ Ok (record { nodes = 2; events = Link 2 ∷ [] })
+two_lines_of_steps : steps_of (codes "nodes 2\nlink 2") ≡ Ok (record { nodes = 2; lease = None; events = Link 2 ∷ [] })
 two_lines_of_steps = refl
 
-closing_steps : steps_of (codes "nodes 2\nreset 1\nprepend 1\n\nclose 1\nhome 1\n") ≡ Ok (record { nodes = 2; events = Reset 1 ∷ Prepend 1 ∷ Close 1 ∷ Home 1 ∷ [] })
+closing_steps : steps_of (codes "nodes 2\nreset 1\nprepend 1\n\nclose 1\nhome 1\n") ≡ Ok (record { nodes = 2; lease = None; events = Reset 1 ∷ Prepend 1 ∷ Close 1 ∷ Home 1 ∷ [] })
 closing_steps = refl
 
 no_such_node_of_steps : steps_of (codes "nodes 2\nlink 3") ≡ Err (Number 2)

@@ -1,5 +1,5 @@
 -- The commands of a schedule, and the header. (Of this project.)
-use Rattle.std.specs.Prelude.{ℕ, ◌+◌, ◌-◌, ◌&&◌, nat_le, if◌then◌else◌, List, [], ◌∷◌, length, codes, Option, Some, None, Result, Ok, Err}
+use Rattle.std.specs.Prelude.{ℕ, ◌+◌, ◌-◌, ◌^◌, ◌&&◌, nat_le, if◌then◌else◌, List, [], ◌∷◌, length, codes, Option, Some, None, Result, Ok, Err}
 use Rattle.std.specs.Str.{bytes_eq}
 use Rattle.hex.specs.Hex.{decode_of}
 use Rattle.hex.specs.declared.error.FromHexError.{FromHexError}
@@ -9,6 +9,9 @@ use Rattle.line_lanes.specs.declared.line.Mask.{Mask}
 use Rattle.line_lanes.specs.declared.line.Line64.{Line64}
 use Rattle.qolb_script.specs.declared.command.Command.{Command}
 use Rattle.qolb_script.specs.declared.command.Command.TheVariants.{Enq, Poll, Show, Deq, Out, Shut, Write}
+use Rattle.qolb_model.specs.declared.terms.TheConstants.{MOST_NODES}
+use Rattle.qolb_script.specs.declared.schedule.TheConstants.{MOST_LINES}
+use Rattle.qolb_script.specs.declared.reading.Header.{Header}
 use Rattle.qolb_script.specs.declared.text.LineFault.{LineFault}
 use Rattle.qolb_script.specs.declared.text.LineFault.TheVariants.{Bad}
 use Rattle.qolb_script.specs.Text.{words_of, is_plain, number_within}
@@ -85,15 +88,19 @@ command_of nodes lines (word ∷ node ∷ line ∷ off ∷ hex ∷ []) =
 command_of nodes lines words = Err Bad
 
 -- the numbers of nodes and of lines
-pub record Header : Type 0 where
-  pub nodes : ℕ
-  pub lines : ℕ
+abbrev pub sizes_of : List ℕ → List ℕ → Result (ℕ × ℕ) LineFault
+sizes_of nodes lines = and_then (number_within 1 MOST_NODES nodes) (λ n. and_then (number_within 1 MOST_LINES lines) (λ l. Ok (n, l)))
 
+-- a lease is of at least one turn
+abbrev pub lease_within : List ℕ → Result ℕ LineFault
+lease_within word = number_within 1 (2 ^ 64 - 1) word
+
+-- the header that some words write: `nodes N lines L`, and perhaps `lease C`
 abbrev pub header_of : List (List ℕ) → Result Header LineFault
 header_of (first ∷ nodes ∷ third ∷ lines ∷ []) =
-    if bytes_eq first (codes "nodes") && bytes_eq third (codes "lines")
-    then and_then (number_within 1 32 nodes) (λ n. and_then (number_within 1 8 lines) (λ l. Ok (record { nodes = n; lines = l })))
-    else Err Bad
+    if bytes_eq first (codes "nodes") && bytes_eq third (codes "lines") then and_then (sizes_of nodes lines) (λ sizes. Ok (record { nodes = sizes.0; lines = sizes.1; lease = None })) else Err Bad
+header_of (first ∷ nodes ∷ third ∷ lines ∷ fifth ∷ lease ∷ []) =
+    if bytes_eq first (codes "nodes") && bytes_eq third (codes "lines") && bytes_eq fifth (codes "lease") then and_then (sizes_of nodes lines) (λ sizes. and_then (lease_within lease) (λ turns. Ok (record { nodes = sizes.0; lines = sizes.1; lease = Some turns }))) else Err Bad
 header_of words = Err Bad
 
 -- a line with a byte that no script has is bad whatever its words

@@ -1,12 +1,14 @@
 -- The events of a step script, and its header. (Of this project.)
-use Rattle.std.specs.Prelude.{ℕ, if◌then◌else◌, List, [], ◌∷◌, codes, Option, Some, None, Result, Ok, Err}
+use Rattle.std.specs.Prelude.{ℕ, if◌then◌else◌, ◌&&◌, List, [], ◌∷◌, codes, Option, Some, None, Result, Ok, Err}
 use Rattle.std.specs.Str.{bytes_eq}
 use Rattle.link_core.specs.declared.event.Event.{Event}
 use Rattle.link_core.specs.declared.event.Event.TheVariants.{Reset, Prepend, Link, Load, Home, Done, Grant, Roll, Freed, Write, Close}
+use Rattle.qolb_model.specs.declared.terms.TheConstants.{MOST_NODES}
+use Rattle.qolb_script.specs.declared.events.StepHeader.{StepHeader}
 use Rattle.qolb_script.specs.declared.text.LineFault.{LineFault}
 use Rattle.qolb_script.specs.declared.text.LineFault.TheVariants.{Bad}
 use Rattle.qolb_script.specs.Text.{number_within}
-use Rattle.qolb_script.specs.Commands.{and_then, node_within, placed_of}
+use Rattle.qolb_script.specs.Commands.{and_then, node_within, placed_of, lease_within}
 
 -- the event that a first word names, where a node is all that follows
 abbrev pub plain_event : List ℕ → Option (ℕ → Event)
@@ -38,7 +40,9 @@ event_of nodes (word ∷ node ∷ []) = event_at nodes (plain_event word) node
 event_of nodes (word ∷ node ∷ off ∷ hex ∷ []) = if bytes_eq word (codes "write") then write_event nodes node off hex else Err Bad
 event_of nodes words = Err Bad
 
--- the number of nodes
-abbrev pub step_header_of : List (List ℕ) → Result ℕ LineFault
-step_header_of (first ∷ nodes ∷ []) = if bytes_eq first (codes "nodes") then number_within 1 32 nodes else Err Bad
+-- the header that some words write: `nodes N`, and perhaps `lease C`
+abbrev pub step_header_of : List (List ℕ) → Result StepHeader LineFault
+step_header_of (first ∷ nodes ∷ []) = if bytes_eq first (codes "nodes") then and_then (number_within 1 MOST_NODES nodes) (λ n. Ok (record { nodes = n; lease = None })) else Err Bad
+step_header_of (first ∷ nodes ∷ third ∷ lease ∷ []) =
+    if bytes_eq first (codes "nodes") && bytes_eq third (codes "lease") then and_then (number_within 1 MOST_NODES nodes) (λ n. and_then (lease_within lease) (λ turns. Ok (record { nodes = n; lease = Some turns }))) else Err Bad
 step_header_of words = Err Bad

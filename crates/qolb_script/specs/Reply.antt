@@ -1,5 +1,5 @@
 -- The reply of a script: what is said of each command, and then of each line. (Of this project.)
-use Rattle.std.specs.Prelude.{ℕ, ◌==◌, ◌&&◌, ◌||◌, Bool, true, false, if◌then◌else◌, List, [], ◌∷◌, ◌++◌, map, fold, flat_map, count_by, replicate, slice_set, Result, Ok, Err}
+use Rattle.std.specs.Prelude.{ℕ, ◌==◌, ◌&&◌, ◌||◌, Bool, true, false, if◌then◌else◌, List, [], ◌∷◌, ◌++◌, map, fold, flat_map, count_by, replicate, slice_set, None, Result, Ok, Err}
 use Rattle.std.specs.List.{slice_index_or, range_with_len}
 use Rattle.line_lanes.specs.Line.{zeros}
 use Rattle.qolb_model.specs.declared.answer.Enq.TheVariants as enq
@@ -8,7 +8,8 @@ use Rattle.qolb_model.specs.declared.answer.Out.TheVariants as out
 use Rattle.qolb_model.specs.declared.answer.PortState.{PortState}
 use Rattle.qolb_model.specs.declared.answer.PortState.TheVariants as port
 use Rattle.qolb_model.specs.OneOwner.{LineState, opened, state_of, shown, enq_answer, after_enq, poll_answer, after_poll, out_answer, after_out, after_release, after_write}
-use Rattle.qolb_model.specs.Plain.{may_ask}
+use Rattle.qolb_model.specs.declared.terms.Terms.{Terms}
+use Rattle.qolb_model.specs.PortStates.{may_ask}
 use Rattle.qolb_script.specs.declared.command.Command.{Command}
 use Rattle.qolb_script.specs.declared.command.Command.TheVariants.{Enq, Poll, Show, Deq, Out, Shut, Write}
 use Rattle.qolb_script.specs.declared.said.Said.{Said}
@@ -78,12 +79,20 @@ pub record Replay : Type 0 where
   pub lines : List LineState
   pub said : List (ℕ × Said)
 
-abbrev pub line_at : List LineState → ℕ → LineState
-line_at lines l = slice_index_or lines l (opened zeros)
+-- every line is opened with zeros, for the script's nodes and with its lease
+abbrev pub terms_of : Script → Terms
+terms_of script = record { nodes = script.nodes; opening = record { bytes = zeros }; lease = script.lease }
 
--- every line is opened with zeros; then the commands are done in order, each on its line
-abbrev pub replay_start : ℕ → Replay
-replay_start lines = record { lines = replicate lines (opened zeros); said = [] }
+-- then the commands are done in order, each on its line
+abbrev pub replay_start : Terms → ℕ → Replay
+replay_start terms lines = record { lines = replicate lines (opened terms); said = [] }
+
+-- what a line is of which there is none
+abbrev pub no_line : LineState
+no_line = opened (record { nodes = 0; opening = record { bytes = zeros }; lease = None })
+
+abbrev pub line_at : List LineState → ℕ → LineState
+line_at lines l = slice_index_or lines l no_line
 
 abbrev pub replay_step : Replay → Command → Replay
 replay_step r c = record {
@@ -92,7 +101,7 @@ replay_step r c = record {
 }
 
 abbrev pub replay_of : Script → Replay
-replay_of script = fold replay_step (replay_start script.lines) script.commands
+replay_of script = fold replay_step (replay_start (terms_of script) script.lines) script.commands
 
 -- how often such a thing was said of a line
 abbrev pub times_said : (Said → Bool) → ℕ → List (ℕ × Said) → ℕ

@@ -1,18 +1,20 @@
 -- The script that some bytes are, or the first fault in them. (Of this project.)
-use Rattle.std.specs.Prelude.{ℕ, ◌+◌, ◌<◌, ◌≤◌, nat_le, if◌then◌else◌, List, [], ◌∷◌, All, Result, Ok, Err}
+use Rattle.std.specs.Prelude.{ℕ, ◌+◌, ◌<◌, ◌≤◌, nat_le, if◌then◌else◌, List, [], ◌∷◌, All, Option, Result, Ok, Err}
 use Rattle.qolb_script.specs.declared.command.Command.{Command}
 use Rattle.qolb_script.specs.declared.error.ScriptError.{ScriptError}
 use Rattle.qolb_script.specs.declared.error.ScriptError.TheVariants as error
+use Rattle.qolb_script.specs.declared.reading.Header.{Header}
 use Rattle.qolb_script.specs.declared.text.LineFault.{LineFault}
 use Rattle.qolb_script.specs.declared.text.LineFault.TheVariants.{Bad, Number}
 use Rattle.qolb_script.specs.declared.schedule.TheConstants.{MOST_COMMANDS}
 use Rattle.qolb_script.specs.Text.{numbered_lines, worded}
-use Rattle.qolb_script.specs.Commands.{Header, header_of, command_of, read_line, node_of, line_of}
+use Rattle.qolb_script.specs.Commands.{header_of, command_of, read_line, node_of, line_of}
 
--- the numbers of nodes and lines, and the commands in order
+-- the numbers of nodes and lines, the lease of each line, if it has one, and the commands in order
 pub record Script : Type 0 where
   pub nodes : ℕ
   pub lines : ℕ
+  pub lease : Option ℕ
   pub commands : List Command
 
 -- every command is of a node and a line that there are
@@ -49,7 +51,7 @@ commands_of header before lines = items_of (command_of header.nodes header.lines
 
 abbrev pub with_commands : Header → Result (List Command) ScriptError → Result Script ScriptError
 with_commands header (Err error) = Err error
-with_commands header (Ok commands) = Ok (record { nodes = header.nodes; lines = header.lines; commands = commands })
+with_commands header (Ok commands) = Ok (record { nodes = header.nodes; lines = header.lines; lease = header.lease; commands = commands })
 
 abbrev pub under_header : Result Header ScriptError → List (ℕ × List ℕ) → Result Script ScriptError
 under_header (Err error) rest = Err error

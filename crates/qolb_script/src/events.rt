@@ -1,14 +1,17 @@
 ghost use Rattle.std.specs.Prelude.{◌≡◌, ◌≤◌, IfOk};
+ghost use Rattle.qolb_model.specs.Opening.{AreNodes};
+ghost use Rattle.qolb_model.specs.Leases.{IsLease};
 ghost use Rattle.qolb_script.specs.Commands.{read_line};
 ghost use Rattle.qolb_script.specs.Events as spec;
 ghost use Rattle.link_core.specs.Steps.{node_of};
 
 use crate::items::ReadItem;
 use crate::number::number_within;
-use crate::reading::{NODES, WRITE, node_within, read_placed};
+use crate::reading::{LEASE, NODES, WRITE, node_within, read_lease, read_placed};
 use crate::text::{LineFault, is_plain_line};
 use crate::words::Words;
 use link_core::Event;
+use qolb_model::MOST_NODES;
 
 /// The first words of the events that have a node.
 const RESET: &[u8] = b"reset";
@@ -49,22 +52,40 @@ impl ReadItem for EventReader {
     }
 }
 
-/// The number of nodes that the header line of a step script gives.
-pub fn read_step_header(text: &[u8]) -> Result<u64, LineFault>
-    ensures nodes { result ≡ read_line spec.step_header_of text.now }
-    ensures range { IfOk result (λ n. (1 ≤ n) × (n ≤ 32)) }
+/// What the header of a step script says.
+#[derive(Clone, Copy)]
+pub struct StepHeader {
+    pub nodes: u64,
+    pub lease: Option<u64>,
+}
+
+/// What the header line of a step script gives: the number of nodes, and perhaps the line's lease.
+pub fn read_step_header(text: &[u8]) -> Result<StepHeader, LineFault>
+    ensures header { result ≡ read_line spec.step_header_of text.now }
+    ensures nodes { IfOk result (λ header. AreNodes header.nodes) }
+    ensures lease { IfOk result (λ header. IsLease header.lease) }
 {
     if !is_plain_line(text) {
         return Err(LineFault::Bad);
     }
     let mut words = Words::new(text);
-    let (Some(first), Some(nodes), None) = (words.next(), words.next(), words.next()) else {
+    let (Some(first), Some(nodes)) = (words.next(), words.next()) else {
         return Err(LineFault::Bad);
     };
     if first != NODES {
         return Err(LineFault::Bad);
     }
-    number_within(1, 32, nodes)
+    match (words.next(), words.next(), words.next()) {
+        (None, _, _) => Ok(StepHeader {
+            nodes: number_within(1, MOST_NODES, nodes)?,
+            lease: None,
+        }),
+        (Some(third), Some(lease), None) if third == LEASE => Ok(StepHeader {
+            nodes: number_within(1, MOST_NODES, nodes)?,
+            lease: Some(read_lease(lease)?),
+        }),
+        _ => Err(LineFault::Bad),
+    }
 }
 
 /// The event that a line writes, of one of so many nodes.

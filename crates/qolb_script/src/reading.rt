@@ -1,14 +1,18 @@
-ghost use Rattle.std.specs.Prelude.{◌≡◌, ◌≤◌, ◌<◌, IfOk, IfErr};
+ghost use Rattle.std.specs.Prelude.{◌≡◌, ◌≤◌, ◌<◌, IfOk};
+ghost use Rattle.qolb_model.specs.Opening.{AreNodes};
+ghost use Rattle.qolb_model.specs.Leases.{IsLease};
 ghost use Rattle.hex.specs.Hex.{decode_of};
 ghost use Rattle.qolb_script.specs.Commands as spec;
 
 use crate::command::{Command, Plain};
 use crate::items::ReadItem;
 use crate::number::number_within;
+use crate::schedule::MOST_LINES;
 use crate::text::{LineFault, is_plain_line};
 use crate::words::Words;
 use hex::decode_to_slice;
 use line_lanes::{Line64, Mask, placed};
+use qolb_model::MOST_NODES;
 
 /// The most bytes that a command may write: a whole line.
 const MOST_BYTES: usize = 64;
@@ -24,6 +28,17 @@ pub const NODES: &[u8] = b"nodes";
 
 /// The word of a header before its number of lines.
 const LINES: &[u8] = b"lines";
+
+/// The word of a header before its lease.
+pub const LEASE: &[u8] = b"lease";
+
+/// What the header of a schedule says.
+#[derive(Clone, Copy)]
+pub struct Header {
+    pub nodes: u64,
+    pub lines: u64,
+    pub lease: Option<u64>,
+}
 
 /// Reads the commands below a header of these numbers.
 #[derive(Drop)]
@@ -45,19 +60,18 @@ impl ReadItem for CommandReader {
     }
 }
 
-/// The numbers of nodes and of lines that a header line gives.
-pub fn read_header(text: &[u8]) -> Result<(u64, u64), LineFault>
-    ensures ok { IfOk result (λ h. spec.read_line spec.header_of text.now ≡ Ok (record { nodes = h.0; lines = h.1 })) }
-    ensures refused { IfErr result (λ fault. spec.read_line spec.header_of text.now ≡ Err fault) }
-    ensures nodes { IfOk result (λ h. (1 ≤ h.0) × (h.0 ≤ 32)) }
-    ensures lines { IfOk result (λ h. (1 ≤ h.1) × (h.1 ≤ 8)) }
+/// What a header line gives: the numbers of nodes and of lines, and perhaps the lines' lease.
+pub fn read_header(line: &[u8]) -> Result<Header, LineFault>
+    ensures header { result ≡ spec.read_line spec.header_of line.now }
+    ensures nodes { IfOk result (λ header. AreNodes header.nodes) }
+    ensures lines { IfOk result (λ header. (1 ≤ header.lines) × (header.lines ≤ MOST_LINES)) }
+    ensures lease { IfOk result (λ header. IsLease header.lease) }
 {
-    if !is_plain_line(text) {
+    if !is_plain_line(line) {
         return Err(LineFault::Bad);
     }
-    let mut words = Words::new(text);
-    let (Some(first), Some(nodes), Some(third), Some(lines), None) = (
-        words.next(),
+    let mut words = Words::new(line);
+    let (Some(first), Some(nodes), Some(third), Some(lines)) = (
         words.next(),
         words.next(),
         words.next(),
@@ -68,9 +82,45 @@ pub fn read_header(text: &[u8]) -> Result<(u64, u64), LineFault>
     if first != NODES || third != LINES {
         return Err(LineFault::Bad);
     }
-    let nodes = number_within(1, 32, nodes)?;
-    let lines = number_within(1, 8, lines)?;
+    match (words.next(), words.next(), words.next()) {
+        (None, _, _) => {
+            let (nodes, lines) = read_sizes(nodes, lines)?;
+            Ok(Header {
+                nodes,
+                lines,
+                lease: None,
+            })
+        }
+        (Some(fifth), Some(lease), None) if fifth == LEASE => {
+            let (nodes, lines) = read_sizes(nodes, lines)?;
+            let lease = Some(read_lease(lease)?);
+            Ok(Header {
+                nodes,
+                lines,
+                lease,
+            })
+        }
+        _ => Err(LineFault::Bad),
+    }
+}
+
+/// The numbers of nodes and of lines.
+fn read_sizes(nodes: &[u8], lines: &[u8]) -> Result<(u64, u64), LineFault>
+    ensures sizes { result ≡ spec.sizes_of nodes.now lines.now }
+    ensures nodes { IfOk result (λ sizes. AreNodes sizes.0) }
+    ensures lines { IfOk result (λ sizes. (1 ≤ sizes.1) × (sizes.1 ≤ MOST_LINES)) }
+{
+    let nodes = number_within(1, MOST_NODES, nodes)?;
+    let lines = number_within(1, MOST_LINES, lines)?;
     Ok((nodes, lines))
+}
+
+/// The lease that a word writes, of at least one turn.
+pub fn read_lease(word: &[u8]) -> Result<u64, LineFault>
+    ensures lease { result ≡ spec.lease_within word.now }
+    ensures range { IfOk result (λ turns. 1 ≤ turns) }
+{
+    number_within(1, u64::MAX, word)
 }
 
 /// The command that a line writes, under a header of these numbers.

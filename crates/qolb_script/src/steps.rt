@@ -2,7 +2,7 @@ ghost use Rattle.std.specs.Prelude.{◌≡◌, ◌≢◌, IfOk, IfErr};
 ghost use Rattle.qolb_script.specs.StepScript.{steps_of};
 
 use crate::error::ScriptError;
-use crate::events::{EventReader, read_step_header};
+use crate::events::{EventReader, StepHeader, read_step_header};
 use crate::items::read_items;
 use crate::lines::Lines;
 use link_core::Event;
@@ -13,6 +13,7 @@ use std::marker::Model;
 #[derive(Drop)]
 pub struct Steps<A: Allocator = Global> {
     nodes: u64,
+    lease: Option<u64>,
     events: Vec<Event, A>,
 }
 
@@ -22,22 +23,32 @@ impl<A: Allocator> Model for Steps<A> {
 
     ghost Value = { StepScript };
 
-    ghost view = { λ s. record { nodes = s.nodes; events = s.events.items } };
+    ghost view = { λ s. record { nodes = s.nodes; lease = s.lease; events = s.events.items } };
 
-    ghost invariant = { λ s. IsStepBounded (record { nodes = s.nodes; events = s.events.items }) };
+    ghost invariant = { λ s. IsStepBounded (record { nodes = s.nodes; lease = s.lease; events = s.events.items }) };
 }
 
 impl<A: Allocator> Steps<A> {
     ghost use Rattle.std.specs.Prelude.{◌≡◌, ◌≤◌, length};
     ghost use Rattle.qolb_script.specs.declared.schedule.TheConstants.{MOST_COMMANDS};
+    ghost use Rattle.qolb_model.specs.Opening.{AreNodes};
+    ghost use Rattle.qolb_model.specs.Leases.{IsLease};
     ghost use Rattle.qolb_script.specs.StepScript.{IsOfItsNodes};
 
     /// How many nodes there are.
     pub fn nodes(&self) -> u64
         ensures nodes { result ≡ self.now.nodes }
-        ensures range { (1 ≤ result) × (result ≤ 32) }
+        ensures range { AreNodes result }
     {
         self.nodes
+    }
+
+    /// After how many served turns the line closes, if the header says so.
+    pub fn lease(&self) -> Option<u64>
+        ensures lease { result ≡ self.now.lease }
+        ensures range { IsLease result }
+    {
+        self.lease
     }
 
     /// The events, in order.
@@ -59,9 +70,13 @@ pub fn read_steps<A: Allocator>(alloc: A, text: &[u8]) -> Result<Steps<A>, Scrip
     let Some((number, line)) = rest.next() else {
         return Err(ScriptError::BadLine(1));
     };
-    let nodes = read_step_header(line).map_err(|fault| fault.at(number))?;
+    let StepHeader { nodes, lease } = read_step_header(line).map_err(|fault| fault.at(number))?;
     let events = read_items(alloc, &EventReader { nodes }, rest)?;
-    Ok(Steps { nodes, events })
+    Ok(Steps {
+        nodes,
+        lease,
+        events,
+    })
 }
 
 #[cfg(test)]

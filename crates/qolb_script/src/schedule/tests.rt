@@ -5,14 +5,22 @@ use std::alloc::AllocError;
 use std::test::Fail;
 
 /// The scripts that are refused, and why.
-const REFUSED: [(&str, ScriptError); 30] = [
+const REFUSED: [(&str, ScriptError); 35] = [
     ("", ScriptError::BadLine(1)),
     ("\n \n\n", ScriptError::BadLine(1)),
     ("\n\t\n", ScriptError::BadLine(2)),
     ("nodes 2 lines\n", ScriptError::BadLine(1)),
     ("nodes 2 lines 1 1\n", ScriptError::BadLine(1)),
     ("nodes 2 nodes 1\n", ScriptError::BadLine(1)),
-    ("nodes 33 lines 1\n", ScriptError::Number(1)),
+    ("nodes 201 lines 1\n", ScriptError::Number(1)),
+    ("nodes 1 lines 1 lease\n", ScriptError::BadLine(1)),
+    ("nodes 1 lines 1 lease 0\n", ScriptError::Number(1)),
+    ("nodes 1 lines 1 lease 1 1\n", ScriptError::BadLine(1)),
+    ("nodes 0 lines 1 lines 1\n", ScriptError::BadLine(1)),
+    (
+        "nodes 1 lines 1 lease 18446744073709551616\n",
+        ScriptError::Number(1),
+    ),
     ("nodes 0 lines 1\n", ScriptError::Number(1)),
     ("nodes 2 lines 9\n", ScriptError::Number(1)),
     ("nodes 2 lines 0\n", ScriptError::Number(1)),
@@ -107,6 +115,16 @@ fn reads_every_command(rt: HostRuntime) -> Result<(), Fail> {
         },
     ];
     assert_eq!(rt; schedule.commands(), wanted.as_slice());
+    Ok(())
+}
+
+#[test]
+fn reads_the_lease(rt: HostRuntime) -> Result<(), Fail> {
+    let schedule = read_schedule(rt.alloc(), b"nodes 200 lines 8")?;
+    assert_eq!(rt; schedule.nodes(), 200);
+    assert_eq!(rt; schedule.lease(), None);
+    let schedule = read_schedule(rt.alloc(), b"nodes 2 lines 1 lease 18446744073709551615")?;
+    assert_eq!(rt; schedule.lease(), Some(u64::MAX));
     Ok(())
 }
 

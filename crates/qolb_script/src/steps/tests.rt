@@ -4,13 +4,16 @@ use linked_list_allocator::LocalHeap;
 use std::test::Fail;
 
 /// The step scripts that are refused, and why.
-const REFUSED: [(&str, ScriptError); 17] = [
+const REFUSED: [(&str, ScriptError); 20] = [
     ("", ScriptError::BadLine(1)),
     ("\n \n", ScriptError::BadLine(1)),
     ("nodes 2 lines 1\n", ScriptError::BadLine(1)),
     ("lines 2\n", ScriptError::BadLine(1)),
     ("nodes 0\n", ScriptError::Number(1)),
-    ("nodes 33\n", ScriptError::Number(1)),
+    ("nodes 201\n", ScriptError::Number(1)),
+    ("nodes 1 lease\n", ScriptError::BadLine(1)),
+    ("nodes 1 lease 0\n", ScriptError::Number(1)),
+    ("nodes 1 lease 1 1\n", ScriptError::BadLine(1)),
     ("nodes 2\n\nlink 3\n", ScriptError::Number(3)),
     ("nodes 2\nlink 3\n", ScriptError::Number(2)),
     ("nodes 2\nlink 0\n", ScriptError::Number(2)),
@@ -33,14 +36,21 @@ fn names_the_first_fault(rt: HostRuntime) {
 }
 
 #[test]
+fn has_no_lease_where_none_is_written(rt: HostRuntime) -> Result<(), Fail> {
+    assert_eq!(rt; read_steps(rt.alloc(), b"nodes 1")?.lease(), None);
+    Ok(())
+}
+
+#[test]
 fn reads_every_event(rt: HostRuntime) -> Result<(), Fail> {
     let text =
-        b"nodes 32\nreset 1\nprepend 2\n\nlink 3\nload 4\nhome 5\ndone 6\ngrant 7\nroll 8\n  freed  32\nwrite 9 62 aBFf\nclose 10";
+        b"nodes 200 lease 7\nreset 1\nprepend 2\n\nlink 3\nload 4\nhome 5\ndone 6\ngrant 7\nroll 8\n  freed  200\nwrite 9 62 aBFf\nclose 10";
     let steps = read_steps(rt.alloc(), text)?;
     let mut bytes = [0; 64];
     bytes[62] = 0xab;
     bytes[63] = 0xff;
-    assert_eq!(rt; steps.nodes(), 32);
+    assert_eq!(rt; steps.nodes(), 200);
+    assert_eq!(rt; steps.lease(), Some(7));
     let wanted = [
         Event::Reset(1),
         Event::Prepend(2),
@@ -50,7 +60,7 @@ fn reads_every_event(rt: HostRuntime) -> Result<(), Fail> {
         Event::Done(6),
         Event::Grant(7),
         Event::Roll(8),
-        Event::Freed(32),
+        Event::Freed(200),
         Event::Write(9, Mask(0xc000_0000_0000_0000), Line64 { bytes }),
         Event::Close(10),
     ];

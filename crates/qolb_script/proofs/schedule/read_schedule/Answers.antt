@@ -8,6 +8,6 @@ use Rattle.qolb_script.proofs.schedule.read_schedule.Goals as goal
 pub returns-clause-ok : goal.returns-clause-ok
 returns-clause-ok g c =
     let first : worded (numbered_lines c.args.text.now) ≡ (c.in-Some.number, c.in-Some.line.now) ∷ lines_left c.next.new.self = sym c.new-rest.ensures ∙ c.in-Some.ensures.steps in
-    let header : read_line header_of c.in-Some.line.now ≡ Ok (record { nodes = c.in_ok-nodes.nodes; lines = c.in_ok-nodes.lines }) = search rules in
-    let commands : items_of (command_of c.in_ok-nodes.nodes c.in_ok-nodes.lines) 0 (lines_left c.next.new.self) ≡ Ok c.in_ok-commands.commands.items = c.in_ok-commands.ensures.ok in
+    let header : read_line header_of c.in-Some.line.now ≡ Ok c.in_ok-nodes.field-0 = search rules in
+    let commands : items_of (command_of c.in_ok-nodes.field-0.nodes c.in_ok-nodes.field-0.lines) 0 (lines_left c.next.new.self) ≡ Ok c.in_ok-commands.commands.items = c.in_ok-commands.ensures.ok in
     rw (first, header, commands)
