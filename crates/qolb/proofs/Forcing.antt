@@ -6,9 +6,10 @@ use Rattle.qolb_model.specs.declared.answer.PortState.{PortState}
 use Rattle.qolb_model.specs.declared.answer.PortState.TheVariants as port
 use Rattle.qolb_model.specs.declared.view.View.{View}
 use Rattle.qolb_model.specs.declared.write.Write.{Write}
-use Rattle.qolb_model.specs.Opening.{AreNew}
+use Rattle.qolb_model.specs.declared.terms.Terms.{Terms}
+use Rattle.qolb_model.specs.Opening.{AreNew, MayOpen}
 use Rattle.qolb_model.specs.OneOwner.{LineState, opened, state_of, enq_answer, after_enq, poll_answer, after_poll, out_answer, after_out}
-use Rattle.qolb_model.specs.Plain.{may_ask}
+use Rattle.qolb_model.specs.PortStates.{may_ask}
 use Rattle.qolb_model.specs.Whole.{Stance, KnowsWhole, AreWhole, seen}
 use Rattle.qolb_model.specs.Rounds.{MeetsOthers}
 use Rattle.qolb_model.proofs.Leaving.{leaves_so}
@@ -21,7 +22,7 @@ use Rattle.qolb_script.specs.declared.said.Said.TheVariants as said
 use Rattle.qolb_script.specs.Commands.{node_of}
 use Rattle.qolb_script.specs.Reply.{is_allowed, is_queued, is_holding, answered, after_allowed, said_of, after_command}
 use Rattle.qolb.specs.Stances.{stance_of}
-use Rattle.qolb.specs.Calls.{Promises, Calls, AnswersByPort}
+use Rattle.qolb.specs.Calls.{Promises, Calls, AnswersByPort, all_allowed}
 use Rattle.qolb.proofs.Allowed.{queued_state, holding_state}
 use Rattle.qolb.proofs.Rounds.{get_of}
 
@@ -63,31 +64,31 @@ allowed_seen x (command.Shut node line) = holding_seen x
 allowed_seen x (command.Write node line mask bytes) = holding_seen x
 
 -- a call, and the round of meets after it
-module _ (s : LineState) (ports : List Stance) (whole : AreWhole s ports) (place : ℕ) (u a : Stance) (at : slice_get ports place ≡ Some u) (new : List Stance) (round : MeetsOthers place (set ports place a) new) where
+module _ (s : LineState) (ports : List Stance) (whole : AreWhole s ports) (place : ℕ) (u a : Stance) (at : slice_get ports place ≡ Some u) (new : List Stance) (round : MeetsOthers all_allowed place (set ports place a) new) where
   -- nothing was done
   unchanged : a ≡ u → AreWhole s new
-  unchanged e = spreads (length ports) s place a (set ports place a) new (called s ports whole place u a at (ap (λ x. x.view.node) e)) round s (leaves_so (place + 1) s) whole.reached
-      (subst (λ x. KnowsWhole (length ports) s x) (sym e) (whole.knows place u at))
+  unchanged e = spreads all_allowed s place a (set ports place a) new (called s ports whole place u a at (ap (λ x. x.view.node) e)) round s (leaves_so (place + 1) s) whole.reached
+      (subst (λ x. KnowsWhole s x) (sym e) (whole.knows place u at))
 
   -- an allowed command
   done : (c : Command) (what : Said) → place + 1 ≡ node_of c → is_allowed u.view.state c ≡ true → is_allowed (state_of s (place + 1)) c ≡ true → Promises c what u a → (what ≡ answered s c) × AreWhole (after_allowed s c) new
   done (command.Enq node line) what e may_u may (answer, is, h) =
-      let r = asked s ports whole place u a at h.goes_on.extends h.goes_on.history new round may_u may answer h.busy h.asks h.joined h.granted h.queued h.told in
+      let r = asked all_allowed s ports whole place u a at h.continues.extends h.continues.history new round may_u may answer h.busy h.asks h.joined h.granted h.queued h.told in
       subst (λ m. (what ≡ said.Enq (enq_answer s m)) × AreWhole (after_enq s m) new) e (is ∙ ap said.Enq r.0, r.1)
   done (command.Poll node line) what e may_u may (answer, is, h) =
-      let r = polled s ports whole place u a at h.goes_on.extends h.goes_on.history new round (queued_state (state_of s (place + 1)) may) h.count answer h.granted h.waiting h.told in
+      let r = polled all_allowed s ports whole place u a at h.continues.extends h.continues.history new round (queued_state (state_of s (place + 1)) may) h.count answer h.granted h.waiting h.told in
       subst (λ m. (what ≡ said.Poll (poll_answer s m)) × AreWhole (after_poll (poll_answer s m) s) new) e (is ∙ ap said.Poll r.0, subst (λ p. AreWhole (after_poll p s) new) r.0 r.1)
   done (command.Show node line) what e may_u may (is, same) =
       (is ∙ ap (λ b. said.Bytes (record { bytes = b })) (shows_bytes s ports whole place u at (holding_state u.view.state may_u)), unchanged same)
-  done (command.Deq node line) what e may_u may (is, on, h) =
-      (is, released s ports whole place u a at on.extends on.history new round (holding_state u.view.state may_u) (holding_state (state_of s (place + 1)) may) false port.Idle refl h)
+  done (command.Deq node line) what e may_u may (is, h) =
+      (is, released all_allowed s ports whole place u a at h.continues.extends h.continues.history new round (holding_state u.view.state may_u) (holding_state (state_of s (place + 1)) may) false h.ends_turn)
   done (command.Out node line) what e may_u may (answer, is, h) =
-      let r = withdrew s ports whole place u a at h.goes_on.extends h.goes_on.history new round (queued_state (state_of s (place + 1)) may) h.count answer h.granted h.withdrawn h.told in
+      let r = withdrew all_allowed s ports whole place u a at h.continues.extends h.continues.history new round (queued_state (state_of s (place + 1)) may) h.count answer h.granted h.withdrawn h.told in
       subst (λ m. (what ≡ said.Out (out_answer s m)) × AreWhole (after_out s m) new) e (is ∙ ap said.Out r.0, r.1)
-  done (command.Shut node line) what e may_u may (is, on, h) =
-      (is, released s ports whole place u a at on.extends on.history new round (holding_state u.view.state may_u) (holding_state (state_of s (place + 1)) may) true port.Shut refl h)
+  done (command.Shut node line) what e may_u may (is, h) =
+      (is, released all_allowed s ports whole place u a at h.continues.extends h.continues.history new round (holding_state u.view.state may_u) (holding_state (state_of s (place + 1)) may) true h.ends_turn)
   done (command.Write node line mask bytes) what e may_u may (is, view, turn) =
-      (is, wrote s ports whole place u a at (holding_state (state_of s (place + 1)) may) (holding_state u.view.state may_u) mask.0 bytes.bytes view turn new round)
+      (is, wrote all_allowed s ports whole place u a at (holding_state (state_of s (place + 1)) may) (holding_state u.view.state may_u) mask.0 bytes.bytes view turn new round)
 
   pub forced : (c : Command) (what : Said) → place + 1 ≡ node_of c → Calls c what u a → (what ≡ said_of s c) × AreWhole (after_command s c) new
   forced c what e calls = by (is_allowed u.view.state c) refl
@@ -110,7 +111,7 @@ module _ (s : LineState) (ports : List Stance) (whole : AreWhole s ports) (place
 pub answers_forced : (s : LineState) (old new : List Stance) (c : Command) (what : Said) → AreWhole s old → AnswersByPort c what old new → (what ≡ said_of s c) × AreWhole (after_command s c) new
 answers_forced s old new c what whole h =
     let at : slice_get old h.place ≡ Some h.before.port = ap (λ xs. slice_get xs h.place) h.before.was ∙ (ap (slice_get (h.before.before ++ h.before.port ∷ h.before.behind)) (sym h.before.at) ∙ get_here h.before.before h.before.port h.before.behind) in
-    let met = met_whole s old whole h.place h.before.port at h.met h.before in
+    let met = met_whole all_allowed s old whole h.place h.before.port at h.met h.before in
     forced s h.met met h.place h.port h.port_then h.at new h.after c what h.of_node h.calls
   where
     get_here : (xs : List Stance) (x : Stance) (ys : List Stance) → slice_get (xs ++ x ∷ ys) (length xs) ≡ Some x
@@ -129,8 +130,8 @@ module _ {P : Type 0} (view : P → View) (turn : P → Write) where
       (whole.knows place (stance_of view turn (get_or ports place d)) at).state ∙ ap (λ m. seen (state_of s m)) (whole.node place (stance_of view turn (get_or ports place d)) at ∙ n)
 
   pub answers_by : (ports met new : List P) (c : Command) (what : Said) (place : ℕ) (d a : P) → place < length met → place + 1 ≡ node_of c
-      → MeetsOthers place (map (stance_of view turn) ports) (map (stance_of view turn) met) → Calls c what (stance_of view turn (get_or met place d)) (stance_of view turn a)
-      → MeetsOthers place (map (stance_of view turn) (set met place a)) (map (stance_of view turn) new) → AnswersByPort c what (map (stance_of view turn) ports) (map (stance_of view turn) new)
+      → MeetsOthers all_allowed place (map (stance_of view turn) ports) (map (stance_of view turn) met) → Calls c what (stance_of view turn (get_or met place d)) (stance_of view turn a)
+      → MeetsOthers all_allowed place (map (stance_of view turn) (set met place a)) (map (stance_of view turn) new) → AnswersByPort c what (map (stance_of view turn) ports) (map (stance_of view turn) new)
   answers_by ports met new c what place d a lt n before calls after = record {
     place = place;
     of_node = n;
@@ -140,12 +141,12 @@ module _ {P : Type 0} (view : P → View) (turn : P → Write) where
     at = at_place met place d lt;
     port_then = stance_of view turn a;
     calls = calls;
-    after = subst (λ xs. MeetsOthers place xs (map (stance_of view turn) new)) (map-set (stance_of view turn) met place a) after;
+    after = subst (λ xs. MeetsOthers all_allowed place xs (map (stance_of view turn) new)) (map-set (stance_of view turn) met place a) after;
   }
 
   -- ports of a line that was just opened
-  pub new_whole : (label nodes : ℕ) (opening : List ℕ) (ports : List P) → length opening ≡ 64 → AreNew label nodes opening (map view ports) → AreWhole (opened opening) (map (stance_of view turn) ports)
-  new_whole label nodes opening ports long new = opened_whole label nodes opening (map (stance_of view turn) ports) long (subst (AreNew label nodes opening) (sym (again ports)) new)
+  pub new_whole : (label : ℕ) (terms : Terms) (ports : List P) → MayOpen terms → length terms.opening.bytes ≡ 64 → AreNew label terms (map view ports) → AreWhole (opened terms) (map (stance_of view turn) ports)
+  new_whole label terms ports may long new = opened_whole label terms (map (stance_of view turn) ports) may long (subst (AreNew label terms) (sym (again ports)) new)
     where
       again : (xs : List P) → map (λ p. p.view) (map (stance_of view turn) xs) ≡ map view xs
       again [] = refl

@@ -8,6 +8,7 @@ use Rattle.std.proofs.lemmas.Option.{get_or_from_slice_get}
 use Rattle.std.proofs.lemmas.Bool.{cases_lt}
 use Rattle.std.proofs.lemmas.List.FromFn.{map-range_with_len_more}
 use Rattle.line_lanes.specs.Line.{zeros}
+use Rattle.qolb_model.specs.declared.terms.Terms.{Terms}
 use Rattle.qolb_model.specs.OneOwner.{LineState, opened}
 use Rattle.qolb_model.proofs.Lists.{element_at}
 use Rattle.qolb_script.specs.declared.command.Command.{Command}
@@ -15,7 +16,7 @@ use Rattle.qolb_script.specs.declared.said.Said.{Said}
 use Rattle.qolb_script.specs.Commands.{line_of}
 use Rattle.qolb_script.specs.Script.{Script, IsInRange}
 use Rattle.qolb_script.specs.Said.{said_text}
-use Rattle.qolb_script.specs.Reply.{Replay, line_at, replay_start, replay_step, replay_of, said_of, text_of, summary_of, reply_of, times_said, is_served, is_withdrawn, is_told}
+use Rattle.qolb_script.specs.Reply.{Replay, terms_of, line_at, replay_start, replay_step, replay_of, said_of, text_of, summary_of, reply_of, times_said, is_served, is_withdrawn, is_told}
 use Rattle.qolb.specs.declared.tally.TalliedLine.{TalliedLine}
 use Rattle.qolb.specs.Tallies.{Does, IsLineOf, AreLinesOf}
 use Rattle.qolb.proofs.Tallying.{lines_step, said_is}
@@ -24,17 +25,17 @@ use Rattle.qolb.proofs.Tallying.{lines_step, said_is}
 pub all_from_each : {A : Type 0} (P : A → Type 0) (xs : List A) → ((i : ℕ) (x : A) → slice_get xs i ≡ Some x → P x) → All P xs
 all_from_each P xs h = λ k d l. let at = element_at xs k l in subst P (sym (get_or_from_slice_get xs k at.0 d at.1)) (h k at.0 at.1)
 
-opened_at : (n k : ℕ) → opened zeros ≡ line_at (replicate n (opened zeros)) k
-opened_at zero k = refl
-opened_at (suc n) zero = refl
-opened_at (suc n) (suc k) = opened_at n k
+opened_at : (terms : Terms) (n k : ℕ) → k < n → opened terms ≡ line_at (replicate n (opened terms)) k
+opened_at terms zero k lt = absurd (omega arith)
+opened_at terms (suc n) zero lt = refl
+opened_at terms (suc n) (suc k) lt = opened_at terms n k (omega (arith, lt))
 
 -- the replay after the first i commands
 abbrev pub replay_after : Script → ℕ → Replay
-replay_after script i = fold replay_step (replay_start script.lines) (take i script.commands)
+replay_after script i = fold replay_step (replay_start (terms_of script) script.lines) (take i script.commands)
 
 whole : (script : Script) (i : ℕ) → length script.commands ≤ i → replay_after script i ≡ replay_of script
-whole script i all = ap (fold replay_step (replay_start script.lines)) (take_all i script.commands all)
+whole script i all = ap (fold replay_step (replay_start (terms_of script) script.lines)) (take_all i script.commands all)
 
 abbrev pub said_text_of : Replay → List ℕ
 said_text_of r = text_of (map (λ s. s.1) r.said)
@@ -66,46 +67,46 @@ ends_all script k text e all = e.text_is ∙ ap (λ n. said_text_of (replay_of s
 -- Lines of some kind: which state of one owner each shows, and how many nodes it has.
 module _ {R : Type 0} (shows : R → LineState → Type 0) (nodes_of : R → ℕ) where
   -- a line that was just opened, of which nothing was said
-  pub record IsNew (nodes : ℕ) (t : TalliedLine R) : Type 0 where
-    pub nodes_are : nodes_of t.line ≡ nodes
-    pub agrees : shows t.line (opened zeros)
+  pub record IsNew (terms : Terms) (t : TalliedLine R) : Type 0 where
+    pub nodes_are : nodes_of t.line ≡ terms.nodes
+    pub agrees : shows t.line (opened terms)
     pub none_served : t.served ≡ 0
     pub none_withdrawn : t.withdrawn ≡ 0
     pub none_told : t.told ≡ 0
 
-  new_line : (nodes n k : ℕ) (t : TalliedLine R) → IsNew nodes t → IsLineOf shows nodes_of nodes (replay_start n) k t
-  new_line nodes n k t new = record {
+  new_line : (terms : Terms) (n k : ℕ) (t : TalliedLine R) → k < n → IsNew terms t → IsLineOf shows nodes_of terms.nodes (replay_start terms n) k t
+  new_line terms n k t lt new = record {
     nodes_are = new.nodes_are;
-    agrees = subst (shows t.line) (opened_at n k) new.agrees;
+    agrees = subst (shows t.line) (opened_at terms n k lt) new.agrees;
     served_are = new.none_served;
     withdrawn_are = new.none_withdrawn;
     told_are = new.none_told;
   }
 
   -- no line, and one more
-  pub none_opened : (nodes : ℕ) → AreLinesOf shows nodes_of nodes (replay_start 0) []
-  none_opened nodes = record { as_many = refl; each = λ number d lt. absurd (omega arith) }
+  pub none_opened : (terms : Terms) → AreLinesOf shows nodes_of terms.nodes (replay_start terms 0) []
+  none_opened terms = record { as_many = refl; each = λ number d lt. absurd (omega arith) }
 
-  pub one_more_opened : (nodes n : ℕ) (lines : List (TalliedLine R)) (t : TalliedLine R) → AreLinesOf shows nodes_of nodes (replay_start n) lines → length lines ≡ n → IsNew nodes t → AreLinesOf shows nodes_of nodes (replay_start (n + 1)) (lines ++ t ∷ [])
-  one_more_opened nodes n lines t are many new = record {
-    as_many = length-append lines (t ∷ []) ∙ (let e : length lines + 1 ≡ n + 1 = omega arith in e) ∙ sym (length-replicate (n + 1) (opened zeros));
+  pub one_more_opened : (terms : Terms) (n : ℕ) (lines : List (TalliedLine R)) (t : TalliedLine R) → AreLinesOf shows nodes_of terms.nodes (replay_start terms n) lines → length lines ≡ n → IsNew terms t → AreLinesOf shows nodes_of terms.nodes (replay_start terms (n + 1)) (lines ++ t ∷ [])
+  one_more_opened terms n lines t are many new = record {
+    as_many = length-append lines (t ∷ []) ∙ (let e : length lines + 1 ≡ n + 1 = omega arith in e) ∙ sym (length-replicate (n + 1) (opened terms));
     each = λ number d lt. by_place number d lt (cases_lt number (length lines));
   }
     where
-      again : (number : ℕ) (u : TalliedLine R) → IsLineOf shows nodes_of nodes (replay_start n) number u → IsLineOf shows nodes_of nodes (replay_start (n + 1)) number u
-      again number u was = record {
+      again : (number : ℕ) (u : TalliedLine R) → number < n → IsLineOf shows nodes_of terms.nodes (replay_start terms n) number u → IsLineOf shows nodes_of terms.nodes (replay_start terms (n + 1)) number u
+      again number u lt was = record {
         nodes_are = was.nodes_are;
-        agrees = subst (shows u.line) (opened_at (n + 1) number) (subst (shows u.line) (sym (opened_at n number)) was.agrees);
+        agrees = subst (shows u.line) (opened_at terms (n + 1) number (omega arith)) (subst (shows u.line) (sym (opened_at terms n number lt)) was.agrees);
         served_are = was.served_are;
         withdrawn_are = was.withdrawn_are;
         told_are = was.told_are;
       }
 
-      by_place : (number : ℕ) (d : TalliedLine R) → number < length (lines ++ t ∷ []) → (number < length lines) ⊎ (length lines ≤ number) → IsLineOf shows nodes_of nodes (replay_start (n + 1)) number (get_or (lines ++ t ∷ []) number d)
-      by_place number d lt (inl old) = subst (IsLineOf shows nodes_of nodes (replay_start (n + 1)) number) (sym (get_or_append_left lines (t ∷ []) d number old)) (again number (get_or lines number d) (are.each number d old))
+      by_place : (number : ℕ) (d : TalliedLine R) → number < length (lines ++ t ∷ []) → (number < length lines) ⊎ (length lines ≤ number) → IsLineOf shows nodes_of terms.nodes (replay_start terms (n + 1)) number (get_or (lines ++ t ∷ []) number d)
+      by_place number d lt (inl old) = subst (IsLineOf shows nodes_of terms.nodes (replay_start terms (n + 1)) number) (sym (get_or_append_left lines (t ∷ []) d number old)) (again number (get_or lines number d) (omega arith) (are.each number d old))
       by_place number d lt (inr last) =
           let at : length lines ≡ number = omega (arith, length-append lines (t ∷ [])) in
-          subst (IsLineOf shows nodes_of nodes (replay_start (n + 1)) number) (sym (get_or_push lines t d number at)) (new_line nodes (n + 1) number t new)
+          subst (IsLineOf shows nodes_of terms.nodes (replay_start terms (n + 1)) number) (sym (get_or_push lines t d number at)) (new_line terms (n + 1) number t (omega arith) new)
 
   -- these lines and this text stand after the first i commands
   pub record Stands (script : Script) (i : ℕ) (lines : List (TalliedLine R)) (text : List ℕ) : Type 0 where
@@ -114,8 +115,8 @@ module _ {R : Type 0} (shows : R → LineState → Type 0) (nodes_of : R → ℕ
     pub text_is : text ≡ said_text_of (replay_after script i)
     pub said_count : length (replay_after script i).said ≡ i
 
-  pub stands_start : (script : Script) (lines : List (TalliedLine R)) → AreLinesOf shows nodes_of script.nodes (replay_start script.lines) lines → Stands script 0 lines []
-  stands_start script lines are = record { lines_are = are; many = are.as_many ∙ length-replicate script.lines (opened zeros); text_is = refl; said_count = refl }
+  pub stands_start : (script : Script) (lines : List (TalliedLine R)) → AreLinesOf shows nodes_of script.nodes (replay_start (terms_of script) script.lines) lines → Stands script 0 lines []
+  stands_start script lines are = record { lines_are = are; many = are.as_many ∙ length-replicate script.lines (opened (terms_of script)); text_is = refl; said_count = refl }
 
   pub stands_step : (script : Script) (i : ℕ) (lines : List (TalliedLine R)) (text : List ℕ) (c : Command) (what : Said) (new : TalliedLine R) (after : List ℕ)
       → Stands script i lines text → i < length script.commands → get_or script.commands i c ≡ c → line_of c < script.lines
@@ -131,7 +132,7 @@ module _ {R : Type 0} (shows : R → LineState → Type 0) (nodes_of : R → ℕ
       r = replay_after script i
 
       next : replay_after script (i + 1) ≡ replay_step (replay_after script i) c
-      next = fold_more replay_step (replay_start script.lines) script.commands i c lt ∙ ap (replay_step (replay_after script i)) at
+      next = fold_more replay_step (replay_start (terms_of script) script.lines) script.commands i c lt ∙ ap (replay_step (replay_after script i)) at
 
       there : line_of c < length lines
       there = let e = s.many in omega arith

@@ -11,7 +11,7 @@ use Rattle.qolb_model.specs.Whole.{seen}
 use Rattle.qolb_script.specs.declared.command.Command.{Command}
 use Rattle.qolb_script.specs.declared.said.Said.{Said}
 use Rattle.qolb_script.specs.Commands.{line_of}
-use Rattle.qolb_script.specs.Reply.{nodes_left, is_queued, is_holding, Replay, line_at, said_of, after_command, replay_step, times_said, is_served, is_withdrawn, is_told}
+use Rattle.qolb_script.specs.Reply.{nodes_left, is_queued, is_holding, Replay, line_at, no_line, said_of, after_command, replay_step, times_said, is_served, is_withdrawn, is_told}
 use Rattle.qolb.specs.declared.tally.TalliedLine.{TalliedLine}
 use Rattle.qolb.specs.Tallies.{one_if, Does, IsLineOf, AreLinesOf}
 
@@ -86,7 +86,7 @@ module _ {R : Type 0} (shows : R → LineState → Type 0) (nodes_of : R → ℕ
   its_own : IsLineOf shows nodes_of nodes (replay_step r c) (line_of c) new
   its_own = record {
     nodes_are = does.nodes ∙ was.nodes_are;
-    agrees = subst (shows new.line) (sym (get_or-set_same r.lines (line_of c) (after_command (line_at r.lines (line_of c)) c) (opened zeros) in_replay)) (does.agrees (line_at r.lines (line_of c)) was.agrees);
+    agrees = subst (shows new.line) (sym (get_or-set_same r.lines (line_of c) (after_command (line_at r.lines (line_of c)) c) no_line in_replay)) (does.agrees (line_at r.lines (line_of c)) was.agrees);
     served_are = does.served ∙ counted is_served old.served was.served_are;
     withdrawn_are = does.withdrawn ∙ counted is_withdrawn old.withdrawn was.withdrawn_are;
     told_are = does.told ∙ counted is_told old.told was.told_are;
@@ -100,7 +100,7 @@ module _ {R : Type 0} (shows : R → LineState → Type 0) (nodes_of : R → ℕ
   others : (number : ℕ) (d : TalliedLine R) → number < length lines → number ≢ line_of c → IsLineOf shows nodes_of nodes (replay_step r c) number (get_or lines number d)
   others number d lt ne = let was_so = are.each number d lt in record {
     nodes_are = was_so.nodes_are;
-    agrees = subst (shows (get_or lines number d).line) (sym (get_or-set_other r.lines (line_of c) number (after_command (line_at r.lines (line_of c)) c) (opened zeros) ne)) was_so.agrees;
+    agrees = subst (shows (get_or lines number d).line) (sym (get_or-set_other r.lines (line_of c) number (after_command (line_at r.lines (line_of c)) c) no_line ne)) was_so.agrees;
     served_are = was_so.served_are ∙ sym (uncounted is_served);
     withdrawn_are = was_so.withdrawn_are ∙ sym (uncounted is_withdrawn);
     told_are = was_so.told_are ∙ sym (uncounted is_told);

@@ -36,10 +36,7 @@ pub fn allows(state: PortState, command: &Command) -> bool
     ensures { result ≡ is_allowed state command.now }
 {
     match *command {
-        Command::Enq { .. } => !matches!(
-            state,
-            PortState::Linking | PortState::Queued | PortState::Holding
-        ),
+        Command::Enq { .. } => state.may_ask(),
         Command::Poll { .. } | Command::Out { .. } => state == PortState::Queued,
         _ => state == PortState::Holding,
     }

@@ -1,12 +1,12 @@
 //! A line that each node calls through a port of its own.
 ghost use Rattle.std.specs.Prelude.{◌≡◌, ◌<◌, ◌≤◌, length, map, All};
 ghost use Rattle.qolb_model.specs.OneOwner.{opened};
-ghost use Rattle.qolb_model.specs.Opening.{AreNew};
+ghost use Rattle.qolb_model.specs.Opening.{AreNew, MayOpen};
 ghost use Rattle.qolb_model.specs.Whole.{AreWhole};
 ghost use Rattle.qolb_model.specs.Rounds.{MeetsEach, MeetsOthers};
 ghost use Rattle.qolb_script.specs.Commands.{node_of};
 ghost use Rattle.qolb.specs.Stances.{stance_of};
-ghost use Rattle.qolb.specs.Calls.{Calls, AnswersByPort};
+ghost use Rattle.qolb.specs.Calls.{Calls, AnswersByPort, all_allowed};
 
 use crate::line::{ReplayLine, allows};
 use qolb_model::{Free, LineSync, PortState};
@@ -47,10 +47,11 @@ where
     /// A line that was just opened, with a port for each of its nodes in their order.
     pub fn new(line: L, ports: Vec<L::Port>) -> PortedLine<L>
         requires belong { All (L.belongs line) ports.items }
-        requires bytes { length (L.opening_of line) ≡ 64 }
-        requires new { AreNew (L.label_of line) (L.nodes_of line) (L.opening_of line) (map L.view ports.items) }
-        ensures nodes { length result ≡ L.nodes_of line }
-        ensures shows { AreWhole (opened (L.opening_of line)) result }
+        requires bytes { length (L.terms_of line).opening.bytes ≡ 64 }
+        requires may_open { MayOpen (L.terms_of line) }
+        requires new { AreNew (L.label_of line) (L.terms_of line) (map L.view ports.items) }
+        ensures nodes { length result ≡ (L.terms_of line).nodes }
+        ensures shows { AreWhole (opened (L.terms_of line)) result }
     {
         PortedLine { line, ports }
     }
@@ -123,7 +124,7 @@ fn meet_each<L: LineSync<Free>>(line: &L, port: &mut L::Port, others: &mut [L::P
     requires belong { All (L.belongs line.now) others.old }
     ensures belongs { L.belongs line.now port.new }
     ensures belong { All (L.belongs line.now) others.new }
-    ensures meets { MeetsEach (stance_of L.view L.turn port.old) (map (stance_of L.view L.turn) others.old) (stance_of L.view L.turn port.new) (map (stance_of L.view L.turn) others.new) }
+    ensures meets { MeetsEach all_allowed (stance_of L.view L.turn port.old) (map (stance_of L.view L.turn) others.old) (stance_of L.view L.turn port.new) (map (stance_of L.view L.turn) others.new) }
 {
     for other in others.iter_mut() {
         line.meet(port, other);
@@ -135,7 +136,7 @@ fn meet_others<L: LineSync<Free>>(line: &L, ports: &mut [L::Port], place: usize)
     requires place { place < length ports.old }
     requires belong { All (L.belongs line.now) ports.old }
     ensures belong { All (L.belongs line.now) ports.new }
-    ensures meets { MeetsOthers place (map (stance_of L.view L.turn) ports.old) (map (stance_of L.view L.turn) ports.new) }
+    ensures meets { MeetsOthers all_allowed place (map (stance_of L.view L.turn) ports.old) (map (stance_of L.view L.turn) ports.new) }
 {
     let (before, rest) = ports.split_at_mut(place);
     if let Some((port, behind)) = rest.split_first_mut() {

@@ -2,7 +2,8 @@
 ghost use Rattle.std.specs.Prelude.{◌≡◌, ◌≢◌, ◌⊎◌, ◌↔◌, ℕ, List, length, ◌≤◌, true, false, Ok, Err, OnOk, IfOk, IfErr, IfSome};
 ghost use Rattle.std.specs.Io.KnownBytes.{Appends};
 ghost use Rattle.qolb_script.specs.Watched.{inner_of, has_failed};
-ghost use Rattle.qolb_script.specs.Reply.{replay_start, reply_of, reply_to};
+ghost use Rattle.qolb_script.specs.Reply.{terms_of, replay_start, reply_of, reply_to};
+ghost use Rattle.qolb_model.specs.Opening.{MayOpen};
 ghost use Rattle.qolb_model.specs.Plain.{PlainView, Agrees};
 ghost use Rattle.qolb_model.specs.OneOwner.{LineState};
 ghost use Rattle.qolb_model.specs.Whole.{Stance, AreWhole};
@@ -15,7 +16,7 @@ use crate::line::ReplayLine;
 use crate::ported::PortedLine;
 use crate::tally::TalliedLine;
 use line_lanes::Line64;
-use qolb_model::{Free, PlainLine};
+use qolb_model::{Free, PlainLine, Terms};
 use qolb_script::{Fault, Schedule, ScriptError, Watched, push_said, read_schedule};
 use ring_line::RingLine;
 use std::alloc::{AllocError, Allocator, Global};
@@ -125,14 +126,18 @@ fn answered<'a, A: Allocator>(
     ensures refused { IfErr result (λ error. (error ≡ ReplayError.Memory) ⊎ ((fault : ScriptError) × (error ≡ ReplayError.Script fault) × (reply_to input.now ≡ Err fault) × (fault ≢ ScriptError.Memory))) }
 {
     let schedule = read_schedule(alloc, input)?;
-    let nodes = schedule.nodes();
+    let terms = Terms {
+        nodes: schedule.nodes(),
+        opening: Line64::zero(),
+        lease: schedule.lease(),
+    };
     let text = match kind {
         Kind::Plain => {
-            let lines = open_lines(alloc, nodes, schedule.lines())?;
+            let lines = open_lines(alloc, &terms, schedule.lines())?;
             reply(alloc, &schedule, lines)?
         }
         Kind::Ring => {
-            let lines = open_rings(alloc, rings, nodes, schedule.lines())?;
+            let lines = open_rings(alloc, rings, &terms, schedule.lines())?;
             reply(alloc, &schedule, lines)?
         }
     };
@@ -145,7 +150,7 @@ fn reply<A: Allocator, R: ReplayLine + Drop>(
     schedule: &Schedule<A>,
     lines: Vec<TalliedLine<R>, A>,
 ) -> Result<Vec<u8, A>, AllocError>
-    requires { AreLinesOf R.shows R.nodes_of schedule.now.nodes (replay_start schedule.now.lines) lines.items }
+    requires { AreLinesOf R.shows R.nodes_of schedule.now.nodes (replay_start (terms_of schedule.now) schedule.now.lines) lines.items }
     ensures { IfOk result (λ text. text.items ≡ reply_of schedule.now) }
 {
     let nodes = schedule.nodes();
@@ -161,19 +166,19 @@ fn reply<A: Allocator, R: ReplayLine + Drop>(
     Ok(text)
 }
 
-/// Lines of zeros, of which nothing was said.
+/// Lines that are opened so, of which nothing was said.
 fn open_lines<A: Allocator>(
     alloc: A,
-    nodes: u64,
+    terms: &Terms,
     lines: u64,
 ) -> Result<Vec<TalliedLine<PlainLine>, A>, AllocError>
-    requires some { 1 ≤ nodes }
-    requires most { nodes ≤ 32 }
-    ensures { IfOk result (λ all. AreLinesOf Agrees (λ (line : PlainView). line.nodes) nodes (replay_start lines) all.items) }
+    requires bytes { length terms.now.opening.bytes ≡ 64 }
+    requires may_open { MayOpen terms.now }
+    ensures { IfOk result (λ all. AreLinesOf Agrees (λ (line : PlainView). line.nodes) terms.now.nodes (replay_start terms.now lines) all.items) }
 {
     let mut all = Vec::with_capacity(alloc, lines as usize)?;
     for _ in 0..lines {
-        let Ok(line) = PlainLine::open(nodes, Line64::zero()) else {
+        let Ok(line) = PlainLine::with_terms(terms) else {
             unreachable!();
         };
         all.push(TalliedLine {
@@ -186,20 +191,20 @@ fn open_lines<A: Allocator>(
     Ok(all)
 }
 
-/// Rings of zeros, of which nothing was said.
+/// Rings that are opened so, of which nothing was said.
 fn open_rings<A: Allocator>(
     alloc: A,
     rings: Global,
-    nodes: u64,
+    terms: &Terms,
     lines: u64,
 ) -> Result<Vec<TalliedLine<PortedLine<RingLine<Free>>>, A>, AllocError>
-    requires some { 1 ≤ nodes }
-    requires most { nodes ≤ 32 }
-    ensures { IfOk result (λ all. AreLinesOf (λ (ports : List Stance) (s : LineState). AreWhole s ports) (λ (ports : List Stance). length ports) nodes (replay_start lines) all.items) }
+    requires bytes { length terms.now.opening.bytes ≡ 64 }
+    requires may_open { MayOpen terms.now }
+    ensures { IfOk result (λ all. AreLinesOf (λ (ports : List Stance) (s : LineState). AreWhole s ports) (λ (ports : List Stance). length ports) terms.now.nodes (replay_start terms.now lines) all.items) }
 {
     let mut all = Vec::with_capacity(alloc, lines as usize)?;
     for number in 0..lines {
-        let Ok((ring, ports)) = RingLine::open(rings, number, nodes, Line64::zero()) else {
+        let Ok((ring, ports)) = RingLine::with_terms(rings, number, terms) else {
             return Err(AllocError);
         };
         all.push(TalliedLine {

@@ -4,7 +4,7 @@ ghost use Rattle.qolb_model.specs.OneOwner.{LineState};
 ghost use Rattle.qolb_script.specs.Reply.{nodes_left, is_queued, is_holding};
 
 use crate::line::ReplayLine;
-use qolb_model::{Enq, Out, Poll, PortState};
+use qolb_model::{Enq, MOST_NODES, Out, Poll, PortState};
 use qolb_script::{Command, Said};
 
 /// A line, and how often it was said of it that a request was served, withdrawn or told closed.
@@ -54,7 +54,7 @@ impl<R: ReplayLine> TalliedLine<R> {
 
     /// The last thing that is said of the line, whose number this is.
     pub fn summary(&self, number: u64, nodes: u64) -> Said
-        requires few { nodes ≤ 32 }
+        requires few { nodes ≤ MOST_NODES }
         requires nodes { nodes ≤ R.nodes_of self.now.line }
         ensures { (r : Replay) → IsLineOf R.shows R.nodes_of nodes r number self.now → result ≡ summary_of nodes r number }
     {
@@ -77,7 +77,7 @@ fn is_left(state: PortState) -> bool
 
 /// How many of the nodes wait at the line or hold it.
 fn nodes_left_at<R: ReplayLine>(line: &R, nodes: u64) -> u64
-    requires few { nodes ≤ 32 }
+    requires few { nodes ≤ MOST_NODES }
     requires nodes { nodes ≤ R.nodes_of line.now }
     ensures { (s : LineState) → R.shows line.now s → result ≡ nodes_left nodes s }
 {

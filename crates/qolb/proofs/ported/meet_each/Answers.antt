@@ -10,11 +10,7 @@ loop-other-preserved g c =
     round_step (g.L.LineSync.belongs c.args.line.now) g.L.LineSync.view g.L.LineSync.turn c.args.port.now c.args.others.now c.loop-other.other-index c.loop-other.port c.loop-other.others
     c.other-item.result c.meet.new.a c.meet.new.b c.loop-other.invariant (search rules) c.meet.ensures.belongs_a c.meet.ensures.belongs_b
     (record {
-      history = c.meet.ensures.before;
-      meets_a = c.meet.ensures.meets_a;
-      meets_b = c.meet.ensures.meets_b;
-      extends_a = c.meet.ensures.continues_a.extends;
-      extends_b = c.meet.ensures.continues_b.extends;
+      tell = c.meet.ensures.tell;
       turn_a = c.meet.ensures.turn_a;
       turn_b = c.meet.ensures.turn_b;
     })

@@ -1,5 +1,4 @@
 use Rattle.std.proofs.Common.{arith, ◌≡◌, ℕ, List, ◌+◌, length, refl, sym, ap, ◌∙◌, subst, length-append}
-use Rattle.qolb_model.specs.OneOwner.{opened}
 use Rattle.qolb_model.specs.Plain.{PlainView, Agrees}
 use Rattle.qolb_script.specs.Reply.{replay_start}
 use Rattle.qolb.specs.Tallies.{AreLinesOf}
@@ -9,27 +8,27 @@ use Rattle.qolb.proofs.replay.open_lines.Goals as goal
 
 pub loop-init : goal.loop-init
 loop-init g c = record {
-  opened = subst (AreLinesOf Agrees (λ (l : PlainView). l.nodes) c.args.nodes (replay_start 0)) (sym c.in_ok-all.ensures.items) (none_opened Agrees (λ (l : PlainView). l.nodes) c.args.nodes);
+  opened = subst (AreLinesOf Agrees (λ (l : PlainView). l.nodes) c.args.terms.now.nodes (replay_start c.args.terms.now 0)) (sym c.in_ok-all.ensures.items) (none_opened Agrees (λ (l : PlainView). l.nodes) c.args.terms.now);
   many = ap length c.in_ok-all.ensures.items;
 }
 
 pub loop-preserved : goal.loop-preserved
 loop-preserved g c =
     let line : TalliedLine PlainView = record { line = c.in-Ok.line; served = 0; withdrawn = 0; told = 0 } in
-    let new : IsNew Agrees (λ (l : PlainView). l.nodes) c.args.nodes line = record {
+    let new : IsNew Agrees (λ (l : PlainView). l.nodes) c.args.terms.now line = record {
       nodes_are = c.in-Ok.ensures.nodes;
-      agrees = subst (λ (bytes : List ℕ). Agrees c.in-Ok.line (opened bytes)) c.zero.ensures c.in-Ok.ensures.agrees;
+      agrees = c.in-Ok.ensures;
       none_served = refl;
       none_withdrawn = refl;
       none_told = refl;
     } in
     record {
-      opened = subst (AreLinesOf Agrees (λ (l : PlainView). l.nodes) c.args.nodes (replay_start (c.loop.counter + 1))) (sym c.in_ok-push.ensures.items)
-          (one_more_opened Agrees (λ (l : PlainView). l.nodes) c.args.nodes c.loop.counter c.loop.all.items line c.loop.invariant.opened c.loop.invariant.many new);
+      opened = subst (AreLinesOf Agrees (λ (l : PlainView). l.nodes) c.args.terms.now.nodes (replay_start c.args.terms.now (c.loop.counter + 1))) (sym c.in_ok-push.ensures.items)
+          (one_more_opened Agrees (λ (l : PlainView). l.nodes) c.args.terms.now c.loop.counter c.loop.all.items line c.loop.invariant.opened c.loop.invariant.many new);
       many = ap length c.in_ok-push.ensures.items ∙ length-append c.loop.all.items _ ∙ ap (λ n. n + 1) c.loop.invariant.many;
     }
 
 pub returns : goal.returns
 returns g c =
     let all : c.loop.counter ≡ c.args.lines = omega arith in
-    subst (λ (n : ℕ). AreLinesOf Agrees (λ (l : PlainView). l.nodes) c.args.nodes (replay_start n) c.loop.all.items) all c.loop.invariant.opened
+    subst (λ (n : ℕ). AreLinesOf Agrees (λ (l : PlainView). l.nodes) c.args.terms.now.nodes (replay_start c.args.terms.now n) c.loop.all.items) all c.loop.invariant.opened

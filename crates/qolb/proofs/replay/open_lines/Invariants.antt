@@ -6,6 +6,6 @@ use Rattle.qolb.proofs.replay.open_lines.Given as goal
 
 abbrev pub invariant-loop : goal.invariant-loop
 invariant-loop g l = record {
-  opened : AreLinesOf Agrees (λ (x : PlainView). x.nodes) l.nodes (replay_start l.counter) l.all.items;
+  opened : AreLinesOf Agrees (λ (x : PlainView). x.nodes) l.terms.nodes (replay_start l.terms l.counter) l.all.items;
   many : length l.all.items ≡ l.counter;
 }

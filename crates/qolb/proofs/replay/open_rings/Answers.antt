@@ -20,7 +20,7 @@ new-requires-clause-belong g c = all_from_each _ c.in-Ok.ports.items c.in-Ok.ens
 pub loop-number-preserved : goal.loop-number-preserved
 loop-number-preserved g c =
     let line : TalliedLine (List Stance) = record { line = c.new.result; served = 0; withdrawn = 0; told = 0 } in
-    let new : IsNew shows nodes_of c.args.nodes line = record {
+    let new : IsNew shows nodes_of c.args.terms.now.nodes line = record {
       nodes_are = c.new.ensures.nodes ∙ ap (λ (k : Setup). k.nodes) c.in-Ok.ensures.key;
       agrees = subst (λ (bytes : List ℕ). AreWhole (opened bytes) c.new.result) (ap (λ (k : Setup). k.opening.bytes) c.in-Ok.ensures.key ∙ c.zero.ensures) c.new.ensures.shows;
       none_served = refl;
@@ -28,7 +28,7 @@ loop-number-preserved g c =
       none_told = refl;
     } in
     record {
-      opened = subst (AreLinesOf shows nodes_of c.args.nodes (replay_start (c.loop-number.number + 1))) (sym c.in_ok-push.ensures.items)
-          (one_more_opened shows nodes_of c.args.nodes c.loop-number.number c.loop-number.all.items line c.loop-number.invariant.opened c.loop-number.invariant.many new);
+      opened = subst (AreLinesOf shows nodes_of c.args.terms.now.nodes (replay_start c.args.terms.now (c.loop-number.number + 1))) (sym c.in_ok-push.ensures.items)
+          (one_more_opened shows nodes_of c.args.terms.now.nodes c.loop-number.number c.loop-number.all.items line c.loop-number.invariant.opened c.loop-number.invariant.many new);
       many = ap length c.in_ok-push.ensures.items ∙ length-append c.loop-number.all.items _ ∙ ap (λ n. n + 1) c.loop-number.invariant.many;
     }

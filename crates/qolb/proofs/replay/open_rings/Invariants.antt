@@ -7,6 +7,6 @@ use Rattle.qolb.proofs.replay.open_rings.Given as goal
 
 abbrev pub invariant-loop-number : goal.invariant-loop-number
 invariant-loop-number g l = record {
-  opened : AreLinesOf (λ (ports : List Stance) (s : LineState). AreWhole s ports) (λ (ports : List Stance). length ports) l.nodes (replay_start l.number) l.all.items;
+  opened : AreLinesOf (λ (ports : List Stance) (s : LineState). AreWhole s ports) (λ (ports : List Stance). length ports) l.terms.nodes (replay_start l.terms l.number) l.all.items;
   many : length l.all.items ≡ l.number;
 }

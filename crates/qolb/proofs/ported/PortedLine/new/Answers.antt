@@ -9,4 +9,4 @@ returns-clause-nodes g c = length-map c.args.ports.items (stance_of g.L.LineSync
 
 pub returns-clause-shows : goal.returns-clause-shows
 returns-clause-shows g c =
-    new_whole g.L.LineSync.view g.L.LineSync.turn (g.L.LineSync.label_of c.args.line) (g.L.LineSync.nodes_of c.args.line) (g.L.LineSync.opening_of c.args.line) c.args.ports.items c.requires.bytes c.requires.new
+    new_whole g.L.LineSync.view g.L.LineSync.turn (g.L.LineSync.label_of c.args.line) (g.L.LineSync.terms_of c.args.line) c.args.ports.items c.requires.may_open c.requires.bytes c.requires.new
