@@ -52,7 +52,7 @@ impl PlainLine {
     pub fn open(nodes: u64, opening: Line64) -> Result<PlainLine, OpenError>
         ensures { let terms : Terms = record { nodes = nodes; opening = opening; lease = None } in MatchResult result (λ line. Agrees line (opened terms)) (λ error. (error ≢ OpenError.Memory) × MayNotOpen terms error) }
     {
-        PlainLine::with_terms(&Terms {
+        PlainLine::with_terms(Terms {
             nodes,
             opening,
             lease: None,
@@ -63,15 +63,15 @@ impl PlainLine {
     pub fn open_leased(nodes: u64, opening: Line64, lease: u64) -> Result<PlainLine, OpenError>
         ensures { let terms : Terms = record { nodes = nodes; opening = opening; lease = Some lease } in MatchResult result (λ line. Agrees line (opened terms)) (λ error. (error ≢ OpenError.Memory) × MayNotOpen terms error) }
     {
-        PlainLine::with_terms(&Terms {
+        PlainLine::with_terms(Terms {
             nodes,
             opening,
             lease: Some(lease),
         })
     }
 
-    fn with_terms(terms: &Terms) -> Result<PlainLine, OpenError>
-        ensures { MatchResult result (λ line. Agrees line (opened terms.now)) (λ error. (error ≢ OpenError.Memory) × MayNotOpen terms.now error) }
+    fn with_terms(terms: Terms) -> Result<PlainLine, OpenError>
+        ensures { MatchResult result (λ line. Agrees line (opened terms)) (λ error. (error ≢ OpenError.Memory) × MayNotOpen terms error) }
     {
         terms.check()?;
         Ok(PlainLine {

@@ -1,5 +1,5 @@
 //! What a line is opened with.
-ghost use Rattle.std.specs.Prelude.{MatchResult};
+ghost use Rattle.std.specs.Prelude.{◌≢◌, MatchResult};
 ghost use Rattle.qolb_model.specs.Opening.{MayOpen, MayNotOpen};
 
 use crate::answer::OpenError;
@@ -23,7 +23,7 @@ impl Terms {
     /// Whether a line may be opened so: for 1 to `MOST_NODES` nodes, else `Nodes`; and with a lease, if any, of at least one
     /// turn, else `Lease`.
     pub fn check(&self) -> Result<(), OpenError>
-        ensures { MatchResult result (λ _. MayOpen self.now) (λ error. MayNotOpen self.now error) }
+        ensures { MatchResult result (λ _. MayOpen self.now) (λ error. (error ≢ OpenError.Memory) × MayNotOpen self.now error) }
     {
         if self.nodes < 1 || self.nodes > MOST_NODES {
             return Err(OpenError::Nodes);
