@@ -178,7 +178,7 @@ fn open_lines<A: Allocator>(
 {
     let mut all = Vec::with_capacity(alloc, lines as usize)?;
     for _ in 0..lines {
-        let Ok(line) = PlainLine::with_terms(terms) else {
+        let Ok(line) = PlainLine::with_terms(*terms) else {
             unreachable!();
         };
         all.push(TalliedLine {

@@ -45,13 +45,17 @@ pub record IsLeast (nodes : ℕ) (Fails IsFine : ℕ → Type 0) (node : ℕ) : 
   pub fails : Fails node
   pub before : (m : ℕ) → 1 ≤ m → m < node → IsFine m
 
+-- with these ports nothing but want of memory is in the way: they are of the line, each node has one, and none waits or holds
+abbrev pub MayFinish : ℕ → ℕ → List View → Type 0
+MayFinish label nodes views = AreOfLine label views × EachNode nodes (IsThere views) × EachNode nodes (IsQuiet views)
+
 -- why a line may be refused, the first cause that stands: a port of another line; a node without a port; a node that is not
 -- quiet; and only where nothing else stands, want of memory
 abbrev pub MayRefuse : ℕ → ℕ → List View → FinishError → Type 0
 MayRefuse label nodes views (Missing zero) = HasOther label views
 MayRefuse label nodes views (Missing (suc n)) = AreOfLine label views × IsLeast nodes (IsMissing views) (IsThere views) (suc n)
 MayRefuse label nodes views (Unquiet n) = AreOfLine label views × EachNode nodes (IsThere views) × IsLeast nodes (IsUnquiet views) (IsQuiet views) n
-MayRefuse label nodes views Memory = AreOfLine label views × EachNode nodes (IsThere views) × EachNode nodes (IsQuiet views)
+MayRefuse label nodes views Memory = MayFinish label nodes views
 
 -- finished: no cause of refusal stands, and each node has one port; all ports are of one history of the line, in which every request has
 -- ended and every turn kept the law; and the bytes are the opening ones changed by all its served writes in order, and good

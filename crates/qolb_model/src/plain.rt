@@ -23,7 +23,8 @@ const ROOM: usize = MOST_NODES as usize;
 /// A line that is called by one owner, on behalf of nodes 1 to `nodes`.
 ///
 /// Every call's contract is the run of the queue machine that the table of answers gives for it: from each state that agrees
-/// with the line, to one that agrees again. Calls take no memory.
+/// with the line, to one that agrees again. Calls take no memory: the line has room for all nodes to wait, 16 bytes for each, and so
+/// is some 3.3 KiB large.
 #[derive(Drop)]
 pub struct PlainLine {
     turn: Write,
@@ -357,11 +358,88 @@ mod tests {
     }
 
     #[test]
+    fn last_turn_of_a_lease_closes_the_line(rt: HostRuntime) -> Result<(), Fail> {
+        let mut line = PlainLine::open_leased(2, Line64::zero(), 2)?;
+        expect_state(&rt, &line, 1, PortState::Idle);
+        assert_eq!(rt; line.enqolb(1), Enq::Granted);
+        expect_state(&rt, &line, 1, PortState::Holding);
+        let mut bytes = [0; 64];
+        bytes[0] = 0x07;
+        line.write(1, Mask(0b1), &Line64::from_bytes(bytes));
+        expect_state(&rt, &line, 2, PortState::Idle);
+        assert_eq!(rt; line.enqolb(2), Enq::Queued);
+        expect_state(&rt, &line, 1, PortState::Holding);
+        assert_eq!(rt; line.turns_left(1), Some(2));
+        line.deqolb(1);
+
+        expect_state(&rt, &line, 2, PortState::Queued);
+        assert_eq!(rt; line.poll(2), Poll::Granted);
+        expect_state(&rt, &line, 2, PortState::Holding);
+        assert_eq!(rt; line.turns_left(2), Some(1));
+        assert_eq!(rt; line.bytes(2).to_bytes()[0], 0x07);
+        expect_state(&rt, &line, 1, PortState::Idle);
+        assert_eq!(rt; line.enqolb(1), Enq::Queued);
+        expect_state(&rt, &line, 2, PortState::Holding);
+        line.deqolb(2);
+
+        expect_state(&rt, &line, 1, PortState::Queued);
+        assert_eq!(rt; line.poll(1), Poll::Closed);
+        expect_state(&rt, &line, 2, PortState::Shut);
+        assert_eq!(rt; line.enqolb(2), Enq::Closed);
+        Ok(())
+    }
+
+    #[test]
+    fn withdrawn_request_uses_no_turn(rt: HostRuntime) -> Result<(), Fail> {
+        let mut line = PlainLine::open_leased(3, Line64::zero(), 2)?;
+        expect_state(&rt, &line, 1, PortState::Idle);
+        assert_eq!(rt; line.enqolb(1), Enq::Granted);
+        expect_state(&rt, &line, 2, PortState::Idle);
+        assert_eq!(rt; line.enqolb(2), Enq::Queued);
+        expect_state(&rt, &line, 3, PortState::Idle);
+        assert_eq!(rt; line.enqolb(3), Enq::Queued);
+        expect_state(&rt, &line, 2, PortState::Queued);
+        assert_eq!(rt; line.withdraw(2), Out::Withdrawn);
+        expect_state(&rt, &line, 1, PortState::Holding);
+        line.deqolb(1);
+
+        expect_state(&rt, &line, 3, PortState::Queued);
+        assert_eq!(rt; line.poll(3), Poll::Granted);
+        expect_state(&rt, &line, 3, PortState::Holding);
+        assert_eq!(rt; line.turns_left(3), Some(1));
+        Ok(())
+    }
+
+    #[test]
+    fn line_without_a_lease_counts_no_turns(rt: HostRuntime) -> Result<(), Fail> {
+        let mut line = PlainLine::open(33, Line64::zero())?;
+        expect_state(&rt, &line, 33, PortState::Idle);
+        assert_eq!(rt; line.enqolb(33), Enq::Granted);
+        expect_state(&rt, &line, 33, PortState::Holding);
+        assert_eq!(rt; line.turns_left(33), None);
+        Ok(())
+    }
+
+    #[test]
     fn lines_have_one_to_200_nodes(rt: HostRuntime) {
-        for (nodes, opens) in [(0, false), (1, true), (200, true), (201, false)] {
+        for (nodes, opens) in [(0, false), (1, true), (33, true), (200, true), (201, false)] {
             let refused = PlainLine::open(nodes, Line64::zero()).err();
             let want = if opens { None } else { Some(OpenError::Nodes) };
             assert_eq!(rt; refused, want, "{nodes} nodes");
+        }
+    }
+
+    #[test]
+    fn nodes_are_refused_before_the_lease(rt: HostRuntime) {
+        for (nodes, lease, want) in [
+            (0, 0, Some(OpenError::Nodes)),
+            (1, 0, Some(OpenError::Lease)),
+            (201, 1, Some(OpenError::Nodes)),
+            (1, 1, None),
+            (200, u64::MAX, None),
+        ] {
+            let refused = PlainLine::open_leased(nodes, Line64::zero(), lease).err();
+            assert_eq!(rt; refused, want, "{nodes} nodes, a lease of {lease}");
         }
     }
 }
