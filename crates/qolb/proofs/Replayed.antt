@@ -18,7 +18,7 @@ use Rattle.qolb_script.specs.Script.{Script, IsInRange}
 use Rattle.qolb_script.specs.Said.{said_text}
 use Rattle.qolb_script.specs.Reply.{Replay, terms_of, line_at, replay_start, replay_step, replay_of, said_of, text_of, summary_of, reply_of, times_said, is_served, is_withdrawn, is_told}
 use Rattle.qolb.specs.declared.tally.TalliedLine.{TalliedLine}
-use Rattle.qolb.specs.Tallies.{Does, IsLineOf, AreLinesOf}
+use Rattle.qolb.specs.Tallies.{AreWithin, no_counts, Does, IsLineOf, AreLinesOf}
 use Rattle.qolb.proofs.Tallying.{lines_step, said_is}
 
 -- what holds of the member at each place holds of all
@@ -70,17 +70,15 @@ module _ {R : Type 0} (shows : R → LineState → Type 0) (nodes_of : R → ℕ
   pub record IsNew (terms : Terms) (t : TalliedLine R) : Type 0 where
     pub nodes_are : nodes_of t.line ≡ terms.nodes
     pub agrees : shows t.line (opened terms)
-    pub none_served : t.served ≡ 0
-    pub none_withdrawn : t.withdrawn ≡ 0
-    pub none_told : t.told ≡ 0
+    pub nothing_said : t.counts ≡ no_counts
 
   new_line : (terms : Terms) (n k : ℕ) (t : TalliedLine R) → k < n → IsNew terms t → IsLineOf shows nodes_of terms.nodes (replay_start terms n) k t
   new_line terms n k t lt new = record {
     nodes_are = new.nodes_are;
     agrees = subst (shows t.line) (opened_at terms n k lt) new.agrees;
-    served_are = new.none_served;
-    withdrawn_are = new.none_withdrawn;
-    told_are = new.none_told;
+    served_are = ap (λ c. c.served) new.nothing_said;
+    withdrawn_are = ap (λ c. c.withdrawn) new.nothing_said;
+    told_are = ap (λ c. c.told) new.nothing_said;
   }
 
   -- no line, and one more
@@ -169,12 +167,11 @@ module _ {R : Type 0} (shows : R → LineState → Type 0) (nodes_of : R → ℕ
 
   -- no count is more than the number of commands done
   pub counts_fit : (script : Script) (i k : ℕ) (lines : List (TalliedLine R)) (text : List ℕ) (d : TalliedLine R) → Stands script i lines text → k < length lines
-      → (((get_or lines k d).served ≤ i) × ((get_or lines k d).withdrawn ≤ i) × ((get_or lines k d).told ≤ i) × (nodes_of (get_or lines k d).line ≡ script.nodes))
+      → AreWithin i (get_or lines k d).counts × (nodes_of (get_or lines k d).line ≡ script.nodes)
   counts_fit script i k lines text d s lt =
       let is = s.lines_are.each k d lt in
-      let few = s.said_count in
-      let all = (replay_after script i).said in
-      (fit is_served (get_or lines k d).served is.served_are, fit is_withdrawn (get_or lines k d).withdrawn is.withdrawn_are, fit is_told (get_or lines k d).told is.told_are, is.nodes_are)
+      let counts = (get_or lines k d).counts in
+      (record { served = fit is_served counts.served is.served_are; withdrawn = fit is_withdrawn counts.withdrawn is.withdrawn_are; told = fit is_told counts.told is.told_are }, is.nodes_are)
     where
       fit : (test : Said → Bool) (n : ℕ) → n ≡ times_said test k (replay_after script i).said → n ≤ i
       fit test n e = let most : times_said test k (replay_after script i).said ≤ length (replay_after script i).said = count_by-le-length (λ t. (t.0 == k) && test t.1) (replay_after script i).said in

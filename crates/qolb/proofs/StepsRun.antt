@@ -2,7 +2,7 @@
 use Rattle.std.proofs.Common.{◌≡◌, ℕ, suc, ◌+◌, ◌<◌, ◌≤◌, List, [], ◌∷◌, ◌++◌, Bool, length, map, take, get_or, refl, sym, ap, ◌∙◌, subst, arith, Option, None, Result, Ok, Err, IfOk, IfErr, OnErr}
 use Rattle.std.specs.Result.{result_ok}
 use Rattle.std.specs.List.{count_by, range_with_len}
-use Rattle.std.proofs.lemmas.List.{length-append, take_all, map-append, take_more}
+use Rattle.std.proofs.lemmas.List.{length-append, length-map, take_all, map-append, take_more}
 use Rattle.std.proofs.lemmas.List.Sums.{count_by-le-length}
 use Rattle.line_lanes.specs.Line.{zeros}
 use Rattle.link_core.specs.declared.event.Event.{Event}
@@ -16,10 +16,10 @@ use Rattle.qolb_script.specs.declared.said.Said.TheVariants.{Summary}
 use Rattle.qolb_script.specs.Said.{said_text}
 use Rattle.qolb_script.specs.Reply.{text_of}
 use Rattle.qolb_script.specs.StepScript.{StepScript}
-use Rattle.qolb_script.specs.StepReply.{step_said, step_summary, is_step_served, is_step_withdrawn, is_step_closed}
-use Rattle.qolb.specs.declared.steps.Counts.{Counts}
-use Rattle.qolb.specs.Tallies.{one_if}
-use Rattle.qolb.specs.StepCounts.{Adds}
+use Rattle.qolb_script.specs.Reply.{is_served, is_withdrawn, is_told}
+use Rattle.qolb_script.specs.StepReply.{step_said, step_summary}
+use Rattle.qolb.specs.declared.tally.Counts.{Counts}
+use Rattle.qolb.specs.Tallies.{one_if, no_counts, AreWithin, Counted}
 use Rattle.qolb.specs.StepRuns.{Tells, nothing, told, refused, IsStepReply, nodes_busy, is_busy}
 use Rattle.qolb.proofs.Tallying.{count_by_one_more, range_more}
 use Rattle.qolb.proofs.Replayed.{text_one_more}
@@ -32,57 +32,64 @@ pub record Reaches (script : StepScript) (i : ℕ) (core : State) (counts : Coun
   pub all : List (Option Told)
   pub runs : Tells (start_of script) (take i script.events) all core
   pub text_is : text ≡ text_of (map step_said all)
-  pub served_are : counts.served ≡ count_by is_step_served all
-  pub withdrawn_are : counts.withdrawn ≡ count_by is_step_withdrawn all
-  pub closed_are : counts.closed ≡ count_by is_step_closed all
+  pub served_are : counts.served ≡ count_by is_served (map step_said all)
+  pub withdrawn_are : counts.withdrawn ≡ count_by is_withdrawn (map step_said all)
+  pub told_are : counts.told ≡ count_by is_told (map step_said all)
   pub one_each : length all ≡ i
 
-pub reaches_start : (script : StepScript) (core : State) → core ≡ start_of script → Reaches script 0 core (record { served = 0; withdrawn = 0; closed = 0 }) []
+pub reaches_start : (script : StepScript) (core : State) → core ≡ start_of script → Reaches script 0 core no_counts []
 reaches_start script core is = record {
   all = [];
   runs = subst (Tells (start_of script) [] []) (sym is) nothing;
   text_is = refl;
   served_are = refl;
   withdrawn_are = refl;
-  closed_are = refl;
+  told_are = refl;
   one_each = refl;
 }
 
 -- one more event, which told a word or was refused
 pub reaches_step : (script : StepScript) (i : ℕ) (core after : State) (counts new : Counts) (text longer : List ℕ) (event : Event) (what : Option Told)
     → (r : Reaches script i core counts text) → Tells (start_of script) (take i script.events ++ event ∷ []) (r.all ++ what ∷ []) after
-    → take (i + 1) script.events ≡ take i script.events ++ event ∷ [] → Adds what counts new → longer ≡ text ++ said_text (step_said what)
+    → take (i + 1) script.events ≡ take i script.events ++ event ∷ [] → Counted (step_said what) counts new → longer ≡ text ++ said_text (step_said what)
     → Reaches script (i + 1) after new longer
 reaches_step script i core after counts new text longer event what r runs next adds more = record {
   all = r.all ++ what ∷ [];
   runs = subst (λ es. Tells (start_of script) es (r.all ++ what ∷ []) after) (sym next) runs;
   text_is = more ∙ ap (λ t. t ++ said_text (step_said what)) r.text_is ∙ sym (ap text_of (map-append step_said r.all (what ∷ [])) ∙ text_one_more (map step_said r.all) (step_said what));
-  served_are = adds.served ∙ ap (λ n. n + one_if (is_step_served what)) r.served_are ∙ sym (count_by_one_more is_step_served r.all what);
-  withdrawn_are = adds.withdrawn ∙ ap (λ n. n + one_if (is_step_withdrawn what)) r.withdrawn_are ∙ sym (count_by_one_more is_step_withdrawn r.all what);
-  closed_are = adds.closed ∙ ap (λ n. n + one_if (is_step_closed what)) r.closed_are ∙ sym (count_by_one_more is_step_closed r.all what);
+  served_are = adds.served ∙ one_more is_served counts.served r.served_are;
+  withdrawn_are = adds.withdrawn ∙ one_more is_withdrawn counts.withdrawn r.withdrawn_are;
+  told_are = adds.told ∙ one_more is_told counts.told r.told_are;
   one_each = length-append r.all (what ∷ []) ∙ ap (λ n. n + 1) r.one_each;
 }
+  where
+    one_more : (test : Said → Bool) (n : ℕ) → n ≡ count_by test (map step_said r.all) → n + one_if (test (step_said what)) ≡ count_by test (map step_said (r.all ++ what ∷ []))
+    one_more test n e = ap (λ m. m + one_if (test (step_said what))) e ∙ sym (ap (count_by test) (map-append step_said r.all (what ∷ [])) ∙ count_by_one_more test (map step_said r.all) (step_said what))
 
 -- no count is more than the number of events
-pub counts_few : (script : StepScript) (i : ℕ) (core : State) (counts : Counts) (text : List ℕ) → Reaches script i core counts text → (counts.served ≤ i) × (counts.withdrawn ≤ i) × (counts.closed ≤ i)
-counts_few script i core counts text r = (few is_step_served counts.served r.served_are, few is_step_withdrawn counts.withdrawn r.withdrawn_are, few is_step_closed counts.closed r.closed_are)
+pub counts_few : (script : StepScript) (i : ℕ) (core : State) (counts : Counts) (text : List ℕ) → Reaches script i core counts text → AreWithin i counts
+counts_few script i core counts text r = record { served = few is_served counts.served r.served_are; withdrawn = few is_withdrawn counts.withdrawn r.withdrawn_are; told = few is_told counts.told r.told_are }
   where
-    few : (test : Option Told → Bool) (n : ℕ) → n ≡ count_by test r.all → n ≤ i
-    few test n e = let most : count_by test r.all ≤ length r.all = count_by-le-length test r.all in let one : length r.all ≡ i = r.one_each in omega arith
+    few : (test : Said → Bool) (n : ℕ) → n ≡ count_by test (map step_said r.all) → n ≤ i
+    few test n e =
+        let most : count_by test (map step_said r.all) ≤ length (map step_said r.all) = count_by-le-length test (map step_said r.all) in
+        let many : length (map step_said r.all) ≡ length r.all = length-map r.all step_said in
+        let one : length r.all ≡ i = r.one_each in
+        omega arith
 
 -- the whole reply
 pub reaches_end : (script : StepScript) (i : ℕ) (core : State) (counts : Counts) (text longer : List ℕ) (left : ℕ) → Reaches script i core counts text
-    → length script.events ≤ i → left ≡ nodes_busy core.nodes core → longer ≡ text ++ said_text (Summary 0 counts.served counts.withdrawn counts.closed left) → IsStepReply script longer
+    → length script.events ≤ i → left ≡ nodes_busy core.nodes core → longer ≡ text ++ said_text (Summary 0 counts.served counts.withdrawn counts.told left) → IsStepReply script longer
 reaches_end script i core counts text longer left r done busy more = record {
   all = r.all;
   last = core;
   runs = subst (λ es. Tells (start_of script) es r.all core) (take_all i script.events done) r.runs;
-  text_is = more ∙ ap (λ t. t ++ said_text (Summary 0 counts.served counts.withdrawn counts.closed left)) r.text_is
+  text_is = more ∙ ap (λ t. t ++ said_text (Summary 0 counts.served counts.withdrawn counts.told left)) r.text_is
       ∙ ap (λ s. text_of (map step_said r.all) ++ said_text s) same;
 }
   where
-    same : Summary 0 counts.served counts.withdrawn counts.closed left ≡ step_summary r.all (nodes_busy core.nodes core)
-    same = let a = r.served_are in let b = r.withdrawn_are in let c = r.closed_are in cc
+    same : Summary 0 counts.served counts.withdrawn counts.told left ≡ step_summary (map step_said r.all) (nodes_busy core.nodes core)
+    same = let a = r.served_are in let b = r.withdrawn_are in let c = r.told_are in cc
 
 -- one more node
 pub nodes_busy_more : (c : State) (n : ℕ) (b : Bool) → is_busy (point c (n + 1)) ≡ b → nodes_busy (n + 1) c ≡ nodes_busy n c + one_if b
@@ -111,10 +118,10 @@ tells_more from events all before after event (Err e) runs step why same = subst
 pub step_done : (script : StepScript) (i : ℕ) (core after : State) (counts new : Counts) (text longer : List ℕ) (events : List Event) (d : Event) (r : Result Told NotEnabled) (what : Option Told) (said : Said)
     → Reaches script i core counts text → events ≡ script.events → i < length events
     → IfOk r (λ t. Step core (get_or events i d) t after) → IfErr r (λ e. IsRefused core (get_or events i d) e) → OnErr r (after ≡ core)
-    → what ≡ result_ok r → Adds what counts new → said ≡ step_said what → longer ≡ text ++ said_text said → Reaches script (i + 1) after new longer
-step_done script i core after counts new text longer events d r what said was same lt step why stays is adds says more =
+    → what ≡ result_ok r → said ≡ step_said what → Counted said counts new → longer ≡ text ++ said_text said → Reaches script (i + 1) after new longer
+step_done script i core after counts new text longer events d r what said was same lt step why stays is says adds more =
     reaches_step script i core after counts new text longer (get_or events i d) what was
     (subst (λ w. Tells (start_of script) (take i script.events ++ get_or events i d ∷ []) (was.all ++ w ∷ []) after) (sym is)
     (tells_more (start_of script) (take i script.events) was.all core after (get_or events i d) r was.runs step why stays))
     (subst (λ es. take (i + 1) es ≡ take i es ++ get_or events i d ∷ []) same (take_more events i d lt))
-    adds (more ∙ ap (λ s. text ++ said_text s) says)
+    (subst (λ s. Counted s counts new) says adds) (more ∙ ap (λ s. text ++ said_text s) says)

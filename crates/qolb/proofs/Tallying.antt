@@ -87,9 +87,9 @@ module _ {R : Type 0} (shows : R → LineState → Type 0) (nodes_of : R → ℕ
   its_own = record {
     nodes_are = does.nodes ∙ was.nodes_are;
     agrees = subst (shows new.line) (sym (get_or-set_same r.lines (line_of c) (after_command (line_at r.lines (line_of c)) c) no_line in_replay)) (does.agrees (line_at r.lines (line_of c)) was.agrees);
-    served_are = does.served ∙ counted is_served old.served was.served_are;
-    withdrawn_are = does.withdrawn ∙ counted is_withdrawn old.withdrawn was.withdrawn_are;
-    told_are = does.told ∙ counted is_told old.told was.told_are;
+    served_are = does.counted.served ∙ counted is_served old.counts.served was.served_are;
+    withdrawn_are = does.counted.withdrawn ∙ counted is_withdrawn old.counts.withdrawn was.withdrawn_are;
+    told_are = does.counted.told ∙ counted is_told old.counts.told was.told_are;
   }
     where
       counted : (test : Said → Bool) (n : ℕ) → n ≡ times_said test (line_of c) r.said → n + one_if (test what) ≡ times_said test (line_of c) (replay_step r c).said

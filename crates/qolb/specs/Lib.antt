@@ -1,7 +1,6 @@
 pub mod Tallies
 pub mod Outcome
 pub mod StepRuns
-pub mod StepCounts
 pub mod CommandLine
 pub mod Stances
 pub mod Calls

@@ -18,14 +18,30 @@ pub record IsReply (input text : List ℕ) : Type 0 where
   pub fits : length input ≤ MOST_BYTES
   pub reply : reply_to input ≡ Ok text
 
+-- the text is the reply to the bytes, and the first fault in them is this one, as what the task takes
+abbrev pub Answers : Task → List ℕ → List ℕ → Type 0
+Answers (Replay kind) input text = IsReply input text
+Answers Steps input text = IsStepReplyTo input text
+
+abbrev pub HasFault : Task → List ℕ → ScriptError → Type 0
+HasFault (Replay kind) input fault = reply_to input ≡ Err fault
+HasFault Steps input fault = steps_of input ≡ Err fault
+
+-- the bytes have a reply; and they are too many, or have a first fault
+abbrev pub IsAnswered : Task → List ℕ → Type 0
+IsAnswered task input = (text : List ℕ) × Answers task input text
+
+abbrev pub IsRefused : Task → List ℕ → Type 0
+IsRefused task input = (MOST_BYTES < length input) ⊎ ((fault : ScriptError) × HasFault task input fault)
+
 -- when each error may come: Long where the bytes are too many, Script where they are not and the first fault in them is that one,
 -- Write only where they have a reply
-abbrev pub MayFail : List ℕ → ReplayError → Type 0
-MayFail input error.Memory = Unit {0}
-MayFail input error.Read = Unit {0}
-MayFail input error.Long = MOST_BYTES < length input
-MayFail input (error.Script fault) = (length input ≤ MOST_BYTES) × (reply_to input ≡ Err fault)
-MayFail input error.Write = (text : List ℕ) × IsReply input text
+abbrev pub MayFail : Task → List ℕ → ReplayError → Type 0
+MayFail task input error.Memory = Unit {0}
+MayFail task input error.Read = Unit {0}
+MayFail task input error.Long = MOST_BYTES < length input
+MayFail task input (error.Script fault) = (length input ≤ MOST_BYTES) × HasFault task input fault
+MayFail task input error.Write = IsAnswered task input
 
 -- the error of a replay whose input could not be read
 abbrev pub as_replay_error : InputError → ReplayError
@@ -40,16 +56,6 @@ script_error (script.BadLine n) = error.Script (script.BadLine n)
 script_error (script.Number n) = error.Script (script.Number n)
 script_error (script.TooMany n) = error.Script (script.TooMany n)
 
--- the bytes have a reply, as what the task takes
-abbrev pub IsAnswered : Task → List ℕ → Type 0
-IsAnswered (Replay kind) input = (text : List ℕ) × IsReply input text
-IsAnswered Steps input = (text : List ℕ) × IsStepReplyTo input text
-
--- the bytes are too many, or have a first fault, as what the task takes
-abbrev pub IsRefused : Task → List ℕ → Type 0
-IsRefused (Replay kind) input = (MOST_BYTES < length input) ⊎ ((fault : ScriptError) × (reply_to input ≡ Err fault))
-IsRefused Steps input = (MOST_BYTES < length input) ⊎ ((fault : ScriptError) × (steps_of input ≡ Err fault))
-
 -- the exit status of each error
 abbrev pub status_of : ReplayError → ℕ
 status_of error.Memory = 3
@@ -57,11 +63,3 @@ status_of error.Read = 4
 status_of error.Long = 1
 status_of (error.Script fault) = 1
 status_of error.Write = 4
-
--- the same of a run of a step script
-abbrev pub MayFailSteps : List ℕ → ReplayError → Type 0
-MayFailSteps input error.Memory = Unit {0}
-MayFailSteps input error.Read = Unit {0}
-MayFailSteps input error.Long = MOST_BYTES < length input
-MayFailSteps input (error.Script fault) = (length input ≤ MOST_BYTES) × (steps_of input ≡ Err fault)
-MayFailSteps input error.Write = (text : List ℕ) × IsStepReplyTo input text

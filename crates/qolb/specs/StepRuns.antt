@@ -39,7 +39,7 @@ nodes_busy nodes c = count_by (λ n. is_busy (state.point c n)) (range_with_len 
 
 -- the reply: what each event told, and then the summary of the line
 abbrev pub step_text : List (Option Told) → State → List ℕ
-step_text all last = text_of (map step_said all) ++ said_text (step_summary all (nodes_busy last.nodes last))
+step_text all last = text_of (map step_said all) ++ said_text (step_summary (map step_said all) (nodes_busy last.nodes last))
 
 -- the text is the reply of a run of the script, on a line of zeros
 pub record IsStepReply (script : StepScript) (text : List ℕ) : Type 0 where

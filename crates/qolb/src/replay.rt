@@ -9,6 +9,7 @@ ghost use Rattle.qolb_model.specs.OneOwner.{LineState};
 ghost use Rattle.qolb_model.specs.Whole.{Stance, AreWhole};
 ghost use Rattle.qolb.specs.Tallies.{AreLinesOf};
 ghost use Rattle.qolb.specs.declared.replay.ReplayError.TheVariants.{Memory, Write};
+ghost use Rattle.qolb.specs.declared.task.Task.TheVariants as task;
 ghost use Rattle.qolb.specs.Outcome.{IsReply, MayFail, as_replay_error, script_error};
 
 use crate::input::{InputError, read_all};
@@ -102,7 +103,7 @@ pub fn run_schedule<R: Read, W: Write>(
     kind: Kind,
 ) -> Result<(), ReplayError>
     ensures ok { OnOk result (IfSome (R.remaining (inner_of reader.old)) (λ input. (text : List ℕ) × IsReply input text × Appends (W.contents (inner_of writer.old)) (W.contents (inner_of writer.new)) text)) }
-    ensures refused { IfErr result (λ error. IfSome (R.remaining (inner_of reader.old)) (λ input. MayFail input error)) }
+    ensures refused { IfErr result (λ error. IfSome (R.remaining (inner_of reader.old)) (λ input. MayFail (task.Replay kind) input error)) }
     ensures unwritten { IfErr result (λ error. error ≢ ReplayError.Write → writer.new ≡ writer.old) }
     ensures read_fault { (result ≡ Err ReplayError.Read) ↔ (has_failed reader.new ≡ true) }
     ensures write_fault { result ≡ Err ReplayError.Write → has_failed writer.new ≡ true }
@@ -181,12 +182,7 @@ fn open_lines<A: Allocator>(
         let Ok(line) = PlainLine::with_terms(*terms) else {
             unreachable!();
         };
-        all.push(TalliedLine {
-            line,
-            served: 0,
-            withdrawn: 0,
-            told: 0,
-        })?;
+        all.push(TalliedLine::new(line))?;
     }
     Ok(all)
 }
@@ -207,12 +203,7 @@ fn open_rings<A: Allocator>(
         let Ok((ring, ports)) = RingLine::with_terms(rings, number, terms) else {
             return Err(AllocError);
         };
-        all.push(TalliedLine {
-            line: PortedLine::new(ring, ports),
-            served: 0,
-            withdrawn: 0,
-            told: 0,
-        })?;
+        all.push(TalliedLine::new(PortedLine::new(ring, ports)))?;
     }
     Ok(all)
 }

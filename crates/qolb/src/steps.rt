@@ -1,13 +1,15 @@
 //! Runs of step scripts on the core of reversed links: what each event tells, and then the line's counts.
-ghost use Rattle.std.specs.Prelude.{◌≡◌, ◌≢◌, ◌↔◌, ◌≤◌, ◌<◌, ◌+◌, ◌^◌, ℕ, List, Option, true, false, Ok, Err, OnOk, IfOk, IfErr, IfSome};
+ghost use Rattle.std.specs.Prelude.{◌≡◌, ◌≢◌, ◌↔◌, ℕ, List, Option, true, false, Ok, Err, OnOk, IfOk, IfErr, IfSome};
 ghost use Rattle.std.specs.Io.KnownBytes.{Appends};
 ghost use Rattle.qolb_script.specs.Watched.{inner_of, has_failed};
-ghost use Rattle.qolb_script.specs.StepReply.{step_said, is_step_served, is_step_withdrawn, is_step_closed};
-ghost use Rattle.qolb.specs.Outcome.{MayFailSteps};
+ghost use Rattle.qolb_script.specs.StepReply.{step_said};
+ghost use Rattle.qolb.specs.Outcome.{MayFail};
+ghost use Rattle.qolb.specs.declared.task.Task.TheVariants as task;
 ghost use Rattle.qolb.specs.StepRuns.{IsStepReply, IsStepReplyTo, is_busy, nodes_busy};
 
 use crate::input::read_all;
 use crate::replay::ReplayError;
+use crate::tally::Counts;
 use line_lanes::Line64;
 use link_core::{Core, Point, Told};
 use qolb_script::{Said, ScriptError, Steps, Watched, push_said, read_steps};
@@ -24,7 +26,7 @@ pub fn run_steps<A: Allocator, R: Read, W: Write>(
     writer: &mut Watched<W>,
 ) -> Result<(), ReplayError>
     ensures ok { OnOk result (IfSome (R.remaining (inner_of reader.old)) (λ input. (text : List ℕ) × IsStepReplyTo input text × Appends (W.contents (inner_of writer.old)) (W.contents (inner_of writer.new)) text)) }
-    ensures refused { IfErr result (λ error. IfSome (R.remaining (inner_of reader.old)) (λ input. MayFailSteps input error)) }
+    ensures refused { IfErr result (λ error. IfSome (R.remaining (inner_of reader.old)) (λ input. MayFail task.Steps input error)) }
     ensures unwritten { IfErr result (λ error. error ≢ ReplayError.Write → writer.new ≡ writer.old) }
     ensures read_fault { (result ≡ Err ReplayError.Read) ↔ (has_failed reader.new ≡ true) }
     ensures write_fault { result ≡ Err ReplayError.Write → has_failed writer.new ≡ true }
@@ -45,53 +47,16 @@ fn reply<A: Allocator + Clone>(alloc: A, steps: &Steps<A>) -> Result<Vec<u8, A>,
     let Some(mut core) = Core::start(steps.nodes(), Line64::zero()) else {
         unreachable!();
     };
-    let mut counts = Counts {
-        served: 0,
-        withdrawn: 0,
-        closed: 0,
-    };
+    let mut counts = Counts::default();
     let mut text = Vec::new(alloc);
     for event in steps.events() {
-        let told = core.step(*event).ok();
-        counts.add(told);
-        push_said(&mut text, &said_of(told))?;
+        let said = said_of(core.step(*event).ok());
+        counts.add(&said);
+        push_said(&mut text, &said)?;
     }
-    let summary = Said::Summary {
-        line: 0,
-        served: counts.served,
-        withdrawn: counts.withdrawn,
-        told: counts.closed,
-        left: nodes_left(&core),
-    };
+    let summary = counts.summary(0, nodes_left(&core));
     push_said(&mut text, &summary)?;
     Ok(text)
-}
-
-/// How often an event told that a request was served, that it was withdrawn, and that the line is closed.
-#[derive(Clone, Copy)]
-struct Counts {
-    served: u64,
-    withdrawn: u64,
-    closed: u64,
-}
-
-impl Counts {
-    ghost use Rattle.std.specs.Prelude.{◌+◌, ◌<◌, ◌^◌};
-    ghost use Rattle.qolb.specs.StepCounts.{Adds};
-
-    fn add(&mut self, told: Option<Told>)
-        requires served_fits { self.old.served + 1 < 2 ^ 64 }
-        requires withdrawn_fits { self.old.withdrawn + 1 < 2 ^ 64 }
-        requires closed_fits { self.old.closed + 1 < 2 ^ 64 }
-        ensures { Adds told self.old self.new }
-    {
-        match told {
-            Some(Told::Released | Told::Shut) => self.served += 1,
-            Some(Told::Withdrawn) => self.withdrawn += 1,
-            Some(Told::Closed) => self.closed += 1,
-            _ => {}
-        }
-    }
 }
 
 /// What is said of an event: the word that it told, or that it was refused.

@@ -4,52 +4,91 @@ ghost use Rattle.qolb_model.specs.OneOwner.{LineState};
 ghost use Rattle.qolb_script.specs.Reply.{nodes_left, is_queued, is_holding};
 
 use crate::line::ReplayLine;
+use link_core::Told;
 use qolb_model::{Enq, MOST_NODES, Out, Poll, PortState};
 use qolb_script::{Command, Said};
 
-/// A line, and how often it was said of it that a request was served, withdrawn or told closed.
-#[derive(Drop)]
-pub struct TalliedLine<R> {
-    pub line: R,
+/// How often it was said that a request was served, was withdrawn, or was told that the line is closed.
+#[derive(Clone, Copy, Default)]
+pub struct Counts {
     pub served: u64,
     pub withdrawn: u64,
     pub told: u64,
 }
 
+impl Counts {
+    ghost use Rattle.std.specs.Prelude.{◌^◌, ◌-◌};
+    ghost use Rattle.qolb.specs.Tallies.{AreWithin, Counted};
+
+    /// One more thing was said, of a call or of an event.
+    pub fn add(&mut self, said: &Said)
+        requires { AreWithin (2 ^ 64 - 2) self.old }
+        ensures { Counted said.now self.old self.new }
+    {
+        match *said {
+            Said::Released | Said::Shut | Said::Told(Told::Released | Told::Shut) => {
+                self.served += 1;
+            }
+            Said::Out(Out::Withdrawn) | Said::Told(Told::Withdrawn) => self.withdrawn += 1,
+            Said::Enq(Enq::Closed)
+            | Said::Poll(Poll::Closed)
+            | Said::Out(Out::Closed)
+            | Said::Told(Told::Closed) => self.told += 1,
+            _ => {}
+        }
+    }
+
+    /// The last thing that is said of a line, where so many nodes are left.
+    pub fn summary(self, line: u64, left: u64) -> Said
+        ensures { result ≡ Said.Summary line self.served self.withdrawn self.told left }
+    {
+        Said::Summary {
+            line,
+            served: self.served,
+            withdrawn: self.withdrawn,
+            told: self.told,
+            left,
+        }
+    }
+}
+
+/// A line, and the counts of what was said of it.
+#[derive(Drop)]
+pub struct TalliedLine<R> {
+    pub line: R,
+    pub counts: Counts,
+}
+
 impl<R: ReplayLine> TalliedLine<R> {
-    ghost use Rattle.std.specs.Prelude.{◌≡◌, ℕ, ◌≤◌, ◌+◌, ◌<◌, ◌^◌};
+    ghost use Rattle.std.specs.Prelude.{◌≡◌, ℕ, ◌≤◌, ◌-◌, ◌^◌};
     ghost use Rattle.qolb_script.specs.Commands.{node_of};
     ghost use Rattle.qolb_script.specs.Reply.{Replay, summary_of};
-    ghost use Rattle.qolb.specs.Tallies.{Counts, Does, IsLineOf};
+    ghost use Rattle.qolb.specs.Tallies.{AreWithin, Does, IsLineOf, no_counts};
+
+    /// A line of which nothing was said.
+    pub fn new(line: R) -> TalliedLine<R>
+        ensures { result ≡ record { line = line; counts = no_counts } }
+    {
+        TalliedLine {
+            line,
+            counts: Counts {
+                served: 0,
+                withdrawn: 0,
+                told: 0,
+            },
+        }
+    }
 
     /// Does a command and counts what is said of it.
     pub fn take(&mut self, command: &Command) -> Said
         requires first { 1 ≤ node_of command.now }
         requires last { node_of command.now ≤ R.nodes_of self.old.line }
-        requires served_fits { self.old.served + 1 < 2 ^ 64 }
-        requires withdrawn_fits { self.old.withdrawn + 1 < 2 ^ 64 }
-        requires told_fits { self.old.told + 1 < 2 ^ 64 }
+        requires fits { AreWithin (2 ^ 64 - 2) self.old.counts }
         ensures { Does R.shows R.nodes_of command.now result self.old self.new }
     {
         let said = self.line.answer(command);
-        self.count(&said);
+        self.counts.add(&said);
         said
-    }
-
-    fn count(&mut self, said: &Said)
-        requires served_fits { self.old.served + 1 < 2 ^ 64 }
-        requires withdrawn_fits { self.old.withdrawn + 1 < 2 ^ 64 }
-        requires told_fits { self.old.told + 1 < 2 ^ 64 }
-        ensures { Counts said.now self.old self.new }
-    {
-        match *said {
-            Said::Released | Said::Shut => self.served += 1,
-            Said::Out(Out::Withdrawn) => self.withdrawn += 1,
-            Said::Enq(Enq::Closed) | Said::Poll(Poll::Closed) | Said::Out(Out::Closed) => {
-                self.told += 1;
-            }
-            _ => {}
-        }
     }
 
     /// The last thing that is said of the line, whose number this is.
@@ -58,13 +97,8 @@ impl<R: ReplayLine> TalliedLine<R> {
         requires nodes { nodes ≤ R.nodes_of self.now.line }
         ensures { (r : Replay) → IsLineOf R.shows R.nodes_of nodes r number self.now → result ≡ summary_of nodes r number }
     {
-        Said::Summary {
-            line: number,
-            served: self.served,
-            withdrawn: self.withdrawn,
-            told: self.told,
-            left: nodes_left_at(&self.line, nodes),
-        }
+        self.counts
+            .summary(number, nodes_left_at(&self.line, nodes))
     }
 }
 

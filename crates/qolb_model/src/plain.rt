@@ -71,7 +71,7 @@ impl PlainLine {
         })
     }
 
-    fn with_terms(terms: Terms) -> Result<PlainLine, OpenError>
+    pub fn with_terms(terms: Terms) -> Result<PlainLine, OpenError>
         ensures { MatchResult result (λ line. Agrees line (opened terms)) (λ error. (error ≢ OpenError.Memory) × MayNotOpen terms error) }
     {
         terms.check()?;

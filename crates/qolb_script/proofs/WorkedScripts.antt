@@ -116,6 +116,6 @@ write_past_the_end = refl
 said_of_steps : text_of (map step_said (Some told.Went ∷ Some told.Granted ∷ Some told.Shut ∷ None ∷ Some told.Closed ∷ [])) ≡ codes "went\ngranted\nshut\nrefused\nclosed\n"
 said_of_steps = refl
 
-summary_of_steps : text_of (step_summary (Some told.Went ∷ Some told.Granted ∷ Some told.Shut ∷ None ∷ Some told.Closed ∷ Some told.Withdrawn ∷ Some told.Released ∷ []) 3 ∷ []) ≡ codes "line 0 served 2 withdrawn 1 told 1 left 3\n"
+summary_of_steps : text_of (step_summary (map step_said (Some told.Went ∷ Some told.Granted ∷ Some told.Shut ∷ None ∷ Some told.Closed ∷ Some told.Withdrawn ∷ Some told.Released ∷ [])) 3 ∷ []) ≡ codes "line 0 served 2 withdrawn 1 told 1 left 3\n"
 unfolding digits
 summary_of_steps = refl

@@ -10,6 +10,7 @@ use Rattle.qolb_model.specs.declared.answer.PortState.TheVariants as port
 use Rattle.qolb_model.specs.OneOwner.{LineState, opened, state_of, shown, enq_answer, after_enq, poll_answer, after_poll, out_answer, after_out, after_release, after_write}
 use Rattle.qolb_model.specs.declared.terms.Terms.{Terms}
 use Rattle.qolb_model.specs.PortStates.{may_ask}
+use Rattle.link_core.specs.declared.told.Told.TheVariants as told
 use Rattle.qolb_script.specs.declared.command.Command.{Command}
 use Rattle.qolb_script.specs.declared.command.Command.TheVariants.{Enq, Poll, Show, Deq, Out, Shut, Write}
 use Rattle.qolb_script.specs.declared.said.Said.{Said}
@@ -107,19 +108,24 @@ replay_of script = fold replay_step (replay_start (terms_of script) script.lines
 abbrev pub times_said : (Said → Bool) → ℕ → List (ℕ × Said) → ℕ
 times_said test line said = count_by (λ s. (s.0 == line) && test s.1) said
 
+-- it says, of a call or of an event, that a request was served, was withdrawn, or was told that the line is closed
 abbrev pub is_served : Said → Bool
 is_served said.Released = true
 is_served said.Shut = true
+is_served (said.Told told.Released) = true
+is_served (said.Told told.Shut) = true
 is_served what = false
 
 abbrev pub is_withdrawn : Said → Bool
 is_withdrawn (said.Out out.Withdrawn) = true
+is_withdrawn (said.Told told.Withdrawn) = true
 is_withdrawn what = false
 
 abbrev pub is_told : Said → Bool
 is_told (said.Enq enq.Closed) = true
 is_told (said.Poll poll.Closed) = true
 is_told (said.Out out.Closed) = true
+is_told (said.Told told.Closed) = true
 is_told what = false
 
 -- how many of the nodes wait at a line or hold it

@@ -1,4 +1,5 @@
 use Rattle.std.proofs.Common.{arith, ◌≡◌, ℕ, List, ◌+◌, length, refl, sym, ap, ◌∙◌, subst, length-append}
+use Rattle.qolb_model.specs.OneOwner.{opened}
 use Rattle.qolb_model.specs.Plain.{PlainView, Agrees}
 use Rattle.qolb_script.specs.Reply.{replay_start}
 use Rattle.qolb.specs.Tallies.{AreLinesOf}
@@ -14,13 +15,11 @@ loop-init g c = record {
 
 pub loop-preserved : goal.loop-preserved
 loop-preserved g c =
-    let line : TalliedLine PlainView = record { line = c.in-Ok.line; served = 0; withdrawn = 0; told = 0 } in
+    let line : TalliedLine PlainView = c.new.result in
     let new : IsNew Agrees (λ (l : PlainView). l.nodes) c.args.terms.now line = record {
-      nodes_are = c.in-Ok.ensures.nodes;
-      agrees = c.in-Ok.ensures;
-      none_served = refl;
-      none_withdrawn = refl;
-      none_told = refl;
+      nodes_are = ap (λ (t : TalliedLine PlainView). t.line.nodes) c.new.ensures ∙ c.in-Ok.ensures.nodes;
+      agrees = subst (λ (t : TalliedLine PlainView). Agrees t.line (opened c.args.terms.now)) (sym c.new.ensures) c.in-Ok.ensures;
+      nothing_said = ap (λ (t : TalliedLine PlainView). t.counts) c.new.ensures;
     } in
     record {
       opened = subst (AreLinesOf Agrees (λ (l : PlainView). l.nodes) c.args.terms.now.nodes (replay_start c.args.terms.now (c.loop.counter + 1))) (sym c.in_ok-push.ensures.items)

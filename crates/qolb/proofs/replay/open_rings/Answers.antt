@@ -3,7 +3,7 @@ use Rattle.qolb_model.specs.OneOwner.{LineState, opened}
 use Rattle.qolb_model.specs.Whole.{Stance, AreWhole}
 use Rattle.ring_line.specs.declared.rule.Setup.{Setup}
 use Rattle.qolb_script.specs.Reply.{replay_start}
-use Rattle.qolb.specs.Tallies.{AreLinesOf}
+use Rattle.qolb.specs.Tallies.{AreLinesOf, no_counts}
 use Rattle.qolb.specs.declared.tally.TalliedLine.{TalliedLine}
 use Rattle.qolb.proofs.Replayed.{IsNew, one_more_opened, all_from_each}
 use Rattle.qolb.proofs.replay.open_rings.Goals as goal
@@ -19,13 +19,11 @@ new-requires-clause-belong g c = all_from_each _ c.in-Ok.ports.items c.in-Ok.ens
 
 pub loop-number-preserved : goal.loop-number-preserved
 loop-number-preserved g c =
-    let line : TalliedLine (List Stance) = record { line = c.new.result; served = 0; withdrawn = 0; told = 0 } in
+    let line : TalliedLine (List Stance) = record { line = c.new.result; counts = no_counts } in
     let new : IsNew shows nodes_of c.args.terms.now.nodes line = record {
       nodes_are = c.new.ensures.nodes ∙ ap (λ (k : Setup). k.nodes) c.in-Ok.ensures.key;
       agrees = subst (λ (bytes : List ℕ). AreWhole (opened bytes) c.new.result) (ap (λ (k : Setup). k.opening.bytes) c.in-Ok.ensures.key ∙ c.zero.ensures) c.new.ensures.shows;
-      none_served = refl;
-      none_withdrawn = refl;
-      none_told = refl;
+      nothing_said = refl;
     } in
     record {
       opened = subst (AreLinesOf shows nodes_of c.args.terms.now.nodes (replay_start c.args.terms.now (c.loop-number.number + 1))) (sym c.in_ok-push.ensures.items)

@@ -1,13 +1,14 @@
 use Rattle.std.proofs.Common.{◌≡◌, sym, subst, IfErr, IfSome}
-use Rattle.qolb.proofs.Answered.{schedule_refused, steps_refused}
+use Rattle.qolb.specs.declared.task.Task.TheVariants.{Replay, Steps}
+use Rattle.qolb.proofs.Answered.{refused}
 use Rattle.qolb_script.specs.Watched.{inner_of}
 use Rattle.qolb.specs.Outcome.{IsRefused, status_of}
 use Rattle.qolb.proofs.serve.run.Goals as goal
 
 pub returns-in-Replay-clause-refused : goal.returns-in-Replay-clause-refused
 returns-in-Replay-clause-refused g c = subst (λ t. IfErr c.run_schedule.result (λ e. status_of e ≡ 1 → IfSome (g.R.Read.remaining (inner_of c.args.input.now)) (IsRefused t))) (sym c.in-Replay.is)
-    (schedule_refused c.in-Replay.kind c.run_schedule.result (g.R.Read.remaining (inner_of c.args.input.now)) c.run_schedule.ensures.refused)
+    (refused (Replay c.in-Replay.kind) c.run_schedule.result (g.R.Read.remaining (inner_of c.args.input.now)) c.run_schedule.ensures.refused)
 
 pub returns-in-Steps-clause-refused : goal.returns-in-Steps-clause-refused
 returns-in-Steps-clause-refused g c = subst (λ t. IfErr c.run_steps.result (λ e. status_of e ≡ 1 → IfSome (g.R.Read.remaining (inner_of c.args.input.now)) (IsRefused t))) (sym c.in-Steps.is)
-    (steps_refused c.run_steps.result (g.R.Read.remaining (inner_of c.args.input.now)) c.run_steps.ensures.refused)
+    (refused Steps c.run_steps.result (g.R.Read.remaining (inner_of c.args.input.now)) c.run_steps.ensures.refused)
