@@ -10,11 +10,6 @@ use Rattle.std.specs.Option.{option_map, option_map_or}
 use Rattle.std.proofs.lemmas.List.{length-map}
 use Rattle.std.proofs.lemmas.List.Elements.{All-push}
 use Rattle.std.proofs.lemmas.Option.{slice_get-map, slice_get-get_or}
-use Rattle.qolb_model.specs.declared.answer.PortState.TheVariants.{Idle}
-use Rattle.qolb_model.specs.declared.view.View.{View}
-use Rattle.qolb_model.specs.Opening.{AreNew, new_view}
-use Rattle.qolb_model.specs.Plain.{may_ask}
-use Rattle.ring_line.specs.Ports.{Standing}
 
 -- one more, if there was room
 pub all_pushed : {X : Type 0} (P : X → Type 0) (r : Bool) (xs ys : List X) (x : X) → ys ≡ (if r then xs ++ x ∷ [] else xs) → All P xs → P x → All P ys
@@ -31,12 +26,3 @@ all_kept {T} {P} g Q n hs rs hn rn all each = λ k d below.
 pub some_kept : {T P E : Type 0} (g : Promise.Ghosts P T) (Q : T → Type 0) (hs : Vec (PromisedHandle T P) Global) (r : Result (Vec T Global) E) (o : Option (Vec T Global)) → o ≡ result_ok r → IfOk r (λ (v : Vec T Global). v.len ≡ hs.len) → IfOk r (λ (v : Vec T Global). KeepsEach g hs.len hs.items v.items) → All (λ (h : PromisedHandle T P). (t : T) → g.kept_by h.promise t → Q t) hs.items → IfSome o (λ (v : Vec T Global). All Q v.items)
 some_kept {T} g Q hs (Ok v) o e len each all = subst (λ (o : Option (Vec T Global)). IfSome o (λ (v : Vec T Global). All Q v.items)) (sym e) (all_kept g Q hs.len hs.items v.items hs.ok.0 (sym v.ok.0 ∙ len) all each)
 some_kept {T} g Q hs (Err x) o e len each all = subst (λ (o : Option (Vec T Global)). IfSome o (λ (v : Vec T Global). All Q v.items)) (sym e) tt
-
--- a new port may ask
-pub new_may_ask : (label nodes : ℕ) (opening : List ℕ) (ports : List Standing) → AreNew label nodes opening (map (λ (port : Standing). port.view) ports) → All (λ (port : Standing). IsTrue (may_ask port.view.state)) ports
-new_may_ask label nodes opening ports new = λ k d below.
-    let view : Standing → View = λ port. port.view in
-    let here : Option View = Some (view (slice_index_or ports k d)) in
-    let low : k < nodes = subst (λ (m : ℕ). k < m) (sym (length-map ports view) ∙ new.count) below in
-    let is : here ≡ Some (new_view label nodes opening (k + 1)) = sym (ap (option_map view) (slice_get-get_or ports k d below)) ∙ (sym (slice_get-map view ports k) ∙ new.each k low) in
-    ap (λ (o : Option View). may_ask (option_map_or (λ (v : View). v.state) o Idle)) is

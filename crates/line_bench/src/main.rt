@@ -1,6 +1,7 @@
 //! Times a line, or puts it under stress.
 #![tactic(auto)]
 
+mod law;
 mod rounds;
 mod runs;
 mod stress;

@@ -1,10 +1,11 @@
 //! A run: a line is opened, its nodes do a task together, their ports meet, and the line is taken apart.
 ghost use Rattle.std.specs.Prelude.{◌≡◌, All, IfOk, IfSome, true, IsTrue};
-ghost use Rattle.qolb_model.specs.Plain.{may_ask};
+ghost use Rattle.qolb_model.specs.PortStates.{may_ask};
 
+use crate::law::Rising;
 use crate::together::{Task, together};
 use line_lanes::Line64;
-use qolb_model::{FinishError, Free, LineSync, OpenError};
+use qolb_model::{FinishError, LineSync, OpenError};
 use ring_line::{Port, RingLine};
 use std::alloc::Global;
 use std::rt::Clock;
@@ -26,18 +27,18 @@ pub enum RunError {
 }
 
 /// A ring of zeros with these many nodes.
-pub fn open(alloc: Global, nodes: u64) -> Result<(RingLine<Free>, Vec<Port>), RunError>
-    ensures ports { IfOk result (λ r. All (λ port. ⟦<RingLine<Free> as LineSync<Free>>⟧.belongs r.0 port) r.1.items) }
-    ensures state { IfOk result (λ r. All (λ port. IsTrue (may_ask (⟦<RingLine<Free> as LineSync<Free>>⟧.view port).state)) r.1.items) }
+pub fn open(alloc: Global, nodes: u64) -> Result<(RingLine<Rising>, Vec<Port>), RunError>
+    ensures ports { IfOk result (λ r. All (λ port. ⟦<RingLine<Rising> as LineSync<Rising>>⟧.belongs r.0 port) r.1.items) }
+    ensures state { IfOk result (λ r. All (λ port. IsTrue (may_ask (⟦<RingLine<Rising> as LineSync<Rising>>⟧.view port).state)) r.1.items) }
 {
-    match RingLine::<Free>::open(alloc, 1, nodes, Line64::zero()) {
+    match RingLine::<Rising>::open(alloc, 1, nodes, Line64::zero()) {
         Ok(opened) => Ok(opened),
         Err(why) => Err(RunError::Open(why)),
     }
 }
 
 /// Each node does the task; then all ports meet, and the line's last bytes are left.
-pub fn run<R: Threads + Wait + Clock + Sync, L: LineSync<Free> + Sync + Drop, T: Task<L> + Sync>(
+pub fn run<R: Threads + Wait + Clock + Sync, L: LineSync<Rising> + Sync + Drop, T: Task<L> + Sync>(
     rt: &R,
     alloc: Global,
     line: L,
@@ -58,7 +59,7 @@ where
 }
 
 /// Each two ports meet. `None` where memory was refused.
-fn meet_all<L: LineSync<Free>>(alloc: Global, line: &L, ports: Vec<L::Port>) -> Option<Vec<L::Port>>
+fn meet_all<L: LineSync<Rising>>(alloc: Global, line: &L, ports: Vec<L::Port>) -> Option<Vec<L::Port>>
 where
     L::Port: Drop,
     requires { All (λ port. L.belongs line.now port) ports.items }
@@ -73,7 +74,7 @@ where
 }
 
 /// The port meets each of the others.
-fn meet_each<L: LineSync<Free>>(line: &L, port: L::Port, others: &mut Vec<L::Port>) -> L::Port
+fn meet_each<L: LineSync<Rising>>(line: &L, port: L::Port, others: &mut Vec<L::Port>) -> L::Port
     requires belongs { L.belongs line.now port }
     requires others { All (λ port. L.belongs line.now port) others.old.items }
     ensures belongs { L.belongs line.now result }

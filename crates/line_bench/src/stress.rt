@@ -1,10 +1,12 @@
 //! Nodes that ask, look, withdraw, write and release at random, until one of them closes the line.
 ghost use Rattle.std.specs.Prelude.{◌≡◌, ◌≢◌, IsTrue};
-ghost use Rattle.qolb_model.specs.Plain.{may_ask};
+ghost use Rattle.qolb_model.specs.PortStates.{may_ask};
+ghost use Rattle.qolb_model.specs.Turns.{IsGranted};
 
+use crate::law::Rising;
 use crate::rounds::add_one;
 use crate::together::Task;
-use qolb_model::{Enq, Free, LineSync, Out, Poll, PortState};
+use qolb_model::{Enq, LineSync, Out, Poll, PortState};
 use rand::{RngExt, SeedableRng};
 use rand_xoshiro::Xoshiro256PlusPlus;
 use std::hint::spin_loop;
@@ -98,7 +100,7 @@ impl Stress {
     }
 }
 
-impl<L: LineSync<Free>> Task<L> for Stress {
+impl<L: LineSync<Rising>> Task<L> for Stress {
     fn work<R: Wait + Clock>(&self, rt: &R, line: &L, port: L::Port) -> L::Port {
         let mut port = port;
         let mut rng = Xoshiro256PlusPlus::seed_from_u64(L::node(&port));
@@ -138,7 +140,7 @@ impl<L: LineSync<Free>> Task<L> for Stress {
 }
 
 /// Asks once, and waits or withdraws.
-fn ask<R: Wait, L: LineSync<Free>>(
+fn ask<R: Wait, L: LineSync<Rising>>(
     rt: &R,
     line: &L,
     port: &mut L::Port,
@@ -147,7 +149,7 @@ fn ask<R: Wait, L: LineSync<Free>>(
     requires belongs { L.belongs line.now port.old }
     requires state { IsTrue (may_ask (L.view port.old).state) }
     ensures belongs { L.belongs line.now port.new }
-    ensures granted { result ≡ Turn.Granted → (L.view port.new).state ≡ PortState.Holding }
+    ensures granted { result ≡ Turn.Granted → IsGranted (L.view port.new) (L.turn port.new) }
     ensures ended { result ≢ Turn.Granted → IsTrue (may_ask (L.view port.new).state) }
 {
     match line.enqolb(port) {
@@ -159,7 +161,7 @@ fn ask<R: Wait, L: LineSync<Free>>(
 }
 
 /// Looks for the turn, and at some looks withdraws, pauses or gives the processor away.
-fn wait_or_withdraw<R: Wait, L: LineSync<Free>>(
+fn wait_or_withdraw<R: Wait, L: LineSync<Rising>>(
     rt: &R,
     line: &L,
     port: &mut L::Port,
@@ -168,7 +170,7 @@ fn wait_or_withdraw<R: Wait, L: LineSync<Free>>(
     requires belongs { L.belongs line.now port.old }
     requires state { (L.view port.old).state ≡ PortState.Queued }
     ensures belongs { L.belongs line.now port.new }
-    ensures granted { result ≡ Turn.Granted → (L.view port.new).state ≡ PortState.Holding }
+    ensures granted { result ≡ Turn.Granted → IsGranted (L.view port.new) (L.turn port.new) }
     ensures ended { result ≢ Turn.Granted → IsTrue (may_ask (L.view port.new).state) }
 {
     for _ in rt.forever() {
@@ -191,11 +193,11 @@ fn wait_or_withdraw<R: Wait, L: LineSync<Free>>(
 }
 
 /// Gives the request up, unless it has come to its turn.
-fn withdraw<L: LineSync<Free>>(line: &L, port: &mut L::Port) -> Turn
+fn withdraw<L: LineSync<Rising>>(line: &L, port: &mut L::Port) -> Turn
     requires belongs { L.belongs line.now port.old }
     requires state { (L.view port.old).state ≡ PortState.Queued }
     ensures belongs { L.belongs line.now port.new }
-    ensures granted { result ≡ Turn.Granted → (L.view port.new).state ≡ PortState.Holding }
+    ensures granted { result ≡ Turn.Granted → IsGranted (L.view port.new) (L.turn port.new) }
     ensures ended { result ≢ Turn.Granted → IsTrue (may_ask (L.view port.new).state) }
 {
     match line.withdraw(port) {

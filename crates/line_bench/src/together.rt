@@ -1,9 +1,10 @@
 //! A thread for each node of a line: it gets the node's port, and gives it back.
 ghost use Rattle.std.specs.Prelude.{◌≡◌, All, IfSome, true, IsTrue};
 ghost use Rattle.std.specs.Thread.{IsSync, IsSend};
-ghost use Rattle.qolb_model.specs.Plain.{may_ask};
+ghost use Rattle.qolb_model.specs.PortStates.{may_ask};
 
-use qolb_model::{Free, LineSync};
+use crate::law::Rising;
+use qolb_model::LineSync;
 use std::alloc::Global;
 use std::rt::Clock;
 use std::snapshot::Snapshot;
@@ -12,7 +13,7 @@ use std::thread;
 use std::thread::{Promise, PromisedHandle, Threads, join_promised};
 
 /// What each node does with its port, in a thread of its own.
-pub trait Task<L: LineSync<Free>> {
+pub trait Task<L: LineSync<Rising>> {
     /// The work of one node.
     fn work<R: Wait + Clock>(&self, rt: &R, line: &L, port: L::Port) -> L::Port
         requires belongs { L.belongs line.now port }
@@ -31,12 +32,12 @@ impl<L> Drop for OfLine<L> {
     }
 }
 
-impl<L: LineSync<Free>> Promise<L::Port> for OfLine<L> {
+impl<L: LineSync<Rising>> Promise<L::Port> for OfLine<L> {
     ghost kept_by = { λ p port. L.belongs p.line.value port };
 }
 
 /// A thread for each port does the task. `None` where memory or a thread was refused.
-pub fn together<R: Threads + Wait + Clock + Sync, L: LineSync<Free> + Sync, T: Task<L> + Sync>(
+pub fn together<R: Threads + Wait + Clock + Sync, L: LineSync<Rising> + Sync, T: Task<L> + Sync>(
     rt: &R,
     alloc: Global,
     line: &L,

@@ -1,8 +1,10 @@
 //! A node's turn: it asks, and waits until the line is granted or closed.
 ghost use Rattle.std.specs.Prelude.{◌≡◌, IsTrue};
-ghost use Rattle.qolb_model.specs.Plain.{may_ask};
+ghost use Rattle.qolb_model.specs.PortStates.{may_ask};
+ghost use Rattle.qolb_model.specs.Turns.{IsGranted};
 
-use qolb_model::{Enq, Free, LineSync, Poll, PortState};
+use crate::law::Rising;
+use qolb_model::{Enq, LineSync, Poll, PortState};
 use std::hint::spin_loop;
 use std::sync::Wait;
 use std::thread::yield_now;
@@ -20,11 +22,11 @@ pub enum Got {
 }
 
 /// Asks until the line is granted or closed.
-pub fn acquire<R: Wait, L: LineSync<Free>>(rt: &R, line: &L, port: &mut L::Port) -> Got
+pub fn acquire<R: Wait, L: LineSync<Rising>>(rt: &R, line: &L, port: &mut L::Port) -> Got
     requires belongs { L.belongs line.now port.old }
     requires state { IsTrue (may_ask (L.view port.old).state) }
     ensures belongs { L.belongs line.now port.new }
-    ensures granted { result ≡ Got.Granted → (L.view port.new).state ≡ PortState.Holding }
+    ensures granted { result ≡ Got.Granted → IsGranted (L.view port.new) (L.turn port.new) }
     ensures closed { result ≡ Got.Closed → IsTrue (may_ask (L.view port.new).state) }
 {
     for _ in rt.forever() {
@@ -39,11 +41,11 @@ pub fn acquire<R: Wait, L: LineSync<Free>>(rt: &R, line: &L, port: &mut L::Port)
 }
 
 /// Polls until the line is granted or closed.
-fn wait<R: Wait, L: LineSync<Free>>(rt: &R, line: &L, port: &mut L::Port) -> Got
+fn wait<R: Wait, L: LineSync<Rising>>(rt: &R, line: &L, port: &mut L::Port) -> Got
     requires belongs { L.belongs line.now port.old }
     requires state { (L.view port.old).state ≡ PortState.Queued }
     ensures belongs { L.belongs line.now port.new }
-    ensures granted { result ≡ Got.Granted → (L.view port.new).state ≡ PortState.Holding }
+    ensures granted { result ≡ Got.Granted → IsGranted (L.view port.new) (L.turn port.new) }
     ensures closed { result ≡ Got.Closed → IsTrue (may_ask (L.view port.new).state) }
 {
     let mut looks = 0u64;

@@ -1,5 +1,5 @@
 use Rattle.std.proofs.Common.{IsTrue}
-use Rattle.qolb_model.specs.Plain.{may_ask}
+use Rattle.qolb_model.specs.PortStates.{may_ask}
 use Rattle.line_bench.proofs.rounds.RoundsTask.work.Given as goal
 
 abbrev pub invariant-loop : goal.invariant-loop

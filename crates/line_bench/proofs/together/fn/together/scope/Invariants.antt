@@ -1,6 +1,6 @@
 use Rattle.std.proofs.Common.{◌≡◌, IsTrue, All}
 use Rattle.std.specs.Vec.Iter.{into_iter_items}
-use Rattle.qolb_model.specs.Plain.{may_ask}
+use Rattle.qolb_model.specs.PortStates.{may_ask}
 use Rattle.line_bench.proofs.together.fn.together.scope.Given as goal
 
 abbrev pub invariant-loop-port : goal.invariant-loop-port
