@@ -24,7 +24,7 @@ const ROOM: usize = MOST_NODES as usize;
 ///
 /// Every call's contract is the run of the queue machine that the table of answers gives for it: from each state that agrees
 /// with the line, to one that agrees again. Calls take no memory: the line has room for all nodes to wait, 16 bytes for each, and so
-/// is some 3.3 KiB large.
+/// is some 3,300 bytes large.
 #[derive(Drop)]
 pub struct PlainLine {
     turn: Write,
