@@ -1,6 +1,5 @@
 use Rattle.std.proofs.Common.{rules, arith, ◌≡◌, ◌≤◌, false, ap, sym, ◌∙◌, subst, true}
 use Rattle.std.specs.List.{list_any}
-use Rattle.qolb_model.specs.declared.answer.Poll.TheVariants.{Granted, Waiting, Closed}
 use Rattle.qolb_model.specs.Plain.{is_at}
 use Rattle.qolb_model.proofs.Waiting.{entry_says, room, waiting_push}
 use Rattle.qolb_model.proofs.Calls.{busy-answer, busy-moves, busy-agrees, asks-answer, asks-moves, asks-agrees, is_joined}
