@@ -71,7 +71,8 @@ impl PlainLine {
         })
     }
 
-    fn with_terms(terms: Terms) -> Result<PlainLine, OpenError>
+    /// The same, for these terms.
+    pub fn with_terms(terms: Terms) -> Result<PlainLine, OpenError>
         ensures { MatchResult result (λ line. Agrees line (opened terms)) (λ error. (error ≢ OpenError.Memory) × MayNotOpen terms error) }
     {
         terms.check()?;
