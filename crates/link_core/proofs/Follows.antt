@@ -31,7 +31,7 @@ and_false false = refl
 rolled_unclear : (w : Entry) → w.done ≡ true → w.link ≡ 0 → is_clear Rolled w ≡ false
 rolled_unclear w a b = rw (a, b) (and_false w.freed)
 
-module _ (opening : List ℕ) (c : State) (h : Queue) (s : Matches opening c h) where
+module _ {opening : List ℕ} {c : State} {h : Queue} (s : Matches opening c h) where
   pub current_cases : (n : ℕ) → IsNode c n → (((seat c n).passed ≡ []) × (current c n ≡ n)) ⊎ IsPassed c h.order h.ends n (current c n)
   current_cases n a = elim (last_or_cases n (seat c n).passed) [
     | inl e ↦ inl e

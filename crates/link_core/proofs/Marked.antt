@@ -1,17 +1,20 @@
--- The ended requests that were marked are those that are gone, whatever move is made.
-use Rattle.std.proofs.Common.{◌≡◌, ℕ, ◌<◌, ◌⊎◌, List, [], ◌∷◌, ◌++◌, length, Option, Some, None, slice_get, refl, sym, ◌∙◌, ap, subst, inl, inr, arith, length-append}
+-- The ended requests that were marked are those that are gone, and requests that are not their node's last are clear, whatever move is made.
+use Rattle.std.proofs.lemmas.Bool.{cases_eq, cases_lt}
+use Rattle.std.proofs.Common.{◌≡◌, ℕ, ◌+◌, ◌<◌, ◌⊎◌, List, [], ◌∷◌, ◌++◌, length, Option, Some, None, slice_get, refl, sym, ◌∙◌, ap, subst, inl, inr, arith, length-append}
 use Rattle.std.proofs.lemmas.Option.{slice_get_within}
 use Rattle.qolb_model.specs.declared.request.Request.{Request}
 use Rattle.qolb_model.specs.declared.end.End.{End}
 use Rattle.qolb_model.specs.declared.end.End.TheVariants.{Served, Gone, Told}
-use Rattle.qolb_model.specs.Requests.{Has, next_of}
+use Rattle.qolb_model.specs.Requests.{Has, count_of, next_of}
 use Rattle.qolb_model.specs.Histories.{IsLegal}
 use Rattle.qolb_model.specs.Queue.{Queue, Move, ask, mark, finish, EndsAs, CanMove, moved}
 use Rattle.qolb_model.proofs.Lists.{never, same_some, push_cases, slice_get-append_left, slice_get-push}
-use Rattle.qolb_model.proofs.Requests.{has_push, has_left}
+use Rattle.qolb_model.proofs.Requests.{has_push, has_left, place_of_request, same_request, count_of-push_same, count_of-push_other}
+use Rattle.qolb_model.proofs.Clearing.{clears_begin}
 use Rattle.qolb_model.proofs.Histories.{same_place_legal}
 use Rattle.link_core.specs.Moves.{MayMake, made, Goes}
-use Rattle.link_core.specs.Shown.{AreMarked}
+use Rattle.link_core.specs.Shown.{AreMarked, AreEarlierClear}
+use Rattle.link_core.proofs.Kept.{has_more}
 
 -- an old place of an order with one more request
 old_place : (o : List Request) (x : Request) (p : ℕ) (r : Request) → p < length o → slice_get (o ++ x ∷ []) p ≡ Some r → slice_get o p ≡ Some r
@@ -63,3 +66,39 @@ pub marked_goes : (nodes : ℕ) (q : Queue) (m : Option Move) (g : Queue) → Go
 marked_goes nodes q m g k l a =
     let b = marked_made nodes q m k.may l a in
     subst (λ (y : Queue). AreMarked y) (sym k.cleared.2) (record { gone = b.gone; marked = b.marked })
+
+-- a node asks where its last request is clear
+earlier_move : (nodes : ℕ) (q : Queue) (m : Move) → CanMove nodes q m → IsLegal q.order q.ends → AreEarlierClear q → AreEarlierClear (moved q m)
+earlier_move nodes q (mark x) can l a r h lt = a r h lt
+earlier_move nodes q (finish x) can l a r h lt = a r h lt
+earlier_move nodes q (ask n) can l a r h lt = elim (has_push q.order (next_of n q.order) r h) [
+  | inl old ↦ elim (cases_eq r.node n) [
+    | inl same ↦
+        let (p, at) = place_of_request q.order r old in
+        let first = l.numbered p r at in
+        let more = count_of-push_same n q.order (next_of n q.order) refl in
+        let low = subst (λ (m : ℕ). r.number < count_of m (q.order ++ next_of n q.order ∷ [])) same lt in
+        elim (cases_lt r.number (count_of n q.order)) [
+          | inl below ↦ a r old (subst (λ (m : ℕ). r.number < count_of m q.order) (sym same) below)
+          | inr least ↦
+              let number : r.number ≡ count_of n q.order = omega arith in
+              subst (λ (x : Request). Has q.clear x) (same_request n r.node (count_of n q.order) r.number (sym same) (sym number)) (can.2 (omega arith))
+        ]
+    | inr other ↦ a r old (subst (λ (m : ℕ). r.number < m) (count_of-push_other r.node q.order (next_of n q.order) (λ e. other (sym e))) lt)
+  ]
+  | inr new ↦
+      let is : r.node ≡ n = ap (λ (x : Request). x.node) new in
+      let number : r.number ≡ count_of n q.order + 1 = ap (λ (x : Request). x.number) new in
+      let more = count_of-push_same n q.order (next_of n q.order) refl in
+      let low = subst (λ (m : ℕ). r.number < count_of m (q.order ++ next_of n q.order ∷ [])) is lt in
+      absurd (omega arith)
+]
+
+earlier_made : (nodes : ℕ) (q : Queue) (m : Option Move) → MayMake nodes q m → IsLegal q.order q.ends → AreEarlierClear q → AreEarlierClear (made q m)
+earlier_made nodes q None may l a = a
+earlier_made nodes q (Some x) may l a = earlier_move nodes q x may l a
+
+pub earlier_goes : (nodes : ℕ) (q : Queue) (m : Option Move) (g : Queue) → Goes nodes q m g → IsLegal q.order q.ends → AreEarlierClear q → AreEarlierClear g
+earlier_goes nodes q m g k l a =
+    let b = earlier_made nodes q m k.may l a in
+    subst (λ (y : Queue). AreEarlierClear y) (sym k.cleared.2) (λ r h lt. has_more (made q m).clear k.cleared.0 r (clears_begin k.cleared.1) (b r h lt))

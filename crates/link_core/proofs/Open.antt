@@ -1,5 +1,5 @@
 -- The opened line shows the empty history; a run goes on.
-use Rattle.std.proofs.Common.{◌≡◌, ℕ, zero, suc, ◌<◌, true, false, List, [], ◌∷◌, length, refl, sym, ap, subst, arith}
+use Rattle.std.proofs.Common.{◌≡◌, ℕ, zero, suc, ◌+◌, ◌<◌, ◌≤◌, true, false, List, [], ◌∷◌, length, refl, sym, ◌∙◌, ap, subst, arith}
 use Rattle.std.specs.Prelude.{slice_index_or}
 use Rattle.link_core.specs.declared.point.Point.{Point}
 use Rattle.link_core.specs.declared.point.Point.TheVariants.{Idle}
@@ -8,12 +8,18 @@ use Rattle.line_lanes.specs.declared.line.Line64.{Line64}
 use Rattle.link_core.specs.State.{Seat, seat, point}
 use Rattle.link_core.specs.Shown.{at_home, Sits, Matches}
 use Rattle.std.specs.Prelude.{replicate}
-use Rattle.link_core.specs.State.{unused, first}
+use Rattle.link_core.specs.State.{empty, unused, first}
+use Rattle.link_core.specs.declared.entry.Entry.{Entry}
 
 pub seat_first : (k n : ℕ) → slice_index_or (replicate k unused) n unused ≡ unused
 seat_first zero n = refl
 seat_first (suc k) zero = refl
 seat_first (suc k) (suc n) = seat_first k n
+
+pub entry_first : (k n : ℕ) → slice_index_or (replicate k empty) n empty ≡ empty
+entry_first zero n = refl
+entry_first (suc k) zero = refl
+entry_first (suc k) (suc n) = entry_first k n
 
 pub first_matches : (nodes : ℕ) (opening : Line64) → length opening.bytes ≡ 64 → Matches opening.bytes (first nodes opening) empty_queue
 first_matches nodes opening long = record {
@@ -36,6 +42,11 @@ first_matches nodes opening long = record {
   passes = λ n i a l. absurd (none n i l);
   once = λ n m i j a b k l e. absurd (none n i k);
   unpassed = λ n a e. ap (λ (s : Seat). s.passed) (seat_first 33 n);
+  settled = record {
+    boxed = λ n a dn un. let z : false ≡ true = ap (λ (w : Entry). w.done) (sym (entry_first 33 n)) ∙ dn in cc;
+    rests = λ nowhere p r e l. let z : p + 1 ≡ 0 = l in absurd (omega arith);
+    bounded = λ n a. subst (λ (w : Entry). w.link ≤ nodes) (sym (entry_first 33 n)) (omega arith);
+  };
 }
   where
     idle : (n : ℕ) → point (first nodes opening) n ≡ Idle

@@ -2,6 +2,8 @@
 use Rattle.std.proofs.Common.{◌≡◌, ◌≢◌, ℕ, zero, suc, ◌+◌, ◌<◌, ◌≤◌, true, ◌||◌, List, [], ◌∷◌, length, refl, sym, ◌∙◌, ap, subst, inl, inr, arith}
 use Rattle.std.specs.Prelude.{slice_index_or}
 use Rattle.std.proofs.lemmas.Bool.{cases_lt}
+use Rattle.std.proofs.lemmas.Option.{slice_get_within}
+use Rattle.qolb_model.specs.declared.end.End.TheVariants.{Gone}
 use Rattle.qolb_model.specs.Queue.{Queue}
 use Rattle.link_core.specs.declared.point.Point.{Point}
 use Rattle.link_core.specs.declared.point.Point.TheVariants.{Rolled}
@@ -33,7 +35,7 @@ module _ (opening : List ℕ) (c : State) (h : Queue) (s : Matches opening c h) 
   next_unpassed n i m a l last e =
       let j = s.passes n i a l in
       let k = last_once h.order m j.at (length h.ends + 1) (subst (λ (x : ℕ). IsLast h.order x j.at) e j.last) last in
-      elim j.come [ inl f ↦ let g = f.0 in omega arith | inr f ↦ let g = f.0 in omega arith ]
+      elim j.come [ inl f ↦ let g = slice_get_within h.ends j.at Gone f in omega arith | inr f ↦ let g = f.0 in omega arith ]
 
   -- so with all others passed nobody follows
   none_follows : (n : ℕ) → IsNode c n → has_line (point c n) ≡ true → length h.ends + 1 < length h.order → length (seat c n).passed + 1 < c.nodes
@@ -43,7 +45,7 @@ module _ (opening : List ℕ) (c : State) (h : Queue) (s : Matches opening c h) 
       omega arith
     where
       each : IsLast h.order (asker h.order (length h.ends + 1)) (length h.ends + 1) → (i : ℕ) → i < length (asker h.order (length h.ends + 1) ∷ (seat c n).passed) → (0 < slice_index_or (asker h.order (length h.ends + 1) ∷ (seat c n).passed) i 0) × (slice_index_or (asker h.order (length h.ends + 1) ∷ (seat c n).passed) i 0 ≤ c.nodes) × (slice_index_or (asker h.order (length h.ends + 1) ∷ (seat c n).passed) i 0 ≢ n)
-      each last zero l = let j = s.nodes (length h.ends + 1) more in (j.0, j.1, later_other opening c h n s a lined (length h.ends + 1) (omega arith) more)
+      each last zero l = let j = s.nodes (length h.ends + 1) more in (j.0, j.1, later_other s a lined (length h.ends + 1) (omega arith) more)
       each last (suc i) l = own n i a (omega arith)
 
       apart : IsLast h.order (asker h.order (length h.ends + 1)) (length h.ends + 1) → (i j : ℕ) → i < length (asker h.order (length h.ends + 1) ∷ (seat c n).passed) → j < length (asker h.order (length h.ends + 1) ∷ (seat c n).passed) → slice_index_or (asker h.order (length h.ends + 1) ∷ (seat c n).passed) i 0 ≡ slice_index_or (asker h.order (length h.ends + 1) ∷ (seat c n).passed) j 0 → i ≡ j
@@ -58,7 +60,7 @@ module _ (opening : List ℕ) (c : State) (h : Queue) (s : Matches opening c h) 
     home = λ n a lined all. elim (cases_lt (length h.ends + 1) (length h.order)) [
       | inl more ↦ let k = none_follows n a lined more in absurd (omega arith)
       | inr done ↦
-          let f = facts opening c h n s a lined in
+          let f = facts s a lined in
           let l = f.0 in
           s.home_last (length h.ends) (omega arith) (omega arith) ∙ f.3
     ];

@@ -59,7 +59,7 @@ few ps n k a b f g =
     below (suc zero) l = omega arith
     below (suc (suc i)) l = let z = (f i (omega arith)).1 in omega arith
 
-module _ (opening : List ℕ) (c : State) (h : Queue) (s : Matches opening c h) where
+module _ {opening : List ℕ} {c : State} {h : Queue} (s : Matches opening c h) where
   pub room : (n m : ℕ) → IsNode c n → point c n ≡ Granting m → length (seat c n).passed < c.nodes
   room n m a e = few (seat c n).passed n c.nodes a.1 a.0
       (λ i l. let j = s.passes n i a l in (j.node.0, j.node.1, λ f. let z : Rolled ≡ Granting m = sym j.point ∙ ap (point c) f ∙ e in cc))
@@ -69,7 +69,7 @@ module _ (opening : List ℕ) (c : State) (h : Queue) (s : Matches opening c h) 
   names n a = go (point c n) refl (s.sits n a)
     where
       cur : IsNode c (current c n)
-      cur = elim (current_cases opening c h s n a) [ inl j ↦ rw (j.1) a | inr j ↦ j.node ]
+      cur = elim (current_cases s n a) [ inl j ↦ rw (j.1) a | inr j ↦ j.node ]
 
       go : (p : Point) → point c n ≡ p → Sits c h.order h.ends n p → Names c p
       go Idle e y = tt
@@ -83,15 +83,15 @@ module _ (opening : List ℕ) (c : State) (h : Queue) (s : Matches opening c h) 
       go (Linking q) e y = y.node
       go (Leaving x) e y = subst (λ (x : ℕ). IsNode c x) y.is cur
       go (Marking x) e y = subst (λ (x : ℕ). IsNode c x) y.0.is cur
-      go (Granting x) e y = node_m opening c h n x s a e
+      go (Granting x) e y = node_m s a e
 
 pub sound_fits : (c : State) → IsSound c → Fits c
 sound_fits c w = record {
   nodes = w.nodes;
-  points = names w.opening c w.queue w.shows.matches;
+  points = names w.shows.matches;
   passed = λ n i a l. (w.shows.matches.passes n i a l).node;
-  room = λ n m a e. let k = room w.opening c w.queue w.shows.matches n m a e in let j = w.nodes in omega arith;
-  freeing = λ n a e f. (sits_at w.opening c w.queue w.shows.matches n Freeing a e).1 f;
+  room = λ n m a e. let k = room w.shows.matches n m a e in let j = w.nodes in omega arith;
+  freeing = λ n a e f. (sits_at w.shows.matches n Freeing a e).1 f;
 }
 
 pub sound_wide : (c : State) → IsSound c → IsWide c

@@ -1,7 +1,11 @@
 -- What a lock whose words are those of a core may rest on. (Of this project.)
-use Rattle.std.specs.Prelude.{◌≡◌, ◌≢◌, ℕ, ◌+◌, ◌<◌, ◌≤◌, true, false, List, ◌∷◌, length}
+use Rattle.std.specs.Prelude.{◌≡◌, ◌≢◌, ◌↔◌, ℕ, ◌+◌, ◌<◌, ◌≤◌, true, false, List, ◌∷◌, length}
 use Rattle.line_lanes.specs.declared.line.Line64.{Line64}
 use Rattle.qolb_model.specs.Ends.{is_closed}
+use Rattle.qolb_model.specs.Histories.{IsLegal}
+use Rattle.qolb_model.specs.Requests.{count_of, last_of}
+use Rattle.qolb_model.specs.declared.end.End.{End}
+use Rattle.qolb_model.specs.declared.request.Request.{Request}
 use Rattle.qolb_model.specs.Queue.{Queue, empty_queue, Move, Runs}
 use Rattle.link_core.specs.declared.point.Point.TheVariants.{Linking, Queued, Marking, Granting, Rolled}
 use Rattle.link_core.specs.declared.place.Place.TheVariants.{Home, Mailbox, Hand}
@@ -9,10 +13,10 @@ use Rattle.link_core.specs.declared.seat.Reason.{Reason}
 use Rattle.link_core.specs.declared.seat.Reason.TheVariants.{Own}
 use Rattle.link_core.specs.declared.told.Told.{Told}
 use Rattle.link_core.specs.declared.event.Event.{Event}
-use Rattle.link_core.specs.Places.{asker, IsLast}
+use Rattle.link_core.specs.Places.{request, asker, IsLast}
 use Rattle.link_core.specs.State.{State, IsWide, entry, seat, point, IsNode, current, first}
 use Rattle.link_core.specs.Steps.{Step, Releases, Names, node_of, allows}
-use Rattle.link_core.specs.Shown.{has_line, EndedBy, IsBehind, Shows}
+use Rattle.link_core.specs.Shown.{has_line, is_active, EndedBy, IsWhole, IsCarried, IsBehind, Shows}
 use Rattle.link_core.specs.Promise.{Keeps, Run}
 
 -- A line that is opened shows the empty queue.
@@ -21,7 +25,7 @@ OpenedShows = (nodes : ℕ) (opening : Line64) → nodes ≤ 32 → length openi
 
 -- Each event goes on from a state that shows a queue to one that shows a queue after the event's move, and spares the other nodes.
 abbrev pub EachEventKeeps : Type 0
-EachEventKeeps = (opening : List ℕ) (c d : State) (q : Queue) (e : Event) (t : Told) → IsWide c → Shows opening c q → Step c e t d → Keeps opening c e t d q × IsWide d
+EachEventKeeps = (opening : List ℕ) (c d : State) (q : Queue) (e : Event) (t : Told) → IsWide c → Shows opening c q → (step : Step c e t d) → Keeps opening c e t d step q × IsWide d
 
 -- An event has an effect only where its node's point allows it, and then one.
 abbrev pub EventsAreEnabled : Type 0
@@ -41,16 +45,22 @@ pub record Unset (c : State) : Type 0 where
 abbrev pub AddsFindUnset : Type 0
 AddsFindUnset = (opening : List ℕ) (c : State) (q : Queue) → Shows opening c q → Unset c
 
--- What the nodes find: a point names nodes alone; a release has the line in its hand, alone, and is at the entry that its list of
--- passed nodes says; the next node waits or is withdrawn, and its flag tells which; who is to link stands right behind the one that it
--- links to; and where a flag says that the line has come, it lies there.
-pub record Found (c : State) (q : Queue) : Type 0 where
+-- What the nodes find: a point names nodes alone; a release has the line in its hand, alone, carries it as it should be, and is at the
+-- entry that its list of passed nodes says; the next node waits or is withdrawn, and its flag tells which; who is to link stands right
+-- behind the one that it links to; home names the newest open request; where a flag says that the line has come, it lies there; and
+-- where no node waits or has the line, all requests have ended.
+pub record Found (opening : List ℕ) (c : State) (q : Queue) : Type 0 where
   pub names : (n : ℕ) → IsNode c n → Names c (point c n)
   pub hand : (n : ℕ) → IsNode c n → has_line (point c n) ≡ true → c.place ≡ Hand n
   pub one : (n m : ℕ) → IsNode c n → IsNode c m → has_line (point c n) ≡ true → has_line (point c m) ≡ true → n ≡ m
   pub turn : (n : ℕ) → IsNode c n → has_line (point c n) ≡ true → IsLast q.order (current c n) (length q.ends)
-  pub releases : (n e : ℕ) → IsNode c n → Releases c n e → current c n ≡ e
-  pub marks : (n e : ℕ) → IsNode c n → point c n ≡ Marking e → current c n ≡ e
+  pub carried : (n : ℕ) → IsNode c n → has_line (point c n) ≡ true → IsCarried opening c q.order q.ends n (seat c n).reason (seat c n).passed
+  pub whole : ((n : ℕ) → c.place ≢ Hand n) → IsWhole opening c q.ends
+  pub passed : (n x : ℕ) (rest : List ℕ) → IsNode c n → (seat c n).passed ≡ x ∷ rest → IsNode c x × (point c x ≡ Rolled)
+  pub releases : (n e : ℕ) → IsNode c n → Releases c n e → (has_line (point c n) ≡ true) × (current c n ≡ e)
+  pub marks : (n e : ℕ) → IsNode c n → point c n ≡ Marking e → (current c n ≡ e) × (length q.ends + 1 < length q.order)
+  pub late : (n e : ℕ) → IsNode c n → point c n ≡ Marking e → (entry c e).link ≡ 0 → point c (asker q.order (length q.ends + 1)) ≡ Linking e
+  pub home : (p : ℕ) → length q.ends ≤ p → p < length q.order → (c.home ≡ asker q.order p) ↔ (p + 1 ≡ length q.order)
   pub grant : (n m : ℕ) → IsNode c n → point c n ≡ Granting m → (length q.ends + 1 < length q.order) × (asker q.order (length q.ends + 1) ≡ m)
   pub grant_waits : (n m : ℕ) → IsNode c n → point c n ≡ Granting m → (entry c m).rolled ≡ false → point c m ≡ Queued
   pub grant_rolled : (n m : ℕ) → IsNode c n → point c n ≡ Granting m → (entry c m).rolled ≡ true → point c m ≡ Rolled
@@ -59,9 +69,22 @@ pub record Found (c : State) (q : Queue) : Type 0 where
   pub granted : (n : ℕ) → IsNode c n → point c n ≡ Queued → (entry c n).granted ≡ true → (c.place ≡ Mailbox n) × IsLast q.order n (length q.ends)
   pub waits : (n : ℕ) → IsNode c n → point c n ≡ Queued → (entry c n).granted ≡ false → (p : ℕ) × IsLast q.order n p × (length q.ends < p)
   pub idle : c.home ≡ 0 → c.place ≡ Home
+  pub over : ((n : ℕ) → IsNode c n → is_active (point c n) ≡ false) → (length q.ends ≡ length q.order) × (c.place ≡ Home)
 
 abbrev pub NodesFind : Type 0
-NodesFind = (opening : List ℕ) (c : State) (q : Queue) → Shows opening c q → Found c q
+NodesFind = (opening : List ℕ) (c : State) (q : Queue) → Shows opening c q → Found opening c q
+
+-- No event changes how many nodes there are, or the lengths of the lists.
+abbrev pub SizesStay : Type 0
+SizesStay = (c d : State) (e : Event) (t : Told) → Step c e t d → (d.nodes ≡ c.nodes) × (length d.entries ≡ length c.entries) × (length d.seats ≡ length c.seats)
+
+-- The request at a node's last place has its highest number; and a node that has made requests has a last place.
+pub record LastPlaces (order : List Request) (n : ℕ) : Type 0 where
+  pub number : (p : ℕ) → IsLast order n p → request order p ≡ last_of n order
+  pub place : 1 ≤ count_of n order → (p : ℕ) × IsLast order n p
+
+abbrev pub LastsHavePlaces : Type 0
+LastsHavePlaces = (order : List Request) (ends : List End) (n : ℕ) → IsLegal order ends → LastPlaces order n
 
 -- A release passes fewer nodes than there are, and where it has passed all others it finds itself named at home.
 pub record Short (c : State) : Type 0 where

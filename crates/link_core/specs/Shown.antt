@@ -11,6 +11,7 @@ use Rattle.link_core.specs.declared.place.Place.TheVariants.{Home, Mailbox, Hand
 use Rattle.line_lanes.specs.Line.{merged}
 use Rattle.link_core.specs.Places.{request, asker, IsLast}
 use Rattle.qolb_model.specs.Ends.{is_closed, bytes_after}
+use Rattle.qolb_model.specs.EndKinds.{is_gone}
 use Rattle.qolb_model.specs.Histories.{IsLegal}
 use Rattle.qolb_model.specs.Queue.{Queue}
 use Rattle.qolb_model.specs.Requests.{Has, count_of, has}
@@ -19,7 +20,7 @@ use Rattle.qolb_model.specs.declared.end.End.TheVariants.{Served, Gone, Told}
 use Rattle.qolb_model.specs.declared.request.Request.{Request}
 use Rattle.link_core.specs.State.{State, empty, entry, seat, point, IsNode, current, is_clear}
 
--- the points at which a node has withdrawn its request, has the line in its hand, and frees the nodes that it passed
+-- the points at which a node has withdrawn its request; has the line in its hand; waits, or has it; and frees the nodes that it passed
 abbrev pub is_rolled : Point → Bool
 is_rolled Rolled = true
 is_rolled _ = false
@@ -30,6 +31,11 @@ has_line (Leaving e) = true
 has_line (Marking e) = true
 has_line (Granting m) = true
 has_line _ = false
+
+abbrev pub is_active : Point → Bool
+is_active (Linking q) = true
+is_active Queued = true
+is_active p = has_line p
 
 abbrev pub is_freeing : Point → Bool
 is_freeing Freeing = true
@@ -45,9 +51,10 @@ ByReason _ _ = ⊥
 -- n's last request has ended, by this reason
 pub record EndedBy (order : List Request) (ends : List End) (n : ℕ) (r : Reason) : Type 0 where
   pub at : ℕ
+  pub end : End
   pub last : IsLast order n at
-  pub ended : at < length ends
-  pub how : ByReason r (slice_index_or ends at Gone)
+  pub ended : slice_get ends at ≡ Some end
+  pub how : ByReason r end
 
 -- n's last request, if any, has ended
 abbrev pub HasEnded : List Request → List End → ℕ → Type 0
@@ -119,14 +126,18 @@ Sits c order ends n (Leaving e) = IsReleasing c n e
 Sits c order ends n (Marking e) = IsReleasing c n e × (length ends + 1 < length order)
 Sits c order ends n (Granting m) = IsReleasing c n (current c n) × (length ends + 1 < length order) × (asker order (length ends + 1) ≡ m) × ((entry c (current c n)).link ≡ m)
 
--- n's release has passed x and not freed it: x's last request is gone, or is at its turn with the line in n's hand
+-- the request at this place is gone, or is at its turn with the line in n's hand
+abbrev pub HasCome : State → List End → ℕ → ℕ → Type 0
+HasCome c ends n at = (slice_get ends at ≡ Some Gone) ⊎ ((at ≡ length ends) × (c.place ≡ Hand n))
+
+-- n's release has passed x and not freed it
 pub record IsPassed (c : State) (order : List Request) (ends : List End) (n x : ℕ) : Type 0 where
   pub node : IsNode c x
   pub point : point c x ≡ Rolled
   pub kept : (entry c x).freed ≡ false
   pub at : ℕ
   pub last : IsLast order x at
-  pub come : ((at < length ends) × (slice_index_or ends at Told ≡ Gone)) ⊎ ((at ≡ length ends) × (c.place ≡ Hand n))
+  pub come : HasCome c ends n at
 
 -- some node has the line in its hand and is about to grant
 pub record IsGranting (c : State) : Type 0 where
@@ -146,6 +157,32 @@ pub record IsFresh (c : State) (turn n p : ℕ) : Type 0 where
 -- the i-th of the nodes that n has passed
 abbrev pub passed : State → ℕ → ℕ → ℕ
 passed c n i = slice_index_or (seat c n).passed i 0
+
+-- the nodes that the releases have passed; no node is passed twice; and only a release has passed any
+abbrev pub ArePassed : State → List Request → List End → Type 0
+ArePassed c order ends = (n i : ℕ) → IsNode c n → i < length (seat c n).passed → IsPassed c order ends n (passed c n i)
+
+abbrev pub IsOnce : State → Type 0
+IsOnce c = (n m i j : ℕ) → IsNode c n → IsNode c m → i < length (seat c n).passed → j < length (seat c m).passed → passed c n i ≡ passed c m j → (n ≡ m) × (i ≡ j)
+
+abbrev pub IsUnpassed : State → Type 0
+IsUnpassed c = (n : ℕ) → IsNode c n → has_line (point c n) || is_freeing (point c n) ≡ false → (seat c n).passed ≡ []
+
+-- n has left the line in its own mailbox, and nobody is linked to its entry
+pub record HasLeft (c : State) (n : ℕ) : Type 0 where
+  pub point : point c n ≡ Left
+  pub done : (entry c n).done ≡ true
+  pub unlinked : (entry c n).link ≡ 0
+
+-- While the line is in no hand, the request that ended last is clear, unless it is gone or its node has left the line.
+abbrev pub Rests : State → List Request → List End → List Request → Type 0
+Rests c order ends clear = ((n : ℕ) → c.place ≢ Hand n) → (p : ℕ) (r : Request) (e : End) → p + 1 ≡ length ends → slice_get order p ≡ Some r → slice_get ends p ≡ Some e → is_gone e ≡ false → Has clear r ⊎ HasLeft c r.node
+
+-- What is left behind: a done entry without a link has the line in its mailbox; and each link is to a node.
+pub record IsSettled (c : State) (order : List Request) (ends : List End) (clear : List Request) : Type 0 where
+  pub boxed : (n : ℕ) → IsNode c n → (entry c n).done ≡ true → (entry c n).link ≡ 0 → c.place ≡ Mailbox n
+  pub rests : Rests c order ends clear
+  pub bounded : (n : ℕ) → IsNode c n → (entry c n).link ≤ c.nodes
 
 -- the words, the line, the points and the lists of passed nodes fit the queue
 pub record Matches (opening : List ℕ) (c : State) (q : Queue) : Type 0 where
@@ -172,10 +209,11 @@ pub record Matches (opening : List ℕ) (c : State) (q : Queue) : Type 0 where
   pub sits : (n : ℕ) → IsNode c n → Sits c q.order q.ends n (point c n)
   -- the entries of open requests
   pub fresh : (p : ℕ) → length q.ends ≤ p → p < length q.order → IsFresh c (length q.ends) (asker q.order p) p
-  -- the passed nodes: of all releases together, each stands once; and only a release has any
-  pub passes : (n i : ℕ) → IsNode c n → i < length (seat c n).passed → IsPassed c q.order q.ends n (passed c n i)
-  pub once : (n m i j : ℕ) → IsNode c n → IsNode c m → i < length (seat c n).passed → j < length (seat c m).passed → passed c n i ≡ passed c m j → (n ≡ m) × (i ≡ j)
-  pub unpassed : (n : ℕ) → IsNode c n → has_line (point c n) || is_freeing (point c n) ≡ false → (seat c n).passed ≡ []
+  -- the passed nodes, and what is left behind
+  pub passes : ArePassed c q.order q.ends
+  pub once : IsOnce c
+  pub unpassed : IsUnpassed c
+  pub settled : IsSettled c q.order q.ends q.clear
 
 -- A release leaves a chain of links behind it: that of the releasing node's own entry, and those of the nodes that it has passed
 -- and not freed, but for the last. Where it is about to grant, the entry that it has come to is done.
@@ -188,9 +226,14 @@ pub record AreMarked (q : Queue) : Type 0 where
   pub gone : (p : ℕ) (r : Request) → slice_get q.order p ≡ Some r → slice_get q.ends p ≡ Some Gone → Has q.marked r
   pub marked : (p : ℕ) (r : Request) → slice_get q.order p ≡ Some r → p < length q.ends → Has q.marked r → slice_get q.ends p ≡ Some Gone
 
+-- each request that is not its node's last is clear
+abbrev pub AreEarlierClear : Queue → Type 0
+AreEarlierClear q = (r : Request) → Has q.order r → r.number < count_of r.node q.order → Has q.clear r
+
 -- The state shows the queue: that is legal, and the state matches it.
 pub record Shows (opening : List ℕ) (c : State) (q : Queue) : Type 0 where
   pub legal : IsLegal q.order q.ends
   pub gone : AreMarked q
+  pub earlier : AreEarlierClear q
   pub matches : Matches opening c q
   pub chained : IsChained c

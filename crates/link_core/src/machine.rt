@@ -54,7 +54,7 @@ impl Core {
         ensures step { IfOk result (λ t. Step self.old event t self.new) }
         ensures refused { IfErr result (λ e. IsRefused self.old event e) }
         ensures unchanged { OnErr result (self.new ≡ self.old) }
-        ensures shows { (opening : List ℕ) (q : Queue) → Shows opening self.old q → IfOk result (λ t. Keeps opening self.old event t self.new q) }
+        ensures shows { (opening : List ℕ) (q : Queue) → Shows opening self.old q → IfOk result (λ t. (step : Step self.old event t self.new) × Keeps opening self.old event t self.new step q) }
     {
         self.state.apply(event)
     }

@@ -6,7 +6,7 @@ pub loop-i-init : goal.loop-i-init
 loop-i-init c = run_start c.args.nodes c.args.opening c.args.events.now c.in-Some.core c.in-Some.ensures.shows.matches.opened c.in-Some.ensures.state
 
 pub loop-i-preserved : goal.loop-i-preserved
-loop-i-preserved c = run_step c.args.nodes c.args.opening c.args.events.now c.loop-i.i _ c.loop-i.core c.step.new.self c.in_default-step.field-0 c.loop-i-test.true c.loop-i.invariant c.in_default-step.ensures.step c.in_default-step.ensures.shows
+loop-i-preserved c = run_step c.args.nodes c.args.opening c.args.events.now c.loop-i.i _ c.loop-i.core c.step.new.self c.in_default-step.field-0 c.loop-i-test.true c.loop-i.invariant c.in_default-step.ensures.shows
 
 pub returns : goal.returns
 returns c =
