@@ -13,7 +13,8 @@ use Rattle.qolb_model.specs.Requests.{is_same, has, count_of, last_of}
 use Rattle.qolb_model.specs.Ends.{is_closed, written, bytes_after}
 use Rattle.qolb_model.specs.Histories.{turn_of, open_of}
 use Rattle.qolb_model.specs.OneOwner.{LineState, is_first, is_open, state_of}
-use Rattle.qolb_model.specs.Plain.{PlainView, is_at, is_oldest, waiter_state, node_state, may_ask, waiter_of, Agrees}
+use Rattle.qolb_model.specs.PortStates.{may_ask}
+use Rattle.qolb_model.specs.Plain.{PlainView, is_at, is_oldest, waiter_state, node_state, waiter_of, Agrees}
 use Rattle.qolb_model.proofs.Lists.{never, slice_get-drop}
 use Rattle.qolb_model.proofs.Requests.{is_same-true, is_same-self}
 use Rattle.line_lanes.proofs.Masked.{length-merged}
@@ -162,5 +163,5 @@ module _ (line : PlainView) (s : LineState) (a : Agrees line s) where
       by (Some r) h = ap Some (sym (is_same-true (last_of node s.queue.order) r h))
 
   -- all that has ended is clear
-  pub is_tidy : IsTidy s.queue
+  pub is_tidy : IsTidy s.terms.lease s.queue
   is_tidy = record { legal = a.reached.legal; ended = length s.queue.ends; within = omega arith; cleared = a.reached.cleared }

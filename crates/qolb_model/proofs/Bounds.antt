@@ -97,11 +97,11 @@ pub record IsAfter (a b : View) : Type 0 where
 has_in : (xs ys : List Request) (r : Request) → IsPrefix xs ys → Has xs r → Has ys r
 has_in xs ys r begins h = subst (λ zs. Has zs r) begins.1 (has_left xs begins.0 r h)
 
-module _ (nodes : ℕ) (s : LineState) (reached : IsReached nodes s) (a b : View) (w : Stance) (h : OneHistory (b ∷ w.view ∷ [])) (after : IsAfter a b) (knows : KnowsWhole nodes s w) (begins : IsPrefix s.queue.order a.order) where
-  of_b : Knows h.order h.ends h.clear b
+module _ (s : LineState) (reached : IsReached s) (a b : View) (w : Stance) (h : OneHistory (b ∷ w.view ∷ [])) (after : IsAfter a b) (knows : KnowsWhole s w) (begins : IsPrefix s.queue.order a.order) where
+  of_b : Knows h.terms h.order h.ends h.clear b
   of_b = h.known b (among_first b (w.view ∷ []))
 
-  of_w : Knows h.order h.ends h.clear w.view
+  of_w : Knows h.terms h.order h.ends h.clear w.view
   of_w = h.known w.view (among_second b w.view [])
 
   a_order : IsPrefix a.order h.order

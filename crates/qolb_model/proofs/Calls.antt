@@ -9,8 +9,9 @@ use Rattle.qolb_model.specs.declared.answer.PortState.TheVariants as port
 use Rattle.qolb_model.specs.Requests.{has, last_of}
 use Rattle.qolb_model.specs.Queue.{ask, Runs}
 use Rattle.qolb_model.specs.OneOwner.{LineState, is_first, is_open, is_rolled, poll_answer, poll_moves, after_poll, as_enq, after_ask, enq_answer, enq_moves, after_enq, as_out, out_answer, mark_last, out_moves, after_out, after_moves, release_moves, after_release}
-use Rattle.qolb_model.specs.Plain.{PlainView, is_at, is_oldest, node_state, may_ask, Agrees}
-use Rattle.qolb_model.specs.Steps.{withdrawn_at, joined_by, turn_ended, look_answer, looked}
+use Rattle.qolb_model.specs.Plain.{PlainView, is_at, is_oldest, node_state, Agrees}
+use Rattle.qolb_model.specs.PortStates.{may_ask}
+use Rattle.qolb_model.specs.Steps.{withdrawn_at, joined_by, turn_served, look_answer, looked}
 use Rattle.qolb_model.proofs.Agreed.{waits-is_open, oldest-is_first, when_queued, when_holding, when_rolled, not_both}
 use Rattle.qolb_model.proofs.Steps.{runs_ask, agrees_ask, resting_ask, look_answer-poll_answer, looks, releases, runs_mark, agrees_mark}
 use Rattle.qolb_model.proofs.Runs.{has_cleared_none}
@@ -28,10 +29,10 @@ module _ (line : PlainView) (s : LineState) (node : ℕ) (a : Agrees line s) (ma
   pub busy-answer : enq.Busy ≡ enq_answer s node
   busy-answer = ap (λ b. if b then enq.Busy else as_enq (poll_answer (after_ask s node) node)) (sym rolled)
 
-  pub busy-moves : Runs line.nodes s.queue (enq_moves s node) (after_enq s node).queue
+  pub busy-moves : Runs s.terms s.queue (enq_moves s node) (after_enq s node).queue
   busy-moves =
       subst
-      (λ b. Runs line.nodes s.queue (if b then [] else ask node ∷ poll_moves (poll_answer (after_ask s node) node) (after_ask s node)) (if b then s else after_poll (poll_answer (after_ask s node) node) (after_ask s node)).queue)
+      (λ b. Runs s.terms s.queue (if b then [] else ask node ∷ poll_moves (poll_answer (after_ask s node) node) (after_ask s node)) (if b then s else after_poll (poll_answer (after_ask s node) node) (after_ask s node)).queue)
       (sym rolled) (has_cleared_none s.queue)
 
   pub busy-agrees : Agrees line (after_enq s node)
@@ -46,23 +47,26 @@ module _ (line : PlainView) (s : LineState) (node : ℕ) (a : Agrees line s) (lo
   not_rolled : is_rolled s.queue node ≡ false
   not_rolled = ap (λ b. b && has s.queue.marked (last_of node s.queue.order)) no_open
 
+  of_line : node ≤ s.terms.nodes
+  of_line = subst (λ nodes. node ≤ nodes) a.nodes high
+
   abbrev pub asked_state : LineState
   asked_state = after_ask s node
 
   -- the line agrees when it has asked, and when it has looked
   agrees_asked : Agrees (joined_by line node) (after_ask s node)
-  agrees_asked = agrees_ask line s node a low high no_open
+  agrees_asked = agrees_ask line s node a low of_line no_open
 
-  looks_asked : Runs line.nodes asked_state.queue (poll_moves (poll_answer asked_state node) asked_state) (after_poll (poll_answer asked_state node) asked_state).queue
+  looks_asked : Runs s.terms asked_state.queue (poll_moves (poll_answer asked_state node) asked_state) (after_poll (poll_answer asked_state node) asked_state).queue
       × Agrees (looked (poll_answer asked_state node) (joined_by line node)) (after_poll (poll_answer asked_state node) asked_state)
-  looks_asked = looks (joined_by line node) asked_state node (poll_answer asked_state node) agrees_asked refl (resting_ask line s node a low high no_open)
+  looks_asked = looks (joined_by line node) asked_state node (poll_answer asked_state node) agrees_asked refl (resting_ask line s node a low of_line no_open)
 
   -- the moves that it makes
-  pub asks-moves : Runs line.nodes s.queue (enq_moves s node) (after_enq s node).queue
+  pub asks-moves : Runs s.terms s.queue (enq_moves s node) (after_enq s node).queue
   asks-moves =
       subst
-      (λ b. Runs line.nodes s.queue (if b then [] else ask node ∷ poll_moves (poll_answer asked_state node) asked_state) (if b then s else after_poll (poll_answer asked_state node) asked_state).queue)
-      (sym not_rolled) (runs_ask line s node a low high no_open _ _ looks_asked.0)
+      (λ b. Runs s.terms s.queue (if b then [] else ask node ∷ poll_moves (poll_answer asked_state node) asked_state) (if b then s else after_poll (poll_answer asked_state node) asked_state).queue)
+      (sym not_rolled) (runs_ask line s node a low of_line no_open _ _ looks_asked.0)
 
   -- it stands behind all others, and looks
   module _ (joined : PlainView) (as_joined : joined ≡ joined_by line node) (p : Poll) (is : p ≡ look_answer joined node) where
@@ -89,10 +93,10 @@ module _ (line : PlainView) (s : LineState) (node : ℕ) (a : Agrees line s) (wa
   pub polls-answer : p ≡ poll_answer s node
   polls-answer = is ∙ look_answer-poll_answer line s node a
 
-  looks_so : Runs line.nodes s.queue (poll_moves p s) (after_poll p s).queue × Agrees (looked p line) (after_poll p s)
+  looks_so : Runs s.terms s.queue (poll_moves p s) (after_poll p s).queue × Agrees (looked p line) (after_poll p s)
   looks_so = looks line s node p a (sym polls-answer) (not_both s.granted (is_first s.queue node) (when_queued line s a node waits).2)
 
-  pub polls-moves : Runs line.nodes s.queue (poll_moves p s) (after_poll p s).queue
+  pub polls-moves : Runs s.terms s.queue (poll_moves p s) (after_poll p s).queue
   polls-moves = looks_so.0
 
   pub polls-agrees : Agrees (looked p line) (after_poll p s)
@@ -108,10 +112,10 @@ module _ (line : PlainView) (s : LineState) (node : ℕ) (a : Agrees line s) (wa
   at_turn = sym (oldest-is_first line s a node) ∙ first
 
   -- so giving up is a look
-  pub gives_up-moves : Runs line.nodes s.queue (out_moves s node) (after_out s node).queue
+  pub gives_up-moves : Runs s.terms s.queue (out_moves s node) (after_out s node).queue
   gives_up-moves =
-      subst (λ b. Runs line.nodes s.queue (if b then poll_moves (poll_answer s node) s else mark_last s node) (if b then after_poll (poll_answer s node) s else after_moves (mark_last s node) s).queue) (sym at_turn)
-      (subst (λ x. Runs line.nodes s.queue (poll_moves x s) (after_poll x s).queue) (polls-answer line s node a waits p is) (polls-moves line s node a waits p is))
+      subst (λ b. Runs s.terms s.queue (if b then poll_moves (poll_answer s node) s else mark_last s node) (if b then after_poll (poll_answer s node) s else after_moves (mark_last s node) s).queue) (sym at_turn)
+      (subst (λ x. Runs s.terms s.queue (poll_moves x s) (after_poll x s).queue) (polls-answer line s node a waits p is) (polls-moves line s node a waits p is))
 
   pub gives_up-agrees : Agrees (looked p line) (after_out s node)
   gives_up-agrees =
@@ -124,10 +128,10 @@ module _ (line : PlainView) (s : LineState) (node : ℕ) (a : Agrees line s) (wa
   behind_one = sym (oldest-is_first line s a node) ∙ later
 
   -- so giving up is a mark
-  pub marks-moves : Runs line.nodes s.queue (out_moves s node) (after_out s node).queue
+  pub marks-moves : Runs s.terms s.queue (out_moves s node) (after_out s node).queue
   marks-moves =
       let h = when_queued line s a node waits in
-      subst (λ b. Runs line.nodes s.queue (if b then poll_moves (poll_answer s node) s else mark_last s node) (if b then after_poll (poll_answer s node) s else after_moves (mark_last s node) s).queue) (sym behind_one)
+      subst (λ b. Runs s.terms s.queue (if b then poll_moves (poll_answer s node) s else mark_last s node) (if b then after_poll (poll_answer s node) s else after_moves (mark_last s node) s).queue) (sym behind_one)
       (runs_mark line s node a h.0 h.1 behind_one)
 
   pub marks-agrees : Agrees (record line { waiting = map (withdrawn_at node) line.waiting }) (after_out s node)
@@ -161,17 +165,11 @@ look-waiting line node e = by (is_oldest line node) line.closed e
 
 -- the holder releases, or shuts
 module _ (line : PlainView) (s : LineState) (node : ℕ) (shut : Bool) (a : Agrees line s) (holds : node_state line node ≡ port.Holding) where
-  ends_so : Runs line.nodes s.queue (release_moves s shut) (after_release s shut).queue × Agrees (turn_ended (record line { closed = shut })) (after_release s shut)
+  ends_so : Runs s.terms s.queue (release_moves s shut) (after_release s shut).queue × Agrees (turn_served shut line) (after_release s shut)
   ends_so = let h = when_holding line s a node holds in releases line s node shut a h.1 h.2
 
-  pub releases-moves : Runs line.nodes s.queue (release_moves s shut) (after_release s shut).queue
+  pub releases-moves : Runs s.terms s.queue (release_moves s shut) (after_release s shut).queue
   releases-moves = ends_so.0
 
-  pub shuts-agrees : Agrees (turn_ended (record line { closed = shut })) (after_release s shut)
-  shuts-agrees = ends_so.1
-
--- a release leaves the line open, as it was
-pub releases-agrees : (line : PlainView) (s : LineState) (node : ℕ) (a : Agrees line s) → node_state line node ≡ port.Holding → Agrees (turn_ended line) (after_release s false)
-releases-agrees line s node a holds =
-    let open_line : line.closed ≡ false = a.closed ∙ (a.reached.held (when_holding line s a node holds).1).1 in
-    subst (λ c. Agrees (turn_ended (record line { closed = c })) (after_release s false)) (sym open_line) (shuts-agrees line s node false a holds)
+  pub releases-agrees : Agrees (turn_served shut line) (after_release s shut)
+  releases-agrees = ends_so.1

@@ -19,7 +19,8 @@ use Rattle.qolb_model.specs.Views.{own}
 use Rattle.qolb_model.specs.Asking.{IsBusy}
 use Rattle.qolb_model.specs.Turns.{Waits, IsGranted, IsQueued, IsWithdrawn}
 use Rattle.qolb_model.specs.OneOwner.{LineState, new_turn, is_first, is_open, is_rolled, state_of, after_moves, after_grant, mark_last}
-use Rattle.qolb_model.specs.Plain.{IsReached, may_ask}
+use Rattle.qolb_model.specs.Plain.{IsReached}
+use Rattle.qolb_model.specs.PortStates.{may_ask}
 use Rattle.qolb_model.specs.Whole.{KnowsWhole, seen}
 use Rattle.qolb_model.proofs.Lists.{never, element_at}
 use Rattle.qolb_model.proofs.Requests.{same_request, is_same-true, is_same-self, has_last, has_last_of_all}
@@ -48,17 +49,16 @@ has_push_other xs x r ne =
     plain false = refl
 
 -- the port of the node n made a call that put no request which the state does not have; it forgot nothing, and then met all others
-pub record Follows (nodes : ℕ) (s : LineState) (n : ℕ) (a : View) : Type 0 where
+pub record Follows (s : LineState) (n : ℕ) (a : View) : Type 0 where
   pub node : a.node ≡ n
-  pub nodes_are : a.nodes ≡ nodes
-  pub opening : a.opening.bytes ≡ s.opening
+  pub terms : a.terms ≡ s.terms
   pub order : a.order ≡ s.queue.order
   pub ends : IsPrefix s.queue.ends a.ends
   pub clear : (r : Request) → Has (ended_of s.queue.order s.queue.ends) r → Has a.clear r
   pub joined : (r : Request) → Has s.queue.order r → Has a.joined r
   pub marked : (r : Request) → Has (open_of s.queue.order s.queue.ends) r → Has s.queue.marked r → Has a.marked r
   pub count : a.count ≡ count_of n s.queue.order
-  pub others : (m : ℕ) → 1 ≤ m → m ≤ nodes → m ≢ n → Bounds s a m
+  pub others : (m : ℕ) → 1 ≤ m → m ≤ s.terms.nodes → m ≢ n → Bounds s a m
 
 -- states of a node, by what they say of its last request
 abbrev pub state_from : Bool → Bool → Bool → Bool → PortState
@@ -87,9 +87,9 @@ asking_parts true false true c e stands = absurd (let no : false ≡ true = e in
 asking_parts true false false c e stands = absurd (let no : false ≡ true = e in cc no)
 asking_parts false m h c e stands = absurd (let no : false ≡ true = stands in cc no)
 
-pub rolled_behind : (nodes : ℕ) (s : LineState) (n : ℕ) → IsReached nodes s → is_open s.queue n ≡ true → may_ask (state_of s n) ≡ true → (has s.queue.marked (last_of n s.queue.order) ≡ true)
+pub rolled_behind : (s : LineState) (n : ℕ) → IsReached s → is_open s.queue n ≡ true → may_ask (state_of s n) ≡ true → (has s.queue.marked (last_of n s.queue.order) ≡ true)
     × (r : Request) × (turn_of s.queue.order s.queue.ends ≡ Some r) × (r.node ≢ n)
-rolled_behind nodes s n reached stands may =
+rolled_behind s n reached stands may =
     let marked = asking_parts (is_open s.queue n) (has s.queue.marked (last_of n s.queue.order)) (s.granted && is_first s.queue n) (is_closed s.queue.ends) may stands in
     let (p, le, at) = place_open s.queue.order s.queue.ends (last_of n s.queue.order) stands in
     let within = slice_get_within s.queue.order p (last_of n s.queue.order) at in
@@ -102,12 +102,12 @@ rolled_behind nodes s n reached stands may =
           never (subst (λ x. has s.queue.marked x ≡ true) (sym is) marked) (reached.passed r turn),
     )
 
-module _ (nodes : ℕ) (s : LineState) (n : ℕ) (a : View) (reached : IsReached nodes s) (f : Follows nodes s n a) where
+module _ (s : LineState) (n : ℕ) (a : View) (reached : IsReached s) (f : Follows s n a) where
   pub mine : own a ≡ last_of n s.queue.order
   mine = same_request a.node n a.count (count_of n s.queue.order) f.node f.count
 
   pub one_place : (p q : ℕ) (r : Request) → slice_get s.queue.order p ≡ Some r → slice_get s.queue.order q ≡ Some r → p ≡ q
-  one_place = same_place_legal s.queue.order s.queue.ends reached.legal
+  one_place = same_place_legal s.terms.lease s.queue.order s.queue.ends reached.legal
 
   -- an open request of the port's node is its last one
   pub last_mine : (p : ℕ) (r : Request) → length s.queue.ends ≤ p → slice_get s.queue.order p ≡ Some r → r.node ≡ n → r ≡ last_of n s.queue.order
@@ -166,7 +166,7 @@ module _ (nodes : ℕ) (s : LineState) (n : ℕ) (a : View) (reached : IsReached
   node_state b e m k h g = λ i. state_from (e i) (k i) (g i) (is_closed s.queue.ends)
 
   -- queued, or waiting
-  pub waits_whole : (turn : Write) → IsQueued a → (is_first s.queue n ≡ false) × KnowsWhole nodes s (record { view = a; turn = turn })
+  pub waits_whole : (turn : Write) → IsQueued a → (is_first s.queue n ≡ false) × KnowsWhole s (record { view = a; turn = turn })
   waits_whole turn is =
       let (ends, first, stands) = behind is.waits in
       let (p, le, at) = place_open s.queue.order s.queue.ends (last_of n s.queue.order) stands in
@@ -174,8 +174,7 @@ module _ (nodes : ℕ) (s : LineState) (n : ℕ) (a : View) (reached : IsReached
       let none : has s.queue.marked (last_of n s.queue.order) ≡ false = false_from _ (λ h. never (f.marked (last_of n s.queue.order) stands h) lacks) in (
         first,
         record {
-          nodes_are = f.nodes_are;
-          opening = f.opening;
+          terms = f.terms;
           order = f.order;
           ends = ends;
           clear = f.clear;
@@ -193,7 +192,7 @@ module _ (nodes : ℕ) (s : LineState) (n : ℕ) (a : View) (reached : IsReached
       both_false false e = refl
 
   -- granted
-  pub granted_whole : (turn : Write) → IsGranted a turn → (is_first s.queue n ≡ true) × (is_closed s.queue.ends ≡ false) × KnowsWhole nodes (after_grant s) (record { view = a; turn = turn })
+  pub granted_whole : (turn : Write) → IsGranted a turn → (is_first s.queue n ≡ true) × (is_closed s.queue.ends ≡ false) × KnowsWhole (after_grant s) (record { view = a; turn = turn })
   granted_whole turn is =
       let at : slice_get s.queue.order (length a.ends) ≡ Some (last_of n s.queue.order) = own_at (length a.ends) is.at_turn in
       let within = slice_get_within s.queue.order (length a.ends) (last_of n s.queue.order) at in
@@ -212,8 +211,7 @@ module _ (nodes : ℕ) (s : LineState) (n : ℕ) (a : View) (reached : IsReached
         is_turn,
         ap is_closed (sym ends) ∙ is.is_open,
         record {
-          nodes_are = f.nodes_are;
-          opening = f.opening;
+          terms = f.terms;
           order = f.order;
           ends = ends;
           clear = f.clear;
@@ -222,12 +220,12 @@ module _ (nodes : ℕ) (s : LineState) (n : ℕ) (a : View) (reached : IsReached
           count = f.count ∙ ap (λ m. count_of m s.queue.order) (sym f.node);
           state = ap seen is.state ∙ sym (ap (λ m. seen (state_of (after_grant s) m)) f.node ∙ (λ i. seen (state_from (stands i) (none i) (is_turn i) (is_closed s.queue.ends))));
           asked = λ _. counted (length a.ends) at;
-          turn = λ _. same_write turn (new_turn s.opening s.queue.ends) is.no_mask (is.bytes ∙ (λ i. bytes_after (f.opening i) (ends i)));
+          turn = λ _. same_write turn (new_turn s.terms.opening.bytes s.queue.ends) is.no_mask (is.bytes ∙ (λ i. bytes_after (f.terms i).opening.bytes (ends i)));
         },
       )
 
   -- withdrawn
-  pub withdrawn_whole : (turn : Write) → IsWithdrawn a → (is_first s.queue n ≡ false) × KnowsWhole nodes (after_moves (mark_last s n) s) (record { view = a; turn = turn })
+  pub withdrawn_whole : (turn : Write) → IsWithdrawn a → (is_first s.queue n ≡ false) × KnowsWhole (after_moves (mark_last s n) s) (record { view = a; turn = turn })
   withdrawn_whole turn is =
       let (ends, first, stands) = behind is.waits in
       let (p, le, at) = place_open s.queue.order s.queue.ends (last_of n s.queue.order) stands in
@@ -235,8 +233,7 @@ module _ (nodes : ℕ) (s : LineState) (n : ℕ) (a : View) (reached : IsReached
       let now : has (s.queue.marked ++ last_of n s.queue.order ∷ []) (last_of n s.queue.order) ≡ true = has_last s.queue.marked (last_of n s.queue.order) in (
         first,
         record {
-          nodes_are = f.nodes_are;
-          opening = f.opening;
+          terms = f.terms;
           order = f.order;
           ends = ends;
           clear = f.clear;
@@ -254,15 +251,14 @@ module _ (nodes : ℕ) (s : LineState) (n : ℕ) (a : View) (reached : IsReached
 
   -- busy
   pub busy_whole : (turn : Write) (u : View) → may_ask u.state ≡ true → seen u.state ≡ seen (state_of s n) → ((u.state ≡ port.Left) ⊎ (u.state ≡ port.Rolled) → 1 ≤ u.count) → IsBusy u a
-      → may_ask (state_of s n) ≡ true → (is_rolled s.queue n ≡ true) × KnowsWhole nodes s (record { view = a; turn = turn })
+      → may_ask (state_of s n) ≡ true → (is_rolled s.queue n ≡ true) × KnowsWhole s (record { view = a; turn = turn })
   busy_whole turn u may as_seen asked is may_s =
       let one : 1 ≤ count_of n s.queue.order = let k = asked is.was in let e = is.count in let c = f.count in omega arith in
       let stands : is_open s.queue n ≡ true = by (is_open s.queue n) refl one in
-      let (marked, r, first, ne) = rolled_behind nodes s n reached stands may_s in (
+      let (marked, r, first, ne) = rolled_behind s n reached stands may_s in (
         both (is_open s.queue n) (has s.queue.marked (last_of n s.queue.order)) stands marked,
         record {
-          nodes_are = f.nodes_are;
-          opening = f.opening;
+          terms = f.terms;
           order = f.order;
           ends = still r first ne;
           clear = f.clear;

@@ -15,7 +15,9 @@ use Rattle.qolb_model.specs.declared.answer.PortState.{PortState}
 use Rattle.qolb_model.specs.declared.answer.PortState.TheVariants as port
 use Rattle.qolb_model.specs.declared.request.Request.{Request}
 use Rattle.qolb_model.specs.declared.write.Write.{Write}
+use Rattle.qolb_model.specs.declared.end.End.{End}
 use Rattle.qolb_model.specs.declared.end.End.TheVariants.{Served, Gone, Told}
+use Rattle.qolb_model.specs.declared.terms.Terms.{Terms}
 use Rattle.qolb_model.specs.declared.view.View.{View}
 use Rattle.qolb_model.specs.Requests.{is_same, Has, has, count_of, last_of, next_of}
 use Rattle.qolb_model.specs.Ends.{is_closed}
@@ -24,10 +26,12 @@ use Rattle.qolb_model.specs.Views.{own, Extends}
 use Rattle.qolb_model.specs.OneHistory.{Knows, OneHistory}
 use Rattle.qolb_model.specs.Asking.{IsBusy, Asks, IsJoined}
 use Rattle.qolb_model.specs.Turns.{IsGranted, IsQueued, IsWithdrawn}
-use Rattle.qolb_model.specs.LettingGo.{Releases, LetsGo, IsTold}
-use Rattle.qolb_model.specs.Opening.{new_view, AreNew}
+use Rattle.qolb_model.specs.LettingGo.{EndsTurn, LetsGo, IsTold}
+use Rattle.qolb_model.specs.Opening.{MayOpen, new_view, AreNew}
 use Rattle.qolb_model.specs.OneOwner.{LineState, opened, shown, is_first, is_open, is_rolled, state_of, poll_answer, after_poll, as_enq, after_ask, enq_answer, after_enq, as_out, out_answer, after_out, mark_last, after_moves, after_grant, after_release, turn_after, after_write}
-use Rattle.qolb_model.specs.Plain.{IsReached, may_ask}
+use Rattle.qolb_model.specs.Plain.{IsReached}
+use Rattle.qolb_model.specs.PortStates.{may_ask, left_by}
+use Rattle.qolb_model.specs.Leases.{closes}
 use Rattle.qolb_model.specs.Whole.{Stance, KnowsWhole, AreWhole, seen}
 use Rattle.qolb_model.specs.Rounds.{MeetsOthers}
 use Rattle.qolb_model.proofs.Lists.{element_at, same_some, push_cases, slice_get-push}
@@ -55,8 +59,8 @@ get_mid [] x ys = refl
 get_mid (z ∷ xs) x ys = get_mid xs x ys
 
 -- what is known of the others bounds the view after an ask too
-bounds_ask : (nodes : ℕ) (s : LineState) (n m : ℕ) (a : View) → m ≢ n → Bounds s a m → Bounds (after_ask s n) a m
-bounds_ask nodes s n m a ne b = record {
+bounds_ask : (s : LineState) (n m : ℕ) (a : View) → m ≢ n → Bounds s a m → Bounds (after_ask s n) a m
+bounds_ask s n m a ne b = record {
   counts = let k = b.counts in let more = count_of-push_le m s.queue.order (next_of n s.queue.order) in omega arith;
   passed = b.passed;
   stuck = λ r turn e. elim (push_cases s.queue.order (next_of n s.queue.order) (length s.queue.ends) r turn) [
@@ -71,19 +75,20 @@ bounds_ask nodes s n m a ne b = record {
   marks = λ r stands e marked. b.marks r ((leaves_ask n s).opens r stands (λ same. ne (sym e ∙ same))) e marked;
 }
 
--- a port's call, and the round of meets after it
-module _ (s : LineState) (ports : List Stance) (whole : AreWhole s ports) (place : ℕ) (u a : Stance) (at : slice_get ports place ≡ Some u)
-    (extends : Extends u.view a.view) (alone : OneHistory (a.view ∷ [])) (new : List Stance) (round : MeetsOthers place (set ports place a) new) where
-  abbrev pub nodes : ℕ
-  nodes = length ports
+left_quiet : (closed : Bool) → seen (left_by closed) ≡ port.Idle
+left_quiet true = refl
+left_quiet false = refl
 
+-- a port's call, and the round of meets after it
+module _ (allows : List ℕ → List ℕ → Type 0) (s : LineState) (ports : List Stance) (whole : AreWhole s ports) (place : ℕ) (u a : Stance) (at : slice_get ports place ≡ Some u)
+    (extends : Extends u.view a.view) (alone : OneHistory (a.view ∷ [])) (new : List Stance) (round : MeetsOthers allows place (set ports place a) new) where
   abbrev pub n : ℕ
   n = place + 1
 
-  reached : IsReached (length ports) s
+  reached : IsReached s
   reached = whole.reached
 
-  knew : KnowsWhole (length ports) s u
+  knew : KnowsWhole s u
   knew = whole.knows place u at
 
   u_node : u.view.node ≡ place + 1
@@ -95,8 +100,8 @@ module _ (s : LineState) (ports : List Stance) (whole : AreWhole s ports) (place
   low : 1 ≤ place + 1
   low = omega arith
 
-  high : place + 1 ≤ length ports
-  high = let lt = slice_get_within ports place u at in omega arith
+  high : place + 1 ≤ s.terms.nodes
+  high = let many = whole.count in let lt = slice_get_within ports place u at in omega arith
 
   order_begins : IsPrefix s.queue.order a.view.order
   order_begins = subst (λ xs. IsPrefix xs a.view.order) knew.order extends.order
@@ -104,14 +109,17 @@ module _ (s : LineState) (ports : List Stance) (whole : AreWhole s ports) (place
   ends_begin : IsPrefix s.queue.ends a.view.ends
   ends_begin = subst (λ xs. IsPrefix xs a.view.ends) knew.ends extends.ends
 
-  call : Called (length ports) s place a (set ports place a)
+  call : Called s place a (set ports place a)
   call = called s ports whole place u a at extends.node
 
-  told : (k : ℕ) → 1 ≤ k → k ≤ length ports → k ≢ place + 1 → Bounds s a.view k
-  told = tells (length ports) s place a (set ports place a) new call round reached order_begins ends_begin
+  told : (k : ℕ) → 1 ≤ k → k ≤ s.terms.nodes → k ≢ place + 1 → Bounds s a.view k
+  told = tells allows s place a (set ports place a) new call round reached order_begins ends_begin
 
-  known : Knows alone.order alone.ends alone.clear a.view
+  known : Knows alone.terms alone.order alone.ends alone.clear a.view
   known = alone.known a.view (among_first a.view [])
+
+  terms_then : a.view.terms ≡ s.terms
+  terms_then = extends.terms ∙ knew.terms
 
   count_was : u.view.count ≡ count_of (place + 1) s.queue.order
   count_was = knew.count ∙ ap (λ m. count_of m s.queue.order) u_node
@@ -122,8 +130,8 @@ module _ (s : LineState) (ports : List Stance) (whole : AreWhole s ports) (place
     | inl e ↦ e
     | inr ne ↦ absurd (
         let of = known.of_line p r (prefix_get a.view.order alone.order p r known.order_begins there) in
-        let lines : a.view.nodes ≡ length ports = extends.nodes ∙ knew.nodes_are in
-        let k = (told r.node of.0 (omega arith) ne).counts in
+        let lines : alone.terms ≡ s.terms = sym known.terms_are ∙ terms_then in
+        let k = (told r.node of.0 (subst (λ (k : Terms). r.node ≤ k.nodes) lines of.1) ne).counts in
         let more = count_of-behind s.queue.order a.view.order p r order_begins le there in omega arith)
   ]
 
@@ -146,14 +154,10 @@ module _ (s : LineState) (ports : List Stance) (whole : AreWhole s ports) (place
   clear_then : (r : Request) → Has (ended_of s.queue.order s.queue.ends) r → Has a.view.clear r
   clear_then r h = has_in u.view.clear a.view.clear r extends.clear (knew.clear r h)
 
-  opening_then : a.view.opening.bytes ≡ s.opening
-  opening_then = ap (λ o. o.bytes) extends.opening ∙ knew.opening
-
-  pub follows : a.view.count ≡ u.view.count → Follows (length ports) s (place + 1) a.view
+  pub follows : a.view.count ≡ u.view.count → Follows s (place + 1) a.view
   follows same = record {
     node = a_node;
-    nodes_are = extends.nodes ∙ knew.nodes_are;
-    opening = opening_then;
+    terms = terms_then;
     order = same_order same;
     ends = ends_begin;
     clear = clear_then;
@@ -197,11 +201,10 @@ module _ (s : LineState) (ports : List Stance) (whole : AreWhole s ports) (place
             let two = subst (λ m. count_of m (s.queue.order ++ x ∷ []) + 1 ≤ count_of m a.view.order) y_mine (count_of-behind (s.queue.order ++ x ∷ []) a.view.order (length (s.queue.order ++ x ∷ [])) y (y ∷ zs, whole_) (omega arith) at_y) in
             let k = few in let c = count_then in omega arith)
 
-    pub follows_ask : IsJoined a.view → Follows (length ports) (after_ask s (place + 1)) (place + 1) a.view
+    pub follows_ask : IsJoined a.view → Follows (after_ask s (place + 1)) (place + 1) a.view
     follows_ask joined = record {
       node = a_node;
-      nodes_are = extends.nodes ∙ knew.nodes_are;
-      opening = opening_then;
+      terms = terms_then;
       order = one_more;
       ends = ends_begin;
       clear = λ r h.
@@ -222,7 +225,7 @@ module _ (s : LineState) (ports : List Stance) (whole : AreWhole s ports) (place
             ])
       ];
       count = count_then ∙ sym (count_of-push_same (place + 1) s.queue.order (next_of (place + 1) s.queue.order) refl);
-      others = λ m one most ne. bounds_ask (length ports) s (place + 1) m a.view ne (told m one most ne);
+      others = λ m one most ne. bounds_ask s (place + 1) m a.view ne (told m one most ne);
     }
 
     -- its last request had ended
@@ -232,7 +235,7 @@ module _ (s : LineState) (ports : List Stance) (whole : AreWhole s ports) (place
         by : (b : Bool) → is_open s.queue (place + 1) ≡ b → b ≡ false
         by false e = refl
         by true e = absurd (
-            let (marked, r, turn, ne) = rolled_behind (length ports) s (place + 1) reached e may in
+            let (marked, r, turn, ne) = rolled_behind s (place + 1) reached e may in
             let k = reached.nodes_known (length s.queue.ends) r turn in
             let (p, le, there) = place_open s.queue.order s.queue.ends (last_of (place + 1) s.queue.order) e in
             let one = count_at s.queue.order p (last_of (place + 1) s.queue.order) there in
@@ -241,34 +244,34 @@ module _ (s : LineState) (ports : List Stance) (whole : AreWhole s ports) (place
             let clear = subst (λ x. Has a.view.clear x) mine (asks.was_clear (omega arith)) in
             let ended = ((told r.node k.0 k.1 ne).stuck r turn refl).1 (last_of (place + 1) s.queue.order) clear in
             let (q, lt, here) = place_ended s.queue.order s.queue.ends (last_of (place + 1) s.queue.order) ended in
-            let same : p ≡ q = same_place_legal s.queue.order s.queue.ends reached.legal p q (last_of (place + 1) s.queue.order) there here in
+            let same : p ≡ q = same_place_legal s.terms.lease s.queue.order s.queue.ends reached.legal p q (last_of (place + 1) s.queue.order) there here in
             omega arith)
 
   -- a look, where the state t is s, or s after the node's ask
-  look : (t : LineState) → IsReached (length ports) t → Follows (length ports) t (place + 1) a.view → is_open t.queue (place + 1) ≡ true → (is_first t.queue (place + 1) ≡ true → t.granted ≡ false) → Leaves (place + 1) s t
+  look : (t : LineState) → IsReached t → Follows t (place + 1) a.view → is_open t.queue (place + 1) ≡ true → (is_first t.queue (place + 1) ≡ true → t.granted ≡ false) → Leaves (place + 1) s t
       → (p : Poll) → (p ≡ poll.Granted → IsGranted a.view a.turn) → (p ≡ poll.Waiting → IsQueued a.view) → (p ≡ poll.Closed → IsTold a.view)
       → (p ≡ poll_answer t (place + 1)) × AreWhole (after_poll p t) new
   look t reached_t f stands rest leaves poll.Granted granted queued closed =
-      let h = granted_whole (length ports) t (place + 1) a.view reached_t f a.turn (granted refl) in
+      let h = granted_whole t (place + 1) a.view reached_t f a.turn (granted refl) in
       let is : poll.Granted ≡ poll_answer t (place + 1) = sym (λ i. if h.0 i then (if h.1 i then poll.Closed else poll.Granted) else poll.Waiting) in
-      (is, spreads (length ports) s place a (set ports place a) new call round (after_grant t) (leaves_through (place + 1) s t (after_grant t) leaves (leaves_grant (place + 1) t h.0)) (reached_poll (length ports) t reached_t (place + 1) poll.Granted (sym is) rest) h.2)
+      (is, spreads allows s place a (set ports place a) new call round (after_grant t) (leaves_through (place + 1) s t (after_grant t) leaves (leaves_grant (place + 1) t h.0)) (reached_poll t reached_t (place + 1) poll.Granted (sym is) rest) h.2)
   look t reached_t f stands rest leaves poll.Waiting granted queued closed =
-      let h = waits_whole (length ports) t (place + 1) a.view reached_t f a.turn (queued refl) in
+      let h = waits_whole t (place + 1) a.view reached_t f a.turn (queued refl) in
       let is : poll.Waiting ≡ poll_answer t (place + 1) = sym (ap (λ b. if b then (if is_closed t.queue.ends then poll.Closed else poll.Granted) else poll.Waiting) h.0) in
-      (is, spreads (length ports) s place a (set ports place a) new call round t leaves reached_t h.1)
+      (is, spreads allows s place a (set ports place a) new call round t leaves reached_t h.1)
   look t reached_t f stands rest leaves poll.Closed granted queued closed =
-      let h = told_whole (length ports) t (place + 1) a.view reached_t f stands (closed refl) in
+      let h = told_whole t (place + 1) a.view reached_t f stands (closed refl) in
       let first : is_first t.queue (place + 1) ≡ true = ap (λ o. option_map_or (is_same (last_of (place + 1) t.queue.order)) o false) h.0 ∙ is_same-self (last_of (place + 1) t.queue.order) in
       let is : poll.Closed ≡ poll_answer t (place + 1) = sym (λ i. if first i then (if h.1 i then poll.Closed else poll.Granted) else poll.Waiting) in
       let after : LineState = after_poll poll.Closed t in
-      (is, spreads (length ports) s place a (set ports place a) new call round (after_poll poll.Closed t) (leaves_through (place + 1) s t (after_poll poll.Closed t) leaves (leaves_end (place + 1) t Told first)) (reached_poll (length ports) t reached_t (place + 1) poll.Closed (sym is) rest) (h.2 a.turn))
+      (is, spreads allows s place a (set ports place a) new call round (after_poll poll.Closed t) (leaves_through (place + 1) s t (after_poll poll.Closed t) leaves (leaves_end (place + 1) t Told first)) (reached_poll t reached_t (place + 1) poll.Closed (sym is) rest) (h.2 a.turn))
 
   -- `poll`
   pub polled : state_of s (place + 1) ≡ port.Queued → a.view.count ≡ u.view.count
       → (p : Poll) → (p ≡ poll.Granted → IsGranted a.view a.turn) → (p ≡ poll.Waiting → IsQueued a.view) → (p ≡ poll.Closed → IsTold a.view)
       → (p ≡ poll_answer s (place + 1)) × AreWhole (after_poll p s) new
   polled waits same p granted queued closed =
-      let h = queued_is (length ports) s reached (place + 1) waits in
+      let h = queued_is s reached (place + 1) waits in
       look s reached (follows same) h.0 h.2 (leaves_so (place + 1) s) p granted queued closed
 
   -- one that gives up at its turn looks
@@ -284,12 +287,12 @@ module _ (s : LineState) (ports : List Stance) (whole : AreWhole s ports) (place
       → (o : Out) → (o ≡ out.Granted → IsGranted a.view a.turn) → (o ≡ out.Withdrawn → IsWithdrawn a.view) → (o ≡ out.Closed → IsTold a.view)
       → (o ≡ out_answer s (place + 1)) × AreWhole (after_out s (place + 1)) new
   withdrew waits same out.Withdrawn granted withdrawn closed =
-      let h = queued_is (length ports) s reached (place + 1) waits in
-      let w = withdrawn_whole (length ports) s (place + 1) a.view reached (follows same) a.turn (withdrawn refl) in
+      let h = queued_is s reached (place + 1) waits in
+      let w = withdrawn_whole s (place + 1) a.view reached (follows same) a.turn (withdrawn refl) in
       let is : out.Withdrawn ≡ out_answer s (place + 1) = sym (ap (λ b. as_out (if b then (if is_closed s.queue.ends then poll.Closed else poll.Granted) else poll.Waiting)) w.0) in (
         is,
         subst (λ b. AreWhole (if b then after_poll (poll_answer s (place + 1)) s else after_moves (mark_last s (place + 1)) s) new) (sym w.0)
-            (spreads (length ports) s place a (set ports place a) new call round (after_moves (mark_last s (place + 1)) s) (leaves_mark (place + 1) s) (reached_mark (length ports) s reached (place + 1) h.0 h.1 w.0) w.1),
+            (spreads allows s place a (set ports place a) new call round (after_moves (mark_last s (place + 1)) s) (leaves_mark (place + 1) s) (reached_mark s reached (place + 1) h.0 h.1 w.0) w.1),
       )
   withdrew waits same out.Granted granted withdrawn closed =
       let h = polled waits same poll.Granted (λ e. granted refl) (λ e. absurd (let no : poll.Granted ≡ poll.Waiting = e in cc no)) (λ e. absurd (let no : poll.Granted ≡ poll.Closed = e in cc no)) in
@@ -305,7 +308,7 @@ module _ (s : LineState) (ports : List Stance) (whole : AreWhole s ports) (place
   ask may asks joined p granted queued closed =
       let none = quiet asks may in
       let t : LineState = after_ask s (place + 1) in
-      let r = reached_asked (length ports) s reached (place + 1) low high none in
+      let r = reached_asked s reached (place + 1) low high none in
       let same_last : last_of (place + 1) (s.queue.order ++ next_of (place + 1) s.queue.order ∷ []) ≡ next_of (place + 1) s.queue.order =
       same_request (place + 1) (place + 1) _ _ refl (count_of-push_same (place + 1) s.queue.order (next_of (place + 1) s.queue.order) refl) in
       let stands : is_open (after_ask s (place + 1)).queue (place + 1) ≡ true =
@@ -324,10 +327,10 @@ module _ (s : LineState) (ports : List Stance) (whole : AreWhole s ports) (place
       → (e ≡ enq_answer s (place + 1)) × AreWhole (after_enq s (place + 1)) new
   asked may_u may enq.Busy busy asks joined granted queued closed =
       let is = busy refl in
-      let h = busy_whole (length ports) s (place + 1) a.view reached (follows is.count) a.turn u.view may_u (knew.state ∙ ap (λ m. seen (state_of s m)) u_node) knew.asked is may in (
+      let h = busy_whole s (place + 1) a.view reached (follows is.count) a.turn u.view may_u (knew.state ∙ ap (λ m. seen (state_of s m)) u_node) knew.asked is may in (
         sym (ap (λ b. if b then enq.Busy else as_enq (poll_answer (after_ask s (place + 1)) (place + 1))) h.0),
         subst (λ b. AreWhole (if b then s else after_poll (poll_answer (after_ask s (place + 1)) (place + 1)) (after_ask s (place + 1))) new) (sym h.0)
-            (spreads (length ports) s place a (set ports place a) new call round s (leaves_so (place + 1) s) reached h.1),
+            (spreads allows s place a (set ports place a) new call round s (leaves_so (place + 1) s) reached h.1),
       )
   asked may_u may enq.Granted busy asks joined granted queued closed =
       ask may (asks (λ e. cc e)) (joined (λ e. cc e)) poll.Granted (λ e. granted refl) (λ e. absurd (let no : poll.Granted ≡ poll.Waiting = e in cc no)) (λ e. absurd (let no : poll.Granted ≡ poll.Closed = e in cc no))
@@ -337,26 +340,28 @@ module _ (s : LineState) (ports : List Stance) (whole : AreWhole s ports) (place
       ask may (asks (λ e. cc e)) (joined (λ e. cc e)) poll.Closed (λ e. absurd (let no : poll.Closed ≡ poll.Granted = e in cc no)) (λ e. absurd (let no : poll.Closed ≡ poll.Waiting = e in cc no)) (λ e. closed refl)
 
   -- `deqolb` and `shut`
-  pub released : u.view.state ≡ port.Holding → state_of s (place + 1) ≡ port.Holding → (shut : Bool) (leaves : PortState) → seen leaves ≡ port.Idle → Releases u.view (Served u.turn shut) leaves a.view
-      → AreWhole (after_release s shut) new
-  released holds_u holds shut leaves quiet_ r =
-      let h = holding_is (length ports) s reached (place + 1) holds in
+  pub released : u.view.state ≡ port.Holding → state_of s (place + 1) ≡ port.Holding → (shut : Bool)
+      → (let closed = closes u.view.terms.lease u.view.ends shut in EndsTurn u.view (Served u.turn closed) (left_by closed) a.view) → AreWhole (after_release s shut) new
+  released holds_u holds shut r =
+      let h = holding_is s reached (place + 1) holds in
       let turn = first_turn s.queue (place + 1) h.1 in
-      let ends : a.view.ends ≡ s.queue.ends ++ Served s.turn shut ∷ replicate r.passed Gone = r.ends ∙ (λ i. knew.ends i ++ Served (knew.turn holds_u i) shut ∷ replicate r.passed Gone) in
-      let go : LetsGo (length s.queue.ends + 1) leaves a.view = subst (λ es. LetsGo (length es + 1) leaves a.view) knew.ends r.lets_go in
-      let knows = goes_whole (length ports) s (place + 1) a.view reached (follows r.count) (Served s.turn shut) r.passed leaves ends turn go quiet_ a.turn in
-      spreads (length ports) s place a (set ports place a) new call round (after_release s shut) (leaves_end (place + 1) s (Served s.turn shut) h.1) (reached_release (length ports) s reached (place + 1) shut h.0 h.1) knows
+      let closed : Bool = closes u.view.terms.lease u.view.ends shut in
+      let same : closed ≡ closes s.terms.lease s.queue.ends shut = λ i. closes (knew.terms i).lease (knew.ends i) shut in
+      let e : End = Served s.turn (closes s.terms.lease s.queue.ends shut) in
+      let ends : a.view.ends ≡ s.queue.ends ++ e ∷ replicate r.passed Gone = r.ends ∙ (λ i. knew.ends i ++ Served (knew.turn holds_u i) (same i) ∷ replicate r.passed Gone) in
+      let go : LetsGo (length s.queue.ends + 1) (left_by closed) a.view = subst (λ es. LetsGo (length es + 1) (left_by closed) a.view) knew.ends r.lets_go in
+      let knows = goes_whole s (place + 1) a.view reached (follows r.count) e r.passed (left_by closed) ends turn go (left_quiet closed) a.turn in
+      spreads allows s place a (set ports place a) new call round (after_release s shut) (leaves_end (place + 1) s e h.1) (reached_release s reached (place + 1) shut h.0 h.1) knows
 
 -- the holder writes
-pub wrote : (s : LineState) (ports : List Stance) → AreWhole s ports → (place : ℕ) (u a : Stance) → slice_get ports place ≡ Some u → state_of s (place + 1) ≡ port.Holding → u.view.state ≡ port.Holding
-    → (mask : ℕ) (bytes : List ℕ) → a.view ≡ u.view → a.turn ≡ turn_after u.turn mask bytes → (new : List Stance) → MeetsOthers place (set ports place a) new → AreWhole (after_write s mask bytes) new
-wrote s ports whole place u a at holds holds_u mask bytes view turn new round =
+pub wrote : (allows : List ℕ → List ℕ → Type 0) (s : LineState) (ports : List Stance) → AreWhole s ports → (place : ℕ) (u a : Stance) → slice_get ports place ≡ Some u → state_of s (place + 1) ≡ port.Holding → u.view.state ≡ port.Holding
+    → (mask : ℕ) (bytes : List ℕ) → a.view ≡ u.view → a.turn ≡ turn_after u.turn mask bytes → (new : List Stance) → MeetsOthers allows place (set ports place a) new → AreWhole (after_write s mask bytes) new
+wrote allows s ports whole place u a at holds holds_u mask bytes view turn new round =
     let reached = whole.reached in
-    let h = holding_is (length ports) s whole.reached (place + 1) holds in
+    let h = holding_is s whole.reached (place + 1) holds in
     let k = whole.knows place u at in
-    let knows_u : KnowsWhole (length ports) (after_write s mask bytes) (record { view = u.view; turn = a.turn }) = record {
-      nodes_are = k.nodes_are;
-      opening = k.opening;
+    let knows_u : KnowsWhole (after_write s mask bytes) (record { view = u.view; turn = a.turn }) = record {
+      terms = k.terms;
       order = k.order;
       ends = k.ends;
       clear = k.clear;
@@ -367,40 +372,40 @@ wrote s ports whole place u a at holds holds_u mask bytes view turn new round =
       asked = k.asked;
       turn = λ e. turn ∙ ap (λ t. turn_after t mask bytes) (k.turn e);
     } in
-    spreads (length ports) s place a (set ports place a) new (called s ports whole place u a at (ap (λ v. v.node) view)) round (after_write s mask bytes)
-    (leaves_write (place + 1) s mask bytes h.1) (reached_write (length ports) s whole.reached mask bytes h.0)
-    (subst (λ v. KnowsWhole (length ports) (after_write s mask bytes) (record { view = v; turn = a.turn })) (sym view) knows_u)
+    spreads allows s place a (set ports place a) new (called s ports whole place u a at (ap (λ v. v.node) view)) round (after_write s mask bytes)
+    (leaves_write (place + 1) s mask bytes h.1) (reached_write s whole.reached mask bytes h.0)
+    (subst (λ v. KnowsWhole (after_write s mask bytes) (record { view = v; turn = a.turn })) (sym view) knows_u)
 
 -- a round alone changes nothing
-pub met_whole : (s : LineState) (ports : List Stance) → AreWhole s ports → (place : ℕ) (u : Stance) → slice_get ports place ≡ Some u → (new : List Stance) → MeetsOthers place ports new → AreWhole s new
-met_whole s ports whole place u at new round =
-    spreads (length ports) s place u ports new (record { many = refl; node = whole.node; acting = at; others = λ i w ne there. whole.knows i w there }) round s (leaves_so (place + 1) s) whole.reached (whole.knows place u at)
+pub met_whole : (allows : List ℕ → List ℕ → Type 0) (s : LineState) (ports : List Stance) → AreWhole s ports → (place : ℕ) (u : Stance) → slice_get ports place ≡ Some u → (new : List Stance) → MeetsOthers allows place ports new → AreWhole s new
+met_whole allows s ports whole place u at new round =
+    spreads allows s place u ports new (record { many = whole.count; node = whole.node; acting = at; others = λ i w ne there. whole.knows i w there }) round s (leaves_so (place + 1) s) whole.reached (whole.knows place u at)
 
 -- the holder sees the state's bytes
 pub shows_bytes : (s : LineState) (ports : List Stance) → AreWhole s ports → (place : ℕ) (u : Stance) → slice_get ports place ≡ Some u → u.view.state ≡ port.Holding → u.turn.bytes.bytes ≡ shown s
 shows_bytes s ports whole place u at holds = ap (λ t. t.bytes.bytes) ((whole.knows place u at).turn holds) ∙ sym whole.reached.turn
 
 -- the ports of a line that was just opened know its whole history
-pub opened_whole : (label nodes : ℕ) (opening : List ℕ) (ports : List Stance) → length opening ≡ 64 → AreNew label nodes opening (map (λ p. p.view) ports) → AreWhole (opened opening) ports
-opened_whole label nodes opening ports long new = record {
-  reached = (agrees_opened (length ports) opening long).reached;
+pub opened_whole : (label : ℕ) (terms : Terms) (ports : List Stance) → MayOpen terms → length terms.opening.bytes ≡ 64 → AreNew label terms (map (λ p. p.view) ports) → AreWhole (opened terms) ports
+opened_whole label terms ports may long new = record {
+  reached = (agrees_opened terms may long).reached;
+  count = many;
   node = λ i p at. ap (λ v. v.node) (view_is i p at);
   knows = λ i p at. knows p (i + 1) (view_is i p at);
 }
   where
-    many : length ports ≡ nodes
+    many : length ports ≡ terms.nodes
     many = sym (length-map ports (λ p. p.view)) ∙ new.count
 
-    view_is : (i : ℕ) (p : Stance) → slice_get ports i ≡ Some p → p.view ≡ new_view label nodes opening (i + 1)
+    view_is : (i : ℕ) (p : Stance) → slice_get ports i ≡ Some p → p.view ≡ new_view label terms (i + 1)
     view_is i p at =
         let lt = slice_get_within ports i p at in
         let e = many in
         same_some (sym (slice_get-map (λ x. x.view) ports i ∙ ap (option_map (λ x. x.view)) at) ∙ new.each i (omega arith))
 
-    of_new : (m : ℕ) (w : Write) → KnowsWhole (length ports) (opened opening) (record { view = new_view label nodes opening m; turn = w })
+    of_new : (m : ℕ) (w : Write) → KnowsWhole (opened terms) (record { view = new_view label terms m; turn = w })
     of_new m w = record {
-      nodes_are = sym many;
-      opening = refl;
+      terms = refl;
       order = refl;
       ends = refl;
       clear = λ r h. absurd (let no : false ≡ true = h in cc no);
@@ -412,5 +417,5 @@ opened_whole label nodes opening ports long new = record {
       turn = λ e. absurd (let no : port.Idle ≡ port.Holding = e in cc no);
     }
 
-    knows : (p : Stance) (m : ℕ) → p.view ≡ new_view label nodes opening m → KnowsWhole (length ports) (opened opening) p
-    knows p m e = subst (λ v. KnowsWhole (length ports) (opened opening) (record { view = v; turn = p.turn })) (sym e) (of_new m p.turn)
+    knows : (p : Stance) (m : ℕ) → p.view ≡ new_view label terms m → KnowsWhole (opened terms) p
+    knows p m e = subst (λ v. KnowsWhole (opened terms) (record { view = v; turn = p.turn })) (sym e) (of_new m p.turn)

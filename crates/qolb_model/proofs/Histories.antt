@@ -1,5 +1,5 @@
 -- Laws of histories: of ends one after another, and of the moves that keep a history legal.
-use Rattle.std.proofs.Common.{◌≡◌, ℕ, ◌+◌, ◌<◌, ◌≤◌, inl, inr, Bool, true, false, ◌||◌, List, [], ◌∷◌, ◌++◌, length, take, map, refl, ap, sym, ◌∙◌, subst, arith, append_assoc, append-nil, length-append, slice_get, Some}
+use Rattle.std.proofs.Common.{◌≡◌, ℕ, ◌+◌, ◌<◌, ◌≤◌, inl, inr, Bool, true, false, ◌||◌, List, [], ◌∷◌, ◌++◌, length, take, map, refl, ap, sym, ◌∙◌, subst, arith, append_assoc, append-nil, length-append, slice_get, Option, Some}
 use Rattle.std.proofs.lemmas.List.{take_all, take-append-le}
 use Rattle.std.proofs.lemmas.Option.{slice_get_within}
 use Rattle.qolb_model.specs.declared.request.Request.{Request}
@@ -7,6 +7,8 @@ use Rattle.qolb_model.specs.declared.end.End.{End}
 use Rattle.qolb_model.specs.declared.end.End.TheVariants.{Served, Gone, Told}
 use Rattle.qolb_model.specs.Requests.{count_of, next_of}
 use Rattle.qolb_model.specs.Ends.{is_closed, MayEnd, written, bytes_after}
+use Rattle.qolb_model.specs.declared.terms.Terms.{Terms}
+use Rattle.qolb_model.specs.Leases.{is_last_turn}
 use Rattle.qolb_model.specs.Histories.{IsLegal}
 use Rattle.qolb_model.specs.Queue.{Queue, Move, ask, mark, finish, EndsAs, CanMove, moved}
 use Rattle.qolb_model.proofs.Lists.{push_cases}
@@ -55,45 +57,45 @@ numbered_push order node numbered = λ p r e. elim (push_cases order (next_of no
 ]
 
 -- a history stays legal when a node makes its next request
-pub legal_ask : (order : List Request) (ends : List End) (node : ℕ) → IsLegal order ends → IsLegal (order ++ next_of node order ∷ []) ends
-legal_ask order ends node legal = record {
+pub legal_ask : (lease : Option ℕ) (order : List Request) (ends : List End) (node : ℕ) → IsLegal lease order ends → IsLegal lease (order ++ next_of node order ∷ []) ends
+legal_ask lease order ends node legal = record {
   numbered = numbered_push order node legal.numbered;
   ended = omega (arith, legal.ended, length-append order (next_of node order ∷ []));
   closing = legal.closing;
 }
 
 -- the request at its turn ends as it may
-pub legal_end : (order : List Request) (ends : List End) (e : End) → IsLegal order ends → length ends < length order → MayEnd (is_closed ends) e → IsLegal order (ends ++ e ∷ [])
-legal_end order ends e legal more may = record {
+pub legal_end : (lease : Option ℕ) (order : List Request) (ends : List End) (e : End) → IsLegal lease order ends → length ends < length order → MayEnd (is_closed ends) (is_last_turn lease ends) e → IsLegal lease order (ends ++ e ∷ [])
+legal_end lease order ends e legal more may = record {
   numbered = legal.numbered;
   ended = omega (arith, more, length-append ends (e ∷ []));
   closing = λ p x at. elim (push_cases ends e p x at) [
-    | inl old ↦ subst (λ xs. MayEnd (is_closed xs) x) (sym (take-append-le p ends (e ∷ []) (omega (arith, old.0)))) (legal.closing p x old.1)
+    | inl old ↦ subst (λ xs. MayEnd (is_closed xs) (is_last_turn lease xs) x) (sym (take-append-le p ends (e ∷ []) (omega (arith, old.0)))) (legal.closing p x old.1)
     | inr new ↦
         let cut : take p (ends ++ e ∷ []) ≡ ends = take-append-le p ends (e ∷ []) (omega (arith, new.0)) ∙ take_all p ends (omega (arith, new.0)) in
-        subst (λ y. MayEnd (is_closed (take p (ends ++ e ∷ []))) y) (sym new.1) (subst (λ xs. MayEnd (is_closed xs) e) (sym cut) may)
+        subst (λ y. MayEnd (is_closed (take p (ends ++ e ∷ []))) (is_last_turn lease (take p (ends ++ e ∷ []))) y) (sym new.1) (subst (λ xs. MayEnd (is_closed xs) (is_last_turn lease xs) e) (sym cut) may)
   ];
 }
 
 -- withdrawn requests are passed
-pub legal_gone : (order : List Request) (ends : List End) (xs : List Request) → IsLegal order ends → length ends + length xs ≤ length order → IsLegal order (ends ++ gone_each xs)
-legal_gone order ends [] legal room = rw append-nil legal
-legal_gone order ends (x ∷ xs) legal room =
-    subst (λ es. IsLegal order es) (append_assoc ends (Gone ∷ []) (gone_each xs))
-    (legal_gone order (ends ++ Gone ∷ []) xs (legal_end order ends Gone legal (omega (arith, room)) tt) (omega (arith, room, length-append ends (Gone ∷ []))))
+pub legal_gone : (lease : Option ℕ) (order : List Request) (ends : List End) (xs : List Request) → IsLegal lease order ends → length ends + length xs ≤ length order → IsLegal lease order (ends ++ gone_each xs)
+legal_gone lease order ends [] legal room = rw append-nil legal
+legal_gone lease order ends (x ∷ xs) legal room =
+    subst (λ es. IsLegal lease order es) (append_assoc ends (Gone ∷ []) (gone_each xs))
+    (legal_gone lease order (ends ++ Gone ∷ []) xs (legal_end lease order ends Gone legal (omega (arith, room)) tt) (omega (arith, room, length-append ends (Gone ∷ []))))
 
 -- how a request ends by a move, it may end in a history
-pub may_end : (q : Queue) (r : Request) (e : End) → EndsAs q r e → MayEnd (is_closed q.ends) e
-may_end q r (Served write shut) h = h.1
-may_end q r Gone h = tt
-may_end q r Told h = h.1
+pub may_end : (lease : Option ℕ) (q : Queue) (r : Request) (e : End) → EndsAs lease q r e → MayEnd (is_closed q.ends) (is_last_turn lease q.ends) e
+may_end lease q r (Served write shut) h = (h.1, h.2)
+may_end lease q r Gone h = tt
+may_end lease q r Told h = h.1
 
 -- each move that may be made keeps a history legal
-pub legal_moved : (nodes : ℕ) (q : Queue) (move : Move) → CanMove nodes q move → IsLegal q.order q.ends → IsLegal (moved q move).order (moved q move).ends
-legal_moved nodes q (ask node) can legal = legal_ask q.order q.ends node legal
-legal_moved nodes q (mark r) can legal = legal
-legal_moved nodes q (finish e) can legal = legal_end q.order q.ends e legal (slice_get_within q.order (length q.ends) can.0 can.1) (may_end q can.0 e can.2)
+pub legal_moved : (terms : Terms) (q : Queue) (move : Move) → CanMove terms q move → IsLegal terms.lease q.order q.ends → IsLegal terms.lease (moved q move).order (moved q move).ends
+legal_moved terms q (ask node) can legal = legal_ask terms.lease q.order q.ends node legal
+legal_moved terms q (mark r) can legal = legal
+legal_moved terms q (finish e) can legal = legal_end terms.lease q.order q.ends e legal (slice_get_within q.order (length q.ends) can.0 can.1) (may_end terms.lease q can.0 e can.2)
 
 -- in a legal history no request stands twice: two places that have it are one
-pub same_place_legal : (order : List Request) (ends : List End) → IsLegal order ends → (p q : ℕ) (r : Request) → slice_get order p ≡ Some r → slice_get order q ≡ Some r → p ≡ q
-same_place_legal order ends legal = same_place order legal.numbered
+pub same_place_legal : (lease : Option ℕ) (order : List Request) (ends : List End) → IsLegal lease order ends → (p q : ℕ) (r : Request) → slice_get order p ≡ Some r → slice_get order q ≡ Some r → p ≡ q
+same_place_legal lease order ends legal = same_place order legal.numbered

@@ -26,7 +26,7 @@ use Rattle.qolb_model.proofs.Passing.{goes_queue}
 -- the state goes on from s to t by a call of the node n: nothing is forgotten, no other node makes a request or loses a mark, and each
 -- of them may call what it might; a holder's turn stays
 pub record Leaves (n : ℕ) (s t : LineState) : Type 0 where
-  pub opening : t.opening ≡ s.opening
+  pub terms : t.terms ≡ s.terms
   pub order : IsPrefix s.queue.order t.queue.order
   pub ends : IsPrefix s.queue.ends t.queue.ends
   pub counts : (m : ℕ) → m ≢ n → count_of m t.queue.order ≡ count_of m s.queue.order
@@ -38,7 +38,7 @@ pub record Leaves (n : ℕ) (s t : LineState) : Type 0 where
 -- nothing is done
 pub leaves_so : (n : ℕ) (s : LineState) → Leaves n s s
 leaves_so n s = record {
-  opening = refl;
+  terms = refl;
   order = prefix_self s.queue.order;
   ends = prefix_self s.queue.ends;
   counts = λ m ne. refl;
@@ -51,7 +51,7 @@ leaves_so n s = record {
 -- one call after another
 pub leaves_through : (n : ℕ) (s t u : LineState) → Leaves n s t → Leaves n t u → Leaves n s u
 leaves_through n s t u a b = record {
-  opening = b.opening ∙ a.opening;
+  terms = b.terms ∙ a.terms;
   order = prefix_trans s.queue.order t.queue.order u.queue.order a.order b.order;
   ends = prefix_trans s.queue.ends t.queue.ends u.queue.ends a.ends b.ends;
   counts = λ m ne. b.counts m ne ∙ a.counts m ne;
@@ -97,7 +97,7 @@ no_and false = refl
 -- the node asks
 pub leaves_ask : (n : ℕ) (s : LineState) → Leaves n s (after_ask s n)
 leaves_ask n s = record {
-  opening = refl;
+  terms = refl;
   order = prefix_append s.queue.order (next_of n s.queue.order ∷ []);
   ends = prefix_self s.queue.ends;
   counts = counts;
@@ -146,7 +146,7 @@ leaves_ask n s = record {
 -- the node is granted
 pub leaves_grant : (n : ℕ) (s : LineState) → is_first s.queue n ≡ true → Leaves n s (after_grant s)
 leaves_grant n s first = record {
-  opening = refl;
+  terms = refl;
   order = prefix_self s.queue.order;
   ends = prefix_self s.queue.ends;
   counts = λ m ne. refl;
@@ -160,7 +160,7 @@ leaves_grant n s first = record {
 -- the node withdraws
 pub leaves_mark : (n : ℕ) (s : LineState) → Leaves n s (after_moves (mark_last s n) s)
 leaves_mark n s = record {
-  opening = refl;
+  terms = refl;
   order = prefix_self s.queue.order;
   ends = prefix_self s.queue.ends;
   counts = λ m ne. refl;
@@ -173,7 +173,7 @@ leaves_mark n s = record {
 -- the holder writes
 pub leaves_write : (n : ℕ) (s : LineState) (mask : ℕ) (bytes : List ℕ) → is_first s.queue n ≡ true → Leaves n s (after_write s mask bytes)
 leaves_write n s mask bytes first = record {
-  opening = refl;
+  terms = refl;
   order = prefix_self s.queue.order;
   ends = prefix_self s.queue.ends;
   counts = λ m ne. refl;
@@ -214,7 +214,7 @@ module _ (n : ℕ) (s : LineState) (e : End) (first : is_first s.queue n ≡ tru
   ends_then = (s.queue.ends ++ e ∷ []) ++ gone_each gone
 
   abbrev pub ended_state : LineState
-  ended_state = record s { queue = passed_by (moved s.queue (finish e)) gone; granted = false; turn = new_turn s.opening ends_then }
+  ended_state = record s { queue = passed_by (moved s.queue (finish e)) gone; granted = false; turn = new_turn s.terms.opening.bytes ends_then }
 
   long : length ends_then ≡ length s.queue.ends + 1 + length gone
   long =
@@ -242,7 +242,7 @@ module _ (n : ℕ) (s : LineState) (e : End) (first : is_first s.queue n ≡ tru
 
   leaves_ended : Leaves n s ended_state
   leaves_ended = record {
-    opening = refl;
+    terms = refl;
     order = prefix_self s.queue.order;
     ends = prefix_trans s.queue.ends (s.queue.ends ++ e ∷ []) ends_then (prefix_append s.queue.ends (e ∷ [])) (prefix_append (s.queue.ends ++ e ∷ []) (gone_each gone));
     counts = λ m ne. refl;
@@ -264,4 +264,4 @@ module _ (n : ℕ) (s : LineState) (e : End) (first : is_first s.queue n ≡ tru
           ∙ (unmarked_same (is_open s.queue m) (is_closed ends_then) (is_closed s.queue.ends) ∙ sym (λ i. seen (state_from (is_open s.queue m) (k i) (later i) (is_closed s.queue.ends))))
 
   pub leaves_end : Leaves n s (after_end (after_moves (ends_with e s.queue) s))
-  leaves_end = subst (λ q. let t : LineState = record s { queue = q; granted = false; turn = new_turn s.opening q.ends } in Leaves n s t) (sym (goes_queue s e)) leaves_ended
+  leaves_end = subst (λ q. let t : LineState = record s { queue = q; granted = false; turn = new_turn s.terms.opening.bytes q.ends } in Leaves n s t) (sym (goes_queue s e)) leaves_ended

@@ -1,6 +1,7 @@
 pub mod Lists
 pub mod Requests
 pub mod Histories
+pub mod Leases
 pub mod Runs
 pub mod Agreed
 pub mod Steps

@@ -44,13 +44,13 @@ right_of x true e = refl
 right_of x false e = e
 
 -- a port that knows the new state's whole history meets one that knows the old one's: then both know the new one's
-module _ (nodes n : ℕ) (s t : LineState) (leaves : Leaves n s t) (a w b u : Stance) (meet : Meet a w b u) (node : a.view.node ≡ n) (apart : w.view.node ≢ n)
-    (of_a : KnowsWhole nodes t a) (of_w : KnowsWhole nodes s w) where
-  known_a : Knows meet.history.order meet.history.ends meet.history.clear a.view
-  known_a = meet.history.known a.view (among_first a.view (w.view ∷ []))
+module _ (allows : List ℕ → List ℕ → Type 0) (n : ℕ) (s t : LineState) (leaves : Leaves n s t) (a w b u : Stance) (meet : Meet allows a w b u) (node : a.view.node ≡ n) (apart : w.view.node ≢ n)
+    (of_a : KnowsWhole t a) (of_w : KnowsWhole s w) where
+  known_a : Knows meet.tell.before.terms meet.tell.before.order meet.tell.before.ends meet.tell.before.clear a.view
+  known_a = meet.tell.before.known a.view (among_first a.view (w.view ∷ []))
 
-  known_w : Knows meet.history.order meet.history.ends meet.history.clear w.view
-  known_w = meet.history.known w.view (among_second a.view w.view [])
+  known_w : Knows meet.tell.before.terms meet.tell.before.order meet.tell.before.ends meet.tell.before.clear w.view
+  known_w = meet.tell.before.known w.view (among_second a.view w.view [])
 
   shorter_order : length w.view.order ≤ length a.view.order
   shorter_order = let x = prefix_length s.queue.order t.queue.order leaves.order in let y = ap length of_a.order in let z = ap length of_w.order in omega arith
@@ -59,68 +59,66 @@ module _ (nodes n : ℕ) (s t : LineState) (leaves : Leaves n s t) (a w b u : St
   shorter_ends = let x = prefix_length s.queue.ends t.queue.ends leaves.ends in let y = ap length of_a.ends in let z = ap length of_w.ends in omega arith
 
   clear_then : (r : Request) → Has a.view.clear r → Has (longer a.view.clear w.view.clear) r
-  clear_then r h = has_in a.view.clear (longer a.view.clear w.view.clear) r (begins_longer a.view.clear w.view.clear meet.history.clear known_a.clear_begins known_w.clear_begins) h
+  clear_then r h = has_in a.view.clear (longer a.view.clear w.view.clear) r (begins_longer a.view.clear w.view.clear meet.tell.before.clear known_a.clear_begins known_w.clear_begins) h
 
   w_marks : (r : Request) → Has (open_of t.queue.order t.queue.ends) r → Has w.view.marked r → Has t.queue.marked r
   w_marks r stands h = elim (cases_eq r.node n) [
-    | inl e ↦ sym (of_a.marked r stands) ∙ (meet.history.agreed w.view a.view (among_second a.view w.view []) (among_first a.view (w.view ∷ []))).marked r (e ∙ sym node) h
+    | inl e ↦ sym (of_a.marked r stands) ∙ (meet.tell.before.agreed w.view a.view (among_second a.view w.view []) (among_first a.view (w.view ∷ []))).marked r (e ∙ sym node) h
     | inr ne ↦ leaves.marks r (sym (of_w.marked r (leaves.opens r stands ne)) ∙ h)
   ]
 
-  pub first_whole : KnowsWhole nodes t b
+  pub first_whole : KnowsWhole t b
   first_whole = record {
-    nodes_are = meet.extends_a.nodes ∙ of_a.nodes_are;
-    opening = ap (λ o. o.bytes) meet.extends_a.opening ∙ of_a.opening;
-    order = meet.meets_a.order ∙ (longer_first a.view.order w.view.order shorter_order ∙ of_a.order);
-    ends = meet.meets_a.ends ∙ (longer_first a.view.ends w.view.ends shorter_ends ∙ of_a.ends);
-    clear = λ r h. subst (λ xs. Has xs r) (sym meet.meets_a.clear) (clear_then r (of_a.clear r h));
-    joined = λ r h. meet.meets_a.joined r ∙ left_of (has a.view.joined r) (has w.view.joined r) (of_a.joined r h);
-    marked = λ r h. meet.meets_a.marked r ∙ or_first (has a.view.marked r) (has w.view.marked r) (has t.queue.marked r) (of_a.marked r h) (w_marks r h);
-    count = meet.meets_a.count ∙ (of_a.count ∙ ap (λ m. count_of m t.queue.order) (sym meet.extends_a.node));
-    state = ap seen meet.meets_a.state ∙ (of_a.state ∙ ap (λ m. seen (state_of t m)) (sym meet.extends_a.node));
-    asked = λ h. subst (λ c. 1 ≤ c) (sym meet.meets_a.count) (of_a.asked (subst (λ x. (x ≡ port.Left) ⊎ (x ≡ port.Rolled)) meet.meets_a.state h));
-    turn = λ h. meet.turn_a ∙ of_a.turn (sym meet.meets_a.state ∙ h);
+    terms = meet.tell.continues_a.extends.terms ∙ of_a.terms;
+    order = meet.tell.meets_a.order ∙ (longer_first a.view.order w.view.order shorter_order ∙ of_a.order);
+    ends = meet.tell.meets_a.ends ∙ (longer_first a.view.ends w.view.ends shorter_ends ∙ of_a.ends);
+    clear = λ r h. subst (λ xs. Has xs r) (sym meet.tell.meets_a.clear) (clear_then r (of_a.clear r h));
+    joined = λ r h. meet.tell.meets_a.joined r ∙ left_of (has a.view.joined r) (has w.view.joined r) (of_a.joined r h);
+    marked = λ r h. meet.tell.meets_a.marked r ∙ or_first (has a.view.marked r) (has w.view.marked r) (has t.queue.marked r) (of_a.marked r h) (w_marks r h);
+    count = meet.tell.meets_a.count ∙ (of_a.count ∙ ap (λ m. count_of m t.queue.order) (sym meet.tell.continues_a.extends.node));
+    state = ap seen meet.tell.meets_a.state ∙ (of_a.state ∙ ap (λ m. seen (state_of t m)) (sym meet.tell.continues_a.extends.node));
+    asked = λ h. subst (λ c. 1 ≤ c) (sym meet.tell.meets_a.count) (of_a.asked (subst (λ x. (x ≡ port.Left) ⊎ (x ≡ port.Rolled)) meet.tell.meets_a.state h));
+    turn = λ h. meet.turn_a ∙ of_a.turn (sym meet.tell.meets_a.state ∙ h);
   }
 
-  pub second_whole : KnowsWhole nodes t u
+  pub second_whole : KnowsWhole t u
   second_whole = record {
-    nodes_are = meet.extends_b.nodes ∙ of_w.nodes_are;
-    opening = ap (λ o. o.bytes) meet.extends_b.opening ∙ (of_w.opening ∙ sym leaves.opening);
-    order = meet.meets_b.order ∙ (longer_swap w.view.order a.view.order meet.history.order known_w.order_begins known_a.order_begins ∙ (longer_first a.view.order w.view.order shorter_order ∙ of_a.order));
-    ends = meet.meets_b.ends ∙ (longer_swap w.view.ends a.view.ends meet.history.ends known_w.ends_begin known_a.ends_begin ∙ (longer_first a.view.ends w.view.ends shorter_ends ∙ of_a.ends));
-    clear = λ r h. subst (λ xs. Has xs r) (sym (meet.meets_b.clear ∙ longer_swap w.view.clear a.view.clear meet.history.clear known_w.clear_begins known_a.clear_begins)) (clear_then r (of_a.clear r h));
-    joined = λ r h. meet.meets_b.joined r ∙ right_of (has a.view.joined r) (has w.view.joined r) (of_a.joined r h);
-    marked = λ r h. meet.meets_b.marked r ∙ or_second (has a.view.marked r) (has w.view.marked r) (has t.queue.marked r) (of_a.marked r h) (w_marks r h);
-    count = meet.meets_b.count ∙ (of_w.count ∙ (sym (leaves.counts w.view.node apart) ∙ ap (λ m. count_of m t.queue.order) (sym meet.extends_b.node)));
-    state = ap seen meet.meets_b.state ∙ (of_w.state ∙ (sym (leaves.states w.view.node apart) ∙ ap (λ m. seen (state_of t m)) (sym meet.extends_b.node)));
-    asked = λ h. subst (λ c. 1 ≤ c) (sym meet.meets_b.count) (of_w.asked (subst (λ x. (x ≡ port.Left) ⊎ (x ≡ port.Rolled)) meet.meets_b.state h));
+    terms = meet.tell.continues_b.extends.terms ∙ (of_w.terms ∙ sym leaves.terms);
+    order = meet.tell.meets_b.order ∙ (longer_swap w.view.order a.view.order meet.tell.before.order known_w.order_begins known_a.order_begins ∙ (longer_first a.view.order w.view.order shorter_order ∙ of_a.order));
+    ends = meet.tell.meets_b.ends ∙ (longer_swap w.view.ends a.view.ends meet.tell.before.ends known_w.ends_begin known_a.ends_begin ∙ (longer_first a.view.ends w.view.ends shorter_ends ∙ of_a.ends));
+    clear = λ r h. subst (λ xs. Has xs r) (sym (meet.tell.meets_b.clear ∙ longer_swap w.view.clear a.view.clear meet.tell.before.clear known_w.clear_begins known_a.clear_begins)) (clear_then r (of_a.clear r h));
+    joined = λ r h. meet.tell.meets_b.joined r ∙ right_of (has a.view.joined r) (has w.view.joined r) (of_a.joined r h);
+    marked = λ r h. meet.tell.meets_b.marked r ∙ or_second (has a.view.marked r) (has w.view.marked r) (has t.queue.marked r) (of_a.marked r h) (w_marks r h);
+    count = meet.tell.meets_b.count ∙ (of_w.count ∙ (sym (leaves.counts w.view.node apart) ∙ ap (λ m. count_of m t.queue.order) (sym meet.tell.continues_b.extends.node)));
+    state = ap seen meet.tell.meets_b.state ∙ (of_w.state ∙ (sym (leaves.states w.view.node apart) ∙ ap (λ m. seen (state_of t m)) (sym meet.tell.continues_b.extends.node)));
+    asked = λ h. subst (λ c. 1 ≤ c) (sym meet.tell.meets_b.count) (of_w.asked (subst (λ x. (x ≡ port.Left) ⊎ (x ≡ port.Rolled)) meet.tell.meets_b.state h));
     turn = λ h.
-        let was = sym meet.meets_b.state ∙ h in
+        let was = sym meet.tell.meets_b.state ∙ h in
         meet.turn_b ∙ (of_w.turn was ∙ sym (leaves.turns w.view.node apart (seen_holding (state_of s w.view.node) (sym of_w.state ∙ ap seen was))));
   }
 
 -- the ports know the state's whole history, and are of other nodes
-abbrev pub AreOthers : ℕ → LineState → ℕ → List Stance → Type 0
-AreOthers nodes s n ports = (i : ℕ) (w : Stance) → slice_get ports i ≡ Some w → (w.view.node ≢ n) × KnowsWhole nodes s w
+abbrev pub AreOthers : LineState → ℕ → List Stance → Type 0
+AreOthers s n ports = (i : ℕ) (w : Stance) → slice_get ports i ≡ Some w → (w.view.node ≢ n) × KnowsWhole s w
 
 -- these are the same ports, of which each knows the state's whole history
-pub record AreThen (nodes : ℕ) (t : LineState) (old new : List Stance) : Type 0 where
+pub record AreThen (t : LineState) (old new : List Stance) : Type 0 where
   pub many : length new ≡ length old
-  pub each : (i : ℕ) (u : Stance) → slice_get new i ≡ Some u → (w : Stance) × (slice_get old i ≡ Some w) × (u.view.node ≡ w.view.node) × KnowsWhole nodes t u
+  pub each : (i : ℕ) (u : Stance) → slice_get new i ≡ Some u → (w : Stance) × (slice_get old i ≡ Some w) × (u.view.node ≡ w.view.node) × KnowsWhole t u
 
-others_before : (nodes : ℕ) (s : LineState) (n : ℕ) (ws : List Stance) (w : Stance) → AreOthers nodes s n (ws ++ w ∷ []) → AreOthers nodes s n ws
-others_before nodes s n ws w all i x at = all i x (slice_get-append_left ws (w ∷ []) i (slice_get_within ws i x at) ∙ at)
+others_before : (s : LineState) (n : ℕ) (ws : List Stance) (w : Stance) → AreOthers s n (ws ++ w ∷ []) → AreOthers s n ws
+others_before s n ws w all i x at = all i x (slice_get-append_left ws (w ∷ []) i (slice_get_within ws i x at) ∙ at)
 
 -- after the round all know it
-pub round_whole : (nodes n : ℕ) (s t : LineState) → Leaves n s t → (a : Stance) (ws : List Stance) (b : Stance) (us : List Stance) → MeetsEach a ws b us
-    → a.view.node ≡ n → KnowsWhole nodes t a → AreOthers nodes s n ws → (b.view.node ≡ n) × KnowsWhole nodes t b × AreThen nodes t ws us
-round_whole nodes n s t leaves a ws b us nobody node knows others =
+pub round_whole : (allows : List ℕ → List ℕ → Type 0) (n : ℕ) (s t : LineState) → Leaves n s t → (a : Stance) (ws : List Stance) (b : Stance) (us : List Stance) → MeetsEach allows a ws b us
+    → a.view.node ≡ n → KnowsWhole t a → AreOthers s n ws → (b.view.node ≡ n) × KnowsWhole t b × AreThen t ws us
+round_whole allows n s t leaves a ws b us nobody node knows others =
     (node, knows, record { many = refl; each = λ i u at. absurd (let no : None ≡ Some u = at in cc no) })
-round_whole nodes n s t leaves a ws b us (another {others = before} {others_then = after} {now} w later u met meet) node knows others =
-    let rest = round_whole nodes n s t leaves a before now after met node knows (others_before nodes s n before w others) in
+round_whole allows n s t leaves a ws b us (another {others = before} {others_then = after} {now} w later u met meet) node knows others =
+    let rest = round_whole allows n s t leaves a before now after met node knows (others_before s n before w others) in
     let is = others (length before) w (slice_get-push before w) in (
-      meet.extends_a.node ∙ rest.0,
-      first_whole nodes n s t leaves now w later u meet rest.0 is.0 rest.1 is.1,
+      meet.tell.continues_a.extends.node ∙ rest.0,
+      first_whole allows n s t leaves now w later u meet rest.0 is.0 rest.1 is.1,
       record {
         many = length-append after (u ∷ []) ∙ (ap (λ m. m + 1) rest.2.many ∙ sym (length-append before (w ∷ [])));
         each = λ i x at. elim (push_cases after u i x at) [
@@ -129,31 +127,31 @@ round_whole nodes n s t leaves a ws b us (another {others = before} {others_then
               let place : i ≡ length before = new.0 ∙ rest.2.many in (
                 w,
                 ap (slice_get (before ++ w ∷ [])) place ∙ slice_get-push before w,
-                ap (λ y. y.view.node) new.1 ∙ meet.extends_b.node,
-                subst (λ y. KnowsWhole nodes t y) (sym new.1) (second_whole nodes n s t leaves now w later u meet rest.0 is.0 rest.1 is.1),
+                ap (λ y. y.view.node) new.1 ∙ meet.tell.continues_b.extends.node,
+                subst (λ y. KnowsWhole t y) (sym new.1) (second_whole allows n s t leaves now w later u meet rest.0 is.0 rest.1 is.1),
               ))
         ];
       },
     )
 
 -- and it tells what the port may have come to know in the call before it
-pub round_bounds : (nodes n : ℕ) (s : LineState) → IsReached nodes s → (v : View) (a : Stance) (ws : List Stance) (b : Stance) (us : List Stance) → MeetsEach a ws b us
-    → IsAfter v a.view → IsPrefix s.queue.order v.order → IsPrefix s.queue.ends v.ends → AreOthers nodes s n ws
+pub round_bounds : (allows : List ℕ → List ℕ → Type 0) (n : ℕ) (s : LineState) → IsReached s → (v : View) (a : Stance) (ws : List Stance) (b : Stance) (us : List Stance) → MeetsEach allows a ws b us
+    → IsAfter v a.view → IsPrefix s.queue.order v.order → IsPrefix s.queue.ends v.ends → AreOthers s n ws
     → IsAfter v b.view × ((i : ℕ) (w : Stance) → slice_get ws i ≡ Some w → Bounds s v w.view.node)
-round_bounds nodes n s reached v a ws b us nobody after order ends others = (after, λ i w at. absurd (let no : None ≡ Some w = at in cc no))
-round_bounds nodes n s reached v a ws b us (another {others = before} {others_then = then_} {now} w later u met meet) after order ends others =
-    let (so_far, told) = round_bounds nodes n s reached v a before now then_ met after order ends (others_before nodes s n before w others) in
+round_bounds allows n s reached v a ws b us nobody after order ends others = (after, λ i w at. absurd (let no : None ≡ Some w = at in cc no))
+round_bounds allows n s reached v a ws b us (another {others = before} {others_then = then_} {now} w later u met meet) after order ends others =
+    let (so_far, told) = round_bounds allows n s reached v a before now then_ met after order ends (others_before s n before w others) in
     let is = (others (length before) w (slice_get-push before w)).1 in
     let short_order : length w.view.order ≤ length now.view.order = let x = prefix_length s.queue.order v.order order in let y = ap length is.order in let z = ap length so_far.order in omega arith in
     let short_ends : length w.view.ends ≤ length now.view.ends = let x = prefix_length s.queue.ends v.ends ends in let y = ap length is.ends in let z = ap length so_far.ends in omega arith in (
       record {
-        order = meet.meets_a.order ∙ (longer_first now.view.order w.view.order short_order ∙ so_far.order);
-        ends = meet.meets_a.ends ∙ (longer_first now.view.ends w.view.ends short_ends ∙ so_far.ends);
-        clear = prefix_trans v.clear now.view.clear later.view.clear so_far.clear meet.extends_a.clear;
-        marked = λ r h. meet.extends_a.marked r (so_far.marked r h);
+        order = meet.tell.meets_a.order ∙ (longer_first now.view.order w.view.order short_order ∙ so_far.order);
+        ends = meet.tell.meets_a.ends ∙ (longer_first now.view.ends w.view.ends short_ends ∙ so_far.ends);
+        clear = prefix_trans v.clear now.view.clear later.view.clear so_far.clear meet.tell.continues_a.extends.clear;
+        marked = λ r h. meet.tell.continues_a.extends.marked r (so_far.marked r h);
       },
       λ i x at. elim (push_cases before w i x at) [
         | inl old ↦ told i x old.1
-        | inr new ↦ subst (λ y. Bounds s v y.view.node) (sym new.1) (bounds nodes s reached v now.view w meet.history so_far is order)
+        | inr new ↦ subst (λ y. Bounds s v y.view.node) (sym new.1) (bounds s reached v now.view w meet.tell.before so_far is order)
       ],
     )

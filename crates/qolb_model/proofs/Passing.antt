@@ -55,7 +55,7 @@ goes_queue s e =
     ap (λ xs. moved_by s.queue (finish e ∷ passes_each xs)) (take_while-passed s.queue.marked (drop (length s.queue.ends + 1) s.queue.order))
     ∙ moved_by-passes (moved s.queue (finish e)) (passed s.queue.marked (drop (length s.queue.ends + 1) s.queue.order))
 
-module _ (nodes : ℕ) (s : LineState) (n : ℕ) (a : View) (reached : IsReached nodes s) (f : Follows nodes s n a)
+module _ (s : LineState) (n : ℕ) (a : View) (reached : IsReached s) (f : Follows s n a)
     (e : End) (k : ℕ) (leaves : PortState) (ends : a.ends ≡ s.queue.ends ++ e ∷ replicate k Gone) (turn : turn_of s.queue.order s.queue.ends ≡ Some (last_of n s.queue.order))
     (go : LetsGo (length s.queue.ends + 1) leaves a) (quiet : seen leaves ≡ port.Idle) where
   long : length a.ends ≡ length s.queue.ends + 1 + k
@@ -80,8 +80,8 @@ module _ (nodes : ℕ) (s : LineState) (n : ℕ) (a : View) (reached : IsReached
   -- a later open request is of another node
   other_node : (p : ℕ) (r : Request) → length s.queue.ends < p → slice_get s.queue.order p ≡ Some r → r.node ≢ n
   other_node p r lt at same =
-      let is = last_mine nodes s n a reached f p r (omega arith) at same in
-      let here : length s.queue.ends ≡ p = one_place nodes s n a reached f (length s.queue.ends) p r (subst (λ x. turn_of s.queue.order s.queue.ends ≡ Some x) (sym is) turn) at in
+      let is = last_mine s n a reached f p r (omega arith) at same in
+      let here : length s.queue.ends ≡ p = one_place s n a reached f (length s.queue.ends) p r (subst (λ x. turn_of s.queue.order s.queue.ends ≡ Some x) (sym is) turn) at in
       absurd (omega arith)
 
   many : length (passed s.queue.marked (drop (length s.queue.ends + 1) s.queue.order)) ≡ k
@@ -112,7 +112,7 @@ module _ (nodes : ℕ) (s : LineState) (n : ℕ) (a : View) (reached : IsReached
   own_clear : (a.state ≡ leaves) × Has a.clear (last_of n s.queue.order)
   own_clear = elim (go.state) [
     | inl left ↦ absurd (not_short left.1)
-    | inr right ↦ (right.0, subst (λ x. Has a.clear x) (mine nodes s n a reached f) right.1)
+    | inr right ↦ (right.0, subst (λ x. Has a.clear x) (mine s n a reached f) right.1)
   ]
 
   all_clear : (p : ℕ) (r : Request) → p < length a.ends → slice_get s.queue.order p ≡ Some r → Has a.clear r
@@ -124,18 +124,17 @@ module _ (nodes : ℕ) (s : LineState) (n : ℕ) (a : View) (reached : IsReached
 
   -- the state that is left
   abbrev pub ended_state : LineState
-  ended_state = record s { queue = passed_by (moved s.queue (finish e)) gone; granted = false; turn = new_turn s.opening ends_then }
+  ended_state = record s { queue = passed_by (moved s.queue (finish e)) gone; granted = false; turn = new_turn s.terms.opening.bytes ends_then }
 
   closed_own : has (open_of s.queue.order ((s.queue.ends ++ e ∷ []) ++ gone_each (passed s.queue.marked (drop (length s.queue.ends + 1) s.queue.order)))) (last_of n s.queue.order) ≡ false
   closed_own = false_from _ (λ h.
       let (p, le, at) = place_open s.queue.order ends_then (last_of n s.queue.order) h in
-      let same : length s.queue.ends ≡ p = one_place nodes s n a reached f (length s.queue.ends) p (last_of n s.queue.order) turn at in
+      let same : length s.queue.ends ≡ p = one_place s n a reached f (length s.queue.ends) p (last_of n s.queue.order) turn at in
       let l = long in let z = ap length ends_are in omega arith)
 
-  knows_ended : (w : Write) → KnowsWhole nodes ended_state (record { view = a; turn = w })
+  knows_ended : (w : Write) → KnowsWhole ended_state (record { view = a; turn = w })
   knows_ended w = record {
-    nodes_are = f.nodes_are;
-    opening = f.opening;
+    terms = f.terms;
     order = f.order;
     ends = ends_are;
     clear = λ r h. (let (p, lt, at) = place_ended s.queue.order ends_then r h in let z = ap length ends_are in all_clear p r (omega arith) at);
@@ -144,41 +143,41 @@ module _ (nodes : ℕ) (s : LineState) (n : ℕ) (a : View) (reached : IsReached
         let (p, le, at) = place_open s.queue.order ends_then r h in
         let l = long in
         let z = ap length ends_are in
-        others_marks nodes s n a reached f r (open_at s.queue.order s.queue.ends p r (omega arith) at) (other_node p r (omega arith) at);
+        others_marks s n a reached f r (open_at s.queue.order s.queue.ends p r (omega arith) at) (other_node p r (omega arith) at);
     count = f.count ∙ ap (λ m. count_of m s.queue.order) (sym f.node);
     state = ap seen own_clear.0 ∙ (quiet ∙ (quiet_state (is_closed ends_then) ∙ sym (ap (λ m. seen (state_of ended_state m)) f.node
         ∙ ap (λ b. seen (if b then (if has s.queue.marked (last_of n s.queue.order) then port.Rolled else port.Queued) else (if is_closed ends_then then port.Shut else port.Idle))) closed_own)));
-    asked = λ _. counted nodes s n a reached f (length s.queue.ends) turn;
+    asked = λ _. counted s n a reached f (length s.queue.ends) turn;
     turn = λ h. absurd (let no : port.Holding ≡ port.Idle = ap seen (sym h ∙ own_clear.0) ∙ quiet in cc no);
   }
 
   -- let go
-  pub goes_whole : (w : Write) → KnowsWhole nodes (after_end (after_moves (ends_with e s.queue) s)) (record { view = a; turn = w })
+  pub goes_whole : (w : Write) → KnowsWhole (after_end (after_moves (ends_with e s.queue) s)) (record { view = a; turn = w })
   goes_whole w =
-      subst (λ q. let t : LineState = record s { queue = q; granted = false; turn = new_turn s.opening q.ends } in KnowsWhole nodes t (record { view = a; turn = w })) (sym (goes_queue s e)) (knows_ended w)
+      subst (λ q. let t : LineState = record s { queue = q; granted = false; turn = new_turn s.terms.opening.bytes q.ends } in KnowsWhole t (record { view = a; turn = w })) (sym (goes_queue s e)) (knows_ended w)
 
 -- told: nothing had ended of what the state has open, and the line is closed
-pub told_whole : (nodes : ℕ) (s : LineState) (n : ℕ) (a : View) → IsReached nodes s → (f : Follows nodes s n a) → is_open s.queue n ≡ true → IsTold a
+pub told_whole : (s : LineState) (n : ℕ) (a : View) → IsReached s → (f : Follows s n a) → is_open s.queue n ≡ true → IsTold a
     → (turn_of s.queue.order s.queue.ends ≡ Some (last_of n s.queue.order)) × (is_closed s.queue.ends ≡ true)
-    × ((w : Write) → KnowsWhole nodes (after_end (after_moves (ends_with Told s.queue) s)) (record { view = a; turn = w }))
-told_whole nodes s n a reached f stands is =
-    let at : slice_get s.queue.order (length is.before) ≡ Some (last_of n s.queue.order) = own_at nodes s n a reached f (length is.before) is.at_turn in
+    × ((w : Write) → KnowsWhole (after_end (after_moves (ends_with Told s.queue) s)) (record { view = a; turn = w }))
+told_whole s n a reached f stands is =
+    let at : slice_get s.queue.order (length is.before) ≡ Some (last_of n s.queue.order) = own_at s n a reached f (length is.before) is.at_turn in
     let (p, le, there) = place_open s.queue.order s.queue.ends (last_of n s.queue.order) stands in
-    let here : p ≡ length is.before = one_place nodes s n a reached f p (length is.before) (last_of n s.queue.order) there at in
+    let here : p ≡ length is.before = one_place s n a reached f p (length is.before) (last_of n s.queue.order) there at in
     let within = slice_get_within s.queue.order p (last_of n s.queue.order) there in
     let (r, turn) = element_at s.queue.order (length s.queue.ends) (omega arith) in
     let many : length a.ends ≡ length is.before + 1 + is.passed =
     (let x = length-append is.before (Told ∷ replicate is.passed Gone) in let y = length-replicate is.passed Gone in let z = ap length is.ends in omega arith) in
     let same : length is.before ≡ length s.queue.ends = elim (cases_eq r.node n) [
-      | inl e ↦ (let l = last_mine nodes s n a reached f (length s.queue.ends) r (omega arith) turn e in
-          let q : length s.queue.ends ≡ p = one_place nodes s n a reached f (length s.queue.ends) p r turn (subst (λ x. slice_get s.queue.order p ≡ Some x) (sym l) there) in omega arith)
-      | inr ne ↦ absurd (let z = ap length (still nodes s n a reached f r turn ne) in omega arith)
+      | inl e ↦ (let l = last_mine s n a reached f (length s.queue.ends) r (omega arith) turn e in
+          let q : length s.queue.ends ≡ p = one_place s n a reached f (length s.queue.ends) p r turn (subst (λ x. slice_get s.queue.order p ≡ Some x) (sym l) there) in omega arith)
+      | inr ne ↦ absurd (let z = ap length (still s n a reached f r turn ne) in omega arith)
     ] in
     let before : is.before ≡ s.queue.ends = prefix_same is.before s.queue.ends a.ends (Told ∷ replicate is.passed Gone, sym is.ends) f.ends same in
     let turn_is : turn_of s.queue.order s.queue.ends ≡ Some (last_of n s.queue.order) = ap (slice_get s.queue.order) (sym same) ∙ at in (
       turn_is,
       ap is_closed (sym before) ∙ is.closed,
       λ w.
-          goes_whole nodes s n a reached f Told is.passed port.Shut (is.ends ∙ ap (λ es. es ++ Told ∷ replicate is.passed Gone) before) turn_is
+          goes_whole s n a reached f Told is.passed port.Shut (is.ends ∙ ap (λ es. es ++ Told ∷ replicate is.passed Gone) before) turn_is
           (subst (λ m. LetsGo (m + 1) port.Shut a) same is.lets_go) refl w,
     )

@@ -3,6 +3,7 @@ use Rattle.std.proofs.Common.{◌≡◌, ◌≢◌, ℕ, zero, suc, ◌+◌, ◌
 use Rattle.std.proofs.lemmas.Bool.{cases_eq, cases_order}
 use Rattle.std.proofs.lemmas.Option.{slice_get_within}
 use mathlib.Core.List.{IsPrefix}
+use Rattle.qolb_model.specs.declared.terms.Terms.{Terms}
 use Rattle.qolb_model.specs.OneOwner.{LineState}
 use Rattle.qolb_model.specs.Plain.{IsReached}
 use Rattle.qolb_model.specs.Whole.{Stance, KnowsWhole, AreWhole}
@@ -39,15 +40,15 @@ get_behind [] x ys i = let e : 0 + 1 + i ≡ suc i = omega arith in ap (slice_ge
 get_behind (z ∷ xs) x ys i = let e : length (z ∷ xs) + 1 + i ≡ suc (length xs + 1 + i) = omega arith in ap (slice_get (z ∷ xs ++ x ∷ ys)) e ∙ get_behind xs x ys i
 
 -- the port at the place, and the others, which know the state's whole history
-pub record Called (nodes : ℕ) (s : LineState) (place : ℕ) (a : Stance) (ports : List Stance) : Type 0 where
-  pub many : length ports ≡ nodes
+pub record Called (s : LineState) (place : ℕ) (a : Stance) (ports : List Stance) : Type 0 where
+  pub many : length ports ≡ s.terms.nodes
   pub node : (i : ℕ) (w : Stance) → slice_get ports i ≡ Some w → w.view.node ≡ i + 1
   pub acting : slice_get ports place ≡ Some a
-  pub others : (i : ℕ) (w : Stance) → i ≢ place → slice_get ports i ≡ Some w → KnowsWhole nodes s w
+  pub others : (i : ℕ) (w : Stance) → i ≢ place → slice_get ports i ≡ Some w → KnowsWhole s w
 
-pub called : (s : LineState) (ports : List Stance) → AreWhole s ports → (place : ℕ) (u a : Stance) → slice_get ports place ≡ Some u → a.view.node ≡ u.view.node → Called (length ports) s place a (set ports place a)
+pub called : (s : LineState) (ports : List Stance) → AreWhole s ports → (place : ℕ) (u a : Stance) → slice_get ports place ≡ Some u → a.view.node ≡ u.view.node → Called s place a (set ports place a)
 called s ports whole place u a at node = record {
-  many = length-set ports place a;
+  many = length-set ports place a ∙ whole.count;
   node = λ i w there. elim (cases_eq place i) [
     | inl e ↦ (let is : Some a ≡ Some w = sym (get_set_same ports place a (slice_get_within ports place u at)) ∙ (ap (slice_get (set ports place a)) e ∙ there) in
         sym (ap (λ x. x.view.node) (same_some is)) ∙ (node ∙ (whole.node place u at ∙ ap (λ k. k + 1) e)))
@@ -57,7 +58,7 @@ called s ports whole place u a at node = record {
   others = λ i w ne there. whole.knows i w (sym (get_set_other ports place i a (λ e. ne (sym e))) ∙ there);
 }
 
-module _ (nodes : ℕ) (s : LineState) (place : ℕ) (a : Stance) (ports new : List Stance) (c : Called nodes s place a ports) (m : MeetsOthers place ports new) where
+module _ (allows : List ℕ → List ℕ → Type 0) (s : LineState) (place : ℕ) (a : Stance) (ports new : List Stance) (c : Called s place a ports) (m : MeetsOthers allows place ports new) where
   first_at : (i : ℕ) (w : Stance) → slice_get m.before i ≡ Some w → slice_get ports i ≡ Some w
   first_at i w at = ap (λ xs. slice_get xs i) m.was ∙ get_before m.before m.port m.behind i w at
 
@@ -70,24 +71,24 @@ module _ (nodes : ℕ) (s : LineState) (place : ℕ) (a : Stance) (ports new : L
   long : length ports ≡ place + 1 + length m.behind
   long = let x = ap length m.was in let y = length-append m.before (m.port ∷ m.behind) in let z = m.at in omega arith
 
-  before_others : AreOthers nodes s (place + 1) m.before
+  before_others : AreOthers s (place + 1) m.before
   before_others i w at =
       let lt = slice_get_within m.before i w at in
       let z = m.at in
       (λ e. absurd (let k = c.node i w (first_at i w at) in omega arith), c.others i w (λ e. absurd (omega arith)) (first_at i w at))
 
-  behind_others : AreOthers nodes s (place + 1) m.behind
+  behind_others : AreOthers s (place + 1) m.behind
   behind_others i w at = (λ e. absurd (let k = c.node (place + 1 + i) w (second_at i w at) in omega arith), c.others (place + 1 + i) w (λ e. absurd (omega arith)) (second_at i w at))
 
   a_node : a.view.node ≡ place + 1
   a_node = c.node place a c.acting
 
   -- what the round tells of the call
-  pub tells : IsReached nodes s → IsPrefix s.queue.order a.view.order → IsPrefix s.queue.ends a.view.ends → (k : ℕ) → 1 ≤ k → k ≤ nodes → k ≢ place + 1 → Bounds s a.view k
+  pub tells : IsReached s → IsPrefix s.queue.order a.view.order → IsPrefix s.queue.ends a.view.ends → (k : ℕ) → 1 ≤ k → k ≤ s.terms.nodes → k ≢ place + 1 → Bounds s a.view k
   tells reached order ends k low high ne =
       let start : IsAfter a.view m.port.view = subst (λ (x : Stance). IsAfter a.view x.view) (sym acting_is) (record { order = refl; ends = refl; clear = prefix_self a.view.clear; marked = λ r h. h }) in
-      let (after, told) = round_bounds nodes (place + 1) s reached a.view m.port m.before m.now m.before_then m.meets_before start order ends before_others in
-      let (rest, more) = round_bounds nodes (place + 1) s reached a.view m.now m.behind m.port_then m.behind_then m.meets_behind after order ends behind_others in
+      let (after, told) = round_bounds allows (place + 1) s reached a.view m.port m.before m.now m.before_then m.meets_before start order ends before_others in
+      let (rest, more) = round_bounds allows (place + 1) s reached a.view m.now m.behind m.port_then m.behind_then m.meets_behind after order ends behind_others in
       let x = c.many in
       let y = long in
       let z = m.at in
@@ -105,17 +106,17 @@ module _ (nodes : ℕ) (s : LineState) (place : ℕ) (a : Stance) (ports new : L
       ]
 
   -- and what the ports then know
-  pub spreads : (t : LineState) → Leaves (place + 1) s t → IsReached nodes t → KnowsWhole nodes t a → AreWhole t new
+  pub spreads : (t : LineState) → Leaves (place + 1) s t → IsReached t → KnowsWhole t a → AreWhole t new
   spreads t leaves reached knows =
-      let (node, now, then_) = round_whole nodes (place + 1) s t leaves m.port m.before m.now m.before_then m.meets_before (ap (λ x. x.view.node) acting_is ∙ a_node) (subst (λ x. KnowsWhole nodes t x) (sym acting_is) knows) before_others in
-      let (last_node, last, rest) = round_whole nodes (place + 1) s t leaves m.now m.behind m.port_then m.behind_then m.meets_behind node now behind_others in
+      let (node, now, then_) = round_whole allows (place + 1) s t leaves m.port m.before m.now m.before_then m.meets_before (ap (λ x. x.view.node) acting_is ∙ a_node) (subst (λ x. KnowsWhole t x) (sym acting_is) knows) before_others in
+      let (last_node, last, rest) = round_whole allows (place + 1) s t leaves m.now m.behind m.port_then m.behind_then m.meets_behind node now behind_others in
       let at_then : length m.before_then ≡ place = then_.many ∙ m.at in
-      let many : nodes ≡ length new = (let x = c.many in let y = long in let z = ap length m.is in let q = length-append m.before_then (m.port_then ∷ m.behind_then) in let b = rest.many in omega arith) in
-      let each : (i : ℕ) (w : Stance) → slice_get new i ≡ Some w → (w.view.node ≡ i + 1) × KnowsWhole nodes t w = λ i w at.
+      let many : length new ≡ t.terms.nodes = (let e = ap (λ (k : Terms). k.nodes) leaves.terms in let x = c.many in let y = long in let z = ap length m.is in let q = length-append m.before_then (m.port_then ∷ m.behind_then) in let b = rest.many in omega arith) in
+      let each : (i : ℕ) (w : Stance) → slice_get new i ≡ Some w → (w.view.node ≡ i + 1) × KnowsWhole t w = λ i w at.
       elim (cases_order i place) [
         | inl same ↦ (
             let is : Some m.port_then ≡ Some w = sym (get_at m.before_then m.port_then m.behind_then) ∙ (ap (λ k. slice_get (m.before_then ++ m.port_then ∷ m.behind_then) k) (at_then ∙ sym same) ∙ (ap (λ xs. slice_get xs i) (sym m.is) ∙ at)) in
-            (sym (ap (λ x. x.view.node) (same_some is)) ∙ (last_node ∙ ap (λ k. k + 1) (sym same)), subst (λ x. KnowsWhole nodes t x) (same_some is) last))
+            (sym (ap (λ x. x.view.node) (same_some is)) ∙ (last_node ∙ ap (λ k. k + 1) (sym same)), subst (λ x. KnowsWhole t x) (same_some is) last))
         | inr (inl less) ↦ (
             let there : slice_get m.before_then i ≡ Some w = sym (slice_get-append_left m.before_then (m.port_then ∷ m.behind_then) i (omega (arith, less, at_then))) ∙ (ap (λ xs. slice_get xs i) (sym m.is) ∙ at) in
             let h = then_.each i w there in
@@ -129,7 +130,8 @@ module _ (nodes : ℕ) (s : LineState) (place : ℕ) (a : Stance) (ports new : L
             (h.2 ∙ (c.node (place + 1 + j) h.0 (second_at j h.0 h.1) ∙ ap (λ k. k + 1) back), h.3))
       ] in
       record {
-        reached = subst (λ k. IsReached k t) many reached;
+        reached = reached;
+        count = many;
         node = λ i w at. (each i w at).0;
-        knows = λ i w at. subst (λ k. KnowsWhole k t w) many (each i w at).1;
+        knows = λ i w at. (each i w at).1;
       }

@@ -60,7 +60,7 @@ allowed-begins allows bytes (Gone ∷ xs) ys h = allowed-begins allows bytes xs 
 allowed-begins allows bytes (Told ∷ xs) ys h = allowed-begins allows bytes xs ys h
 
 -- a closed line serves nobody
-pub not_served : (e : End) → MayEnd true e → is_served e ≡ false
-not_served (Served write shut) h = h
-not_served Gone h = refl
-not_served Told h = refl
+pub not_served : (last : Bool) (e : End) → MayEnd true last e → is_served e ≡ false
+not_served last (Served write shut) h = h.0
+not_served last Gone h = refl
+not_served last Told h = refl

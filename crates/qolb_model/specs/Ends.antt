@@ -13,11 +13,12 @@ is_closed (Served write shut ∷ ends) = shut || is_closed ends
 is_closed (Gone ∷ ends) = is_closed ends
 is_closed (Told ∷ ends) = is_closed ends
 
--- how a request may end on an open line (false) and on a closed one (true)
-abbrev pub MayEnd : Bool → End → Type 0
-MayEnd closed (Served write shut) = closed ≡ false
-MayEnd closed Gone = Unit {0}
-MayEnd closed Told = closed ≡ true
+-- how a request may end, on a closed line or an open one, and at the last turn of a lease or before: it is served on an open line
+-- alone, and the last turn closes it; it is told on a closed one alone
+abbrev pub MayEnd : Bool → Bool → End → Type 0
+MayEnd closed last (Served write shut) = (closed ≡ false) × (last ≡ true → shut ≡ true)
+MayEnd closed last Gone = Unit {0}
+MayEnd closed last Told = closed ≡ true
 
 -- the bytes after a masked write: the write's byte where the mask has its place, else the old byte
 abbrev pub written : List ℕ → Write → List ℕ

@@ -1,22 +1,13 @@
 -- Taking a line apart, with the ports of all its nodes. (Of this project.)
-use Rattle.std.specs.Prelude.{◌≡◌, ◌≢◌, ℕ, zero, suc, ◌<◌, ◌≤◌, Bool, true, false, List, length}
-use Rattle.qolb_model.specs.declared.answer.PortState.{PortState}
-use Rattle.qolb_model.specs.declared.answer.PortState.TheVariants.{Idle, Linking, Queued, Holding, Left, Rolled, Shut}
+use Rattle.std.specs.Prelude.{◌≡◌, ◌≢◌, ℕ, zero, suc, ◌<◌, ◌≤◌, true, false, List, length, slice_get, Some}
 use Rattle.qolb_model.specs.declared.unfinished.FinishError.{FinishError}
 use Rattle.qolb_model.specs.declared.unfinished.FinishError.TheVariants.{Memory, Unquiet, Missing}
 use Rattle.qolb_model.specs.declared.view.View.{View}
+use Rattle.qolb_model.specs.declared.terms.Terms.{Terms}
+use Rattle.qolb_model.specs.PortStates.{may_ask}
 use Rattle.qolb_model.specs.Ends.{bytes_after}
 use Rattle.qolb_model.specs.OneHistory.{IsAmong, OneHistory}
-
--- a port in this state has no request that waits or holds
-abbrev pub is_quiet : PortState → Bool
-is_quiet Idle = true
-is_quiet Linking = false
-is_quiet Queued = false
-is_quiet Holding = false
-is_quiet Left = true
-is_quiet Rolled = true
-is_quiet Shut = true
+use Rattle.qolb_model.specs.Kept.{AreAllowed}
 
 -- all ports have this label; and some port has another
 abbrev pub AreOfLine : ℕ → List View → Type 0
@@ -32,12 +23,16 @@ IsThere views node = (v : View) × IsAmong views v × (v.node ≡ node)
 abbrev pub IsMissing : List View → ℕ → Type 0
 IsMissing views node = (v : View) → IsAmong views v → v.node ≢ node
 
--- the node's port is quiet; and it is not
+-- no two of these are of one node
+abbrev pub EachNodeOnce : List View → Type 0
+EachNodeOnce views = (i j : ℕ) (v w : View) → slice_get views i ≡ Some v → slice_get views j ≡ Some w → v.node ≡ w.node → i ≡ j
+
+-- no port of the node waits or holds; and some does
 abbrev pub IsQuiet : List View → ℕ → Type 0
-IsQuiet views node = (v : View) → IsAmong views v → v.node ≡ node → is_quiet v.state ≡ true
+IsQuiet views node = (v : View) → IsAmong views v → v.node ≡ node → may_ask v.state ≡ true
 
 abbrev pub IsUnquiet : List View → ℕ → Type 0
-IsUnquiet views node = (v : View) × IsAmong views v × (v.node ≡ node) × (is_quiet v.state ≡ false)
+IsUnquiet views node = (v : View) × IsAmong views v × (v.node ≡ node) × (may_ask v.state ≡ false)
 
 -- the fact holds of each node
 abbrev pub EachNode : ℕ → (ℕ → Type 0) → Type 0
@@ -58,12 +53,16 @@ MayRefuse label nodes views (Missing (suc n)) = AreOfLine label views × IsLeast
 MayRefuse label nodes views (Unquiet n) = AreOfLine label views × EachNode nodes (IsThere views) × IsLeast nodes (IsUnquiet views) (IsQuiet views) n
 MayRefuse label nodes views Memory = AreOfLine label views × EachNode nodes (IsThere views) × EachNode nodes (IsQuiet views)
 
--- finished: no cause of refusal stands, all ports are of one history in which every request has ended, and the bytes are the
--- opening ones changed by all its served writes in order
-pub record IsFinished (label nodes : ℕ) (opening : List ℕ) (views : List View) (bytes : List ℕ) : Type 0 where
+-- finished: no cause of refusal stands, and each node has one port; all ports are of one history of the line, in which every request has
+-- ended and every turn kept the law; and the bytes are the opening ones changed by all its served writes in order, and good
+pub record IsFinished (good : List ℕ → Type 0) (allows : List ℕ → List ℕ → Type 0) (label : ℕ) (terms : Terms) (views : List View) (bytes : List ℕ) : Type 0 where
   pub of_line : AreOfLine label views
-  pub there : EachNode nodes (IsThere views)
-  pub quiet : EachNode nodes (IsQuiet views)
+  pub there : EachNode terms.nodes (IsThere views)
+  pub once : EachNodeOnce views
+  pub quiet : EachNode terms.nodes (IsQuiet views)
   pub history : OneHistory views
+  pub terms_are : history.terms ≡ terms
   pub all_ended : length history.ends ≡ length history.order
-  pub result : bytes ≡ bytes_after opening history.ends
+  pub kept : AreAllowed allows terms.opening.bytes history.ends
+  pub result : bytes ≡ bytes_after terms.opening.bytes history.ends
+  pub is_good : good bytes

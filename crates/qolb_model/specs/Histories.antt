@@ -4,6 +4,7 @@ use Rattle.qolb_model.specs.declared.request.Request.{Request}
 use Rattle.qolb_model.specs.declared.end.End.{End}
 use Rattle.qolb_model.specs.Requests.{Lacks, count_of}
 use Rattle.qolb_model.specs.Ends.{is_closed, MayEnd}
+use Rattle.qolb_model.specs.Leases.{is_last_turn}
 
 -- the request at its turn: the first that has no end
 abbrev pub turn_of : List Request → List End → Option Request
@@ -17,11 +18,12 @@ abbrev pub open_of : List Request → List End → List Request
 open_of order ends = drop (length ends) order
 
 -- Each node's requests are numbered 1, 2 and so on, so none stands twice; requests end in their order;
--- and after the end that closes the line come only withdrawn and told ones, the told ones nowhere else.
-pub record IsLegal (order : List Request) (ends : List End) : Type 0 where
+-- the last turn of the lease closes the line; and after the end that closes it come only withdrawn and told ones, the told ones
+-- nowhere else.
+pub record IsLegal (lease : Option ℕ) (order : List Request) (ends : List End) : Type 0 where
   pub numbered : (p : ℕ) (r : Request) → slice_get order p ≡ Some r → r.number ≡ count_of r.node (take p order) + 1
   pub ended : length ends ≤ length order
-  pub closing : (p : ℕ) (e : End) → slice_get ends p ≡ Some e → MayEnd (is_closed (take p ends)) e
+  pub closing : (p : ℕ) (e : End) → slice_get ends p ≡ Some e → MayEnd (is_closed (take p ends)) (is_last_turn lease (take p ends)) e
 
 -- The clear list grows at its end: by requests that are among the first `ended` of the order, each once.
 -- A node may ask again when its last request is on it.

@@ -16,7 +16,7 @@ AreAllowed allows bytes (Told ∷ ends) = AreAllowed allows bytes ends
 
 -- every turn that the view knows of kept the law
 abbrev pub IsKept : (List ℕ → List ℕ → Type 0) → View → Type 0
-IsKept allows v = AreAllowed allows v.opening.bytes v.ends
+IsKept allows v = AreAllowed allows v.terms.opening.bytes v.ends
 
 -- the law allows what this turn has made of the bytes that it began with
 abbrev pub MayRelease : (List ℕ → List ℕ → Type 0) → View → Write → Type 0

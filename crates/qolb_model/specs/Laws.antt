@@ -1,12 +1,14 @@
 -- Laws of histories, and of views of one history: what their definitions are to say at the least. (Of this project.)
-use Rattle.std.specs.Prelude.{◌≡◌, ℕ, ◌≤◌, true, false, List, [], ◌∷◌, length, take, slice_get, filter, Some}
+use Rattle.std.specs.Prelude.{◌≡◌, ◌≢◌, ℕ, ◌≤◌, true, false, List, [], ◌∷◌, length, take, slice_get, filter, Option, Some}
 use mathlib.Core.List.{IsPrefix}
 use Rattle.qolb_model.specs.declared.answer.PortState.TheVariants.{Holding}
 use Rattle.qolb_model.specs.declared.request.Request.{Request}
 use Rattle.qolb_model.specs.declared.end.End.{End}
+use Rattle.qolb_model.specs.declared.terms.Terms.{Terms}
 use Rattle.qolb_model.specs.declared.view.View.{View}
 use Rattle.qolb_model.specs.Ends.{is_closed, bytes_after}
 use Rattle.qolb_model.specs.EndKinds.{is_served}
+use Rattle.qolb_model.specs.Leases.{served, IsLease, turns_left}
 use Rattle.qolb_model.specs.Histories.{IsLegal}
 use Rattle.qolb_model.specs.Views.{bytes_of, Extends}
 use Rattle.qolb_model.specs.OneHistory.{IsAmong, OneHistory}
@@ -16,13 +18,22 @@ use Rattle.qolb_model.specs.Meeting.{Meets}
 
 -- two places of a legal order that have the same request are one place
 abbrev pub NoRequestStandsTwice : Type 0
-NoRequestStandsTwice = (order : List Request) (ends : List End) → IsLegal order ends
+NoRequestStandsTwice = (lease : Option ℕ) (order : List Request) (ends : List End) → IsLegal lease order ends
     → (p q : ℕ) (r : Request) → slice_get order p ≡ Some r → slice_get order q ≡ Some r → p ≡ q
 
 -- an end that comes after the one that closed the line is no service
 abbrev pub NoneIsServedAfterClosing : Type 0
-NoneIsServedAfterClosing = (order : List Request) (ends : List End) → IsLegal order ends
+NoneIsServedAfterClosing = (lease : Option ℕ) (order : List Request) (ends : List End) → IsLegal lease order ends
     → (p : ℕ) (e : End) → slice_get ends p ≡ Some e → is_closed (take p ends) ≡ true → is_served e ≡ false
+
+-- of a lease of so many turns no more are served, and once all are the line is closed
+abbrev pub LeaseBounds : Type 0
+LeaseBounds = (turns : ℕ) (order : List Request) (ends : List End) → 1 ≤ turns → IsLegal (Some turns) order ends
+    → (served ends ≤ turns) × (served ends ≡ turns → is_closed ends ≡ true)
+
+-- an open line has a turn left
+abbrev pub OpenLineHasTurns : Type 0
+OpenLineHasTurns = (lease : Option ℕ) (order : List Request) (ends : List End) → IsLease lease → IsLegal lease order ends → is_closed ends ≡ false → turns_left lease ends ≢ Some 0
 
 -- the bytes after ends are those after the served ones among them
 abbrev pub OnlyServedEndsWrite : Type 0
@@ -48,9 +59,9 @@ EachTwoAreOfOneHistory = (views : List View) (v w : View) → OneHistory views �
 abbrev pub FewerEndsBegin : Type 0
 FewerEndsBegin = (views : List View) (v w : View) → OneHistory views → IsAmong views v → IsAmong views w → length v.ends ≤ length w.ends → IsPrefix v.ends w.ends
 
--- two views of one history and one opening that know equally many ends know the same bytes
+-- two views of one history that know equally many ends know the same bytes
 abbrev pub SameEndsSameBytes : Type 0
-SameEndsSameBytes = (views : List View) (v w : View) → OneHistory views → IsAmong views v → IsAmong views w → v.opening.bytes ≡ w.opening.bytes → length v.ends ≡ length w.ends → bytes_of v ≡ bytes_of w
+SameEndsSameBytes = (views : List View) (v w : View) → OneHistory views → IsAmong views v → IsAmong views w → length v.ends ≡ length w.ends → bytes_of v ≡ bytes_of w
 
 -- two views of one history that both hold are of one node
 abbrev pub OneNodeHolds : Type 0
@@ -58,7 +69,7 @@ OneNodeHolds = (views : List View) (v w : View) → OneHistory views → IsAmong
 
 -- the ports that a line is opened with are of one history
 abbrev pub NewPortsAreOfOneHistory : Type 0
-NewPortsAreOfOneHistory = (label nodes : ℕ) (opening : List ℕ) (views : List View) → AreNew label nodes opening views → OneHistory views
+NewPortsAreOfOneHistory = (label : ℕ) (terms : Terms) (views : List View) → AreNew label terms views → OneHistory views
 
 -- two ports that have met know the same lists
 abbrev pub PortsThatMetKnowTheSame : Type 0

@@ -27,8 +27,8 @@ pub record LetsGo (from : ℕ) (leaves : PortState) (new : View) : Type 0 where
   pub cleared : (p : ℕ) (r : Request) → from ≤ p → p < length new.ends → slice_get new.order p ≡ Some r → Has new.clear r ⊎ ((p + 1 ≡ length new.ends) × IsShort new)
   pub state : ((new.state ≡ Left) × IsShort new × (length new.ends ≡ from)) ⊎ ((new.state ≡ leaves) × Has new.clear (own new))
 
--- a holder released the line: to the ends that it knew come that of its request, and those of withdrawn ones behind it
-pub record Releases (old : View) (end : End) (leaves : PortState) (new : View) : Type 0 where
+-- the turn of a port that had the line is over: to the ends that it knew come that of its request, and those of withdrawn ones behind it
+pub record EndsTurn (old : View) (end : End) (leaves : PortState) (new : View) : Type 0 where
   pub passed : ℕ
   pub ends : new.ends ≡ old.ends ++ end ∷ replicate passed Gone
   pub at_turn : slice_get new.order (length old.ends) ≡ Some (own new)

@@ -3,12 +3,14 @@ pub use Rattle.line_lanes.specs.Line
 pub use Rattle.line_lanes.specs.Lane
 pub mod Requests
 pub mod Ends
+pub mod EndKinds
+pub mod Leases
+pub mod PortStates
 pub mod Histories
 pub mod Queue
 pub mod OneOwner
 pub mod Plain
 pub mod Steps
-pub mod EndKinds
 pub mod Views
 pub mod OneHistory
 pub mod Kept
@@ -20,6 +22,7 @@ pub mod Linking
 pub mod LettingGo
 pub mod Meeting
 pub mod Finishing
+pub mod Calls
 pub mod Laws
 pub mod Whole
 pub mod Rounds

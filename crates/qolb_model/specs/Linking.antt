@@ -7,11 +7,12 @@ use Rattle.qolb_model.specs.Views.{own}
 use Rattle.qolb_model.specs.Asking.{IsJoined}
 use Rattle.qolb_model.specs.Turns.{Waits}
 
--- linking: the port's request is made and behind another, and not yet linked to it
+-- linking: the port's request is made and behind another, not yet linked to it, and not withdrawn
 pub record IsLinking (new : View) : Type 0 where
   pub state : new.state ≡ Linking
   pub waits : Waits new
   pub unjoined : Lacks new.joined (own new)
+  pub unmarked : Lacks new.marked (own new)
 
 -- the port's request is linked to the one before, and is the same request
 pub record Links (old new : View) : Type 0 where

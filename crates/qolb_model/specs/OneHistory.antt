@@ -4,6 +4,7 @@ use mathlib.Core.List.{IsPrefix}
 use Rattle.qolb_model.specs.declared.answer.PortState.TheVariants.{Holding}
 use Rattle.qolb_model.specs.declared.request.Request.{Request}
 use Rattle.qolb_model.specs.declared.end.End.{End}
+use Rattle.qolb_model.specs.declared.terms.Terms.{Terms}
 use Rattle.qolb_model.specs.declared.view.View.{View}
 use Rattle.qolb_model.specs.Requests.{Has, has, count_of}
 use Rattle.qolb_model.specs.EndKinds.{is_gone}
@@ -14,11 +15,12 @@ use Rattle.qolb_model.specs.Views.{own}
 abbrev pub IsAmong : List View → View → Type 0
 IsAmong views v = (i : ℕ) × (slice_get views i ≡ Some v)
 
--- What a view knows of a history: that all requests are of its line's nodes; a beginning of each of its lists; how many requests
--- its own node has made; of these, each end by service or by telling, and which of the ended ones were withdrawn. A holder's
--- request is at its turn.
-pub record Knows (order : List Request) (ends : List End) (clear : List Request) (v : View) : Type 0 where
-  pub of_line : (p : ℕ) (r : Request) → slice_get order p ≡ Some r → (1 ≤ r.node) × (r.node ≤ v.nodes)
+-- What a view knows of a history: what its line was opened with; that all requests are of its line's nodes; a beginning of each of its
+-- lists; how many requests its own node has made; of these, each end by service or by telling, and which of the ended ones were
+-- withdrawn. A holder's request is at its turn.
+pub record Knows (terms : Terms) (order : List Request) (ends : List End) (clear : List Request) (v : View) : Type 0 where
+  pub terms_are : v.terms ≡ terms
+  pub of_line : (p : ℕ) (r : Request) → slice_get order p ≡ Some r → (1 ≤ r.node) × (r.node ≤ terms.nodes)
   pub order_begins : IsPrefix v.order order
   pub ends_begin : IsPrefix v.ends ends
   pub clear_begins : IsPrefix v.clear clear
@@ -32,12 +34,13 @@ pub record KnowsOwn (v w : View) : Type 0 where
   pub joined : (r : Request) → r.node ≡ w.node → Has v.joined r → Has w.joined r
   pub marked : (r : Request) → r.node ≡ w.node → Has v.marked r → Has w.marked r
 
--- the views are of one history: there are an order, its ends and a clear list that all of them know
+-- the views are of one history: there are an order, its ends and a clear list that all of them know, of one line
 pub record OneHistory (views : List View) : Type 0 where
+  pub terms : Terms
   pub order : List Request
   pub ends : List End
   pub clear : List Request
-  pub legal : IsLegal order ends
+  pub legal : IsLegal terms.lease order ends
   pub cleared : Clears order (length ends) [] clear
-  pub known : (v : View) → IsAmong views v → Knows order ends clear v
+  pub known : (v : View) → IsAmong views v → Knows terms order ends clear v
   pub agreed : (v w : View) → IsAmong views v → IsAmong views w → KnowsOwn v w

@@ -12,16 +12,19 @@ use Rattle.qolb_model.specs.declared.answer.Out.TheVariants as out
 use Rattle.qolb_model.specs.declared.answer.PortState.{PortState}
 use Rattle.qolb_model.specs.declared.answer.PortState.TheVariants as port
 use Rattle.qolb_model.specs.declared.write.Write.{Write}
+use Rattle.qolb_model.specs.declared.terms.Terms.{Terms}
 use Rattle.qolb_model.specs.declared.end.End.{End}
 use Rattle.qolb_model.specs.declared.end.End.TheVariants.{Served, Gone, Told}
 use Rattle.qolb_model.specs.Requests.{has, is_same, last_of}
 use Rattle.qolb_model.specs.Ends.{is_closed, bytes_after, written}
+use Rattle.qolb_model.specs.Leases.{closes}
 use Rattle.qolb_model.specs.Histories.{turn_of, ended_of, open_of}
 use Rattle.qolb_model.specs.Queue.{Queue, empty_queue, Move, ask, mark, finish, moved}
 
--- a line's queue, whether the request at its turn was answered granted, and what its holder has written in this turn
+-- what a line was opened with, its queue, whether the request at its turn was answered granted, and what its holder has written in this
+-- turn
 pub record LineState : Type 0 where
-  pub opening : List ℕ
+  pub terms : Terms
   pub queue : Queue
   pub granted : Bool
   pub turn : Write
@@ -31,8 +34,8 @@ abbrev pub new_turn : List ℕ → List End → Write
 new_turn opening ends = record { mask = record { 0 = 0 }; bytes = record { bytes = bytes_after opening ends } }
 
 -- a line that was just opened
-abbrev pub opened : List ℕ → LineState
-opened opening = record { opening = opening; queue = empty_queue; granted = false; turn = new_turn opening [] }
+abbrev pub opened : Terms → LineState
+opened terms = record { terms = terms; queue = empty_queue; granted = false; turn = new_turn terms.opening.bytes [] }
 
 -- the node's last request is at its turn
 abbrev pub is_first : Queue → ℕ → Bool
@@ -67,10 +70,10 @@ abbrev pub after_moves : List Move → LineState → LineState
 after_moves moves s = record s { queue = moved_by s.queue moves }
 
 abbrev pub after_grant : LineState → LineState
-after_grant s = record s { granted = true; turn = new_turn s.opening s.queue.ends }
+after_grant s = record s { granted = true; turn = new_turn s.terms.opening.bytes s.queue.ends }
 
 abbrev pub after_end : LineState → LineState
-after_end s = record s { granted = false; turn = new_turn s.opening s.queue.ends }
+after_end s = record s { granted = false; turn = new_turn s.terms.opening.bytes s.queue.ends }
 
 -- `poll`: a request that is not at its turn waits; at its turn it is granted, or told of a closed line
 abbrev pub poll_answer : LineState → ℕ → Poll
@@ -122,9 +125,10 @@ out_moves s node = if is_first s.queue node then poll_moves (poll_answer s node)
 abbrev pub after_out : LineState → ℕ → LineState
 after_out s node = if is_first s.queue node then after_poll (poll_answer s node) s else after_moves (mark_last s node) s
 
--- `deqolb`, and with true `shut`: the request at its turn ends as served, with what its turn wrote
+-- `deqolb`, and with true `shut`: the request at its turn ends as served, with what its turn wrote; the last turn of a lease closes the
+-- line, as `shut` does
 abbrev pub release_moves : LineState → Bool → List Move
-release_moves s shut = ends_with (Served s.turn shut) s.queue
+release_moves s shut = ends_with (Served s.turn (closes s.terms.lease s.queue.ends shut)) s.queue
 
 abbrev pub after_release : LineState → Bool → LineState
 after_release s shut = after_end (after_moves (release_moves s shut) s)
@@ -138,4 +142,4 @@ after_write s mask bytes = record s { turn = turn_after s.turn mask bytes }
 
 -- the bytes that the line shows: those after all ends, changed by what this turn wrote
 abbrev pub shown : LineState → List ℕ
-shown s = written (bytes_after s.opening s.queue.ends) s.turn
+shown s = written (bytes_after s.terms.opening.bytes s.queue.ends) s.turn

@@ -9,16 +9,19 @@ use Rattle.qolb_model.specs.declared.waiter.Waiter.{Waiter}
 use Rattle.qolb_model.specs.declared.write.Write.{Write}
 use Rattle.qolb_model.specs.Requests.{Has, Lacks, has, count_of, last_of}
 use Rattle.qolb_model.specs.Ends.{is_closed, bytes_after, written}
+use Rattle.qolb_model.specs.Leases.{turns_left}
+use Rattle.qolb_model.specs.Opening.{MayOpen}
 use Rattle.qolb_model.specs.Histories.{IsLegal, turn_of, ended_of, open_of}
 use Rattle.qolb_model.specs.OneOwner.{LineState, new_turn}
 
--- the line's number of nodes, the nodes that wait or hold with the oldest first, whether that one holds, whether the line is closed,
--- and the bytes with the mask of what the holder has written
+-- the line's number of nodes, the nodes that wait or hold with the oldest first, whether that one holds, whether the line is closed, the
+-- turns that are left of its lease, and the bytes with the mask of what the holder has written
 pub record PlainView : Type 0 where
   pub nodes : ℕ
   pub waiting : List Waiter
   pub granted : Bool
   pub closed : Bool
+  pub left : Option ℕ
   pub turn : Write
 
 abbrev pub is_at : ℕ → Waiter → Bool
@@ -36,41 +39,35 @@ waiter_state line node (Some w) = if w.withdrawn then Rolled else (if line.grant
 abbrev pub node_state : PlainView → ℕ → PortState
 node_state line node = waiter_state line node (find (is_at node) line.waiting)
 
--- a node in this state may ask
-abbrev pub may_ask : PortState → Bool
-may_ask Idle = true
-may_ask Linking = false
-may_ask Queued = false
-may_ask Holding = false
-may_ask Left = true
-may_ask Rolled = true
-may_ask Shut = true
-
--- what holds of every state that one owner's calls reach: the history is legal, all that has ended is clear, each open request
--- is its node's last, no withdrawn one is at its turn, and what a turn has written lies over the bytes after all ends
-pub record IsReached (nodes : ℕ) (s : LineState) : Type 0 where
-  pub line : length s.opening ≡ 64
-  pub legal : IsLegal s.queue.order s.queue.ends
+-- what holds of every state that one owner's calls reach: the line was lawfully opened, the history is legal, all that has ended is clear,
+-- each open request is its node's last, no withdrawn one is at its turn, and what a turn has written lies over the bytes after all ends
+pub record IsReached (s : LineState) : Type 0 where
+  pub may_open : MayOpen s.terms
+  pub line : length s.terms.opening.bytes ≡ 64
+  pub legal : IsLegal s.terms.lease s.queue.order s.queue.ends
   pub cleared : s.queue.clear ≡ ended_of s.queue.order s.queue.ends
-  pub nodes_known : (p : ℕ) (r : Request) → slice_get s.queue.order p ≡ Some r → (1 ≤ r.node) × (r.node ≤ nodes)
+  pub nodes_known : (p : ℕ) (r : Request) → slice_get s.queue.order p ≡ Some r → (1 ≤ r.node) × (r.node ≤ s.terms.nodes)
   pub last_open : (p : ℕ) (r : Request) → length s.queue.ends ≤ p → slice_get s.queue.order p ≡ Some r → r ≡ last_of r.node s.queue.order
   pub marks_known : (r : Request) → Has s.queue.marked r → r.number ≤ count_of r.node s.queue.order
   pub passed : (r : Request) → turn_of s.queue.order s.queue.ends ≡ Some r → Lacks s.queue.marked r
   pub held : s.granted ≡ true → (length s.queue.ends < length s.queue.order) × (is_closed s.queue.ends ≡ false)
-  pub resting : s.granted ≡ false → s.turn ≡ new_turn s.opening s.queue.ends
-  pub turn : written (bytes_after s.opening s.queue.ends) s.turn ≡ s.turn.bytes.bytes
+  pub resting : s.granted ≡ false → s.turn ≡ new_turn s.terms.opening.bytes s.queue.ends
+  pub turn : written (bytes_after s.terms.opening.bytes s.queue.ends) s.turn ≡ s.turn.bytes.bytes
 
 -- the entry of an open request
 abbrev pub waiter_of : List Request → Request → Waiter
 waiter_of marked r = record { node = r.node; withdrawn = has marked r }
 
--- the line agrees with a state: on the open requests and their marks, on who holds, on closing, and on the turn's write
+-- the line agrees with a state: on the nodes, on the open requests and their marks, on who holds, on closing, on the turns left, and on
+-- the turn's write
 pub record Agrees (line : PlainView) (s : LineState) : Type 0 where
+  pub nodes : line.nodes ≡ s.terms.nodes
   pub waiting : line.waiting ≡ map (waiter_of s.queue.marked) (open_of s.queue.order s.queue.ends)
   pub granted : line.granted ≡ s.granted
   pub closed : line.closed ≡ is_closed s.queue.ends
+  pub left : line.left ≡ turns_left s.terms.lease s.queue.ends
   pub turn : line.turn ≡ s.turn
-  pub reached : IsReached line.nodes s
+  pub reached : IsReached s
 
 -- the waiting nodes are distinct, and from 1 to `nodes`
 abbrev pub AreWaiting : ℕ → List Waiter → Type 0

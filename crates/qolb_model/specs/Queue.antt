@@ -1,11 +1,13 @@
 -- The queue of a line, as a machine: requests are made, marked as withdrawn, and ended in their order.
 -- (The queue is that of Goodman, Vernon and Woest, 1989; withdrawing by mark and closing are of this project.)
-use Rattle.std.specs.Prelude.{◌≡◌, ℕ, ◌<◌, ◌≤◌, true, false, List, [], ◌∷◌, ◌++◌, length, Some, slice_get}
+use Rattle.std.specs.Prelude.{◌≡◌, ℕ, ◌<◌, ◌≤◌, true, false, List, [], ◌∷◌, ◌++◌, length, Option, Some, slice_get}
 use Rattle.qolb_model.specs.declared.request.Request.{Request}
 use Rattle.qolb_model.specs.declared.end.End.{End}
 use Rattle.qolb_model.specs.declared.end.End.TheVariants.{Served, Gone, Told}
 use Rattle.qolb_model.specs.Requests.{Has, Lacks, count_of, last_of, next_of}
+use Rattle.qolb_model.specs.declared.terms.Terms.{Terms}
 use Rattle.qolb_model.specs.Ends.{is_closed}
+use Rattle.qolb_model.specs.Leases.{is_last_turn}
 use Rattle.qolb_model.specs.Histories.{turn_of, Clears}
 
 -- the requests in their order, the ends of the first of them, those that were withdrawn, and those whose node may ask again
@@ -24,18 +26,19 @@ pub data Move : Type 0 where
   mark : (request : Request) → Move
   finish : (end : End) → Move
 
--- how the request at its turn may end: a marked one is gone; another is served while the line is open, and then told
-abbrev pub EndsAs : Queue → Request → End → Type 0
-EndsAs q r (Served write shut) = Lacks q.marked r × (is_closed q.ends ≡ false)
-EndsAs q r Gone = Has q.marked r
-EndsAs q r Told = Lacks q.marked r × (is_closed q.ends ≡ true)
+-- how the request at its turn may end: a marked one is gone; another is served while the line is open, by the last turn of the lease
+-- with closing it, and then told
+abbrev pub EndsAs : Option ℕ → Queue → Request → End → Type 0
+EndsAs lease q r (Served write shut) = Lacks q.marked r × (is_closed q.ends ≡ false) × (is_last_turn lease q.ends ≡ true → shut ≡ true)
+EndsAs lease q r Gone = Has q.marked r
+EndsAs lease q r Told = Lacks q.marked r × (is_closed q.ends ≡ true)
 
--- when a move may be made on a line of this many nodes:
+-- when a move may be made on a line that was opened so:
 -- a node asks if its last request, if any, is clear; a request is marked, once, while it waits behind the one at its turn
-abbrev pub CanMove : ℕ → Queue → Move → Type 0
-CanMove nodes q (ask node) = (1 ≤ node) × (node ≤ nodes) × (1 ≤ count_of node q.order → Has q.clear (last_of node q.order))
-CanMove nodes q (mark r) = (p : ℕ) × (length q.ends < p) × (slice_get q.order p ≡ Some r) × Lacks q.marked r
-CanMove nodes q (finish end) = (r : Request) × (turn_of q.order q.ends ≡ Some r) × EndsAs q r end
+abbrev pub CanMove : Terms → Queue → Move → Type 0
+CanMove terms q (ask node) = (1 ≤ node) × (node ≤ terms.nodes) × (1 ≤ count_of node q.order → Has q.clear (last_of node q.order))
+CanMove terms q (mark r) = (p : ℕ) × (length q.ends < p) × (slice_get q.order p ≡ Some r) × Lacks q.marked r
+CanMove terms q (finish end) = (r : Request) × (turn_of q.order q.ends ≡ Some r) × EndsAs terms.lease q r end
 
 -- the queue after a move
 abbrev pub moved : Queue → Move → Queue
@@ -48,6 +51,6 @@ abbrev pub HasCleared : Queue → Queue → Type 0
 HasCleared old new = (clear : List Request) × Clears old.order (length old.ends) old.clear clear × (new ≡ record old { clear = clear })
 
 -- the queue makes these moves, each where it may; before, between and after them ended requests may be cleared
-abbrev pub Runs : ℕ → Queue → List Move → Queue → Type 0
-Runs nodes old [] new = HasCleared old new
-Runs nodes old (move ∷ moves) new = (now : Queue) × HasCleared old now × CanMove nodes now move × Runs nodes (moved now move) moves new
+abbrev pub Runs : Terms → Queue → List Move → Queue → Type 0
+Runs terms old [] new = HasCleared old new
+Runs terms old (move ∷ moves) new = (now : Queue) × HasCleared old now × CanMove terms now move × Runs terms (moved now move) moves new

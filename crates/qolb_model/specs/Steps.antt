@@ -1,5 +1,5 @@
 -- What the steps of a plain line do to what its callers see of it.
-use Rattle.std.specs.Prelude.{ℕ, true, false, if◌then◌else◌, List, [], ◌∷◌, ◌++◌, drop}
+use Rattle.std.specs.Prelude.{ℕ, ◌-◌, ◌==◌, Bool, true, false, ◌||◌, if◌then◌else◌, List, [], ◌∷◌, ◌++◌, drop, Option, Some, None}
 use Rattle.qolb_model.specs.declared.answer.Poll.{Poll}
 use Rattle.qolb_model.specs.declared.answer.Poll.TheVariants.{Granted, Waiting, Closed}
 use Rattle.qolb_model.specs.declared.waiter.Waiter.{Waiter}
@@ -21,6 +21,19 @@ joined_by line node = record line { waiting = line.waiting ++ record { node = no
 -- the turn of the oldest ends, and the withdrawn ones behind it are passed
 abbrev pub turn_ended : PlainView → PlainView
 turn_ended line = record line { waiting = after_withdrawn (drop 1 line.waiting); granted = false; turn = record { mask = record { 0 = 0 }; bytes = line.turn.bytes } }
+
+-- one turn of so many is left; and one fewer is left
+abbrev pub is_one : Option ℕ → Bool
+is_one None = false
+is_one (Some turns) = turns == 1
+
+abbrev pub one_fewer : Option ℕ → Option ℕ
+one_fewer None = None
+one_fewer (Some turns) = Some (turns - 1)
+
+-- the turn of the oldest was served: the line is closed if that was wished, and by the last turn
+abbrev pub turn_served : Bool → PlainView → PlainView
+turn_served shut line = turn_ended (record line { closed = line.closed || (shut || is_one line.left); left = one_fewer line.left })
 
 -- a node looks whether it is the oldest
 abbrev pub look_answer : PlainView → ℕ → Poll

@@ -12,7 +12,7 @@ own v = record { node = v.node; number = v.count }
 
 -- the bytes that the ends leave which the port knows
 abbrev pub bytes_of : View → List ℕ
-bytes_of v = bytes_after v.opening.bytes v.ends
+bytes_of v = bytes_after v.terms.opening.bytes v.ends
 
 -- each request of the first list is one of the second
 abbrev pub IsSubset : List Request → List Request → Type 0
@@ -21,8 +21,7 @@ IsSubset xs ys = (r : Request) → Has xs r → Has ys r
 -- the new view is of the same port as the old one, and knows all that the old one knew
 pub record Extends (old new : View) : Type 0 where
   pub label : new.label ≡ old.label
-  pub nodes : new.nodes ≡ old.nodes
-  pub opening : new.opening ≡ old.opening
+  pub terms : new.terms ≡ old.terms
   pub node : new.node ≡ old.node
   pub order : IsPrefix old.order new.order
   pub ends : IsPrefix old.ends new.ends

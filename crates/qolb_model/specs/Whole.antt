@@ -28,9 +28,8 @@ pub record Stance : Type 0 where
 
 -- the port knows the state's whole history: all requests, each of them joined, all ends, that all ended requests are clear, and
 -- which open ones are withdrawn; its node stands as the state has it, and a holder's turn is the state's
-pub record KnowsWhole (nodes : ℕ) (s : LineState) (port : Stance) : Type 0 where
-  pub nodes_are : port.view.nodes ≡ nodes
-  pub opening : port.view.opening.bytes ≡ s.opening
+pub record KnowsWhole (s : LineState) (port : Stance) : Type 0 where
+  pub terms : port.view.terms ≡ s.terms
   pub order : port.view.order ≡ s.queue.order
   pub ends : port.view.ends ≡ s.queue.ends
   pub clear : (r : Request) → Has (ended_of s.queue.order s.queue.ends) r → Has port.view.clear r
@@ -43,6 +42,7 @@ pub record KnowsWhole (nodes : ℕ) (s : LineState) (port : Stance) : Type 0 whe
 
 -- the ports of nodes 1, 2 and so on, all of which know the whole history of a state that one owner's calls reach
 pub record AreWhole (s : LineState) (ports : List Stance) : Type 0 where
-  pub reached : IsReached (length ports) s
+  pub reached : IsReached s
+  pub count : length ports ≡ s.terms.nodes
   pub node : (i : ℕ) (port : Stance) → slice_get ports i ≡ Some port → port.view.node ≡ i + 1
-  pub knows : (i : ℕ) (port : Stance) → slice_get ports i ≡ Some port → KnowsWhole (length ports) s port
+  pub knows : (i : ℕ) (port : Stance) → slice_get ports i ≡ Some port → KnowsWhole s port

@@ -1,4 +1,6 @@
 //! Answers of a line's calls, and the states of a port.
+ghost use Rattle.std.specs.Prelude.{◌≡◌};
+ghost use Rattle.qolb_model.specs.PortStates.{may_ask};
 
 /// The answer of `enqolb`.
 #[derive(Clone, Copy, Debug, PartialEq, Eq)]
@@ -54,11 +56,25 @@ pub enum PortState {
     Shut,
 }
 
+impl PortState {
+    /// Whether a node in this state may ask: it has no request that waits or holds.
+    pub fn may_ask(self) -> bool
+        ensures { result ≡ may_ask self }
+    {
+        !matches!(
+            self,
+            PortState::Linking | PortState::Queued | PortState::Holding
+        )
+    }
+}
+
 /// Why a line could not be opened.
 #[derive(Clone, Copy, Debug, PartialEq, Eq)]
 pub enum OpenError {
     /// Memory was refused.
     Memory = 1,
-    /// The number of nodes is not 1 to 32.
+    /// The number of nodes is not 1 to `MOST_NODES`.
     Nodes = 2,
+    /// The lease is of no turn.
+    Lease = 3,
 }

@@ -1,5 +1,5 @@
 //! Laws of the definitions that a line's contracts speak of. Each is the contract of a function that does nothing.
-ghost use Rattle.qolb_model.specs.Laws.{NoRequestStandsTwice, NoneIsServedAfterClosing, OnlyServedEndsWrite, GoodStaysGood, ExtendsThrough, PartIsOfOneHistory, EachTwoAreOfOneHistory, FewerEndsBegin, SameEndsSameBytes, OneNodeHolds, NewPortsAreOfOneHistory, PortsThatMetKnowTheSame};
+ghost use Rattle.qolb_model.specs.Laws.{NoRequestStandsTwice, NoneIsServedAfterClosing, LeaseBounds, OpenLineHasTurns, OnlyServedEndsWrite, GoodStaysGood, ExtendsThrough, PartIsOfOneHistory, EachTwoAreOfOneHistory, FewerEndsBegin, SameEndsSameBytes, OneNodeHolds, NewPortsAreOfOneHistory, PortsThatMetKnowTheSame};
 
 use crate::keep::Keep;
 
@@ -11,6 +11,16 @@ pub fn no_request_stands_twice()
 /// Nothing is served once the line is closed.
 pub fn none_is_served_after_closing()
     ensures { NoneIsServedAfterClosing }
+{}
+
+/// No more turns are served than a lease has, and the last of them closes the line.
+pub fn lease_bounds()
+    ensures { LeaseBounds }
+{}
+
+/// An open line has a turn left.
+pub fn open_line_has_turns()
+    ensures { OpenLineHasTurns }
 {}
 
 /// Only served ends change bytes.

@@ -1,19 +1,24 @@
 //! The reference line: one owner, no threads, no memory.
-ghost use Rattle.std.specs.Prelude.{◌≡◌, ℕ, ◌≤◌, ◌↔◌, Bool, true, false, IsTrue, IsOk, IfOk, IfErr, ◌<◌, length, map, find};
+ghost use Rattle.std.specs.Prelude.{◌≡◌, ◌≢◌, ℕ, ◌≤◌, Bool, true, false, IsTrue, IfOk, IfErr, MatchResult, ◌<◌, length, map, find, Option, Some, None};
 ghost use Rattle.qolb_model.specs.Queue.{Runs};
 ghost use Rattle.qolb_model.specs.OneOwner.{LineState, opened, state_of, shown, enq_answer, enq_moves, after_enq, poll_answer, poll_moves, after_poll, out_answer, out_moves, after_out, release_moves, after_release, after_write};
-ghost use Rattle.qolb_model.specs.Plain.{node_state, may_ask, is_at, is_oldest, Agrees};
-ghost use Rattle.qolb_model.specs.Steps.{after_withdrawn, withdrawn_at, turn_ended, look_answer, looked};
+ghost use Rattle.qolb_model.specs.declared.terms.Terms.{Terms};
+ghost use Rattle.qolb_model.specs.PortStates.{may_ask};
+ghost use Rattle.qolb_model.specs.Leases.{turns_left};
+ghost use Rattle.qolb_model.specs.Opening.{MayOpen, MayNotOpen};
+ghost use Rattle.qolb_model.specs.Plain.{node_state, is_at, is_oldest, Agrees};
+ghost use Rattle.qolb_model.specs.Steps.{after_withdrawn, withdrawn_at, turn_ended, turn_served, look_answer, looked};
 
 use crate::answer::{Enq, OpenError, Out, Poll, PortState};
+use crate::terms::{MOST_NODES, Terms};
 use crate::waiter::Waiter;
 use crate::write::Write;
 use arrayvec::ArrayVec;
 use line_lanes::{Line64, Mask, merge};
 use std::marker::Model;
 
-/// The most nodes that a line has.
-pub const MOST_NODES: u64 = 32;
+/// The room for nodes that wait or hold.
+const ROOM: usize = MOST_NODES as usize;
 
 /// A line that is called by one owner, on behalf of nodes 1 to `nodes`.
 ///
@@ -22,41 +27,61 @@ pub const MOST_NODES: u64 = 32;
 #[derive(Drop)]
 pub struct PlainLine {
     turn: Write,
-    waiting: ArrayVec<Waiter, 32>,
+    waiting: ArrayVec<Waiter, ROOM>,
     nodes: u64,
+    /// How many turns are left of the lease, if there is one.
+    left: Option<u64>,
     granted: bool,
     closed: bool,
 }
 
 impl Model for PlainLine {
     ghost use Rattle.std.specs.Prelude.{◌≤◌};
+    ghost use Rattle.qolb_model.specs.declared.terms.TheConstants.{MOST_NODES};
     ghost use Rattle.qolb_model.specs.Plain.{PlainView, AreWaiting};
 
     ghost Value = { PlainView };
 
-    ghost view = { λ p. record { nodes = p.nodes; waiting = p.waiting.items; granted = p.granted; closed = p.closed; turn = p.turn } };
+    ghost view = { λ p. record { nodes = p.nodes; waiting = p.waiting.items; granted = p.granted; closed = p.closed; left = p.left; turn = p.turn } };
 
-    ghost invariant = { λ p. (p.nodes ≤ 32) × AreWaiting p.nodes p.waiting.items };
+    ghost invariant = { λ p. (p.nodes ≤ MOST_NODES) × AreWaiting p.nodes p.waiting.items };
 }
 
 impl PlainLine {
-    /// A line with these bytes for nodes 1 to `nodes`, all idle. `Nodes` where that is not 1 to 32.
+    /// A line with these bytes for nodes 1 to `nodes`, all idle. `Nodes` where that is not 1 to `MOST_NODES`.
     pub fn open(nodes: u64, opening: Line64) -> Result<PlainLine, OpenError>
-        ensures agrees { IfOk result (λ line. Agrees line (opened opening.bytes)) }
-        ensures nodes { IfOk result (λ line. line.nodes ≡ nodes) }
-        ensures succeeds { IsOk result ↔ ((1 ≤ nodes) × (nodes ≤ 32)) }
-        ensures refused { IfErr result (λ error. error ≡ OpenError.Nodes) }
+        ensures { let terms : Terms = record { nodes = nodes; opening = opening; lease = None } in MatchResult result (λ line. Agrees line (opened terms)) (λ error. (error ≢ OpenError.Memory) × MayNotOpen terms error) }
     {
-        if nodes < 1 || nodes > MOST_NODES {
-            return Err(OpenError::Nodes);
-        }
+        PlainLine::with_terms(Terms {
+            nodes,
+            opening,
+            lease: None,
+        })
+    }
+
+    /// The same with a lease: the line closes at the `lease`-th turn that is served. `Nodes`, or else `Lease` where it is 0.
+    pub fn open_leased(nodes: u64, opening: Line64, lease: u64) -> Result<PlainLine, OpenError>
+        ensures { let terms : Terms = record { nodes = nodes; opening = opening; lease = Some lease } in MatchResult result (λ line. Agrees line (opened terms)) (λ error. (error ≢ OpenError.Memory) × MayNotOpen terms error) }
+    {
+        PlainLine::with_terms(Terms {
+            nodes,
+            opening,
+            lease: Some(lease),
+        })
+    }
+
+    fn with_terms(terms: Terms) -> Result<PlainLine, OpenError>
+        ensures { MatchResult result (λ line. Agrees line (opened terms)) (λ error. (error ≢ OpenError.Memory) × MayNotOpen terms error) }
+    {
+        terms.check()?;
         Ok(PlainLine {
             turn: Write {
                 mask: Mask(0),
-                bytes: opening,
+                bytes: terms.opening,
             },
             waiting: ArrayVec::new(),
-            nodes,
+            nodes: terms.nodes,
+            left: terms.lease,
             granted: false,
             closed: false,
         })
@@ -84,6 +109,15 @@ impl PlainLine {
         &self.turn.bytes
     }
 
+    /// How many turns are left of the lease, with that of the node that holds: at least 1. `None` without a lease.
+    pub fn turns_left(&self, node: u64) -> Option<u64>
+        requires { node_state self.now node ≡ PortState.Holding }
+        ensures left { (s : LineState) → Agrees self.now s → result ≡ turns_left s.terms.lease s.queue.ends }
+        ensures some { (s : LineState) → Agrees self.now s → result ≢ Some 0 }
+    {
+        self.left
+    }
+
     /// The node that holds the line writes the bytes of the mask.
     pub fn write(&mut self, node: u64, mask: Mask, bytes: &Line64)
         requires { node_state self.old node ≡ PortState.Holding }
@@ -100,7 +134,7 @@ impl PlainLine {
         requires last { node ≤ self.old.nodes }
         requires may_ask { IsTrue (may_ask (node_state self.old node)) }
         ensures answer { (s : LineState) → Agrees self.old s → result ≡ enq_answer s node }
-        ensures moves { (s : LineState) → Agrees self.old s → Runs self.old.nodes s.queue (enq_moves s node) (after_enq s node).queue }
+        ensures moves { (s : LineState) → Agrees self.old s → Runs s.terms s.queue (enq_moves s node) (after_enq s node).queue }
         ensures agrees { (s : LineState) → Agrees self.old s → Agrees self.new (after_enq s node) }
         ensures nodes { self.new.nodes ≡ self.old.nodes }
     {
@@ -122,7 +156,7 @@ impl PlainLine {
     pub fn poll(&mut self, node: u64) -> Poll
         requires { node_state self.old node ≡ PortState.Queued }
         ensures answer { (s : LineState) → Agrees self.old s → result ≡ poll_answer s node }
-        ensures moves { (s : LineState) → Agrees self.old s → Runs self.old.nodes s.queue (poll_moves result s) (after_poll result s).queue }
+        ensures moves { (s : LineState) → Agrees self.old s → Runs s.terms s.queue (poll_moves result s) (after_poll result s).queue }
         ensures agrees { (s : LineState) → Agrees self.old s → Agrees self.new (after_poll result s) }
         ensures nodes { self.new.nodes ≡ self.old.nodes }
     {
@@ -133,7 +167,7 @@ impl PlainLine {
     pub fn withdraw(&mut self, node: u64) -> Out
         requires { node_state self.old node ≡ PortState.Queued }
         ensures answer { (s : LineState) → Agrees self.old s → result ≡ out_answer s node }
-        ensures moves { (s : LineState) → Agrees self.old s → Runs self.old.nodes s.queue (out_moves s node) (after_out s node).queue }
+        ensures moves { (s : LineState) → Agrees self.old s → Runs s.terms s.queue (out_moves s node) (after_out s node).queue }
         ensures agrees { (s : LineState) → Agrees self.old s → Agrees self.new (after_out s node) }
         ensures nodes { self.new.nodes ≡ self.old.nodes }
     {
@@ -147,25 +181,24 @@ impl PlainLine {
         }
     }
 
-    /// The node that holds the line releases it.
+    /// The node that holds the line releases it. The last turn of a lease closes the line, as `shut` does.
     pub fn deqolb(&mut self, node: u64)
         requires { node_state self.old node ≡ PortState.Holding }
-        ensures moves { (s : LineState) → Agrees self.old s → Runs self.old.nodes s.queue (release_moves s false) (after_release s false).queue }
+        ensures moves { (s : LineState) → Agrees self.old s → Runs s.terms s.queue (release_moves s false) (after_release s false).queue }
         ensures agrees { (s : LineState) → Agrees self.old s → Agrees self.new (after_release s false) }
         ensures nodes { self.new.nodes ≡ self.old.nodes }
     {
-        self.end_turn();
+        self.serve(false);
     }
 
     /// The node that holds the line releases it and closes it: nobody will be served any more.
     pub fn shut(&mut self, node: u64)
         requires { node_state self.old node ≡ PortState.Holding }
-        ensures moves { (s : LineState) → Agrees self.old s → Runs self.old.nodes s.queue (release_moves s true) (after_release s true).queue }
+        ensures moves { (s : LineState) → Agrees self.old s → Runs s.terms s.queue (release_moves s true) (after_release s true).queue }
         ensures agrees { (s : LineState) → Agrees self.old s → Agrees self.new (after_release s true) }
         ensures nodes { self.new.nodes ≡ self.old.nodes }
     {
-        self.closed = true;
-        self.end_turn();
+        self.serve(true);
     }
 
     /// The node's entry, if it waits or holds the line.
@@ -198,6 +231,20 @@ impl PlainLine {
         Poll::Granted
     }
 
+    /// Ends the turn of the oldest request as served: one turn fewer is left, and the last one closes the line, as `shut` does.
+    fn serve(&mut self, shut: bool)
+        requires { 0 < length self.old.waiting }
+        ensures { self.new ≡ turn_served shut self.old }
+    {
+        if shut || self.left == Some(1) {
+            self.closed = true;
+        }
+        if let Some(turns) = self.left {
+            self.left = Some(turns.saturating_sub(1));
+        }
+        self.end_turn();
+    }
+
     /// Ends the turn of the oldest request, and passes the withdrawn ones behind it.
     fn end_turn(&mut self)
         requires { 0 < length self.old.waiting }
@@ -211,7 +258,7 @@ impl PlainLine {
 }
 
 /// Passes the withdrawn ones at the front.
-fn pass(waiting: &mut ArrayVec<Waiter, 32>)
+fn pass(waiting: &mut ArrayVec<Waiter, ROOM>)
     ensures { waiting.new.items ≡ after_withdrawn waiting.old.items }
 {
     while waiting.first().is_some_and(|w| w.withdrawn) {
@@ -310,8 +357,8 @@ mod tests {
     }
 
     #[test]
-    fn lines_have_one_to_32_nodes(rt: HostRuntime) {
-        for (nodes, opens) in [(0, false), (1, true), (32, true), (33, false)] {
+    fn lines_have_one_to_200_nodes(rt: HostRuntime) {
+        for (nodes, opens) in [(0, false), (1, true), (200, true), (201, false)] {
             let refused = PlainLine::open(nodes, Line64::zero()).err();
             let want = if opens { None } else { Some(OpenError::Nodes) };
             assert_eq!(rt; refused, want, "{nodes} nodes");

@@ -1,20 +1,16 @@
-ghost use Rattle.std.specs.Prelude.{◌≡◌, ◌≢◌, ◌↔◌, ℕ, ◌∷◌, [], List, true, false, All, IsTrue, IfOk, IfErr, map};
+ghost use Rattle.std.specs.Prelude.{◌≡◌, ◌≢◌, ◌↔◌, ℕ, true, false, All, Some, IsTrue, IfOk, IfErr, map};
+ghost use Rattle.qolb_model.specs.declared.terms.Terms.{Terms};
 ghost use Rattle.qolb_model.specs.declared.view.View.{View};
 ghost use Rattle.qolb_model.specs.declared.write.Write.{Write};
 ghost use Rattle.qolb_model.specs.OneOwner.{turn_after};
-ghost use Rattle.qolb_model.specs.Plain.{may_ask};
-ghost use Rattle.qolb_model.specs.Views.{bytes_of};
-ghost use Rattle.qolb_model.specs.OneHistory.{OneHistory};
+ghost use Rattle.qolb_model.specs.PortStates.{may_ask};
+ghost use Rattle.qolb_model.specs.Leases.{turns_left};
 ghost use Rattle.qolb_model.specs.Kept.{MayRelease};
-ghost use Rattle.qolb_model.specs.Sound.{Continues, IsSound};
-ghost use Rattle.qolb_model.specs.Asking.{IsBusy, Asks, IsJoined};
-ghost use Rattle.qolb_model.specs.Turns.{IsGranted, IsQueued, IsWithdrawn};
-ghost use Rattle.qolb_model.specs.LettingGo.{Releases, IsTold};
-ghost use Rattle.qolb_model.specs.Meeting.{Meets};
+ghost use Rattle.qolb_model.specs.Sound.{IsSound};
+ghost use Rattle.qolb_model.specs.Calls.{Enqueues, Polls, Withdraws, Releases, TellEachOther};
 ghost use Rattle.qolb_model.specs.Finishing.{MayRefuse, IsFinished};
 
 use crate::answer::{Enq, Out, Poll, PortState};
-use crate::end::End;
 use crate::keep::Keep;
 use crate::unfinished::Unfinished;
 use crate::view::View;
@@ -24,7 +20,8 @@ use std::alloc::Global;
 
 /// A line that nodes queue at, under the law `K`. Each node calls it through its own port.
 ///
-/// No call but `finish` takes memory, and none waits. A call changes no port but those that it is passed.
+/// What a call promises is one record of `specs/Calls`, named after what the port does by it; it says what the port knows before and after
+/// the call, answer by answer. No call but `finish` takes memory, and none waits. A call changes no port but those that it is passed.
 pub trait LineSync<K: Keep> {
     /// A node's end of the line.
     type Port;
@@ -38,12 +35,11 @@ pub trait LineSync<K: Keep> {
     /// The port was opened with the line.
     ghost belongs: { Self → Self.Port → Type 0 };
 
-    /// The line's label, its number of nodes, and the bytes that it was opened with.
+    /// The line's label.
     ghost label_of: { Self → ℕ };
 
-    ghost nodes_of: { Self → ℕ };
-
-    ghost opening_of: { Self → List ℕ };
+    /// What else the line was opened with.
+    ghost terms_of: { Self → Terms };
 
     /// The label that the line was opened with.
     fn label(&self) -> u64
@@ -51,7 +47,7 @@ pub trait LineSync<K: Keep> {
 
     /// How many nodes the line has. They are numbered from 1.
     fn nodes(&self) -> u64
-        ensures { result ≡ nodes_of self.now };
+        ensures { result ≡ (terms_of self.now).nodes };
 
     /// The port's node.
     fn node(port: &Self::Port) -> u64
@@ -70,6 +66,13 @@ pub trait LineSync<K: Keep> {
         requires { (view port.now).state ≡ PortState.Holding }
         ensures { result.now ≡ (turn port.now).bytes };
 
+    /// How many turns are left of the line's lease, with the holder's own: at least 1. `None` without a lease.
+    fn turns_left(&self, port: &Self::Port) -> Option<u64>
+        requires belongs { belongs self.now port.now }
+        requires state { (view port.now).state ≡ PortState.Holding }
+        ensures left { result ≡ turns_left (terms_of self.now).lease (view port.now).ends }
+        ensures some { result ≢ Some 0 };
+
     /// The holder writes the bytes of the mask.
     fn write(port: &mut Self::Port, mask: Mask, bytes: &Line64)
         requires { (view port.old).state ≡ PortState.Holding }
@@ -77,50 +80,34 @@ pub trait LineSync<K: Keep> {
         ensures turn { turn port.new ≡ turn_after (turn port.old) mask.0 bytes.now.bytes }
         ensures belongs { (line : Self) → belongs line port.old → belongs line port.new };
 
-    /// Asks for the line.
+    /// Asks for the line: the request is granted, or waits; or it is told that the line is closed. Busy, nothing is asked.
     fn enqolb(&self, port: &mut Self::Port) -> Enq
         requires belongs { belongs self.now port.old }
         requires state { IsTrue (may_ask (view port.old).state) }
         ensures belongs { belongs self.now port.new }
-        ensures continues { Continues K.allows (view port.old) (view port.new) }
-        ensures busy { result ≡ Enq.Busy → IsBusy (view port.old) (view port.new) }
-        ensures asks { result ≢ Enq.Busy → Asks (view port.old) (view port.new) }
-        ensures joined { result ≢ Enq.Busy → IsJoined (view port.new) }
-        ensures granted { result ≡ Enq.Granted → IsGranted (view port.new) (turn port.new) }
-        ensures queued { result ≡ Enq.Queued → IsQueued (view port.new) }
-        ensures told { result ≡ Enq.Closed → IsTold (view port.new) };
+        ensures enqueues { Enqueues K.allows (view port.old) (view port.new) (turn port.new) result };
 
     /// Looks whether the request has come to its turn.
     fn poll(&self, port: &mut Self::Port) -> Poll
         requires belongs { belongs self.now port.old }
         requires state { (view port.old).state ≡ PortState.Queued }
         ensures belongs { belongs self.now port.new }
-        ensures continues { Continues K.allows (view port.old) (view port.new) }
-        ensures count { (view port.new).count ≡ (view port.old).count }
-        ensures granted { result ≡ Poll.Granted → IsGranted (view port.new) (turn port.new) }
-        ensures waiting { result ≡ Poll.Waiting → IsQueued (view port.new) }
-        ensures told { result ≡ Poll.Closed → IsTold (view port.new) };
+        ensures polls { Polls K.allows (view port.old) (view port.new) (turn port.new) result };
 
     /// Gives the request up, unless it has come to its turn.
     fn withdraw(&self, port: &mut Self::Port) -> Out
         requires belongs { belongs self.now port.old }
         requires state { (view port.old).state ≡ PortState.Queued }
         ensures belongs { belongs self.now port.new }
-        ensures continues { Continues K.allows (view port.old) (view port.new) }
-        ensures count { (view port.new).count ≡ (view port.old).count }
-        ensures withdrawn { result ≡ Out.Withdrawn → IsWithdrawn (view port.new) }
-        ensures granted { result ≡ Out.Granted → IsGranted (view port.new) (turn port.new) }
-        ensures told { result ≡ Out.Closed → IsTold (view port.new) };
+        ensures withdraws { Withdraws K.allows (view port.old) (view port.new) (turn port.new) result };
 
-    /// Releases the line: the request has been served.
+    /// Releases the line: the request has been served. The last turn of a lease closes the line, as `shut` does.
     fn deqolb(&self, port: &mut Self::Port)
         requires belongs { belongs self.now port.old }
         requires state { (view port.old).state ≡ PortState.Holding }
         requires allowed { MayRelease K.allows (view port.old) (turn port.old) }
         ensures belongs { belongs self.now port.new }
-        ensures continues { Continues K.allows (view port.old) (view port.new) }
-        ensures releases { Releases (view port.old) (End.Served (turn port.old) false) PortState.Idle (view port.new) }
-        ensures bytes { bytes_of (view port.new) ≡ (turn port.old).bytes.bytes };
+        ensures releases { Releases K.allows false (view port.old) (view port.new) (turn port.old) };
 
     /// Releases the line and closes it: nobody will be served any more.
     fn shut(&self, port: &mut Self::Port)
@@ -128,25 +115,17 @@ pub trait LineSync<K: Keep> {
         requires state { (view port.old).state ≡ PortState.Holding }
         requires allowed { MayRelease K.allows (view port.old) (turn port.old) }
         ensures belongs { belongs self.now port.new }
-        ensures continues { Continues K.allows (view port.old) (view port.new) }
-        ensures releases { Releases (view port.old) (End.Served (turn port.old) true) PortState.Shut (view port.new) }
-        ensures bytes { bytes_of (view port.new) ≡ (turn port.old).bytes.bytes };
+        ensures releases { Releases K.allows true (view port.old) (view port.new) (turn port.old) };
 
-    /// Two ports of the line tell each other what they know.
+    /// Two ports of the line tell each other what they know. They are of different nodes, and not both hold the line.
     fn meet(&self, a: &mut Self::Port, b: &mut Self::Port)
         requires belongs_a { belongs self.now a.old }
         requires belongs_b { belongs self.now b.old }
         ensures belongs_a { belongs self.now a.new }
         ensures belongs_b { belongs self.now b.new }
-        ensures continues_a { Continues K.allows (view a.old) (view a.new) }
-        ensures continues_b { Continues K.allows (view b.old) (view b.new) }
-        ensures before { OneHistory (view a.old ∷ view b.old ∷ []) }
-        ensures after { OneHistory (view a.new ∷ view b.new ∷ []) }
-        ensures meets_a { Meets (view a.old) (view b.old) (view a.new) }
-        ensures meets_b { Meets (view b.old) (view a.old) (view b.new) }
+        ensures tell { TellEachOther K.allows (view a.old) (view b.old) (view a.new) (view b.new) }
         ensures turn_a { turn a.new ≡ turn a.old }
-        ensures turn_b { turn b.new ≡ turn b.old }
-        ensures one_holds { (view a.new).state ≡ PortState.Holding → (view b.new).state ≢ PortState.Holding };
+        ensures turn_b { turn b.new ≡ turn b.old };
 
     /// Takes the line apart, with the ports of all its nodes in any order. Refused, it hands both back.
     fn finish(
@@ -155,11 +134,11 @@ pub trait LineSync<K: Keep> {
         ports: Vec<Self::Port>,
     ) -> Result<Line64, Unfinished<Self, Self::Port>>
         requires belong { All (λ port. (view port).label ≡ label_of self → belongs self port) ports.items }
-        ensures finished { IfOk result (λ line. IsFinished (label_of self) (nodes_of self) (opening_of self) (map view ports.items) line.bytes) }
-        ensures why { IfErr result (λ back. MayRefuse (label_of self) (nodes_of self) (map view ports.items) back.why) }
+        ensures finished { IfOk result (λ line. IsFinished K.good K.allows (label_of self) (terms_of self) (map view ports.items) line.bytes) }
+        ensures why { IfErr result (λ back. MayRefuse (label_of self) (terms_of self).nodes (map view ports.items) back.why) }
         ensures line { IfErr result (λ back. back.line ≡ self) }
         ensures ports { IfErr result (λ back. back.ports.items ≡ ports.items) };
 
     /// What is true of each port of the line.
-    ghost sound: { (line : Self) (port : Self.Port) → belongs line port → IsSound K.good K.allows (label_of line) (nodes_of line) (opening_of line) (view port) };
+    ghost sound: { (line : Self) (port : Self.Port) → belongs line port → IsSound K.good K.allows (label_of line) (terms_of line) (view port) };
 }

@@ -1,7 +1,7 @@
 use crate::answer::PortState;
 use crate::end::End;
 use crate::request::Request;
-use line_lanes::Line64;
+use crate::terms::Terms;
 use std::collections::LinkedList;
 
 /// What a port knows of its line. Contracts speak of it; no value of it is made.
@@ -10,10 +10,8 @@ use std::collections::LinkedList;
 pub struct View {
     /// The label of the line.
     pub label: u64,
-    /// How many nodes the line has.
-    pub nodes: u64,
-    /// The bytes that the line was opened with.
-    pub opening: Line64,
+    /// What the line was opened with.
+    pub terms: Terms,
     /// The port's node.
     pub node: u64,
     /// How many requests the node has made.

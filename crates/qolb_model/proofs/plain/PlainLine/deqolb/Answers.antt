@@ -6,4 +6,4 @@ pub returns-clause-moves : goal.returns-clause-moves
 returns-clause-moves c = λ s a. releases-moves c.args.self.now s c.args.node false a c.requires
 
 pub returns-clause-agrees : goal.returns-clause-agrees
-returns-clause-agrees c = λ s a. rw c.end_turn.ensures (releases-agrees c.args.self.now s c.args.node a c.requires)
+returns-clause-agrees c = λ s a. rw c.serve.ensures (releases-agrees c.args.self.now s c.args.node false a c.requires)
