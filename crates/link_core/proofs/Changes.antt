@@ -1,5 +1,5 @@
 -- What one act leaves as it was.
-use Rattle.std.proofs.Common.{◌≡◌, ◌≢◌, ℕ, ◌<◌, ◌≤◌, Bool, false, ◌||◌, List, [], length, refl, sym, ◌∙◌, ap, subst, inl, inr, arith}
+use Rattle.std.proofs.Common.{◌≡◌, ◌≢◌, ℕ, ◌<◌, ◌≤◌, Bool, false, ◌||◌, Option, List, [], length, refl, sym, ◌∙◌, ap, subst, inl, inr, arith}
 use Rattle.std.specs.Prelude.{slice_index_or}
 use Rattle.std.proofs.Math.Seq.{get_or-set_same, get_or-set_other}
 use Rattle.std.proofs.lemmas.Bool.{cases_eq}
@@ -41,8 +41,8 @@ changed_seat c n s i a = record {
 }
 
 -- the same where the words and the line change too
-pub moved_both : (c : State) (hm : ℕ) (pl : Place) (cl : Bool) (mk : Mask) (n : ℕ) (s : Seat) (k : ℕ) (w : Entry) → IsWide c → IsNode c n → IsNode c k → Changed c (put_seat n s (put_entry k w (record c { home = hm; place = pl; closed = cl; mask = mk }))) n s k w
-moved_both c hm pl cl mk n s k w i a b = record {
+pub moved_both : (c : State) (hm : ℕ) (pl : Place) (cl : Bool) (mk : Mask) (lf : Option ℕ) (n : ℕ) (s : Seat) (k : ℕ) (w : Entry) → IsWide c → IsNode c n → IsNode c k → Changed c (put_seat n s (put_entry k w (record c { home = hm; place = pl; closed = cl; mask = mk; left = lf }))) n s k w
+moved_both c hm pl cl mk lf n s k w i a b = record {
   nodes = refl;
   seat_own = get_or-set_same c.seats n s unused (omega arith);
   seat_other = λ m ne. get_or-set_other c.seats n m s unused ne;
@@ -50,8 +50,8 @@ moved_both c hm pl cl mk n s k w i a b = record {
   entry_other = λ m ne. get_or-set_other c.entries k m w empty ne;
 }
 
-pub moved_seat : (c : State) (hm : ℕ) (pl : Place) (cl : Bool) (mk : Mask) (n : ℕ) (s : Seat) → IsWide c → IsNode c n → Changed c (put_seat n s (record c { home = hm; place = pl; closed = cl; mask = mk })) n s n (entry c n)
-moved_seat c hm pl cl mk n s i a = record {
+pub moved_seat : (c : State) (hm : ℕ) (pl : Place) (cl : Bool) (mk : Mask) (lf : Option ℕ) (n : ℕ) (s : Seat) → IsWide c → IsNode c n → Changed c (put_seat n s (record c { home = hm; place = pl; closed = cl; mask = mk; left = lf })) n s n (entry c n)
+moved_seat c hm pl cl mk lf n s i a = record {
   nodes = refl;
   seat_own = get_or-set_same c.seats n s unused (omega arith);
   seat_other = λ m ne. get_or-set_other c.seats n m s unused ne;

@@ -1,5 +1,6 @@
 -- The line leaves a release: the call closes.
-use Rattle.std.proofs.Common.{◌≡◌, ◌≢◌, ℕ, true, false, ◌||◌, List, [], ◌∷◌, ◌⊎◌, Some, refl, sym, ◌∙◌, ap, subst, inl}
+use Rattle.qolb_model.specs.declared.terms.Terms.{Terms}
+use Rattle.std.proofs.Common.{◌≡◌, ◌≢◌, ℕ, true, false, ◌||◌, List, [], ◌∷◌, ◌⊎◌, Option, Some, refl, sym, ◌∙◌, ap, subst, inl}
 use Rattle.link_core.specs.declared.point.Point.{Point}
 use Rattle.link_core.specs.declared.point.Point.TheVariants.{Rolled}
 use Rattle.link_core.specs.declared.seat.Reason.{Reason}
@@ -40,11 +41,11 @@ close_says : (h : Queue) (n : ℕ) (ps : List ℕ) (r : Reason) → EndedBy h.or
 close_says h n [] r e = end_says h n r e
 close_says h n (m ∷ ms) r e = tt
 
-module _ {opening : List ℕ} {c : State} {h : Queue} {n : ℕ} (s : Matches opening c h) (is : IsNode c n) (lined : has_line (point c n) ≡ true)
-    {hm : ℕ} {pl : Place} {ents : List Entry} {sts : List Seat} (pt : Point) {k : ℕ} {w : Entry}
-    (ch : Changed c (record c { home = hm; place = pl; entries = ents; seats = sts }) n (seat_at_close pt (seat c n)) k w) (q : IsOver c h n hm pl k w) where
+module _ {terms : Terms} {c : State} {h : Queue} {n : ℕ} (s : Matches terms c h) (is : IsNode c n) (lined : has_line (point c n) ≡ true)
+    {hm : ℕ} {pl : Place} {lf : Option ℕ} {ents : List Entry} {sts : List Seat} (pt : Point) {k : ℕ} {w : Entry}
+    (ch : Changed c (record c { home = hm; place = pl; left = lf; entries = ents; seats = sts }) n (seat_at_close pt (seat c n)) k w) (q : IsOver c h n hm pl lf k w) where
   abbrev d : State
-  d = record c { home = hm; place = pl; entries = ents; seats = sts }
+  d = record c { home = hm; place = pl; left = lf; entries = ents; seats = sts }
 
   abbrev es : List End
   es = fs s is lined
@@ -55,9 +56,9 @@ module _ {opening : List ℕ} {c : State} {h : Queue} {n : ℕ} (s : Matches ope
   not_passed : (x : ℕ) → point c x ≡ Rolled → x ≢ n
   not_passed x at e = let z : has_line Rolled ≡ true = ap has_line (sym at ∙ ap (point c) e) ∙ lined in cc
 
-  pub close_keeps : Lies opening d h.order es → (HasEnded h.order es n → (seat c n).passed ≡ [] → Sits d h.order es n pt)
+  pub close_keeps : Lies terms d h.order es → (HasEnded h.order es n → (seat c n).passed ≡ [] → Sits d h.order es n pt)
       → ((seat c n).passed ≡ [] → (is_clear (point d n) (entry d n) ≡ true) ⊎ HasLeft d n)
-      → GoesOn opening c d h n (told_with (seat c n).passed (seat c n).reason) (Some (finish (end_of c n))) true
+      → GoesOn terms d h n (told_with (seat c n).passed (seat c n).reason) (Some (finish (end_of c n))) true
   close_keeps lies rests rest = record {
     after = after_end s is lined ch q;
     makes = refl;

@@ -1,4 +1,5 @@
 -- The line comes to a node that waits.
+use Rattle.qolb_model.specs.declared.terms.Terms.{Terms}
 use Rattle.std.proofs.Common.{◌≡◌, ◌≢◌, ℕ, ◌<◌, ◌≤◌, true, false, ◌||◌, List, [], ◌∷◌, ◌++◌, length, Some, None, refl, sym, ◌∙◌, ap, subst, inl, inr, arith}
 use Rattle.link_core.specs.declared.point.Point.{Point}
 use Rattle.link_core.specs.declared.point.Point.TheVariants.{Linking, Queued, Granting, Left, Rolled}
@@ -26,7 +27,7 @@ use Rattle.link_core.proofs.Kept.{Leaves, lies_kept, rests_kept, rests_held}
 use Rattle.link_core.proofs.Quiet.{IsQuiet, quiet_shows}
 
 -- by a load, or by a roll that comes too late; w is n's entry after it
-module _ (opening : List ℕ) (c : State) (h : Queue) (n : ℕ) (s : Matches opening c h) (is : IsNode c n) (at : point c n ≡ Queued) (gr : (entry c n).granted ≡ true)
+module _ (terms : Terms) (c : State) (h : Queue) (n : ℕ) (s : Matches terms c h) (is : IsNode c n) (at : point c n ≡ Queued) (gr : (entry c n).granted ≡ true)
     (ents : List Entry) (sts : List Seat) (w : Entry) (ch : Changed c (record c { place = Hand n; mask = no_mask; entries = ents; seats = sts }) n (seat_at_arrival n c.closed) n w) where
   abbrev d : State
   d = record c { place = Hand n; mask = no_mask; entries = ents; seats = sts }
@@ -34,8 +35,8 @@ module _ (opening : List ℕ) (c : State) (h : Queue) (n : ℕ) (s : Matches ope
   last : IsLast h.order n (length h.ends)
   last = granted_turn s n is at gr
 
-  found : (opening : List ℕ) → Matches opening c h → (c.place ≡ Mailbox n) × ((entry c n).granted ≡ true) × IsWhole opening c h.ends
-  found opening s = granted_for s n s.lies last.known last.its at
+  found : (terms : Terms) → Matches terms c h → (c.place ≡ Mailbox n) × ((entry c n).granted ≡ true) × IsWhole terms c h.ends
+  found terms s = granted_for s n s.lies last.known last.its at
 
   none_passed : (seat c n).passed ≡ []
   none_passed = s.unpassed n is (ap (λ (p : Point). has_line p || is_freeing p) at)
@@ -44,7 +45,7 @@ module _ (opening : List ℕ) (c : State) (h : Queue) (n : ℕ) (s : Matches ope
   undone : (entry c n).done ≡ true → ⊥
   undone e =
       let g = ((s.fresh (length h.ends) (omega arith) last.known).done (ap (λ (m : ℕ). (entry c m).done) last.its ∙ e)).1 in
-      let z : Mailbox n ≡ Hand g.by = sym (found opening s).0 ∙ g.place in cc
+      let z : Mailbox n ≡ Hand g.by = sym (found terms s).0 ∙ g.place in cc
 
   quiet : w.link ≡ (entry c n).link → w.freed ≡ (entry c n).freed → w.granted ≡ (entry c n).granted → w.done ≡ (entry c n).done → IsQuiet c d h h.marked n (seat_at_arrival n c.closed) n w
   quiet lk fr gd dn = record {
@@ -57,7 +58,7 @@ module _ (opening : List ℕ) (c : State) (h : Queue) (n : ℕ) (s : Matches ope
     clear = λ ne. absurd (ne refl);
     clear_own = arrival_unclear n c.closed (entry d n) ∙ ap (λ (p : Point). is_clear p (entry c n)) (sym at);
     passed = arrival_unpassed n c.closed ∙ sym none_passed;
-    hands = λ m e. let z : Mailbox n ≡ Hand m = sym (found opening s).0 ∙ e in cc;
+    hands = λ m e. let z : Mailbox n ≡ Hand m = sym (found terms s).0 ∙ e in cc;
     marks = λ p a l e. s.marks p a l ∙ ap (λ (m : ℕ). is_rolled (point c m)) e ∙ ap is_rolled at ∙ sym (arrival_unrolled n c.closed);
     marks_other = λ p ne. refl;
     marked_known = s.marked_known;
@@ -66,37 +67,37 @@ module _ (opening : List ℕ) (c : State) (h : Queue) (n : ℕ) (s : Matches ope
     not_passed = λ g. let z : Queued ≡ Rolled = sym at ∙ g in cc;
     unpassed = λ _. arrival_unpassed n c.closed;
     node = is;
-    boxes = λ x ne e. let z : Mailbox n ≡ Mailbox x = sym (found opening s).0 ∙ e in let y : n ≡ x = cc in absurd (ne (sym y));
+    boxes = λ x ne e. let z : Mailbox n ≡ Mailbox x = sym (found terms s).0 ∙ e in let y : n ≡ x = cc in absurd (ne (sym y));
     box = λ e _. absurd (undone (sym dn ∙ e));
     rests = rests_held d n h.order h.ends h.clear refl;
-    lies = λ opening s. arrival_lies opening c d h.order h.ends n last.known last.its (found opening s).2 s.opened is refl refl refl refl ch.seat_own;
-    own = arrival_sits opening c d h.order h.ends n last.known last.its (found opening s).2 s.opened is refl refl refl refl ch.seat_own;
+    lies = λ terms s. arrival_lies terms c d h.order h.ends n last.known last.its (found terms s).2 s.opened is refl refl refl refl ch.seat_own;
+    own = arrival_sits terms c d h.order h.ends n last.known last.its (found terms s).2 s.opened is refl refl refl refl ch.seat_own;
   }
 
-  pub come_keeps : w.link ≡ (entry c n).link → w.freed ≡ (entry c n).freed → w.granted ≡ (entry c n).granted → w.done ≡ (entry c n).done → GoesOn opening c d h n (told_at_arrival c.closed) None false
+  pub come_keeps : w.link ≡ (entry c n).link → w.freed ≡ (entry c n).freed → w.granted ≡ (entry c n).granted → w.done ≡ (entry c n).done → GoesOn terms d h n (told_at_arrival c.closed) None false
   come_keeps lk fr gd dn = record {
     after = h;
     makes = refl;
     clears = none;
     uncleared = λ _. refl;
-    shows = quiet_shows opening c h n s is (Hand n) c.bytes c.closed no_mask ents sts h.marked (seat_at_arrival n c.closed) n w ch (quiet lk fr gd dn);
-    says = arrival_says h n c.closed (found opening s).2.closed last;
+    shows = quiet_shows terms c h n s is (Hand n) c.bytes c.closed no_mask ents sts h.marked (seat_at_arrival n c.closed) n w ch (quiet lk fr gd dn);
+    says = arrival_says h n c.closed (found terms s).2.closed last;
   }
 
-pub load_waiting_keeps : (opening : List ℕ) (c : State) (h : Queue) (n : ℕ) (s : Matches opening c h) (is : IsNode c n) (at : point c n ≡ Queued) → (entry c n).granted ≡ false → GoesOn opening c c h n told.Waiting None false
-load_waiting_keeps opening c h n s is at un =
+pub load_waiting_keeps : (terms : Terms) (c : State) (h : Queue) (n : ℕ) (s : Matches terms c h) (is : IsNode c n) (at : point c n ≡ Queued) → (entry c n).granted ≡ false → GoesOn terms c h n told.Waiting None false
+load_waiting_keeps terms c h n s is at un =
     let b = sits_at s n Queued is at in
     record { after = h; makes = refl; clears = none; uncleared = λ _. refl; shows = s; says = record { at = b.at; last = b.own; behind = waits_behind s n is at un b } }
 
-pub load_busy_keeps : (opening : List ℕ) (c : State) (h : Queue) (n : ℕ) (s : Matches opening c h) (is : IsNode c n) → is_clear (point c n) (entry c n) ≡ false → GoesOn opening c c h n told.Busy None false
-load_busy_keeps opening c h n s is un =
+pub load_busy_keeps : (terms : Terms) (c : State) (h : Queue) (n : ℕ) (s : Matches terms c h) (is : IsNode c n) → is_clear (point c n) (entry c n) ≡ false → GoesOn terms c h n told.Busy None false
+load_busy_keeps terms c h n s is un =
     record { after = h; makes = refl; clears = none; uncleared = λ _. refl; shows = s; says = λ p l. s.clears n p is l ∙ un }
 
 abbrev pub rolls : Entry → Entry
 rolls w = record w { rolled = true }
 
 -- withdrawing
-module _ (opening : List ℕ) (c : State) (h : Queue) (n : ℕ) (s : Matches opening c h) (is : IsNode c n) (at : point c n ≡ Queued) (un : (entry c n).granted ≡ false)
+module _ (terms : Terms) (c : State) (h : Queue) (n : ℕ) (s : Matches terms c h) (is : IsNode c n) (at : point c n ≡ Queued) (un : (entry c n).granted ≡ false)
     (ents : List Entry) (sts : List Seat) (ch : Changed c (record c { entries = ents; seats = sts }) n (record (seat c n) { point = Rolled }) n (rolls (entry c n))) where
   abbrev e : State
   e = record c { entries = ents; seats = sts }
@@ -155,7 +156,7 @@ module _ (opening : List ℕ) (c : State) (h : Queue) (n : ℕ) (s : Matches ope
     not_linking = λ q g. let z : Queued ≡ Linking q = sym at ∙ g in cc;
     not_passed = λ g. let z : Queued ≡ Rolled = sym at ∙ g in cc;
     unpassed = λ _. s.unpassed n is (ap (λ (p : Point). has_line p || is_freeing p) at);
-    lies = λ opening s. lies_kept leaves opening s.lies;
+    lies = λ terms s. lies_kept leaves terms s.lies;
     own = ap (λ (w : Entry). w.rolled) ch.entry_own;
     node = is;
     boxes = λ x ne e. e;
@@ -163,12 +164,12 @@ module _ (opening : List ℕ) (c : State) (h : Queue) (n : ℕ) (s : Matches ope
     rests = rests_kept leaves h.clear h.clear s.known (prefix_self h.order) (prefix_self h.clear) s.settled.rests;
   }
 
-  pub roll_keeps : IsLegal h.order h.ends → GoesOn opening c e h n told.Withdrawn (Some (mark (last_of n h.order))) false
+  pub roll_keeps : IsLegal terms.lease h.order h.ends → GoesOn terms e h n told.Withdrawn (Some (mark (last_of n h.order))) false
   roll_keeps legal = record {
     after = record h { marked = after_roll };
-    makes = ap (λ (r : Request). record h { marked = h.marked ++ r ∷ [] }) (last_is h.order h.ends n b.at legal b.own);
+    makes = ap (λ (r : Request). record h { marked = h.marked ++ r ∷ [] }) (last_is terms.lease h.order h.ends n b.at legal b.own);
     clears = none;
     uncleared = λ _. refl;
-    shows = quiet_shows opening c h n s is c.place c.bytes c.closed c.mask ents sts after_roll (record (seat c n) { point = Rolled }) n (rolls (entry c n)) ch quiet_roll;
+    shows = quiet_shows terms c h n s is c.place c.bytes c.closed c.mask ents sts after_roll (record (seat c n) { point = Rolled }) n (rolls (entry c n)) ch quiet_roll;
     says = record { at = b.at; last = b.own; behind = behind };
   }

@@ -1,7 +1,8 @@
 -- The turn ends: what the end is, and what it leaves true.
+use Rattle.qolb_model.specs.declared.terms.Terms.{Terms}
 use Rattle.std.proofs.Common.{◌≡◌, ◌≢◌, ℕ, ◌+◌, ◌<◌, Bool, true, false, ◌||◌, List, [], ◌∷◌, ◌++◌, length, Some, slice_get, refl, sym, ◌∙◌, ap, subst, inl, inr, arith}
 use Rattle.link_core.specs.declared.point.Point.{Point}
-use Rattle.link_core.specs.declared.point.Point.TheVariants.{Rolled}
+use Rattle.link_core.specs.declared.point.Point.TheVariants.{Holding, Rolled}
 use Rattle.link_core.specs.declared.place.Place.TheVariants.{Mailbox, Hand}
 use Rattle.link_core.specs.declared.seat.Reason.{Reason}
 use Rattle.link_core.specs.declared.seat.Reason.TheVariants.{Own, Closing, Refused}
@@ -10,15 +11,19 @@ use Rattle.qolb_model.specs.Ends.{is_closed, bytes_after}
 use Rattle.qolb_model.specs.Queue.{Queue, EndsAs}
 use Rattle.qolb_model.specs.Requests.{has}
 use Rattle.qolb_model.specs.declared.end.End.{End}
-use Rattle.qolb_model.specs.declared.end.End.TheVariants.{Gone}
+use Rattle.qolb_model.specs.declared.end.End.TheVariants.{Gone, Told}
 use Rattle.link_core.specs.State.{State, seat, point, IsNode, last_or, current}
 use Rattle.link_core.specs.Shown.{is_rolled, has_line, ByReason, EndedBy, IsWhole, IsCarried, HasCome, Matches}
 use Rattle.std.proofs.Common.{length-append}
 use mathlib.Core.List.{IsPrefix}
 use Rattle.qolb_model.proofs.Histories.{bytes_after-append, is_closed-append}
-use Rattle.qolb_model.proofs.Lists.{slice_get-push}
+use Rattle.qolb_model.proofs.Lists.{never, slice_get-push}
 use Rattle.qolb_model.proofs.Prefixes.{prefix_append, prefix_get}
 use Rattle.link_core.proofs.Orders.{has_ended}
+use Rattle.qolb_model.specs.Leases.{is_last_turn, turns_left}
+use Rattle.qolb_model.specs.Steps.{one_fewer}
+use Rattle.qolb_model.proofs.Leases.{turns_left-served, turns_left-same}
+use Rattle.link_core.specs.Steps.{left_after, turns_after}
 use Rattle.link_core.specs.Moves.{end_by}
 use Rattle.link_core.proofs.Follows.{in_its_hand, hand_lies, current_cases}
 
@@ -26,7 +31,7 @@ or_false : (a : Bool) → (a || false) ≡ a
 or_false true = refl
 or_false false = refl
 
-module _ {opening : List ℕ} {c : State} {h : Queue} {n : ℕ} (s : Matches opening c h) (is : IsNode c n) (lined : has_line (point c n) ≡ true) where
+module _ {terms : Terms} {c : State} {h : Queue} {n : ℕ} (s : Matches terms c h) (is : IsNode c n) (lined : has_line (point c n) ≡ true) where
   abbrev pub x : End
   x = end_by c (seat c n).reason (seat c n).passed
 
@@ -36,7 +41,7 @@ module _ {opening : List ℕ} {c : State} {h : Queue} {n : ℕ} (s : Matches ope
   pub longer : length fs ≡ length h.ends + 1
   longer = length-append h.ends (x ∷ [])
 
-  pub facts : (length h.ends < length h.order) × (IsNode c n) × (has_line (point c n) ≡ true) × (asker h.order (length h.ends) ≡ current c n) × (IsCarried opening c h.order h.ends n (seat c n).reason (seat c n).passed)
+  pub facts : (length h.ends < length h.order) × (IsNode c n) × (has_line (point c n) ≡ true) × (asker h.order (length h.ends) ≡ current c n) × (IsCarried terms c h.order h.ends n (seat c n).reason (seat c n).passed)
   facts = hand_lies s n (in_its_hand s n is lined) s.lies
 
   -- the current node's last request is the one at its turn
@@ -59,22 +64,35 @@ module _ {opening : List ℕ} {c : State} {h : Queue} {n : ℕ} (s : Matches ope
     | inr k ↦ ap is_rolled k.point
   ]
 
-  pub may : EndsAs h (request h.order (length h.ends)) x
-  may = go (seat c n).reason (seat c n).passed refl facts.4
+  -- a holder that lets go at the last turn of a lease closes the line before
+  pub may : (point c n ≡ Holding → is_last_turn terms.lease h.ends ≡ false) → EndsAs terms.lease h (request h.order (length h.ends)) x
+  may early = go (seat c n).reason (seat c n).passed refl facts.4
     where
-      go : (r : Reason) (ps : List ℕ) → (seat c n).passed ≡ ps → IsCarried opening c h.order h.ends n r ps → EndsAs h (request h.order (length h.ends)) (end_by c r ps)
-      go Own [] e k = (unpassed_mark e, k.1)
-      go Closing [] e k = (unpassed_mark e, k.1)
+      go : (r : Reason) (ps : List ℕ) → (seat c n).passed ≡ ps → IsCarried terms c h.order h.ends n r ps → EndsAs terms.lease h (request h.order (length h.ends)) (end_by c r ps)
+      go Own [] e k = (unpassed_mark e, k.1, λ last. absurd (never last (elim k.3 [ inl y ↦ early y | inr y ↦ y ])))
+      go Closing [] e k = (unpassed_mark e, k.1, λ _. refl)
       go Refused [] e k = (unpassed_mark e, k.1)
       go Own (m ∷ ms) e k = passed_mark m ms e
       go Closing (m ∷ ms) e k = passed_mark m ms e
       go Refused (m ∷ ms) e k = passed_mark m ms e
 
-  -- the line is as all ends left it
-  pub whole : IsWhole opening c fs
-  whole = record { bytes = b (seat c n).reason (seat c n).passed facts.4 ∙ sym (bytes_after-append opening h.ends (x ∷ [])); closed = mk (seat c n).reason (seat c n).passed facts.4 ∙ sym (is_closed-append h.ends (x ∷ [])) }
+  -- and the turns that are left
+  pub turns : turns_after n c ≡ turns_left terms.lease fs
+  turns = go (seat c n).reason (seat c n).passed
     where
-      b : (r : Reason) (ps : List ℕ) → IsCarried opening c h.order h.ends n r ps → c.bytes.bytes ≡ bytes_after (bytes_after opening h.ends) (end_by c r ps ∷ [])
+      go : (r : Reason) (ps : List ℕ) → left_after c.left r ps ≡ turns_left terms.lease (h.ends ++ end_by c r ps ∷ [])
+      go Own [] = ap one_fewer s.turns ∙ sym (turns_left-served terms.lease h.ends _ false)
+      go Closing [] = ap one_fewer s.turns ∙ sym (turns_left-served terms.lease h.ends _ true)
+      go Refused [] = s.turns ∙ sym (turns_left-same terms.lease h.ends (Told ∷ []) refl)
+      go Own (m ∷ ms) = s.turns ∙ sym (turns_left-same terms.lease h.ends (Gone ∷ []) refl)
+      go Closing (m ∷ ms) = s.turns ∙ sym (turns_left-same terms.lease h.ends (Gone ∷ []) refl)
+      go Refused (m ∷ ms) = s.turns ∙ sym (turns_left-same terms.lease h.ends (Gone ∷ []) refl)
+
+  -- the line is as all ends left it
+  pub whole : IsWhole terms c fs
+  whole = record { bytes = b (seat c n).reason (seat c n).passed facts.4 ∙ sym (bytes_after-append terms.opening.bytes h.ends (x ∷ [])); closed = mk (seat c n).reason (seat c n).passed facts.4 ∙ sym (is_closed-append h.ends (x ∷ [])) }
+    where
+      b : (r : Reason) (ps : List ℕ) → IsCarried terms c h.order h.ends n r ps → c.bytes.bytes ≡ bytes_after (bytes_after terms.opening.bytes h.ends) (end_by c r ps ∷ [])
       b Own [] k = sym k.2
       b Closing [] k = sym k.2
       b Refused [] k = k.2
@@ -82,7 +100,7 @@ module _ {opening : List ℕ} {c : State} {h : Queue} {n : ℕ} (s : Matches ope
       b Closing (m ∷ ms) k = k.0.bytes
       b Refused (m ∷ ms) k = k.0.bytes
 
-      mk : (r : Reason) (ps : List ℕ) → IsCarried opening c h.order h.ends n r ps → c.closed ≡ (is_closed h.ends || is_closed (end_by c r ps ∷ []))
+      mk : (r : Reason) (ps : List ℕ) → IsCarried terms c h.order h.ends n r ps → c.closed ≡ (is_closed h.ends || is_closed (end_by c r ps ∷ []))
       mk Own [] k = rw (k.0, k.1) refl
       mk Closing [] k = rw (k.0, k.1) refl
       mk Refused [] k = rw (k.0, k.1) refl
@@ -109,7 +127,7 @@ module _ {opening : List ℕ} {c : State} {h : Queue} {n : ℕ} (s : Matches ope
       before : (r : Reason) → EndedBy h.order h.ends n r → EndedBy h.order fs n r
       before r k = record { at = k.at; end = k.end; last = k.last; ended = prefix_get h.ends fs k.at k.end grows k.ended; how = k.how }
 
-      go : (r : Reason) (ps : List ℕ) → (seat c n).reason ≡ r → (seat c n).passed ≡ ps → IsCarried opening c h.order h.ends n r ps → EndedBy h.order fs n r
+      go : (r : Reason) (ps : List ℕ) → (seat c n).reason ≡ r → (seat c n).passed ≡ ps → IsCarried terms c h.order h.ends n r ps → EndedBy h.order fs n r
       go Own [] f e k = now Own e (rw (f, e) refl) refl
       go Closing [] f e k = now Closing e (rw (f, e) refl) refl
       go Refused [] f e k = now Refused e (rw (f, e) refl) tt
@@ -123,7 +141,7 @@ module _ {opening : List ℕ} {c : State} {h : Queue} {n : ℕ} (s : Matches ope
   pub told_closed : (seat c n).reason ≡ Refused → is_closed fs ≡ true
   told_closed e = is_closed-append h.ends (x ∷ []) ∙ ap (λ b. b || is_closed (x ∷ [])) (old (seat c n).reason (seat c n).passed e facts.4)
     where
-      old : (r : Reason) (ps : List ℕ) → r ≡ Refused → IsCarried opening c h.order h.ends n r ps → is_closed h.ends ≡ true
+      old : (r : Reason) (ps : List ℕ) → r ≡ Refused → IsCarried terms c h.order h.ends n r ps → is_closed h.ends ≡ true
       old Own [] e k = cc
       old Closing [] e k = cc
       old Refused [] e k = k.1

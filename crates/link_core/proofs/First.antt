@@ -1,4 +1,5 @@
 -- Prepending where no request is open: the line comes at once.
+use Rattle.qolb_model.specs.declared.terms.Terms.{Terms}
 use Rattle.std.proofs.Common.{◌≡◌, ◌≢◌, ℕ, ◌+◌, ◌-◌, ◌<◌, ◌≤◌, true, false, ◌||◌, List, length, [], Some, refl, sym, ◌∙◌, ap, subst, inl, inr, arith}
 use Rattle.link_core.specs.declared.point.Point.{Point}
 use Rattle.link_core.specs.declared.point.Point.TheVariants.{Ready, Rolled}
@@ -23,7 +24,7 @@ use Rattle.link_core.proofs.Arrival.{arrival_lies, arrival_sits, arrival_says, a
 use Rattle.link_core.proofs.Follows.{sits_at, in_its_hand, hand_lies}
 use Rattle.link_core.proofs.Kept.{Spares, sits_kept, rests_held, settled_by}
 
-module _ (opening : List ℕ) (c : State) (h : Queue) (n : ℕ) (sts : List Seat) (s : Matches opening c h) (is : IsNode c n) (ready : point c n ≡ Ready) (free : c.home ≡ 0)
+module _ (terms : Terms) (c : State) (h : Queue) (n : ℕ) (sts : List Seat) (s : Matches terms c h) (is : IsNode c n) (ready : point c n ≡ Ready) (free : c.home ≡ 0)
     (ch : Changed c (record c { home = n; place = Hand n; mask = no_mask; seats = sts }) n (seat_at_arrival n c.closed) n (entry c n)) where
   abbrev d : State
   d = record c { home = n; place = Hand n; mask = no_mask; seats = sts }
@@ -51,7 +52,7 @@ module _ (opening : List ℕ) (c : State) (h : Queue) (n : ℕ) (sts : List Seat
     | inr g ↦ let k = s.known in omega arith
   ]
 
-  whole : Lies opening c h.order h.ends → IsWhole opening c h.ends
+  whole : Lies terms c h.order h.ends → IsWhole terms c h.ends
   whole (at_home a b w) = w
   whole (in_hand r a b e f g y) = let k = all_ended in absurd (omega arith)
   whole (granted t a b e f g w) = w
@@ -129,7 +130,7 @@ module _ (opening : List ℕ) (c : State) (h : Queue) (n : ℕ) (sts : List Seat
   at_home' : c.place ≡ Home
   at_home' = go s.lies
     where
-      go : Lies opening c h.order h.ends → c.place ≡ Home
+      go : Lies terms c h.order h.ends → c.place ≡ Home
       go (at_home a b w) = b
       go (in_hand r a b e f g y) = let k = all_ended in absurd (omega arith)
       go (granted t a b e f g w) = let k = all_ended in absurd (omega arith)
@@ -138,7 +139,7 @@ module _ (opening : List ℕ) (c : State) (h : Queue) (n : ℕ) (sts : List Seat
   turn_known : length h.ends < length o2
   turn_known = let k = length_pushed h.order new in let j = all_ended in omega arith
 
-  pub prepend_first_keeps : GoesOn opening c d h n (told_at_arrival c.closed) (Some (ask n)) false
+  pub prepend_first_keeps : GoesOn terms d h n (told_at_arrival c.closed) (Some (ask n)) false
   prepend_first_keeps = record {
     after = after;
     makes = refl;
@@ -146,6 +147,8 @@ module _ (opening : List ℕ) (c : State) (h : Queue) (n : ℕ) (sts : List Seat
     uncleared = λ _. refl;
     shows = record {
       opened = s.opened;
+      size = s.size;
+      turns = s.turns;
       known = let k = turn_known in omega arith;
       nodes = nodes;
       numbered = numbered;
@@ -156,11 +159,11 @@ module _ (opening : List ℕ) (c : State) (h : Queue) (n : ℕ) (sts : List Seat
       home_last = λ p a e. sym (ap (asker o2) (only p a (omega arith)) ∙ asker_new h.order new);
       links = λ p a l. let k = only p a (omega arith) in let j = only (p + 1) (omega arith) l in absurd (omega arith);
       last_link = λ p a e. rw (only p a (omega arith), asker_new h.order new) (ap (λ (w : Entry). w.link) at_ready.1);
-      lies = arrival_lies opening c d o2 h.ends n turn_known its (whole s.lies) s.opened is refl refl refl refl ch.seat_own;
+      lies = arrival_lies terms c d o2 h.ends n turn_known its (whole s.lies) s.opened is refl refl refl refl ch.seat_own;
       marks = at_new (λ (p : ℕ). has h.marked (request o2 p) ≡ is_rolled (point d (asker o2 p))) (rw (request_new h.order new, asker_new h.order new, point_own ch) (unheld h.marked s.marked_known ∙ sym (arrival_unrolled n c.closed)));
       clears = clears;
       sits = λ m a. elim (cases_eq m n) [
-        | inl e ↦ rw (e, point_own ch) (arrival_sits opening c d o2 h.ends n turn_known its (whole s.lies) s.opened is refl refl refl refl ch.seat_own)
+        | inl e ↦ rw (e, point_own ch) (arrival_sits terms c d o2 h.ends n turn_known its (whole s.lies) s.opened is refl refl refl refl ch.seat_own)
         | inr ne ↦ sits_kept (spares m a ne) (s.sits m a)
       ];
       fresh = at_new (λ (p : ℕ). IsFresh d (length h.ends) (asker o2 p) p) (rw (asker_new h.order new) (record {

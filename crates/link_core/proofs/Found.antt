@@ -1,4 +1,5 @@
 -- What the nodes find, and what the ends of a history say.
+use Rattle.qolb_model.specs.declared.terms.Terms.{Terms}
 use Rattle.std.proofs.Common.{◌≡◌, ◌≢◌, ℕ, zero, suc, ◌+◌, ◌-◌, ◌<◌, ◌≤◌, ◌⊎◌, Bool, true, false, ◌||◌, List, [], ◌∷◌, length, take, Option, Some, None, slice_get, refl, sym, ◌∙◌, ap, subst, inl, inr, arith}
 use Rattle.std.proofs.lemmas.Bool.{or_right}
 use Rattle.qolb_model.specs.declared.end.End.{End}
@@ -32,7 +33,7 @@ use Rattle.link_core.proofs.Sound.{names, step_sizes}
 use Rattle.link_core.proofs.Others.{one_hand, linked_box, granted_box, idle_home}
 use Rattle.link_core.proofs.Unset.{done_unset, granted_unset, rolled_unset, link_unset, freed_unset}
 
-module _ {opening : List ℕ} {c : State} {q : Queue} (s : Shows opening c q) where
+module _ {terms : Terms} {c : State} {q : Queue} (s : Shows terms c q) where
   pub unset : Unset c
   unset = record {
     link = link_unset s.matches;
@@ -49,14 +50,14 @@ module _ {opening : List ℕ} {c : State} {q : Queue} (s : Shows opening c q) wh
   next : (n m : ℕ) (b : Bool) → IsNode c n → point c n ≡ Granting m → (entry c m).rolled ≡ b → ((b ≡ false) × (point c m ≡ Queued)) ⊎ ((b ≡ true) × (point c m ≡ Rolled))
   next n m b a at e = next_by m b e (node_m s.matches a at) (granted_point s.matches a at)
 
-  whole : ((n : ℕ) → c.place ≢ Hand n) → Lies opening c q.order q.ends → IsWhole opening c q.ends
+  whole : ((n : ℕ) → c.place ≢ Hand n) → Lies terms c q.order q.ends → IsWhole terms c q.ends
   whole nowhere (at_home a b w) = w
   whole nowhere (in_hand n a b e f g h) = absurd (nowhere n e)
   whole nowhere (granted t a b e f g w) = w
   whole nowhere (left t x a b e f g h i w) = w
 
   -- the node at its turn, and who has the line, are active
-  over : ((n : ℕ) → IsNode c n → is_active (point c n) ≡ false) → Lies opening c q.order q.ends → (length q.ends ≡ length q.order) × (c.place ≡ Home)
+  over : ((n : ℕ) → IsNode c n → is_active (point c n) ≡ false) → Lies terms c q.order q.ends → (length q.ends ≡ length q.order) × (c.place ≡ Home)
   over rest (at_home a b w) = (a, b)
   over rest (in_hand n a b e f g h) = absurd (never (active (point c n) f) (rest n b))
     where
@@ -84,7 +85,7 @@ module _ {opening : List ℕ} {c : State} {q : Queue} (s : Shows opening c q) wh
       let k = last_once q.order (asker q.order p) z p (subst (λ (m : ℕ). IsLast q.order m z) (sym newest ∙ e) (s.matches.distinct z (omega arith) (omega arith))) (s.matches.distinct p a l) in
       omega arith
 
-  pub found : Found opening c q
+  pub found : Found terms c q
   found = record {
     names = names s.matches;
     hand = in_its_hand s.matches;
@@ -136,10 +137,10 @@ closed_since (Served w shut ∷ es) (suc p) e = by shut (closed_since es p) e
 closed_since (Gone ∷ es) (suc p) e = closed_since es p e
 closed_since (Told ∷ es) (suc p) e = closed_since es p e
 
-pub ends_close : (q : Queue) (n : ℕ) (r : Reason) → IsLegal q.order q.ends → r ≢ Own → EndedBy q.order q.ends n r → is_closed q.ends ≡ true
-ends_close q n Own l ne e = absurd (ne refl)
-ends_close q n Closing l ne e = closed_with q.ends e.at e.end e.ended e.how
-ends_close q n Refused l ne e = told e.end e.ended e.how
+pub ends_close : (lease : Option ℕ) (q : Queue) (n : ℕ) (r : Reason) → IsLegal lease q.order q.ends → r ≢ Own → EndedBy q.order q.ends n r → is_closed q.ends ≡ true
+ends_close lease q n Own l ne e = absurd (ne refl)
+ends_close lease q n Closing l ne e = closed_with q.ends e.at e.end e.ended e.how
+ends_close lease q n Refused l ne e = told e.end e.ended e.how
   where
     told : (x : End) → slice_get q.ends e.at ≡ Some x → ByReason Refused x → is_closed q.ends ≡ true
     told (Served w shut) at k = absurd k
@@ -147,17 +148,11 @@ ends_close q n Refused l ne e = told e.end e.ended e.how
     told Told at k = closed_since q.ends e.at (l.closing e.at Told at)
 
 -- one more move at the end of a run
-runs_more : (nodes : ℕ) (a b g : Queue) (ms : List Move) (m : Option Move) → Runs nodes a ms b → Goes nodes b m g → (ns : List Move) × Runs nodes a ns g
-runs_more nodes a b g [] None r k = ([], has_cleared_twice a b g r k.cleared)
-runs_more nodes a b g [] (Some x) r k = (x ∷ [], (b, r, k.may, k.cleared))
-runs_more nodes a b g (y ∷ ms) m r k = let rest = runs_more nodes (moved r.0 y) b g ms m r.3 k in (y ∷ rest.0, (r.0, r.1, r.2, rest.1))
+runs_more : (terms : Terms) (a b g : Queue) (ms : List Move) (m : Option Move) → Runs terms a ms b → Goes terms b m g → (ns : List Move) × Runs terms a ns g
+runs_more terms a b g [] None r k = ([], has_cleared_twice a b g r k.cleared)
+runs_more terms a b g [] (Some x) r k = (x ∷ [], (b, r, k.may, k.cleared))
+runs_more terms a b g (y ∷ ms) m r k = let rest = runs_more terms (moved r.0 y) b g ms m r.3 k in (y ∷ rest.0, (r.0, r.1, r.2, rest.1))
 
-run_nodes : {nodes : ℕ} {opening : Line64} {es : List Event} {c : State} {q : Queue} → Run nodes opening es c q → c.nodes ≡ nodes
-run_nodes opened = refl
-run_nodes (event {c = c} r e t d g k goes s) = (step_sizes c k).0 ∙ run_nodes r
-
-pub runs_move : {nodes : ℕ} {opening : Line64} {es : List Event} {c : State} {q : Queue} → Run nodes opening es c q → (moves : List Move) × Runs nodes empty_queue moves q
+pub runs_move : {terms : Terms} {es : List Event} {c : State} {q : Queue} → Run terms es c q → (moves : List Move) × Runs terms empty_queue moves q
 runs_move opened = ([], has_cleared_none empty_queue)
-runs_move {nodes = nodes} (event {c = c} {q = q} r e t d g k goes s) =
-    let before = runs_move r in
-    runs_more nodes empty_queue q g before.0 (move_of k q.order) before.1 (subst (λ (n : ℕ). Goes n q (move_of k q.order) g) (run_nodes r) goes)
+runs_move {terms = terms} (event {c = c} {q = q} r e t d g k goes s) = let before = runs_move r in runs_more terms empty_queue q g before.0 (move_of k q.order) before.1 goes

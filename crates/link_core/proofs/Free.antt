@@ -1,4 +1,5 @@
 -- Freeing a passed node.
+use Rattle.qolb_model.specs.declared.terms.Terms.{Terms}
 use Rattle.std.proofs.Common.{◌≡◌, ◌≢◌, ℕ, suc, ◌+◌, ◌<◌, ◌≤◌, true, false, ◌||◌, List, [], ◌∷◌, ◌⊎◌, length, None, refl, sym, ◌∙◌, ap, subst, inl, inr, arith}
 use Rattle.std.specs.Prelude.{slice_index_or}
 use Rattle.link_core.specs.declared.point.Point.{Point}
@@ -51,7 +52,7 @@ freed_says : (h : Queue) (n : ℕ) (ps : List ℕ) (r : Reason) → EndedBy h.or
 freed_says h n [] r e = end_says h n r e
 freed_says h n (m ∷ ms) r e = tt
 
-module _ (opening : List ℕ) (c : State) (h : Queue) (n x : ℕ) (rest : List ℕ) (s : Matches opening c h) (is : IsNode c n) (at : point c n ≡ Freeing) (ps : (seat c n).passed ≡ x ∷ rest)
+module _ (terms : Terms) (c : State) (h : Queue) (n x : ℕ) (rest : List ℕ) (s : Matches terms c h) (is : IsNode c n) (at : point c n ≡ Freeing) (ps : (seat c n).passed ≡ x ∷ rest)
     (ents : List Entry) (sts : List Seat) (ch : Changed c (record c { entries = ents; seats = sts }) n (seat_with rest (point_at_end (seat c n).reason) (seat c n).reason) x (frees (entry c x))) where
   abbrev d : State
   d = record c { entries = ents; seats = sts }
@@ -191,7 +192,7 @@ module _ (opening : List ℕ) (c : State) (h : Queue) (n x : ℕ) (rest : List �
   own [] Refused f e k = over
   own (m ∷ ms) r f e k = (subst (λ (r : Reason). EndedBy h.order h.ends n r) e k, λ g. let z : m ∷ ms ≡ [] = sym f ∙ g in cc)
 
-  pub freed_keeps : GoesOn opening c d h n (told_with rest (seat c n).reason) None true
+  pub freed_keeps : GoesOn terms d h n (told_with rest (seat c n).reason) None true
   freed_keeps = record {
     after = record h { clear = cleared.clear };
     makes = refl;
@@ -199,6 +200,8 @@ module _ (opening : List ℕ) (c : State) (h : Queue) (n x : ℕ) (rest : List �
     uncleared = λ e. cc;
     shows = record {
       opened = s.opened;
+      size = s.size;
+      turns = s.turns;
       known = s.known;
       nodes = s.nodes;
       numbered = s.numbered;
@@ -212,7 +215,7 @@ module _ (opening : List ℕ) (c : State) (h : Queue) (n x : ℕ) (rest : List �
         | inr f ↦ inr (field ch (λ w. w.link) refl (asker h.order p) ∙ f.0, point_other ch (asker h.order (p + 1)) (open_n (p + 1) (omega arith) l) ∙ f.1)
       ];
       last_link = λ p a e. field ch (λ w. w.link) refl (asker h.order p) ∙ s.last_link p a e;
-      lies = lies_kept leaves opening s.lies;
+      lies = lies_kept leaves terms s.lies;
       marks = λ p a l. s.marks p a l ∙ ap is_rolled (sym (point_other ch (asker h.order p) (open_n p a l)));
       clears = λ m q a l. cleared.says m q a l;
       sits = λ m a. elim (cases_eq m n) [

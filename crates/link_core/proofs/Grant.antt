@@ -1,4 +1,5 @@
 -- Granting: the next node has the line in its mailbox, or is passed.
+use Rattle.qolb_model.specs.declared.terms.Terms.{Terms}
 use Rattle.std.proofs.Common.{◌≡◌, ◌≢◌, ℕ, ◌+◌, ◌<◌, true, false, List, [], ◌∷◌, ◌++◌, ◌⊎◌, length, Some, refl, sym, ◌∙◌, ap, subst, inl, inr, arith}
 use Rattle.std.specs.Prelude.{slice_index_or}
 use Rattle.link_core.specs.declared.point.Point.{Point}
@@ -22,7 +23,7 @@ use Rattle.std.proofs.Common.{length-append}
 use Rattle.std.proofs.Math.ListN.{get_or-append}
 use Rattle.std.proofs.Math.Seq.{get_or-append_seam}
 use Rattle.link_core.specs.declared.told.Told.TheVariants as told
-use Rattle.link_core.specs.Steps.{seat_at_close, told_with, point_at_end}
+use Rattle.link_core.specs.Steps.{turns_after, seat_at_close, told_with, point_at_end}
 use Rattle.link_core.proofs.Deeds.{GoesOn}
 use Rattle.link_core.proofs.Orders.{last_once, ended_at}
 use Rattle.std.proofs.lemmas.Option.{slice_get_within}
@@ -37,11 +38,11 @@ last_or_push : (n : ℕ) (ps : List ℕ) (m : ℕ) → last_or n (ps ++ m ∷ []
 last_or_push n [] m = refl
 last_or_push n (p ∷ ps) m = last_or_push p ps m
 
-carried_push : (opening : List ℕ) (c : State) (o : List Request) (es : List End) (n : ℕ) (r : Reason) (ps : List ℕ) (m : ℕ) → IsWhole opening c es → EndedBy o es n r → (r ≡ Refused → is_closed es ≡ true) → IsCarried opening c o es n r (ps ++ m ∷ [])
-carried_push opening c o es n r [] m w e t = (w, e, t)
-carried_push opening c o es n r (p ∷ ps) m w e t = (w, e, t)
+carried_push : (terms : Terms) (c : State) (o : List Request) (es : List End) (n : ℕ) (r : Reason) (ps : List ℕ) (m : ℕ) → IsWhole terms c es → EndedBy o es n r → (r ≡ Refused → is_closed es ≡ true) → IsCarried terms c o es n r (ps ++ m ∷ [])
+carried_push terms c o es n r [] m w e t = (w, e, t)
+carried_push terms c o es n r (p ∷ ps) m w e t = (w, e, t)
 
-module _ {opening : List ℕ} {c : State} {h : Queue} {n m : ℕ} (s : Matches opening c h) (is : IsNode c n) (at : point c n ≡ Granting m) where
+module _ {terms : Terms} {c : State} {h : Queue} {n m : ℕ} (s : Matches terms c h) (is : IsNode c n) (at : point c n ≡ Granting m) where
   pub lined : has_line (point c n) ≡ true
   lined = ap has_line at
 
@@ -111,7 +112,7 @@ module _ {opening : List ℕ} {c : State} {h : Queue} {n m : ℕ} (s : Matches o
       )
 
   -- in both cases m's entry is granted, and n's request has ended
-  grant_over : (pl : Place) → IsOver c h n c.home pl m (grants (entry c m))
+  grant_over : (pl : Place) → IsOver c h n c.home pl (turns_after n c) m (grants (entry c m))
   grant_over pl = record {
     link = refl;
     rolled = refl;
@@ -121,12 +122,13 @@ module _ {opening : List ℕ} {c : State} {h : Queue} {n m : ℕ} (s : Matches o
     fresh = fresh_k;
     home_idle = λ f. let k = more in absurd (omega arith);
     home_last = λ _. refl;
+    turns = refl;
     node = node_m;
     box = λ dn un. absurd (unboxed s is lined m (s.settled.boxed m node_m dn un));
   }
 
-  pub grant_keeps : {ents : List Entry} {sts : List Seat} → (entry c m).rolled ≡ false → Changed c (record c { place = Mailbox m; entries = ents; seats = sts }) n (seat_at_close (point_at_end (seat c n).reason) (seat c n)) m (grants (entry c m))
-      → GoesOn opening c (record c { place = Mailbox m; entries = ents; seats = sts }) h n (told_with (seat c n).passed (seat c n).reason) (Some (finish (end_of c n))) true
+  pub grant_keeps : {ents : List Entry} {sts : List Seat} → (entry c m).rolled ≡ false → Changed c (record c { place = Mailbox m; left = turns_after n c; entries = ents; seats = sts }) n (seat_at_close (point_at_end (seat c n).reason) (seat c n)) m (grants (entry c m))
+      → GoesOn terms (record c { place = Mailbox m; left = turns_after n c; entries = ents; seats = sts }) h n (told_with (seat c n).passed (seat c n).reason) (Some (finish (end_of c n))) true
   grant_keeps unrolled ch =
       let w = whole s is lined in
       let l = longer s is lined in
@@ -145,10 +147,10 @@ module _ {opening : List ℕ} {c : State} {h : Queue} {n m : ℕ} (s : Matches o
 abbrev pub seat_passing : State → ℕ → ℕ → Seat
 seat_passing c n m = record { point = Leaving m; passed = (seat c n).passed ++ m ∷ []; reason = (seat c n).reason }
 
-module _ {opening : List ℕ} {c : State} {h : Queue} {n m : ℕ} (s : Matches opening c h) (is : IsNode c n) (at : point c n ≡ Granting m) {ents : List Entry} {sts : List Seat} (rolled : (entry c m).rolled ≡ true)
-    (ch : Changed c (record c { entries = ents; seats = sts }) n (seat_passing c n m) m (grants (entry c m))) where
+module _ {terms : Terms} {c : State} {h : Queue} {n m : ℕ} (s : Matches terms c h) (is : IsNode c n) (at : point c n ≡ Granting m) {ents : List Entry} {sts : List Seat} (rolled : (entry c m).rolled ≡ true)
+    (ch : Changed c (record c { left = turns_after n c; entries = ents; seats = sts }) n (seat_passing c n m) m (grants (entry c m))) where
   abbrev d : State
-  d = record c { entries = ents; seats = sts }
+  d = record c { left = turns_after n c; entries = ents; seats = sts }
 
   hs : has_line (point c n) ≡ true
   hs = ap has_line at
@@ -223,16 +225,16 @@ module _ {opening : List ℕ} {c : State} {h : Queue} {n m : ℕ} (s : Matches o
     ]
   ]
 
-  pub grant_rolled_keeps : GoesOn opening c d h n told.Went (Some (finish (end_of c n))) true
+  pub grant_rolled_keeps : GoesOn terms d h n told.Went (Some (finish (end_of c n))) true
   grant_rolled_keeps =
       let w = whole s is hs in
       let l = longer s is hs in
       let k = more s is at in
       let q = grant_over s is at c.place in
       let cur : current d n ≡ m = ap (λ (s : Seat). last_or n s.passed) ch.seat_own ∙ last_or_push n (seat c n).passed m in
-      let lies : Lies opening d h.order es = in_hand n (omega arith) is place (ap (λ (s : Seat). has_line s.point) ch.seat_own)
+      let lies : Lies terms d h.order es = in_hand n (omega arith) is place (ap (λ (s : Seat). has_line s.point) ch.seat_own)
       (ap (asker h.order) l ∙ (sat s is at).2 ∙ sym cur)
-      (subst (λ (s : Seat). IsCarried opening d h.order es n s.reason s.passed) (sym ch.seat_own) (carried_push opening d h.order es n (seat c n).reason (seat c n).passed m (record { bytes = w.bytes; closed = w.closed }) (ended s is hs) (told_closed s is hs))) in
+      (subst (λ (s : Seat). IsCarried terms d h.order es n s.reason s.passed) (sym ch.seat_own) (carried_push terms d h.order es n (seat c n).reason (seat c n).passed m (record { bytes = w.bytes; closed = w.closed }) (ended s is hs) (told_closed s is hs))) in
       record {
         after = after_end s is hs ch q;
         makes = refl;

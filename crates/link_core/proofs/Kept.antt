@@ -1,4 +1,5 @@
 -- What an act leaves true of the nodes that it doesn't touch.
+use Rattle.qolb_model.specs.declared.terms.Terms.{Terms}
 use Rattle.std.proofs.Common.{◌≡◌, ◌≢◌, ℕ, ◌+◌, ◌<◌, ◌≤◌, true, false, List, [], ◌∷◌, ◌⊎◌, length, refl, sym, ◌∙◌, ap, subst, inl, inr, arith}
 use mathlib.Core.List.{IsPrefix}
 use Rattle.std.proofs.lemmas.Bool.{cases_eq}
@@ -136,29 +137,29 @@ module _ {c d : State} {o o2 : List Request} {es : List End} (k : Leaves c d o o
   same_bytes : d.bytes.bytes ≡ c.bytes.bytes
   same_bytes = ap (λ (l : Line64). l.bytes) k.bytes
 
-  whole_kept : (opening : List ℕ) → IsWhole opening c es → IsWhole opening d es
-  whole_kept opening w = record { bytes = same_bytes ∙ w.bytes; closed = k.closed ∙ w.closed }
+  whole_kept : (terms : Terms) → IsWhole terms c es → IsWhole terms d es
+  whole_kept terms w = record { bytes = same_bytes ∙ w.bytes; closed = k.closed ∙ w.closed }
 
-  held_kept : (opening : List ℕ) (r : Reason) → IsHeld opening c es r → IsHeld opening d es r
-  held_kept opening Own h = (k.closed ∙ h.0, h.1, rw (k.bytes, k.mask) h.2)
-  held_kept opening Closing h = (k.closed ∙ h.0, h.1, rw (k.bytes, k.mask) h.2)
-  held_kept opening Refused h = (k.closed ∙ h.0, h.1, same_bytes ∙ h.2)
+  held_kept : (terms : Terms) (n : ℕ) → seat d n ≡ seat c n → (r : Reason) → IsHeld terms c es n r → IsHeld terms d es n r
+  held_kept terms n e Own h = (k.closed ∙ h.0, h.1, rw (k.bytes, k.mask) h.2, elim h.3 [ inl y ↦ inl (ap (λ (s : Seat). s.point) e ∙ y) | inr y ↦ inr y ])
+  held_kept terms n e Closing h = (k.closed ∙ h.0, h.1, rw (k.bytes, k.mask) h.2)
+  held_kept terms n e Refused h = (k.closed ∙ h.0, h.1, same_bytes ∙ h.2)
 
-  carried_kept : (opening : List ℕ) (n : ℕ) (r : Reason) (ps : List ℕ) → ((p : ℕ) → IsLast o n p → IsLast o2 n p) → IsCarried opening c o es n r ps → IsCarried opening d o2 es n r ps
-  carried_kept opening n r [] f h = held_kept opening r h
-  carried_kept opening n r (m ∷ ms) f h = (whole_kept opening h.0, record { at = h.1.at; end = h.1.end; last = f h.1.at h.1.last; ended = h.1.ended; how = h.1.how }, h.2)
+  carried_kept : (terms : Terms) (n : ℕ) → seat d n ≡ seat c n → (r : Reason) (ps : List ℕ) → ((p : ℕ) → IsLast o n p → IsLast o2 n p) → IsCarried terms c o es n r ps → IsCarried terms d o2 es n r ps
+  carried_kept terms n e r [] f h = held_kept terms n e r h
+  carried_kept terms n e r (m ∷ ms) f h = (whole_kept terms h.0, record { at = h.1.at; end = h.1.end; last = f h.1.at h.1.last; ended = h.1.ended; how = h.1.how }, h.2)
 
-  pub lies_kept : (opening : List ℕ) → Lies opening c o es → Lies opening d o2 es
-  lies_kept opening (at_home a b w) = at_home (k.home a) (k.place ∙ b) (whole_kept opening w)
-  lies_kept opening (in_hand n a b e f g h) = in_hand n (k.turn a).0 (b.0, subst (λ (m : ℕ). n ≤ m) (sym k.nodes) b.1) (k.place ∙ e)
+  pub lies_kept : (terms : Terms) → Lies terms c o es → Lies terms d o2 es
+  lies_kept terms (at_home a b w) = at_home (k.home a) (k.place ∙ b) (whole_kept terms w)
+  lies_kept terms (in_hand n a b e f g h) = in_hand n (k.turn a).0 (b.0, subst (λ (m : ℕ). n ≤ m) (sym k.nodes) b.1) (k.place ∙ e)
       (ap (λ (s : Seat). has_line s.point) (k.hand n f) ∙ f)
       ((k.turn a).1 ∙ g ∙ ap (λ (s : Seat). last_or n s.passed) (sym (k.hand n f)))
-      (subst (λ (s : Seat). IsCarried opening d o2 es n s.reason s.passed) (sym (k.hand n f)) (carried_kept opening n (seat c n).reason (seat c n).passed (λ p. k.fwd n p f) h))
-  lies_kept opening (granted t a b e f g h) = let y = k.box t a b g f in granted t (k.turn a).0 ((k.turn a).1 ∙ b) (k.place ∙ e) y.1 y.0 (whole_kept opening h)
-  lies_kept opening (left t q a b e f g h i j) =
+      (subst (λ (s : Seat). IsCarried terms d o2 es n s.reason s.passed) (sym (k.hand n f)) (carried_kept terms n (k.hand n f) (seat c n).reason (seat c n).passed (λ p. k.fwd n p f) h))
+  lies_kept terms (granted t a b e f g h) = let y = k.box t a b g f in granted t (k.turn a).0 ((k.turn a).1 ∙ b) (k.place ∙ e) y.1 y.0 (whole_kept terms h)
+  lies_kept terms (left t q a b e f g h i j) =
       let y = k.tail q h g f in
       let stays : (point d q ≡ Left) ⊎ (point d q ≡ Rolled) = elim h [ inl v ↦ inl (y.0 ∙ v) | inr v ↦ inr (y.0 ∙ v) ] in
-      left t q (k.turn a).0 ((k.turn a).1 ∙ b) (k.place ∙ e) (y.2 ∙ f) (y.1 ∙ g) stays (k.linking t q a b i) (whole_kept opening j)
+      left t q (k.turn a).0 ((k.turn a).1 ∙ b) (k.place ∙ e) (y.2 ∙ f) (y.1 ∙ g) stays (k.linking t q a b i) (whole_kept terms j)
 
   -- and what was left behind it leaves there
   left_kept : (x : ℕ) → HasLeft c x → HasLeft d x

@@ -1,4 +1,5 @@
 -- The three ways in which the line leaves a release: home, left with a done entry, granted.
+use Rattle.qolb_model.specs.declared.terms.Terms.{Terms}
 use Rattle.std.proofs.Common.{◌≡◌, ◌≢◌, ℕ, ◌+◌, ◌-◌, ◌<◌, ◌≤◌, true, false, List, [], ◌⊎◌, length, Some, refl, sym, ◌∙◌, ap, subst, inl, inr, arith}
 use Rattle.link_core.specs.declared.point.Point.{Point}
 use Rattle.link_core.specs.declared.point.Point.TheVariants.{Idle, Ready, Linking, Queued, Holding, Leaving, Marking, Granting, Freeing, Left, Rolled, Shut}
@@ -12,7 +13,7 @@ use Rattle.link_core.specs.Moves.{end_of}
 use Rattle.qolb_model.specs.declared.end.End.{End}
 use Rattle.link_core.specs.State.{State, Seat, entry, seat, point, IsNode, last_or, current, is_clear}
 use Rattle.link_core.specs.Shown.{has_line, HasEnded, at_home, left, Sits, IsPassed, HasLeft, Matches}
-use Rattle.link_core.specs.Steps.{seat_with, seat_at_close, told_with, point_at_end, Releases, holding, leaving}
+use Rattle.link_core.specs.Steps.{turns_after, seat_with, seat_at_close, told_with, point_at_end, Releases, holding, leaving}
 use Rattle.link_core.proofs.Deeds.{GoesOn}
 use Rattle.link_core.proofs.Orders.{last_once}
 use Rattle.link_core.proofs.Changes.{Changed, point_other, point_own}
@@ -20,13 +21,13 @@ use Rattle.link_core.proofs.Ending.{longer, facts, its, whole, later_other, unbo
 use Rattle.link_core.proofs.Follows.{sits_at, current_cases}
 use Rattle.link_core.proofs.Close.{close_keeps}
 
-module _ {opening : List ℕ} {c : State} {h : Queue} {n : ℕ} (s : Matches opening c h) (is : IsNode c n) where
+module _ {terms : Terms} {c : State} {h : Queue} {n : ℕ} (s : Matches terms c h) (is : IsNode c n) where
   pub releases_line : (e : ℕ) → Releases c n e → has_line (point c n) ≡ true
-  releases_line e (holding a f) = ap has_line a
+  releases_line e (holding a f l) = ap has_line a
   releases_line e (leaving a) = ap has_line a
 
   pub releases_at : (e : ℕ) → Releases c n e → current c n ≡ e
-  releases_at e (holding a f) = (sits_at s n Holding is a).0.is ∙ sym f
+  releases_at e (holding a f l) = (sits_at s n Holding is a).0.is ∙ sym f
   releases_at e (leaving a) = (sits_at s n (Leaving e) is a).is
 
   pub rests_at_end : (r : Reason) (d : State) (es : List End) → HasEnded h.order es n → Sits d h.order es n (point_at_end r)
@@ -58,8 +59,8 @@ module _ {opening : List ℕ} {c : State} {h : Queue} {n : ℕ} (s : Matches ope
       ∙ clear_at_end (seat c n).reason (entry d n)
       )
 
-  pub home_keeps : (e : ℕ) (r : Releases c n e) (sts : List Seat) → c.home ≡ e → Changed c (record c { home = 0; place = Home; seats = sts }) n (seat_at_close (point_at_end (seat c n).reason) (seat c n)) n (entry c n)
-      → GoesOn opening c (record c { home = 0; place = Home; seats = sts }) h n (told_with (seat c n).passed (seat c n).reason) (Some (finish (end_of c n))) true
+  pub home_keeps : (e : ℕ) (r : Releases c n e) (sts : List Seat) → c.home ≡ e → Changed c (record c { home = 0; place = Home; left = turns_after n c; seats = sts }) n (seat_at_close (point_at_end (seat c n).reason) (seat c n)) n (entry c n)
+      → GoesOn terms (record c { home = 0; place = Home; left = turns_after n c; seats = sts }) h n (told_with (seat c n).passed (seat c n).reason) (Some (finish (end_of c n))) true
   home_keeps e r sts f ch =
       let lined = releases_line e r in
       let last = home_is_last lined (f ∙ sym (releases_at e r)) in
@@ -74,6 +75,7 @@ module _ {opening : List ℕ} {c : State} {h : Queue} {n : ℕ} (s : Matches ope
         fresh = λ p a b e. absurd (later_other s is lined p a b e);
         home_idle = λ _. refl;
         home_last = λ g. absurd (omega arith);
+        turns = refl;
         node = is;
         box = λ dn un. absurd (unboxed s is lined n (s.settled.boxed n is dn un));
       })
@@ -104,7 +106,7 @@ abbrev pub grants : Entry → Entry
 grants w = record w { granted = true }
 
 -- the entry that a release marks is that of a node
-pub marked_node : {opening : List ℕ} {c : State} {h : Queue} {n e : ℕ} (s : Matches opening c h) → IsNode c n → point c n ≡ Marking e → IsNode c e
+pub marked_node : {terms : Terms} {c : State} {h : Queue} {n e : ℕ} (s : Matches terms c h) → IsNode c n → point c n ≡ Marking e → IsNode c e
 marked_node {c = c} {n = n} {e = e} s a at =
     let cur = (sits_at s n (Marking e) a at).0.is in
     elim (current_cases s n a) [
@@ -112,7 +114,7 @@ marked_node {c = c} {n = n} {e = e} s a at =
       | inr j ↦ subst (λ (x : ℕ). IsNode c x) cur j.node
     ]
 
-module _ {opening : List ℕ} {c : State} {h : Queue} {n e : ℕ} (s : Matches opening c h) (is : IsNode c n) (at : point c n ≡ Marking e) (unlinked : (entry c e).link ≡ 0) where
+module _ {terms : Terms} {c : State} {h : Queue} {n e : ℕ} (s : Matches terms c h) (is : IsNode c n) (at : point c n ≡ Marking e) (unlinked : (entry c e).link ≡ 0) where
   lined : has_line (point c n) ≡ true
   lined = ap has_line at
 
@@ -142,13 +144,13 @@ module _ {opening : List ℕ} {c : State} {h : Queue} {n e : ℕ} (s : Matches o
   next_other : asker h.order (length h.ends + 1) ≢ n
   next_other = let l = more in later_other s is lined (length h.ends + 1) (omega arith) l
 
-  module _ {ents : List Entry} {sts : List Seat} (pt : Point) (ch : Changed c (record c { place = Mailbox e; entries = ents; seats = sts }) n (seat_at_close pt (seat c n)) e (done (entry c e))) where
+  module _ {ents : List Entry} {sts : List Seat} (pt : Point) (ch : Changed c (record c { place = Mailbox e; left = turns_after n c; entries = ents; seats = sts }) n (seat_at_close pt (seat c n)) e (done (entry c e))) where
     abbrev d : State
-    d = record c { place = Mailbox e; entries = ents; seats = sts }
+    d = record c { place = Mailbox e; left = turns_after n c; entries = ents; seats = sts }
 
     done_keeps : ((point d e ≡ Left) ⊎ (point d e ≡ Rolled)) → ((es : List End) → HasEnded h.order es n → (seat c n).passed ≡ [] → Sits d h.order es n pt)
         → ((seat c n).passed ≡ [] → (is_clear (point d n) (entry d n) ≡ true) ⊎ HasLeft d n)
-        → GoesOn opening c d h n (told_with (seat c n).passed (seat c n).reason) (Some (finish (end_of c n))) true
+        → GoesOn terms d h n (told_with (seat c n).passed (seat c n).reason) (Some (finish (end_of c n))) true
     done_keeps stays rests rest =
         let w = whole s is lined in
         let l = longer s is lined in
@@ -162,6 +164,7 @@ module _ {opening : List ℕ} {c : State} {h : Queue} {n e : ℕ} (s : Matches o
           fresh = λ p a b f. let k = last_once h.order e p (length h.ends) (subst (λ (m : ℕ). IsLast h.order m p) f (s.distinct p (omega arith) b)) at_e in absurd (omega arith);
           home_idle = λ f. absurd (omega arith);
           home_last = λ _. refl;
+          turns = refl;
           node = marked_node s is at;
           box = λ _ _. refl;
         })
@@ -177,14 +180,14 @@ module _ {opening : List ℕ} {c : State} {h : Queue} {n e : ℕ} (s : Matches o
         none : (seat c n).passed ≡ []
         none = elim e_cases [ inl j ↦ j.0 | inr j ↦ let z : Rolled ≡ Marking e = sym j.point ∙ ap (point c) f ∙ at in cc ]
 
-    pub done_left_keeps : e ≡ n → pt ≡ Left → GoesOn opening c d h n (told_with (seat c n).passed (seat c n).reason) (Some (finish (end_of c n))) true
+    pub done_left_keeps : e ≡ n → pt ≡ Left → GoesOn terms d h n (told_with (seat c n).passed (seat c n).reason) (Some (finish (end_of c n))) true
     done_left_keeps f g = done_keeps (inl (ap (point d) f ∙ left_own f g)) (λ es a _. rw g a) (λ _. inr (record {
       point = left_own f g;
       done = ap (λ (x : ℕ). (entry d x).done) (sym f) ∙ ap (λ (v : Entry). v.done) ch.entry_own;
       unlinked = ap (λ (x : ℕ). (entry d x).link) (sym f) ∙ ap (λ (v : Entry). v.link) ch.entry_own ∙ unlinked;
     }))
 
-    pub done_rolled_keeps : e ≢ n → pt ≡ point_at_end (seat c n).reason → GoesOn opening c d h n (told_with (seat c n).passed (seat c n).reason) (Some (finish (end_of c n))) true
+    pub done_rolled_keeps : e ≢ n → pt ≡ point_at_end (seat c n).reason → GoesOn terms d h n (told_with (seat c n).passed (seat c n).reason) (Some (finish (end_of c n))) true
     done_rolled_keeps ne g = done_keeps
         (inr (point_other ch e ne ∙ elim e_cases [ inl j ↦ absurd (ne (sym j.1)) | inr j ↦ j.point ]))
         (λ es a _. rw g (rests_at_end s is (seat c n).reason d es a))

@@ -1,4 +1,5 @@
 -- Linking to the request before.
+use Rattle.qolb_model.specs.declared.terms.Terms.{Terms}
 use Rattle.line_lanes.specs.declared.line.Mask.{Mask}
 use Rattle.std.proofs.Common.{◌≡◌, ◌≢◌, ℕ, ◌+◌, ◌<◌, ◌≤◌, true, false, ◌||◌, List, [], ◌⊎◌, length, None, refl, sym, ◌∙◌, ap, subst, inl, inr, arith}
 use Rattle.link_core.specs.declared.point.Point.{Point}
@@ -29,8 +30,8 @@ use Rattle.link_core.proofs.Kept.{Spares, sits_kept, fresh_kept, Leaves, lies_ke
 abbrev pub linked : Entry → ℕ → Entry
 linked w n = record w { link = n }
 
-module _ (opening : List ℕ) (c : State) (h : Queue) (n p : ℕ) (pl : Place) (mk : Mask) (ents : List Entry) (sts : List Seat) (st : Seat)
-    (s : Matches opening c h) (is : IsNode c n) (at : point c n ≡ Linking p)
+module _ (terms : Terms) (c : State) (h : Queue) (n p : ℕ) (pl : Place) (mk : Mask) (ents : List Entry) (sts : List Seat) (st : Seat)
+    (s : Matches terms c h) (is : IsNode c n) (at : point c n ≡ Linking p)
     (ch : Changed c (record c { place = pl; mask = mk; entries = ents; seats = sts }) n st p (linked (entry c p) n))
     (unrolled : is_rolled st.point ≡ false) (unclear : (w : Entry) → is_clear st.point w ≡ false) (none_passed : st.passed ≡ []) (hands : (m : ℕ) → c.place ≡ Hand m → pl ≡ Hand m) where
   abbrev d : State
@@ -134,10 +135,12 @@ module _ (opening : List ℕ) (c : State) (h : Queue) (n p : ℕ) (pl : Place) (
   box : n ≡ 0 → pl ≡ Mailbox p
   box e = let k = is.0 in absurd (omega arith)
 
-  pub link_shows : Lies opening d h.order h.ends → Sits d h.order h.ends n st.point
-      → ((x : ℕ) → x ≢ p → c.place ≡ Mailbox x → pl ≡ Mailbox x) → Rests d h.order h.ends cleared.clear → Matches opening d after_link
+  pub link_shows : Lies terms d h.order h.ends → Sits d h.order h.ends n st.point
+      → ((x : ℕ) → x ≢ p → c.place ≡ Mailbox x → pl ≡ Mailbox x) → Rests d h.order h.ends cleared.clear → Matches terms d after_link
   link_shows lies own boxes rests = record {
     opened = s.opened;
+    size = s.size;
+    turns = s.turns;
     known = s.known;
     nodes = s.nodes;
     numbered = s.numbered;
@@ -169,8 +172,8 @@ module _ (opening : List ℕ) (c : State) (h : Queue) (n p : ℕ) (pl : Place) (
   link_behind = behind
 
 -- the older request isn't done: n waits
-module _ (opening : List ℕ) (c : State) (h : Queue) (n p : ℕ) (ents : List Entry) (sts : List Seat)
-    (s : Matches opening c h) (is : IsNode c n) (at : point c n ≡ Linking p) (undone : (entry c p).done ≡ false)
+module _ (terms : Terms) (c : State) (h : Queue) (n p : ℕ) (ents : List Entry) (sts : List Seat)
+    (s : Matches terms c h) (is : IsNode c n) (at : point c n ≡ Linking p) (undone : (entry c p).done ≡ false)
     (ch : Changed c (record c { entries = ents; seats = sts }) n (record (seat c n) { point = Queued }) p (linked (entry c p) n)) where
   abbrev e : State
   e = record c { entries = ents; seats = sts }
@@ -214,25 +217,25 @@ module _ (opening : List ℕ) (c : State) (h : Queue) (n p : ℕ) (ents : List E
       not_p : (q : ℕ) → (entry c q).done ≡ true → q ≢ p
       not_p q g k = let x : false ≡ true = sym undone ∙ ap (λ (m : ℕ). (entry c m).done) (sym k) ∙ g in cc
 
-  pub link_keeps : GoesOn opening c e h n told.Queued None true
+  pub link_keeps : GoesOn terms e h n told.Queued None true
   link_keeps =
       let none = s.unpassed n is (ap (λ (p : Point). has_line p || is_freeing p) at) in
-      let clears = link_clears opening c h n p c.place c.mask ents sts (record (seat c n) { point = Queued }) s is at ch refl (λ _. refl) none (λ _ e. e) in
+      let clears = link_clears terms c h n p c.place c.mask ents sts (record (seat c n) { point = Queued }) s is at ch refl (λ _. refl) none (λ _ e. e) in
       record {
-        after = after_link opening c h n p c.place c.mask ents sts (record (seat c n) { point = Queued }) s is at ch refl (λ _. refl) none (λ _ e. e);
+        after = after_link terms c h n p c.place c.mask ents sts (record (seat c n) { point = Queued }) s is at ch refl (λ _. refl) none (λ _ e. e);
         makes = refl;
         clears = clears;
         uncleared = λ e. cc;
-        shows = link_shows opening c h n p c.place c.mask ents sts (record (seat c n) { point = Queued }) s is at ch refl (λ _. refl) none (λ _ e. e)
-            (lies_kept leaves opening s.lies)
+        shows = link_shows terms c h n p c.place c.mask ents sts (record (seat c n) { point = Queued }) s is at ch refl (λ _. refl) none (λ _ e. e)
+            (lies_kept leaves terms s.lies)
             (record { at = b.at + 1; own = b.own; waits = b.waits; rolled = field ch (λ w. w.rolled) refl n ∙ b.rolled })
             (λ x ne e. e) (rests_kept leaves h.clear _ s.known (prefix_self h.order) (clears_begin clears) s.settled.rests);
         says = record { at = b.at + 1; last = b.own; behind = waits };
       }
 
 -- the older request is done, and left the line: it comes
-module _ (opening : List ℕ) (c : State) (h : Queue) (n p : ℕ) (ents : List Entry) (sts : List Seat)
-    (s : Matches opening c h) (is : IsNode c n) (at : point c n ≡ Linking p) (done : (entry c p).done ≡ true)
+module _ (terms : Terms) (c : State) (h : Queue) (n p : ℕ) (ents : List Entry) (sts : List Seat)
+    (s : Matches terms c h) (is : IsNode c n) (at : point c n ≡ Linking p) (done : (entry c p).done ≡ true)
     (ch : Changed c (record c { place = Hand n; mask = no_mask; entries = ents; seats = sts }) n (seat_at_arrival n c.closed) p (linked (entry c p) n)) where
   abbrev f : State
   f = record c { place = Hand n; mask = no_mask; entries = ents; seats = sts }
@@ -249,21 +252,21 @@ module _ (opening : List ℕ) (c : State) (h : Queue) (n p : ℕ) (ents : List E
   its : asker h.order (length h.ends) ≡ n
   its = ap (asker h.order) turn ∙ bb.own.its
 
-  found : (c.place ≡ Mailbox p) × ((entry c p).done ≡ true) × ((point c p ≡ Left) ⊎ (point c p ≡ Rolled)) × IsWhole opening c h.ends
+  found : (c.place ≡ Mailbox p) × ((entry c p).done ≡ true) × ((point c p ≡ Left) ⊎ (point c p ≡ Rolled)) × IsWhole terms c h.ends
   found = left_for s n p s.lies some its at
 
   no_hand : (m : ℕ) → c.place ≡ Hand m → Hand n ≡ Hand m
   no_hand m e = let x : Mailbox p ≡ Hand m = sym found.0 ∙ e in cc
 
-  pub link_done_keeps : GoesOn opening c f h n (told_at_arrival c.closed) None true
+  pub link_done_keeps : GoesOn terms f h n (told_at_arrival c.closed) None true
   link_done_keeps = record {
-    after = after_link opening c h n p (Hand n) no_mask ents sts (seat_at_arrival n c.closed) s is at ch (arrival_unrolled n c.closed) (arrival_unclear n c.closed) (arrival_unpassed n c.closed) no_hand;
+    after = after_link terms c h n p (Hand n) no_mask ents sts (seat_at_arrival n c.closed) s is at ch (arrival_unrolled n c.closed) (arrival_unclear n c.closed) (arrival_unpassed n c.closed) no_hand;
     makes = refl;
-    clears = link_clears opening c h n p (Hand n) no_mask ents sts (seat_at_arrival n c.closed) s is at ch (arrival_unrolled n c.closed) (arrival_unclear n c.closed) (arrival_unpassed n c.closed) no_hand;
+    clears = link_clears terms c h n p (Hand n) no_mask ents sts (seat_at_arrival n c.closed) s is at ch (arrival_unrolled n c.closed) (arrival_unclear n c.closed) (arrival_unpassed n c.closed) no_hand;
     uncleared = λ e. cc;
-    shows = link_shows opening c h n p (Hand n) no_mask ents sts (seat_at_arrival n c.closed) s is at ch (arrival_unrolled n c.closed) (arrival_unclear n c.closed) (arrival_unpassed n c.closed) no_hand
-        (arrival_lies opening c f h.order h.ends n some its found.3 s.opened is refl refl refl refl ch.seat_own)
-        (arrival_sits opening c f h.order h.ends n some its found.3 s.opened is refl refl refl refl ch.seat_own)
+    shows = link_shows terms c h n p (Hand n) no_mask ents sts (seat_at_arrival n c.closed) s is at ch (arrival_unrolled n c.closed) (arrival_unclear n c.closed) (arrival_unpassed n c.closed) no_hand
+        (arrival_lies terms c f h.order h.ends n some its found.3 s.opened is refl refl refl refl ch.seat_own)
+        (arrival_sits terms c f h.order h.ends n some its found.3 s.opened is refl refl refl refl ch.seat_own)
         (λ x ne e. let z : Mailbox p ≡ Mailbox x = sym found.0 ∙ e in let y : p ≡ x = cc in absurd (ne (sym y))) (rests_held f n h.order h.ends _ refl);
     says = arrival_says _ n c.closed found.3.closed (rw turn bb.own);
   }

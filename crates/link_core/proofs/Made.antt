@@ -1,18 +1,19 @@
 -- Each case makes its move where the queue may make it, and for the acting node.
-use Rattle.std.proofs.Common.{◌≡◌, ℕ, true, false, List, [], ◌∷◌, length, Option, Some, None, refl, sym, ◌∙◌, ap, subst}
+use Rattle.qolb_model.specs.declared.terms.Terms.{Terms}
+use Rattle.std.proofs.Common.{◌≡◌, ℕ, ◌≤◌, true, false, List, [], ◌∷◌, length, Option, Some, None, refl, sym, ◌∙◌, ap, subst}
 use Rattle.qolb_model.specs.declared.request.Request.{Request}
 use Rattle.qolb_model.specs.EndKinds.{is_gone}
 use Rattle.qolb_model.specs.Requests.{has, Has, last_of}
 use Rattle.qolb_model.specs.Histories.{IsLegal, Clears}
 use Rattle.qolb_model.specs.Queue.{Queue, Move, ask, mark, finish, CanMove}
-use Rattle.link_core.specs.declared.point.Point.TheVariants.{Ready, Queued}
+use Rattle.link_core.specs.declared.point.Point.TheVariants.{Ready, Queued, Holding, Leaving, Marking, Granting}
 use Rattle.link_core.specs.declared.seat.Reason.{Reason}
 use Rattle.link_core.specs.declared.seat.Reason.TheVariants.{Own, Closing, Refused}
 use Rattle.link_core.specs.declared.told.Told.{Told as Answer}
 use Rattle.link_core.specs.declared.event.Event.{Event}
 use Rattle.link_core.specs.Places.{request, asker}
-use Rattle.link_core.specs.State.{State, entry, seat, point, IsNode, last_or, is_clear}
-use Rattle.link_core.specs.Steps.{Step, node_of}
+use Rattle.link_core.specs.State.{State, IsWide, entry, seat, point, IsNode, last_or, is_clear}
+use Rattle.link_core.specs.Steps.{Step, Releases, holding, leaving, node_of}
 use Rattle.link_core.specs.Steps as row
 use Rattle.link_core.specs.Shown.{is_rolled, has_line, Matches}
 use Rattle.link_core.specs.Moves.{end_by, end_of, move_of, MayMake, made, Goes}
@@ -20,10 +21,14 @@ use Rattle.link_core.proofs.Orders.{get_request, last_is, last_place}
 use Rattle.link_core.proofs.Follows.{sits_at, waits_behind}
 use Rattle.link_core.proofs.Ending.{facts, may}
 use Rattle.link_core.proofs.Leave.{releases_line}
+use Rattle.link_core.proofs.All.{closed, closed_point}
+use Rattle.qolb_model.specs.Leases.{is_last_turn}
+use Rattle.qolb_model.specs.Steps.{is_one}
+use Rattle.qolb_model.proofs.Leases.{last-is_one}
 
 -- a move and what it makes, with the clear list that is made besides
-pub goes_by : (nodes : ℕ) (h g : Queue) (m : Option Move) → MayMake nodes h m → g ≡ record (made h m) { clear = g.clear } → Clears g.order (length g.ends) h.clear g.clear → Goes nodes h m g
-goes_by nodes h g m a e k = record { may = a; cleared = (g.clear, cleared m e, e) }
+pub goes_by : (terms : Terms) (h g : Queue) (m : Option Move) → MayMake terms h m → g ≡ record (made h m) { clear = g.clear } → Clears g.order (length g.ends) h.clear g.clear → Goes terms h m g
+goes_by terms h g m a e k = record { may = a; cleared = (g.clear, cleared m e, e) }
   where
     cleared : (m : Option Move) → g ≡ record (made h m) { clear = g.clear } → Clears (made h m).order (length (made h m).ends) (made h m).clear g.clear
     cleared None e = along h e k
@@ -41,8 +46,8 @@ IsMoveOf c h n (Some (ask m)) = m ≡ n
 IsMoveOf c h n (Some (mark r)) = r.node ≡ n
 IsMoveOf c h n (Some (finish x)) = IsNode c n × (has_line (point c n) ≡ true) × (is_gone x ≡ false → asker h.order (length h.ends) ≡ n)
 
-module _ {opening : List ℕ} {c : State} {h : Queue} (s : Matches opening c h) where
-  own_end : (n : ℕ) (a : IsNode c n) (f : has_line (point c n) ≡ true) → IsMoveOf c h n (Some (finish (end_of c n)))
+module _ {terms : Terms} {c : State} {h : Queue} (s : Matches terms c h) where
+  pub own_end : (n : ℕ) (a : IsNode c n) (f : has_line (point c n) ≡ true) → IsMoveOf c h n (Some (finish (end_of c n)))
   own_end n a f = (a, f, go (seat c n).reason (seat c n).passed refl)
     where
       go : (r : Reason) (ps : List ℕ) → (seat c n).passed ≡ ps → is_gone (end_by c r ps) ≡ false → asker h.order (length h.ends) ≡ n
@@ -51,41 +56,52 @@ module _ {opening : List ℕ} {c : State} {h : Queue} (s : Matches opening c h) 
       go Closing (m ∷ ms) e ne = cc
       go Refused (m ∷ ms) e ne = cc
 
+  pub can_ask : (n : ℕ) → IsLegal terms.lease h.order h.ends → IsNode c n → point c n ≡ Ready → CanMove terms h (ask n)
+  can_ask n l a at = (
+    a.0,
+    subst (λ (x : ℕ). n ≤ x) s.size a.1,
+    λ some. let f = last_place terms.lease h.order h.ends n l some in subst (λ (r : Request). Has h.clear r) f.2 (s.clears n f.0 a f.1 ∙ ap (λ p. is_clear p (entry c n)) at),
+  )
+
+  pub can_finish : (n : ℕ) → IsNode c n → has_line (point c n) ≡ true → (point c n ≡ Holding → is_last_turn terms.lease h.ends ≡ false) → CanMove terms h (finish (end_of c n))
+  can_finish n a f early = (request h.order (length h.ends), get_request h.order (length h.ends) (facts s a f).0, may s a f early)
+
+  pub can_mark : (n : ℕ) → IsLegal terms.lease h.order h.ends → IsNode c n → point c n ≡ Queued → (entry c n).granted ≡ false → CanMove terms h (mark (last_of n h.order))
+  can_mark n l a at un =
+      let b = sits_at s n Queued a at in
+      let r = last_is terms.lease h.order h.ends n b.at l b.own in (
+        b.at,
+        waits_behind s n a at un b,
+        get_request h.order b.at b.own.known ∙ ap Some r,
+        ap (has h.marked) (sym r) ∙ s.marks b.at b.waits b.own.known ∙ ap (λ (m : ℕ). is_rolled (point c m)) b.own.its ∙ ap is_rolled at,
+      )
+
+  -- a release from the holder's own entry is not of the last turn
+  pub early : (n e : ℕ) → Releases c n e → point c n ≡ Holding → is_last_turn terms.lease h.ends ≡ false
+  early n e (holding a f l) at = sym (last-is_one terms.lease h.ends) ∙ ap is_one (sym s.turns) ∙ l
+  early n e (leaving a) at = let z : Leaving e ≡ Holding = sym a ∙ at in cc
+
+module _ {terms : Terms} {c : State} {h : Queue} (w : IsWide c) (s : Matches terms c h) where
   pub step_of : {e : Event} {t : Answer} {d : State} (k : Step c e t d) → IsMoveOf c h (node_of e) (move_of k h.order)
   step_of (row.prepend_first n a at e) = refl
   step_of (row.prepend n a at ne) = refl
-  step_of (row.home n e a r f) = own_end n a (releases_line s a e r)
-  step_of (row.done_left n e a at un f) = own_end n a (ap has_line at)
-  step_of (row.done_rolled n e a at un ne) = own_end n a (ap has_line at)
-  step_of (row.grant n m a at un) = own_end n a (ap has_line at)
-  step_of (row.grant_rolled n m a at ro) = own_end n a (ap has_line at)
+  step_of (row.home n e a r f) = own_end s n a (releases_line s a e r)
+  step_of (row.home_last n a at last f) = (a, ap has_line at, (own_end (closed s w a at) n a (ap has_line (closed_point c n w a))).2)
+  step_of (row.done_left n e a at un f) = own_end s n a (ap has_line at)
+  step_of (row.done_rolled n e a at un ne) = own_end s n a (ap has_line at)
+  step_of (row.grant n m a at un) = own_end s n a (ap has_line at)
+  step_of (row.grant_rolled n m a at ro) = own_end s n a (ap has_line at)
   step_of (row.roll n a at un) = refl
   step_of _ = tt
 
-  module _ (l : IsLegal h.order h.ends) where
-    can_ask : (n : ℕ) → IsNode c n → point c n ≡ Ready → CanMove c.nodes h (ask n)
-    can_ask n a at = (a.0, a.1, λ some. let f = last_place h.order h.ends n l some in subst (λ (r : Request). Has h.clear r) f.2 (s.clears n f.0 a f.1 ∙ ap (λ p. is_clear p (entry c n)) at))
-
-    can_finish : (n : ℕ) → IsNode c n → has_line (point c n) ≡ true → CanMove c.nodes h (finish (end_of c n))
-    can_finish n a f = (request h.order (length h.ends), get_request h.order (length h.ends) (facts s a f).0, may s a f)
-
-    can_mark : (n : ℕ) → IsNode c n → point c n ≡ Queued → (entry c n).granted ≡ false → CanMove c.nodes h (mark (last_of n h.order))
-    can_mark n a at un =
-        let b = sits_at s n Queued a at in
-        let r = last_is h.order h.ends n b.at l b.own in (
-          b.at,
-          waits_behind s n a at un b,
-          get_request h.order b.at b.own.known ∙ ap Some r,
-          ap (has h.marked) (sym r) ∙ s.marks b.at b.waits b.own.known ∙ ap (λ (m : ℕ). is_rolled (point c m)) b.own.its ∙ ap is_rolled at,
-        )
-
-    pub step_may : {e : Event} {t : Answer} {d : State} (k : Step c e t d) → MayMake c.nodes h (move_of k h.order)
-    step_may (row.prepend_first n a at e) = can_ask n a at
-    step_may (row.prepend n a at ne) = can_ask n a at
-    step_may (row.home n e a r f) = can_finish n a (releases_line s a e r)
-    step_may (row.done_left n e a at un f) = can_finish n a (ap has_line at)
-    step_may (row.done_rolled n e a at un ne) = can_finish n a (ap has_line at)
-    step_may (row.grant n m a at un) = can_finish n a (ap has_line at)
-    step_may (row.grant_rolled n m a at ro) = can_finish n a (ap has_line at)
-    step_may (row.roll n a at un) = can_mark n a at un
-    step_may _ = tt
+  pub step_may : (l : IsLegal terms.lease h.order h.ends) → {e : Event} {t : Answer} {d : State} (k : Step c e t d) → MayMake terms h (move_of k h.order)
+  step_may l (row.prepend_first n a at e) = can_ask s n l a at
+  step_may l (row.prepend n a at ne) = can_ask s n l a at
+  step_may l (row.home n e a r f) = can_finish s n a (releases_line s a e r) (early s n e r)
+  step_may l (row.home_last n a at last f) = can_finish (closed s w a at) n a (ap has_line (closed_point c n w a)) (λ g. let z : Leaving n ≡ Holding = sym (closed_point c n w a) ∙ g in cc)
+  step_may l (row.done_left n e a at un f) = can_finish s n a (ap has_line at) (λ g. let z : Marking e ≡ Holding = sym at ∙ g in cc)
+  step_may l (row.done_rolled n e a at un ne) = can_finish s n a (ap has_line at) (λ g. let z : Marking e ≡ Holding = sym at ∙ g in cc)
+  step_may l (row.grant n m a at un) = can_finish s n a (ap has_line at) (λ g. let z : Granting m ≡ Holding = sym at ∙ g in cc)
+  step_may l (row.grant_rolled n m a at ro) = can_finish s n a (ap has_line at) (λ g. let z : Granting m ≡ Holding = sym at ∙ g in cc)
+  step_may l (row.roll n a at un) = can_mark s n l a at un
+  step_may l _ = tt

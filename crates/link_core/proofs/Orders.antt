@@ -1,5 +1,5 @@
 -- Laws of places and last requests, as the order grows.
-use Rattle.std.proofs.Common.{◌≡◌, ◌≢◌, ℕ, ◌+◌, ◌<◌, ◌≤◌, zero, suc, Some, None, slice_get, List, [], ◌∷◌, ◌++◌, ◌⊎◌, length, take, refl, sym, ◌∙◌, ap, subst, inl, inr, arith, length-append}
+use Rattle.std.proofs.Common.{◌≡◌, ◌≢◌, ℕ, ◌+◌, ◌<◌, ◌≤◌, zero, suc, Some, None, slice_get, List, [], ◌∷◌, ◌++◌, ◌⊎◌, length, take, Option, refl, sym, ◌∙◌, ap, subst, inl, inr, arith, length-append}
 use Rattle.std.proofs.lemmas.Bool.{cases_order}
 use Rattle.std.proofs.lemmas.Option.{slice_get_within}
 use Rattle.std.proofs.Math.ListN.{get_or-append}
@@ -98,8 +98,8 @@ pub has_ended : {o : List Request} {es : List End} {n : ℕ} {r : Reason} → En
 has_ended {o} {es} {n} e p l = let k = last_once o n p e.at l e.last in let b = ended_at e in omega arith
 
 -- in a legal order, a node's last request is where its last place is
-pub last_is : (o : List Request) (es : List End) (n p : ℕ) → IsLegal o es → IsLast o n p → request o p ≡ last_of n o
-last_is o es n p l a =
+pub last_is : (lease : Option ℕ) (o : List Request) (es : List End) (n p : ℕ) → IsLegal lease o es → IsLast o n p → request o p ≡ last_of n o
+last_is lease o es n p l a =
     let r : Request = request o p in
     let got : slice_get o p ≡ Some (request o p) = get_request o p a.known in
     let number = l.numbered p (request o p) got in
@@ -117,8 +117,8 @@ last_is o es n p l a =
     ]
 
 -- a node that has made requests has a last place
-pub last_place : (o : List Request) (es : List End) (n : ℕ) → IsLegal o es → 1 ≤ count_of n o → (p : ℕ) × IsLast o n p × (request o p ≡ last_of n o)
-last_place o es n l some =
+pub last_place : (lease : Option ℕ) (o : List Request) (es : List End) (n : ℕ) → IsLegal lease o es → 1 ≤ count_of n o → (p : ℕ) × IsLast o n p × (request o p ≡ last_of n o)
+last_place lease o es n l some =
     let (q, at) = place_of_request o (last_of n o) (has_last_of_all o l.numbered n some) in
     let got : request o q ≡ last_of n o = request_got o q (last_of n o) at in
     let lt = slice_get_within o q (last_of n o) at in (

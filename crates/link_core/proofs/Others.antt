@@ -1,4 +1,5 @@
 -- What an act of one node leaves to the others.
+use Rattle.qolb_model.specs.declared.terms.Terms.{Terms}
 use Rattle.std.proofs.Common.{◌≡◌, ◌≢◌, ℕ, ◌-◌, ◌<◌, ◌≤◌, Bool, true, false, List, [], ◌∷◌, length, Option, Some, None, slice_get, refl, sym, ◌∙◌, ap, subst, inl, inr, arith}
 use mathlib.Core.List.{IsPrefix}
 use Rattle.std.proofs.lemmas.Option.{slice_get_within}
@@ -18,8 +19,9 @@ use Rattle.qolb_model.proofs.Follows.{has_push_other}
 use Rattle.qolb_model.proofs.Lists.{push_cases}
 use Rattle.qolb_model.proofs.Prefixes.{prefix_self, prefix_append}
 use Rattle.qolb_model.proofs.Requests.{count_of-push_other}
-use Rattle.link_core.specs.State.{State, unused, entry, seat, point, IsNode}
-use Rattle.link_core.specs.Steps.{Step, node_of}
+use Rattle.link_core.specs.State.{State, IsWide, unused, entry, seat, point, IsNode}
+use Rattle.qolb_model.specs.Leases.{turns_left}
+use Rattle.link_core.specs.Steps.{Step, node_of, closed_by}
 use Rattle.link_core.specs.Steps as row
 use Rattle.link_core.specs.Shown.{has_line, Lies, at_home, in_hand, granted, left, Matches}
 use Rattle.link_core.specs.Moves.{made, move_of}
@@ -31,7 +33,7 @@ use Rattle.link_core.proofs.Ending.{facts}
 use Rattle.link_core.proofs.Made.{IsMoveOf, step_of}
 use Rattle.link_core.proofs.Sound.{step_sizes}
 
-module _ {opening : List ℕ} {c : State} {h : Queue} (s : Matches opening c h) where
+module _ {terms : Terms} {c : State} {h : Queue} (s : Matches terms c h) where
   pub one_hand : (m n : ℕ) → IsNode c m → IsNode c n → has_line (point c m) ≡ true → has_line (point c n) ≡ true → m ≡ n
   one_hand m n a b e f = let k : Hand m ≡ Hand n = sym (in_its_hand s m a e) ∙ in_its_hand s n b f in cc
 
@@ -70,7 +72,7 @@ module _ {opening : List ℕ} {c : State} {h : Queue} (s : Matches opening c h) 
           let i = (s.nodes p l).0 in
           omega arith
 
-      go : Lies opening c h.order h.ends → c.place ≡ Home
+      go : Lies terms c h.order h.ends → c.place ≡ Home
       go (at_home a b w) = b
       go (in_hand m a b i f g y) = absurd (busy a)
       go (granted t a b i f g y) = absurd (busy a)
@@ -80,6 +82,8 @@ module _ {opening : List ℕ} {c : State} {h : Queue} (s : Matches opening c h) 
   seats_kept (row.load_waiting n a at un) m other = refl
   seats_kept (row.load_busy n a at un) m other = refl
   seats_kept (row.write n mask bytes a at) m other = refl
+  seats_kept (row.home_last n a at l e) m other = get_or-set_other (closed_by n c).seats _ m _ unused other ∙ get_or-set_other c.seats _ m _ unused other
+  seats_kept (row.home_last_failed n a at l ne) m other = get_or-set_other (closed_by n c).seats _ m _ unused other ∙ get_or-set_other c.seats _ m _ unused other
   seats_kept _ m other = get_or-set_other c.seats _ m _ unused other
 
   -- the line is changed by arrivals and by who has it alone
@@ -88,6 +92,8 @@ module _ {opening : List ℕ} {c : State} {h : Queue} (s : Matches opening c h) 
   line_kept (row.link_done n p a at dn) m other b f = absurd (no_box m p (linked_box n p a at dn) b f)
   line_kept (row.load_granted n a at gr) m other b f = absurd (no_box m n (granted_box n a at gr) b f)
   line_kept (row.roll_granted n a at gr) m other b f = absurd (no_box m n (granted_box n a at gr) b f)
+  line_kept (row.home_last n a at l e) m other b f = absurd (other (one_hand m n b a f (ap has_line at)))
+  line_kept (row.home_last_failed n a at l ne) m other b f = absurd (other (one_hand m n b a f (ap has_line at)))
   line_kept (row.write n mask bytes a at) m other b f = absurd (other (one_hand m n b a f (ap has_line at)))
   line_kept (row.close n a at) m other b f = absurd (other (one_hand m n b a f (ap has_line at)))
   line_kept _ m other b f = (refl, refl, refl)
@@ -145,11 +151,11 @@ ends_begin h None = prefix_self h.ends
 ends_begin h (Some (ask n)) = prefix_self h.ends
 ends_begin h (Some (mark r)) = prefix_self h.ends
 
-pub spared : (opening : List ℕ) (c : State) (h : Queue) (s : Matches opening c h) {e : Event} {t : Answer} {d : State} (k : Step c e t d) (b : Bool) (on : GoesOn opening c d h (node_of e) t (move_of k h.order) b) → Spared c d h on.after (node_of e)
-spared opening c h s {e} {t} {d} k b on =
+pub spared : (terms : Terms) (c : State) (h : Queue) (w : IsWide c) (s : Matches terms c h) {e : Event} {t : Answer} {d : State} (k : Step c e t d) (b : Bool) (on : GoesOn terms d h (node_of e) t (move_of k h.order) b) → Spared c d h on.after (node_of e)
+spared terms c h w s {e} {t} {d} k b on =
     let n : ℕ = node_of e in
     let x : Option Move = move_of k h.order in
-    let y : IsMoveOf c h n x = step_of s k in
+    let y : IsMoveOf c h n x = step_of w s k in
     let order : on.after.order ≡ (made h x).order = ap (λ (q : Queue). q.order) on.makes in
     let ends : on.after.ends ≡ (made h x).ends = ap (λ (q : Queue). q.ends) on.makes in
     record {
@@ -157,7 +163,8 @@ spared opening c h s {e} {t} {d} k b on =
       seats = seats_kept s k;
       line = λ m other i f.
           let z = line_kept s k m other i f in
-          (z.0, z.1, z.2, ends ∙ ends_kept c h n x y (λ g. other (one_hand s m n i g.0 f g.1)));
+          let same = ends ∙ ends_kept c h n x y (λ g. other (one_hand s m n i g.0 f g.1)) in
+          (z.0, z.1, z.2, on.shows.turns ∙ ap (turns_left terms.lease) same ∙ sym s.turns, same);
       asks = λ m ne. ap (count_of m) order ∙ asks_kept c h n x y m ne;
       last = λ m p ne l. subst (λ (o : List Request). IsLast o m p) (sym order) (lasts_kept c h n x y m p ne l);
       back = λ m p ne l. lasts_back c h n x y m p ne (subst (λ (o : List Request). IsLast o m p) order l);

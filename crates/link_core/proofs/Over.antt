@@ -1,5 +1,6 @@
 -- The step at which a turn ends: what all such steps have in common.
-use Rattle.std.proofs.Common.{◌≡◌, ◌≢◌, ℕ, ◌+◌, ◌<◌, ◌≤◌, true, false, ◌||◌, List, [], ◌∷◌, ◌⊎◌, length, slice_get, refl, sym, ◌∙◌, ap, subst, inl, inr, arith}
+use Rattle.qolb_model.specs.declared.terms.Terms.{Terms}
+use Rattle.std.proofs.Common.{◌≡◌, ◌≢◌, ℕ, ◌+◌, ◌<◌, ◌≤◌, true, false, ◌||◌, List, [], ◌∷◌, ◌⊎◌, length, Option, slice_get, refl, sym, ◌∙◌, ap, subst, inl, inr, arith}
 use Rattle.link_core.specs.declared.point.Point.{Point}
 use Rattle.link_core.specs.declared.point.Point.TheVariants.{Idle, Ready, Linking, Queued, Holding, Leaving, Marking, Granting, Freeing, Left, Rolled, Shut}
 use Rattle.link_core.specs.declared.place.Place.{Place}
@@ -24,10 +25,11 @@ use Rattle.link_core.proofs.Changes.{Changed, point_other, point_own, field}
 use Rattle.link_core.proofs.Clearing.{Cleared, may_push_cleared}
 use Rattle.link_core.proofs.Follows.{in_its_hand, current_cases}
 use Rattle.link_core.proofs.Kept.{Spares, sits_kept, settled_by}
-use Rattle.link_core.proofs.Ending.{fs, longer, facts, its, grows, ended, later_other, unboxed}
+use Rattle.link_core.proofs.Ending.{fs, longer, facts, its, grows, ended, turns, later_other, unboxed}
+use Rattle.link_core.specs.Steps.{turns_after}
 
 -- what the step does to the home word, the line's place and the entry of k
-pub record IsOver (c : State) (h : Queue) (n hm : ℕ) (pl : Place) (k : ℕ) (w : Entry) : Type 0 where
+pub record IsOver (c : State) (h : Queue) (n hm : ℕ) (pl : Place) (lf : Option ℕ) (k : ℕ) (w : Entry) : Type 0 where
   pub link : w.link ≡ (entry c k).link
   pub rolled : w.rolled ≡ (entry c k).rolled
   pub freed : w.freed ≡ (entry c k).freed
@@ -36,14 +38,15 @@ pub record IsOver (c : State) (h : Queue) (n hm : ℕ) (pl : Place) (k : ℕ) (w
   pub fresh : (p : ℕ) → length h.ends < p → p < length h.order → asker h.order p ≡ k → (w.granted ≡ true → p ≡ length h.ends + 1) × (w.done ≡ false)
   pub home_idle : length h.ends + 1 ≡ length h.order → hm ≡ 0
   pub home_last : length h.ends + 1 < length h.order → hm ≡ c.home
+  pub turns : lf ≡ turns_after n c
   pub node : IsNode c k
   pub box : w.done ≡ true → w.link ≡ 0 → pl ≡ Mailbox k
 
-module _ {opening : List ℕ} {c : State} {h : Queue} {n : ℕ} (s : Matches opening c h) (is : IsNode c n) (lined : has_line (point c n) ≡ true)
-    {hm : ℕ} {pl : Place} {ents : List Entry} {sts : List Seat} {st : Seat} {k : ℕ} {w : Entry}
-    (ch : Changed c (record c { home = hm; place = pl; entries = ents; seats = sts }) n st k w) (q : IsOver c h n hm pl k w) where
+module _ {terms : Terms} {c : State} {h : Queue} {n : ℕ} (s : Matches terms c h) (is : IsNode c n) (lined : has_line (point c n) ≡ true)
+    {hm : ℕ} {pl : Place} {lf : Option ℕ} {ents : List Entry} {sts : List Seat} {st : Seat} {k : ℕ} {w : Entry}
+    (ch : Changed c (record c { home = hm; place = pl; left = lf; entries = ents; seats = sts }) n st k w) (q : IsOver c h n hm pl lf k w) where
   abbrev d : State
-  d = record c { home = hm; place = pl; entries = ents; seats = sts }
+  d = record c { home = hm; place = pl; left = lf; entries = ents; seats = sts }
 
   abbrev es : List End
   es = fs s is lined
@@ -166,12 +169,14 @@ module _ {opening : List ℕ} {c : State} {h : Queue} {n : ℕ} (s : Matches ope
           let same : end_by c (seat c n).reason (seat c n).passed ≡ e = same_some (sym (slice_get-push h.ends _) ∙ ap (slice_get es) (sym here) ∙ was) in
           none_gone (seat c n).reason (seat c n).passed (ap is_gone same ∙ ng)
 
-  pub end_shows : Lies opening d h.order es → Sits d h.order es n st.point → ArePassed d h.order es → IsOnce d
+  pub end_shows : Lies terms d h.order es → Sits d h.order es n st.point → ArePassed d h.order es → IsOnce d
       → (has_line st.point || is_freeing st.point ≡ false → st.passed ≡ [])
       → (((m : ℕ) → pl ≢ Hand m) → (seat c n).passed ≡ [] → (is_clear (point d n) (entry d n) ≡ true) ⊎ HasLeft d n)
-      → Matches opening d after_end
+      → Matches terms d after_end
   end_shows lies own passes once unpassed rest = record {
     opened = s.opened;
+    size = s.size;
+    turns = q.turns ∙ turns s is lined;
     known = let e = long in let f = (facts s is lined).0 in omega arith;
     nodes = s.nodes;
     numbered = s.numbered;

@@ -1,4 +1,5 @@
 -- Prepending behind another request.
+use Rattle.qolb_model.specs.declared.terms.Terms.{Terms}
 use Rattle.std.proofs.Common.{◌≡◌, ◌≢◌, ℕ, ◌+◌, ◌-◌, ◌<◌, ◌≤◌, true, false, ◌||◌, List, [], ◌∷◌, length, Some, refl, sym, ◌∙◌, ap, subst, inl, inr, arith}
 use Rattle.link_core.specs.declared.point.Point.{Point}
 use Rattle.link_core.specs.declared.point.Point.TheVariants.{Ready, Linking, Queued, Granting, Left, Rolled}
@@ -20,7 +21,7 @@ use Rattle.link_core.proofs.Changes.{Changed, point_other, point_own, at_other, 
 use Rattle.link_core.proofs.Follows.{left_for}
 use Rattle.link_core.proofs.Kept.{Spares, sits_kept, fresh_kept, Leaves, lies_kept, rests_kept, settled_by}
 
-module _ (opening : List ℕ) (c : State) (h : Queue) (n : ℕ) (sts : List Seat) (s : Matches opening c h) (is : IsNode c n) (ready : point c n ≡ Ready) (busy : c.home ≢ 0) (ch : Changed c (record c { home = n; seats = sts }) n (record (seat c n) { point = Linking c.home }) n (entry c n)) where
+module _ (terms : Terms) (c : State) (h : Queue) (n : ℕ) (sts : List Seat) (s : Matches terms c h) (is : IsNode c n) (ready : point c n ≡ Ready) (busy : c.home ≢ 0) (ch : Changed c (record c { home = n; seats = sts }) n (record (seat c n) { point = Linking c.home }) n (entry c n)) where
   abbrev d : State
   d = record c { home = n; seats = sts }
 
@@ -187,9 +188,11 @@ module _ (opening : List ℕ) (c : State) (h : Queue) (n : ℕ) (sts : List Seat
     tail = λ q p e f. (point_other ch q (elim p [ inl g ↦ at_other ch q Ready Left ready g (λ e. cc) | inr g ↦ at_other ch q Ready Rolled ready g (λ e. cc) ]), refl, refl);
   }
 
-  pub shows_after : Matches opening d after
+  pub shows_after : Matches terms d after
   shows_after = record {
     opened = s.opened;
+    size = s.size;
+    turns = s.turns;
     known = let k = length_pushed h.order new in let l = s.known in omega arith;
     nodes = nodes;
     numbered = numbered;
@@ -200,7 +203,7 @@ module _ (opening : List ℕ) (c : State) (h : Queue) (n : ℕ) (sts : List Seat
     home_last = home_last;
     links = links;
     last_link = last_link;
-    lies = lies_kept leaves opening s.lies;
+    lies = lies_kept leaves terms s.lies;
     marks = marks;
     clears = clears;
     sits = sits;
@@ -212,7 +215,7 @@ module _ (opening : List ℕ) (c : State) (h : Queue) (n : ℕ) (sts : List Seat
   }
 
   -- prepending behind another request: the queue machine's ask
-  pub prepend_keeps : GoesOn opening c d h n told.Went (Some (ask n)) false
+  pub prepend_keeps : GoesOn terms d h n told.Went (Some (ask n)) false
   prepend_keeps = record {
     after = after;
     makes = refl;

@@ -1,4 +1,5 @@
 -- A step that ends no turn and adds no request: what all such steps have in common.
+use Rattle.qolb_model.specs.declared.terms.Terms.{Terms}
 use Rattle.std.proofs.Common.{◌≡◌, ◌≢◌, ℕ, ◌+◌, ◌<◌, ◌≤◌, Bool, true, false, ◌||◌, List, [], ◌⊎◌, length, refl, sym, ◌∙◌, ap, subst, inl, inr}
 use Rattle.line_lanes.specs.declared.line.Line64.{Line64}
 use Rattle.line_lanes.specs.declared.line.Mask.{Mask}
@@ -41,10 +42,10 @@ pub record IsQuiet (c d : State) (h : Queue) (marked : List Request) (n : ℕ) (
   pub boxes : (x : ℕ) → x ≢ k → c.place ≡ Mailbox x → d.place ≡ Mailbox x
   pub box : w.done ≡ true → w.link ≡ 0 → d.place ≡ Mailbox k
   pub rests : Rests d h.order h.ends h.clear
-  pub lies : (opening : List ℕ) → Matches opening c h → Lies opening d h.order h.ends
+  pub lies : (terms : Terms) → Matches terms c h → Lies terms d h.order h.ends
   pub own : Sits d h.order h.ends n st.point
 
-module _ (opening : List ℕ) (c : State) (h : Queue) (n : ℕ) (s : Matches opening c h) (is : IsNode c n)
+module _ (terms : Terms) (c : State) (h : Queue) (n : ℕ) (s : Matches terms c h) (is : IsNode c n)
     (pl : Place) (bs : Line64) (cl : Bool) (mk : Mask) (ents : List Entry) (sts : List Seat) (marked : List Request) (st : Seat) (k : ℕ) (w : Entry)
     (ch : Changed c (record c { place = pl; bytes = bs; closed = cl; mask = mk; entries = ents; seats = sts }) n st k w)
     (q : IsQuiet c (record c { place = pl; bytes = bs; closed = cl; mask = mk; entries = ents; seats = sts }) h marked n st k w) where
@@ -117,9 +118,11 @@ module _ (opening : List ℕ) (c : State) (h : Queue) (n : ℕ) (s : Matches ope
   come m p (inl e) = inl e
   come m p (inr e) = inr (e.0, q.hands m e.1)
 
-  pub quiet_shows : Matches opening d (record h { marked = marked })
+  pub quiet_shows : Matches terms d (record h { marked = marked })
   quiet_shows = record {
     opened = s.opened;
+    size = s.size;
+    turns = s.turns;
     known = s.known;
     nodes = s.nodes;
     numbered = s.numbered;
@@ -130,7 +133,7 @@ module _ (opening : List ℕ) (c : State) (h : Queue) (n : ℕ) (s : Matches ope
     home_last = s.home_last;
     links = links;
     last_link = λ p a e. field ch (λ w. w.link) q.link (asker h.order p) ∙ s.last_link p a e;
-    lies = q.lies opening s;
+    lies = q.lies terms s;
     marks = marks;
     clears = clears;
     sits = λ m a. elim (cases_eq m n) [

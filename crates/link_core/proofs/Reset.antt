@@ -1,4 +1,5 @@
 -- Resetting an entry.
+use Rattle.qolb_model.specs.declared.terms.Terms.{Terms}
 use Rattle.std.proofs.Common.{◌≡◌, ◌≢◌, ℕ, ◌+◌, ◌<◌, ◌≤◌, true, false, ◌||◌, List, [], ◌⊎◌, length, None, refl, sym, ◌∙◌, ap, subst, inl, inr, arith}
 use Rattle.link_core.specs.declared.point.Point.{Point}
 use Rattle.link_core.specs.declared.point.Point.TheVariants.{Idle, Ready, Linking, Queued, Granting, Left, Rolled, Shut}
@@ -16,7 +17,7 @@ use Rattle.link_core.proofs.Changes.{Changed, point_other, point_own, passes_kep
 use Rattle.link_core.proofs.Follows.{sits_at, behind_unclear, current_cases}
 use Rattle.link_core.proofs.Kept.{Spares, sits_kept, fresh_kept, Leaves, lies_kept, rests_kept, settled_by}
 
-module _ (opening : List ℕ) (c : State) (h : Queue) (n : ℕ) (s : Matches opening c h) (is : IsNode c n) (at : (point c n ≡ Idle) ⊎ (point c n ≡ Shut))
+module _ (terms : Terms) (c : State) (h : Queue) (n : ℕ) (s : Matches terms c h) (is : IsNode c n) (at : (point c n ≡ Idle) ⊎ (point c n ≡ Shut))
     (ents : List Entry) (sts : List Seat) (ch : Changed c (record c { entries = ents; seats = sts }) n (record (seat c n) { point = Ready }) n empty) where
   abbrev d : State
   d = record c { entries = ents; seats = sts }
@@ -93,7 +94,7 @@ module _ (opening : List ℕ) (c : State) (h : Queue) (n : ℕ) (s : Matches ope
         (point_other ch q ne, ap (λ (w : Entry). w.link) (ch.entry_other q ne), ap (λ (w : Entry). w.done) (ch.entry_other q ne));
   }
 
-  pub reset_keeps : GoesOn opening c d h n told.Went None false
+  pub reset_keeps : GoesOn terms d h n told.Went None false
   reset_keeps = record {
     after = h;
     makes = refl;
@@ -101,6 +102,8 @@ module _ (opening : List ℕ) (c : State) (h : Queue) (n : ℕ) (s : Matches ope
     uncleared = λ _. refl;
     shows = record {
       opened = s.opened;
+      size = s.size;
+      turns = s.turns;
       known = s.known;
       nodes = s.nodes;
       numbered = s.numbered;
@@ -114,7 +117,7 @@ module _ (opening : List ℕ) (c : State) (h : Queue) (n : ℕ) (s : Matches ope
         | inr f ↦ inr (ap (λ (w : Entry). w.link) (ch.entry_other (asker h.order p) (open_n p a (omega arith))) ∙ f.0, point_other ch (asker h.order (p + 1)) (open_n (p + 1) (omega arith) l) ∙ f.1)
       ];
       last_link = λ p a e. ap (λ (w : Entry). w.link) (ch.entry_other (asker h.order p) (open_n p a (omega arith))) ∙ s.last_link p a e;
-      lies = lies_kept leaves opening s.lies;
+      lies = lies_kept leaves terms s.lies;
       marks = λ p a l. s.marks p a l ∙ ap is_rolled (sym (point_other ch (asker h.order p) (open_n p a l)));
       clears = λ m q a l. s.clears m q a l ∙ elim (cases_eq m n) [
         | inl e ↦ rw (e, point_own ch) was_clear

@@ -4,6 +4,7 @@ use Rattle.std.specs.Prelude.{ℕ, Bool, true, false, List, [], ◌∷◌, Optio
 use Rattle.qolb_model.specs.declared.request.Request.{Request}
 use Rattle.qolb_model.specs.declared.end.End.{End}
 use Rattle.qolb_model.specs.declared.end.End.TheVariants as end
+use Rattle.qolb_model.specs.declared.terms.Terms.{Terms}
 use Rattle.qolb_model.specs.Requests.{last_of}
 use Rattle.qolb_model.specs.Queue.{Queue, Move, ask, mark, finish, CanMove, moved, HasCleared}
 use Rattle.link_core.specs.declared.seat.Reason.{Reason}
@@ -12,7 +13,7 @@ use Rattle.link_core.specs.declared.event.Event.{Event}
 use Rattle.link_core.specs.declared.event.Event.TheVariants as event
 use Rattle.link_core.specs.declared.told.Told.{Told}
 use Rattle.link_core.specs.State.{State, seat}
-use Rattle.link_core.specs.Steps.{Step}
+use Rattle.link_core.specs.Steps.{Step, closed_by}
 use Rattle.link_core.specs.Steps as row
 
 -- how the request at its turn ends, by the reason of the release and the nodes that it has passed
@@ -31,6 +32,7 @@ abbrev pub move_of : {c : State} {e : Event} {t : Told} {d : State} → Step c e
 move_of (row.prepend_first n a at idle) order = Some (ask n)
 move_of (row.prepend n a at busy) order = Some (ask n)
 move_of {c} (row.home n e a at last) order = Some (finish (end_of c n))
+move_of {c} (row.home_last n a at last idle) order = Some (finish (end_of (closed_by n c) n))
 move_of {c} (row.done_left n e a at unlinked own) order = Some (finish (end_of c n))
 move_of {c} (row.done_rolled n e a at unlinked other) order = Some (finish (end_of c n))
 move_of {c} (row.grant n m a at unrolled) order = Some (finish (end_of c n))
@@ -46,14 +48,14 @@ may_clear (event.Freed n) m = true
 may_clear _ _ = false
 
 -- one move or none: when it may be made, and the queue after it
-abbrev pub MayMake : ℕ → Queue → Option Move → Type 0
-MayMake nodes q None = Unit {0}
-MayMake nodes q (Some move) = CanMove nodes q move
+abbrev pub MayMake : Terms → Queue → Option Move → Type 0
+MayMake terms q None = Unit {0}
+MayMake terms q (Some move) = CanMove terms q move
 
 abbrev pub made : Queue → Option Move → Queue
 made q None = q
 made q (Some move) = moved q move
 
-pub record Goes (nodes : ℕ) (q : Queue) (move : Option Move) (next : Queue) : Type 0 where
-  pub may : MayMake nodes q move
+pub record Goes (terms : Terms) (q : Queue) (move : Option Move) (next : Queue) : Type 0 where
+  pub may : MayMake terms q move
   pub cleared : HasCleared (made q move) next

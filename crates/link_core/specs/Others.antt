@@ -15,7 +15,7 @@ pub record Spared (c d : State) (q r : Queue) (n : ℕ) : Type 0 where
   pub nodes : d.nodes ≡ c.nodes
   -- the seats of the others, and the line where one of them has it
   pub seats : (m : ℕ) → m ≢ n → seat d m ≡ seat c m
-  pub line : (m : ℕ) → m ≢ n → IsNode c m → has_line (point c m) ≡ true → (d.bytes ≡ c.bytes) × (d.closed ≡ c.closed) × (d.mask ≡ c.mask) × (r.ends ≡ q.ends)
+  pub line : (m : ℕ) → m ≢ n → IsNode c m → has_line (point c m) ≡ true → (d.bytes ≡ c.bytes) × (d.closed ≡ c.closed) × (d.mask ≡ c.mask) × (d.left ≡ c.left) × (r.ends ≡ q.ends)
   -- how many requests they have made, which is the last, and which are marked
   pub asks : (m : ℕ) → m ≢ n → count_of m r.order ≡ count_of m q.order
   pub last : (m p : ℕ) → m ≢ n → IsLast q.order m p → IsLast r.order m p

@@ -10,7 +10,9 @@ use Rattle.link_core.specs.declared.seat.Reason.TheVariants.{Own, Closing, Refus
 use Rattle.link_core.specs.declared.place.Place.TheVariants.{Home, Mailbox, Hand}
 use Rattle.line_lanes.specs.Line.{merged}
 use Rattle.link_core.specs.Places.{request, asker, IsLast}
+use Rattle.qolb_model.specs.declared.terms.Terms.{Terms}
 use Rattle.qolb_model.specs.Ends.{is_closed, bytes_after}
+use Rattle.qolb_model.specs.Leases.{is_last_turn, turns_left}
 use Rattle.qolb_model.specs.EndKinds.{is_gone}
 use Rattle.qolb_model.specs.Histories.{IsLegal}
 use Rattle.qolb_model.specs.Queue.{Queue}
@@ -61,29 +63,30 @@ abbrev pub HasEnded : List Request → List End → ℕ → Type 0
 HasEnded order ends n = (p : ℕ) → IsLast order n p → p < length ends
 
 -- the line is as all ends left it
-pub record IsWhole (opening : List ℕ) (c : State) (ends : List End) : Type 0 where
-  pub bytes : c.bytes.bytes ≡ bytes_after opening ends
+pub record IsWhole (terms : Terms) (c : State) (ends : List End) : Type 0 where
+  pub bytes : c.bytes.bytes ≡ bytes_after terms.opening.bytes ends
   pub closed : c.closed ≡ is_closed ends
 
--- The line is in the hand of the node whose own request is at its turn: open and not yet closed, with the bytes of the ends but for
--- what was written in this turn; the same, closed by this turn; or closed before, and only passed on.
-abbrev pub IsHeld : List ℕ → State → List End → Reason → Type 0
-IsHeld opening c ends Own = (c.closed ≡ false) × (is_closed ends ≡ false) × (merged (bytes_after opening ends) c.bytes.bytes c.mask.0 ≡ c.bytes.bytes)
-IsHeld opening c ends Closing = (c.closed ≡ true) × (is_closed ends ≡ false) × (merged (bytes_after opening ends) c.bytes.bytes c.mask.0 ≡ c.bytes.bytes)
-IsHeld opening c ends Refused = (c.closed ≡ true) × (is_closed ends ≡ true) × (c.bytes.bytes ≡ bytes_after opening ends)
+-- The line is in the hand of n, whose own request is at its turn: open and not yet closed, with the bytes of the ends but for what was
+-- written in this turn, and at the last turn of a lease not yet released; the same, closed by this turn; or closed before, and only
+-- passed on.
+abbrev pub IsHeld : Terms → State → List End → ℕ → Reason → Type 0
+IsHeld terms c ends n Own = (c.closed ≡ false) × (is_closed ends ≡ false) × (merged (bytes_after terms.opening.bytes ends) c.bytes.bytes c.mask.0 ≡ c.bytes.bytes) × ((point c n ≡ Holding) ⊎ (is_last_turn terms.lease ends ≡ false))
+IsHeld terms c ends n Closing = (c.closed ≡ true) × (is_closed ends ≡ false) × (merged (bytes_after terms.opening.bytes ends) c.bytes.bytes c.mask.0 ≡ c.bytes.bytes)
+IsHeld terms c ends n Refused = (c.closed ≡ true) × (is_closed ends ≡ true) × (c.bytes.bytes ≡ bytes_after terms.opening.bytes ends)
 
 -- the line is in the hand of n, which has passed these nodes: with some passed, n's own request has ended and nothing is under way
-abbrev pub IsCarried : List ℕ → State → List Request → List End → ℕ → Reason → List ℕ → Type 0
-IsCarried opening c order ends n r [] = IsHeld opening c ends r
-IsCarried opening c order ends n r (m ∷ ms) = IsWhole opening c ends × EndedBy order ends n r × (r ≡ Refused → is_closed ends ≡ true)
+abbrev pub IsCarried : Terms → State → List Request → List End → ℕ → Reason → List ℕ → Type 0
+IsCarried terms c order ends n r [] = IsHeld terms c ends n r
+IsCarried terms c order ends n r (m ∷ ms) = IsWhole terms c ends × EndedBy order ends n r × (r ≡ Refused → is_closed ends ≡ true)
 
 -- Where the line lies. With no open request it is at home. Else it is in the hand of n, whose release has come to the request at its
 -- turn; or in the mailbox of t, whose turn it is, which waits; or in the mailbox of q, for t to find when it links.
-pub data Lies (opening : List ℕ) (c : State) (order : List Request) (ends : List End) : Type 0 where
-  at_home : length ends ≡ length order → c.place ≡ Home → IsWhole opening c ends → Lies opening c order ends
-  in_hand : (n : ℕ) → length ends < length order → IsNode c n → c.place ≡ Hand n → has_line (point c n) ≡ true → asker order (length ends) ≡ current c n → IsCarried opening c order ends n (seat c n).reason (seat c n).passed → Lies opening c order ends
-  granted : (t : ℕ) → length ends < length order → asker order (length ends) ≡ t → c.place ≡ Mailbox t → (entry c t).granted ≡ true → point c t ≡ Queued → IsWhole opening c ends → Lies opening c order ends
-  left : (t q : ℕ) → length ends < length order → asker order (length ends) ≡ t → c.place ≡ Mailbox q → (entry c q).done ≡ true → (entry c q).link ≡ 0 → (point c q ≡ Left) ⊎ (point c q ≡ Rolled) → point c t ≡ Linking q → IsWhole opening c ends → Lies opening c order ends
+pub data Lies (terms : Terms) (c : State) (order : List Request) (ends : List End) : Type 0 where
+  at_home : length ends ≡ length order → c.place ≡ Home → IsWhole terms c ends → Lies terms c order ends
+  in_hand : (n : ℕ) → length ends < length order → IsNode c n → c.place ≡ Hand n → has_line (point c n) ≡ true → asker order (length ends) ≡ current c n → IsCarried terms c order ends n (seat c n).reason (seat c n).passed → Lies terms c order ends
+  granted : (t : ℕ) → length ends < length order → asker order (length ends) ≡ t → c.place ≡ Mailbox t → (entry c t).granted ≡ true → point c t ≡ Queued → IsWhole terms c ends → Lies terms c order ends
+  left : (t q : ℕ) → length ends < length order → asker order (length ends) ≡ t → c.place ≡ Mailbox q → (entry c q).done ≡ true → (entry c q).link ≡ 0 → (point c q ≡ Left) ⊎ (point c q ≡ Rolled) → point c t ≡ Linking q → IsWhole terms c ends → Lies terms c order ends
 
 -- neighbours among the open requests: the older one's link names the younger, or the younger is about to link
 abbrev pub IsLinked : State → ℕ → ℕ → Type 0
@@ -185,9 +188,12 @@ pub record IsSettled (c : State) (order : List Request) (ends : List End) (clear
   pub bounded : (n : ℕ) → IsNode c n → (entry c n).link ≤ c.nodes
 
 -- the words, the line, the points and the lists of passed nodes fit the queue
-pub record Matches (opening : List ℕ) (c : State) (q : Queue) : Type 0 where
+pub record Matches (terms : Terms) (c : State) (q : Queue) : Type 0 where
+  -- the line is as it was opened, with the turns left that are not served
+  pub opened : length terms.opening.bytes ≡ 64
+  pub size : c.nodes ≡ terms.nodes
+  pub turns : c.left ≡ turns_left terms.lease q.ends
   -- the queue: some first requests have ended, and what is marked or clear was made
-  pub opened : length opening ≡ 64
   pub known : length q.ends ≤ length q.order
   pub nodes : (p : ℕ) → p < length q.order → IsNode c (asker q.order p)
   pub numbered : (p : ℕ) → p < length q.order → (request q.order p).number ≤ count_of (asker q.order p) q.order
@@ -201,7 +207,7 @@ pub record Matches (opening : List ℕ) (c : State) (q : Queue) : Type 0 where
   pub links : (p : ℕ) → length q.ends ≤ p → p + 1 < length q.order → IsLinked c (asker q.order p) (asker q.order (p + 1))
   pub last_link : (p : ℕ) → length q.ends ≤ p → p + 1 ≡ length q.order → (entry c (asker q.order p)).link ≡ 0
   -- the line
-  pub lies : Lies opening c q.order q.ends
+  pub lies : Lies terms c q.order q.ends
   -- an open request is marked exactly where its node is at Rolled; a node's last request is clear exactly where point and entry say
   pub marks : (p : ℕ) → length q.ends ≤ p → p < length q.order → has q.marked (request q.order p) ≡ is_rolled (point c (asker q.order p))
   pub clears : (n p : ℕ) → IsNode c n → IsLast q.order n p → has q.clear (request q.order p) ≡ is_clear (point c n) (entry c n)
@@ -231,9 +237,9 @@ abbrev pub AreEarlierClear : Queue → Type 0
 AreEarlierClear q = (r : Request) → Has q.order r → r.number < count_of r.node q.order → Has q.clear r
 
 -- The state shows the queue: that is legal, and the state matches it.
-pub record Shows (opening : List ℕ) (c : State) (q : Queue) : Type 0 where
-  pub legal : IsLegal q.order q.ends
+pub record Shows (terms : Terms) (c : State) (q : Queue) : Type 0 where
+  pub legal : IsLegal terms.lease q.order q.ends
   pub gone : AreMarked q
   pub earlier : AreEarlierClear q
-  pub matches : Matches opening c q
+  pub matches : Matches terms c q
   pub chained : IsChained c
