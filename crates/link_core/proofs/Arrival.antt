@@ -1,5 +1,6 @@
 -- The line comes into a hand.
-use Rattle.std.proofs.Common.{◌≡◌, ℕ, ◌<◌, Bool, true, false, List, [], length, refl, sym, ◌∙◌, ap, subst}
+use Rattle.qolb_model.specs.declared.terms.Terms.{Terms}
+use Rattle.std.proofs.Common.{◌≡◌, ℕ, ◌<◌, Bool, true, false, List, [], length, inl, refl, sym, ◌∙◌, ap, subst}
 use Rattle.link_core.specs.declared.place.Place.TheVariants.{Hand}
 use Rattle.link_core.specs.declared.entry.Entry.{Entry}
 use Rattle.line_lanes.specs.Line.{merged}
@@ -18,14 +19,14 @@ use Rattle.link_core.specs.Steps.{seat_at_arrival, told_at_arrival}
 use Rattle.link_core.specs.Promise.{Says}
 
 -- nothing is written yet
-merged_none : (opening : List ℕ) (es : List End) (bytes : List ℕ) → length opening ≡ 64 → bytes ≡ bytes_after opening es → merged (bytes_after opening es) bytes 0 ≡ bytes
-merged_none opening es bytes long e = ap (λ (b : List ℕ). merged b bytes 0) (sym e) ∙ merged-self bytes 0 (ap length e ∙ length-bytes_after opening es long)
+merged_none : (terms : Terms) (es : List End) (bytes : List ℕ) → length terms.opening.bytes ≡ 64 → bytes ≡ bytes_after terms.opening.bytes es → merged (bytes_after terms.opening.bytes es) bytes 0 ≡ bytes
+merged_none terms es bytes long e = ap (λ (b : List ℕ). merged b bytes 0) (sym e) ∙ merged-self bytes 0 (ap length e ∙ length-bytes_after terms.opening.bytes es long)
 
-module _ (opening : List ℕ) (c d : State) (o : List Request) (es : List End) (n : ℕ) (l : length es < length o) (turn : asker o (length es) ≡ n) (w : IsWhole opening c es) (long : length opening ≡ 64)
+module _ (terms : Terms) (c d : State) (o : List Request) (es : List End) (n : ℕ) (l : length es < length o) (turn : asker o (length es) ≡ n) (w : IsWhole terms c es) (long : length terms.opening.bytes ≡ 64)
     (node : IsNode d n) (place : d.place ≡ Hand n) (mask : d.mask ≡ no_mask) (closed : d.closed ≡ c.closed) (bytes : d.bytes ≡ c.bytes) (own : seat d n ≡ seat_at_arrival n c.closed) where
-  pub arrival_lies : Lies opening d o es
+  pub arrival_lies : Lies terms d o es
   arrival_lies = in_hand n l node place
-      (ap (λ (s : Seat). has_line s.point) own ∙ lined c.closed) (turn ∙ sym (ap (λ (s : Seat). last_or n s.passed) own ∙ at c.closed)) (subst (λ (s : Seat). IsCarried opening d o es n s.reason s.passed) (sym own) (carried c.closed refl))
+      (ap (λ (s : Seat). has_line s.point) own ∙ lined c.closed) (turn ∙ sym (ap (λ (s : Seat). last_or n s.passed) own ∙ at c.closed)) (subst (λ (s : Seat). IsCarried terms d o es n s.reason s.passed) (sym own) (carried c.closed refl))
     where
       lined : (b : Bool) → has_line (seat_at_arrival n b).point ≡ true
       lined true = refl
@@ -35,12 +36,12 @@ module _ (opening : List ℕ) (c d : State) (o : List Request) (es : List End) (
       at true = refl
       at false = refl
 
-      same : d.bytes.bytes ≡ bytes_after opening es
+      same : d.bytes.bytes ≡ bytes_after terms.opening.bytes es
       same = ap (λ (l : Line64). l.bytes) bytes ∙ w.bytes
 
-      carried : (b : Bool) → c.closed ≡ b → IsCarried opening d o es n (seat_at_arrival n b).reason (seat_at_arrival n b).passed
+      carried : (b : Bool) → c.closed ≡ b → IsCarried terms d o es n (seat_at_arrival n b).reason (seat_at_arrival n b).passed
       carried true e = (closed ∙ e, sym w.closed ∙ e, same)
-      carried false e = (closed ∙ e, sym w.closed ∙ e, rw mask (merged_none opening es d.bytes.bytes long same))
+      carried false e = (closed ∙ e, sym w.closed ∙ e, rw mask (merged_none terms es d.bytes.bytes long same), inl (ap (λ (s : Seat). s.point) (own ∙ ap (seat_at_arrival n) e)))
 
   pub arrival_sits : Sits d o es n (seat_at_arrival n c.closed).point
   arrival_sits = go c.closed own

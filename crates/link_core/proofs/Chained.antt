@@ -1,4 +1,5 @@
 -- A release leaves a chain of links behind it, whatever step is made.
+use Rattle.qolb_model.specs.declared.terms.Terms.{Terms}
 use Rattle.std.proofs.Common.{◌≡◌, ◌≢◌, ℕ, zero, suc, ◌+◌, ◌<◌, ◌≤◌, ◌⊎◌, Bool, true, false, ◌||◌, List, [], ◌∷◌, ◌++◌, length, refl, sym, ◌∙◌, ap, subst, inl, inr, arith, length-append}
 use Rattle.std.specs.Prelude.{slice_index_or}
 use Rattle.std.proofs.Math.ListN.{get_or-append}
@@ -13,7 +14,7 @@ use Rattle.link_core.specs.declared.entry.Entry.{Entry}
 use Rattle.link_core.specs.declared.told.Told.{Told as Answer}
 use Rattle.link_core.specs.declared.event.Event.{Event}
 use Rattle.link_core.specs.State.{State, IsWide, Seat, no_mask, empty, entry, seat, point, IsNode, last_or, current}
-use Rattle.link_core.specs.Steps.{Step, seat_at_arrival, seat_at_close, seat_with, point_at_end}
+use Rattle.link_core.specs.Steps.{closed_by, turns_after, Step, seat_at_arrival, seat_at_close, seat_with, point_at_end}
 use Rattle.link_core.specs.Steps as row
 use Rattle.link_core.specs.Shown.{has_line, is_freeing, IsChained, Matches}
 use Rattle.link_core.proofs.Changes.{Changed, changed_both, changed_seat, moved_both, moved_seat}
@@ -23,7 +24,8 @@ use Rattle.link_core.proofs.Comes.{rolls}
 use Rattle.link_core.proofs.Leave.{done, grants}
 use Rattle.link_core.proofs.Grant.{node_m, seat_passing}
 use Rattle.link_core.proofs.Free.{frees}
-use Rattle.link_core.proofs.All.{marked_node, freed_node}
+use Rattle.link_core.proofs.Leave.{marked_node}
+use Rattle.link_core.proofs.All.{freed_node, closed_wide}
 
 -- the entries of a release: that of the node, and those of the nodes that it has passed
 abbrev on_way : ℕ → List ℕ → ℕ → ℕ
@@ -47,7 +49,7 @@ pub record IsOwn (c d : State) (n : ℕ) (s : Seat) : Type 0 where
   pub links : (i : ℕ) → i < length s.passed → (entry d (on_way n s.passed i)).link ≢ 0
   pub done : (m : ℕ) → s.point ≡ Granting m → (entry d (last_or n s.passed)).done ≡ true
 
-module _ (c d : State) (n : ℕ) (s : Seat) (k : ℕ) (w : Entry) (ch : Changed c d n s k w) (is : IsNode c n) (a : IsChained c) where
+module _ {c d : State} {n : ℕ} {s : Seat} {k : ℕ} {w : Entry} (ch : Changed c d n s k w) (is : IsNode c n) (a : IsChained c) where
   along : (x : ℕ) → (x ≡ k → Grows (entry c x) w) → Grows (entry c x) (entry d x)
   along x f = elim (cases_eq x k) [
     | inl e ↦ subst (λ (y : Entry). Grows (entry c x) y) (sym (ap (entry d) e ∙ ch.entry_own)) (f e)
@@ -133,7 +135,7 @@ end_point Own m e = let z : Idle ≡ Granting m = e in cc
 end_point Closing m e = let z : Shut ≡ Granting m = e in cc
 end_point Refused m e = let z : Shut ≡ Granting m = e in cc
 
-module _ (opening : List ℕ) (c : State) (h : Queue) (w : IsWide c) (s : Matches opening c h) (a : IsChained c) where
+module _ (terms : Terms) (c : State) (h : Queue) (w : IsWide c) (s : Matches terms c h) (a : IsChained c) where
   -- a node that rests is on the way of no release
   off_way : (n : ℕ) → IsNode c n → (point c n ≡ Idle) ⊎ (point c n ≡ Shut) → (m i : ℕ) → IsNode c m → i < length (seat c m).passed → on_way m (seat c m).passed i ≢ n
   off_way n is at m zero b l e =
@@ -150,7 +152,7 @@ module _ (opening : List ℕ) (c : State) (h : Queue) (w : IsWide c) (s : Matche
       rolled_rests n (inr f) g = let z : Shut ≡ Rolled = sym f ∙ g in cc
 
   off_current : (n : ℕ) → IsNode c n → (point c n ≡ Idle) ⊎ (point c n ≡ Shut) → (m x : ℕ) → IsNode c m → point c m ≡ Granting x → current c m ≢ n
-  off_current n is at m x b g e = elim (current_cases opening c h s m b) [
+  off_current n is at m x b g e = elim (current_cases s m b) [
     | inl j ↦ rests at (sym (ap (point c) (sym j.1 ∙ e)) ∙ g)
     | inr j ↦ rolled at (sym (ap (point c) e) ∙ j.point)
   ]
@@ -163,78 +165,93 @@ module _ (opening : List ℕ) (c : State) (h : Queue) (w : IsWide c) (s : Matche
       rolled (inl f) g = let z : Idle ≡ Rolled = sym f ∙ g in cc
       rolled (inr f) g = let z : Shut ≡ Rolled = sym f ∙ g in cc
 
+  close_chained : (n : ℕ) → IsNode c n → IsChained (closed_by n c)
+  close_chained n b =
+      let ch = moved_seat c c.home c.place true c.mask c.left n (record (seat c n) { point = Leaving n; reason = Closing }) w b in
+      chained_grows ch b a (grows_same (entry c n)) (own_same ch b a (grows_same (entry c n)) refl (λ m e. let z : Leaving n ≡ Granting m = e in cc))
+
   pub step_chained : {e : Event} {t : Answer} {d : State} → Step c e t d → IsChained d
-  step_chained {d = d} (row.reset n b at) =
+  step_chained (row.reset n b at) =
       let ch = changed_both c n (record (seat c n) { point = Ready }) n empty w b b in
-      chained_by c d n (record (seat c n) { point = Ready }) n empty ch b a
+      chained_by ch b a
       (λ m i k l e. absurd (off_way n b at m i k l e)) (λ m x k g e. absurd (off_current n b at m x k g e))
-      (own_none c d n (record (seat c n) { point = Ready }) n empty ch b a (s.unpassed n b (elim at [
+      (own_none ch b a (s.unpassed n b (elim at [
         | inl f ↦ ap (λ (p : Point). has_line p || is_freeing p) f
         | inr f ↦ ap (λ (p : Point). has_line p || is_freeing p) f
       ])) (λ m e. let z : Ready ≡ Granting m = e in cc))
-  step_chained {d = d} (row.prepend_first n b at e) =
-      let ch = moved_seat c n (Hand n) c.closed no_mask n (seat_at_arrival n c.closed) w b in
-      chained_grows c d n _ n _ ch b a (grows_same (entry c n)) (own_none c d n _ n _ ch b a (arrival_passed n c.closed) (arrival_point n c.closed))
-  step_chained {d = d} (row.prepend n b at ne) =
-      let ch = moved_seat c n c.place c.closed c.mask n (record (seat c n) { point = Linking c.home }) w b in
-      chained_grows c d n _ n _ ch b a (grows_same (entry c n)) (own_same c d n _ n _ ch b a (grows_same (entry c n)) refl (λ m e. let z : Linking c.home ≡ Granting m = e in cc))
-  step_chained {d = d} (row.link_done n p b at dn) =
-      let ch = moved_both c c.home (Hand n) c.closed no_mask n (seat_at_arrival n c.closed) p (linked (entry c p) n) w b (sits_at opening c h s n (Linking p) b at).node in
-      chained_grows c d n _ p _ ch b a (grows_linked (entry c p) n b.0) (own_none c d n _ p _ ch b a (arrival_passed n c.closed) (arrival_point n c.closed))
-  step_chained {d = d} (row.link n p b at dn) =
-      let ch = changed_both c n (record (seat c n) { point = Queued }) p (linked (entry c p) n) w b (sits_at opening c h s n (Linking p) b at).node in
-      chained_grows c d n _ p _ ch b a (grows_linked (entry c p) n b.0) (own_same c d n _ p _ ch b a (grows_linked (entry c p) n b.0) refl (λ m e. let z : Queued ≡ Granting m = e in cc))
-  step_chained {d = d} (row.load_granted n b at gr) =
-      let ch = moved_seat c c.home (Hand n) c.closed no_mask n (seat_at_arrival n c.closed) w b in
-      chained_grows c d n _ n _ ch b a (grows_same (entry c n)) (own_none c d n _ n _ ch b a (arrival_passed n c.closed) (arrival_point n c.closed))
+  step_chained (row.prepend_first n b at e) =
+      let ch = moved_seat c n (Hand n) c.closed no_mask c.left n (seat_at_arrival n c.closed) w b in
+      chained_grows ch b a (grows_same (entry c n)) (own_none ch b a (arrival_passed n c.closed) (arrival_point n c.closed))
+  step_chained (row.prepend n b at ne) =
+      let ch = moved_seat c n c.place c.closed c.mask c.left n (record (seat c n) { point = Linking c.home }) w b in
+      chained_grows ch b a (grows_same (entry c n)) (own_same ch b a (grows_same (entry c n)) refl (λ m e. let z : Linking c.home ≡ Granting m = e in cc))
+  step_chained (row.link_done n p b at dn) =
+      let ch = moved_both c c.home (Hand n) c.closed no_mask c.left n (seat_at_arrival n c.closed) p (linked (entry c p) n) w b (sits_at s n (Linking p) b at).node in
+      chained_grows ch b a (grows_linked (entry c p) n b.0) (own_none ch b a (arrival_passed n c.closed) (arrival_point n c.closed))
+  step_chained (row.link n p b at dn) =
+      let ch = changed_both c n (record (seat c n) { point = Queued }) p (linked (entry c p) n) w b (sits_at s n (Linking p) b at).node in
+      chained_grows ch b a (grows_linked (entry c p) n b.0) (own_same ch b a (grows_linked (entry c p) n b.0) refl (λ m e. let z : Queued ≡ Granting m = e in cc))
+  step_chained (row.load_granted n b at gr) =
+      let ch = moved_seat c c.home (Hand n) c.closed no_mask c.left n (seat_at_arrival n c.closed) w b in
+      chained_grows ch b a (grows_same (entry c n)) (own_none ch b a (arrival_passed n c.closed) (arrival_point n c.closed))
   step_chained (row.load_waiting n b at un) = a
-  step_chained {d = d} (row.load_free n b at fr) =
+  step_chained (row.load_free n b at fr) =
       let ch = changed_seat c n (record (seat c n) { point = Idle }) w b in
-      chained_grows c d n _ n _ ch b a (grows_same (entry c n)) (own_same c d n _ n _ ch b a (grows_same (entry c n)) refl (λ m e. let z : Idle ≡ Granting m = e in cc))
+      chained_grows ch b a (grows_same (entry c n)) (own_same ch b a (grows_same (entry c n)) refl (λ m e. let z : Idle ≡ Granting m = e in cc))
   step_chained (row.load_busy n b at un) = a
-  step_chained {d = d} (row.home n x b r f) =
-      let ch = moved_seat c 0 Home c.closed c.mask n (seat_at_close (point_at_end (seat c n).reason) (seat c n)) w b in
-      chained_grows c d n _ n _ ch b a (grows_same (entry c n)) (own_close c d n _ n _ ch b a (grows_same (entry c n)) (point_at_end (seat c n).reason) (end_point (seat c n).reason) refl)
-  step_chained {d = d} (row.home_failed n x b r ne) =
+  step_chained (row.home n x b r f) =
+      let ch = moved_seat c 0 Home c.closed c.mask (turns_after n c) n (seat_at_close (point_at_end (seat c n).reason) (seat c n)) w b in
+      chained_grows ch b a (grows_same (entry c n)) (own_close ch b a (grows_same (entry c n)) (point_at_end (seat c n).reason) (end_point (seat c n).reason) refl)
+  step_chained (row.home_failed n x b r ne) =
       let ch = changed_seat c n (record (seat c n) { point = Marking x }) w b in
-      chained_grows c d n _ n _ ch b a (grows_same (entry c n)) (own_same c d n _ n _ ch b a (grows_same (entry c n)) refl (λ m e. let z : Marking x ≡ Granting m = e in cc))
-  step_chained {d = d} (row.done_left n x b at un f) =
-      let ch = moved_both c c.home (Mailbox x) c.closed c.mask n (seat_at_close Left (seat c n)) x (done (entry c x)) w b (marked_node opening c h n x s b at) in
-      chained_grows c d n _ x _ ch b a (grows_done (entry c x)) (own_close c d n _ x _ ch b a (grows_done (entry c x)) Left (λ m e. let z : Left ≡ Granting m = e in cc) refl)
-  step_chained {d = d} (row.done_rolled n x b at un ne) =
-      let ch = moved_both c c.home (Mailbox x) c.closed c.mask n (seat_at_close (point_at_end (seat c n).reason) (seat c n)) x (done (entry c x)) w b (marked_node opening c h n x s b at) in
-      chained_grows c d n _ x _ ch b a (grows_done (entry c x)) (own_close c d n _ x _ ch b a (grows_done (entry c x)) (point_at_end (seat c n).reason) (end_point (seat c n).reason) refl)
+      chained_grows ch b a (grows_same (entry c n)) (own_same ch b a (grows_same (entry c n)) refl (λ m e. let z : Marking x ≡ Granting m = e in cc))
+  step_chained (row.home_last n b at l f) =
+      let c1 : State = closed_by n c in
+      let ch = moved_seat c1 0 Home c1.closed c1.mask (turns_after n c1) n (seat_at_close (point_at_end (seat c1 n).reason) (seat c1 n)) (closed_wide c n w) b in
+      let a1 = close_chained n b in
+      chained_grows ch b a1 (grows_same (entry c n)) (own_close ch b a1 (grows_same (entry c n)) (point_at_end (seat c1 n).reason) (end_point (seat c1 n).reason) refl)
+  step_chained (row.home_last_failed n b at l ne) =
+      let c1 : State = closed_by n c in
+      let ch = changed_seat c1 n (record (seat c1 n) { point = Marking n }) (closed_wide c n w) b in
+      let a1 = close_chained n b in
+      chained_grows ch b a1 (grows_same (entry c n)) (own_same ch b a1 (grows_same (entry c n)) refl (λ m e. let z : Marking n ≡ Granting m = e in cc))
+  step_chained (row.done_left n x b at un f) =
+      let ch = moved_both c c.home (Mailbox x) c.closed c.mask (turns_after n c) n (seat_at_close Left (seat c n)) x (done (entry c x)) w b (marked_node s b at) in
+      chained_grows ch b a (grows_done (entry c x)) (own_close ch b a (grows_done (entry c x)) Left (λ m e. let z : Left ≡ Granting m = e in cc) refl)
+  step_chained (row.done_rolled n x b at un ne) =
+      let ch = moved_both c c.home (Mailbox x) c.closed c.mask (turns_after n c) n (seat_at_close (point_at_end (seat c n).reason) (seat c n)) x (done (entry c x)) w b (marked_node s b at) in
+      chained_grows ch b a (grows_done (entry c x)) (own_close ch b a (grows_done (entry c x)) (point_at_end (seat c n).reason) (end_point (seat c n).reason) refl)
   step_chained {d = d} (row.done_linked n x b at ne) =
-      let ch = changed_both c n (record (seat c n) { point = Granting (entry c x).link }) x (done (entry c x)) w b (marked_node opening c h n x s b at) in
-      let cur : current c n ≡ x = (sits_at opening c h s n (Marking x) b at).0.is in
-      chained_grows c d n _ x _ ch b a (grows_done (entry c x)) (own_same c d n _ x _ ch b a (grows_done (entry c x)) refl (λ m e. ap (λ (y : ℕ). (entry d y).done) cur ∙ ap (λ (v : Entry). v.done) ch.entry_own))
-  step_chained {d = d} (row.grant n m b at un) =
-      let ch = moved_both c c.home (Mailbox m) c.closed c.mask n (seat_at_close (point_at_end (seat c n).reason) (seat c n)) m (grants (entry c m)) w b (node_m opening c h n m s b at) in
-      chained_grows c d n _ m _ ch b a (grows_granted (entry c m)) (own_close c d n _ m _ ch b a (grows_granted (entry c m)) (point_at_end (seat c n).reason) (end_point (seat c n).reason) refl)
-  step_chained {d = d} (row.grant_rolled n m b at ro) =
-      let ch = changed_both c n (seat_passing c n m) m (grants (entry c m)) w b (node_m opening c h n m s b at) in
+      let ch = changed_both c n (record (seat c n) { point = Granting (entry c x).link }) x (done (entry c x)) w b (marked_node s b at) in
+      let cur : current c n ≡ x = (sits_at s n (Marking x) b at).0.is in
+      chained_grows ch b a (grows_done (entry c x)) (own_same ch b a (grows_done (entry c x)) refl (λ m e. ap (λ (y : ℕ). (entry d y).done) cur ∙ ap (λ (v : Entry). v.done) ch.entry_own))
+  step_chained (row.grant n m b at un) =
+      let ch = moved_both c c.home (Mailbox m) c.closed c.mask (turns_after n c) n (seat_at_close (point_at_end (seat c n).reason) (seat c n)) m (grants (entry c m)) w b (node_m s b at) in
+      chained_grows ch b a (grows_granted (entry c m)) (own_close ch b a (grows_granted (entry c m)) (point_at_end (seat c n).reason) (end_point (seat c n).reason) refl)
+  step_chained (row.grant_rolled n m b at ro) =
+      let ch = moved_both c c.home c.place c.closed c.mask (turns_after n c) n (seat_passing c n m) m (grants (entry c m)) w b (node_m s b at) in
       let ps : List ℕ = (seat c n).passed in
-      let sat = sits_at opening c h s n (Granting m) b at in
-      let node = node_m opening c h n m s b at in
+      let sat = sits_at s n (Granting m) b at in
+      let node = node_m s b at in
       let long : length (ps ++ m ∷ []) ≡ length ps + 1 = length-append ps (m ∷ []) in
-      chained_grows c d n _ m _ ch b a (grows_granted (entry c m)) (record {
-        links = λ i l. (along c d n _ m _ ch b a (on_way n (ps ++ m ∷ []) i) (λ z. subst (λ (x : ℕ). Grows (entry c x) (grants (entry c m))) (sym z) (grows_granted (entry c m)))).link
+      chained_grows ch b a (grows_granted (entry c m)) (record {
+        links = λ i l. (along ch b a (on_way n (ps ++ m ∷ []) i) (λ z. subst (λ (x : ℕ). Grows (entry c x) (grants (entry c m))) (sym z) (grows_granted (entry c m)))).link
             (elim (cases_eq i (length ps)) [
               | inl e ↦ λ f. let g : m ≡ 0 = sym sat.3 ∙ sym (ap (λ (x : ℕ). (entry c x).link) (ap (on_way n (ps ++ m ∷ [])) e ∙ get_or-append (n ∷ ps) (m ∷ []) 0 (length ps) (omega arith) ∙ on_way_last n ps)) ∙ f in let j = node.0 in omega arith
               | inr ne ↦ subst (λ (x : ℕ). (entry c x).link ≢ 0) (sym (get_or-append (n ∷ ps) (m ∷ []) 0 i (omega arith))) (a.links n i b (omega arith))
             ]);
         done = λ x e. let z : Leaving m ≡ Granting x = e in cc;
       })
-  step_chained {d = d} (row.roll_granted n b at gr) =
-      let ch = moved_both c c.home (Hand n) c.closed no_mask n (seat_at_arrival n c.closed) n (rolls (entry c n)) w b b in
-      chained_grows c d n _ n _ ch b a (grows_rolled (entry c n)) (own_none c d n _ n _ ch b a (arrival_passed n c.closed) (arrival_point n c.closed))
-  step_chained {d = d} (row.roll n b at un) =
+  step_chained (row.roll_granted n b at gr) =
+      let ch = moved_both c c.home (Hand n) c.closed no_mask c.left n (seat_at_arrival n c.closed) n (rolls (entry c n)) w b b in
+      chained_grows ch b a (grows_rolled (entry c n)) (own_none ch b a (arrival_passed n c.closed) (arrival_point n c.closed))
+  step_chained (row.roll n b at un) =
       let ch = changed_both c n (record (seat c n) { point = Rolled }) n (rolls (entry c n)) w b b in
-      chained_grows c d n _ n _ ch b a (grows_rolled (entry c n)) (own_same c d n _ n _ ch b a (grows_rolled (entry c n)) refl (λ m e. let z : Rolled ≡ Granting m = e in cc))
-  step_chained {d = d} (row.freed n x rest b at ps) =
-      let ch = changed_both c n (seat_with rest (point_at_end (seat c n).reason) (seat c n).reason) x (frees (entry c x)) w b (freed_node opening c h n x rest s b ps) in
-      chained_grows c d n _ x _ ch b a (grows_freed (entry c x)) (record {
-        links = λ i l. (along c d n _ x _ ch b a (on_way n (seat_with rest (point_at_end (seat c n).reason) (seat c n).reason).passed i) (λ z. subst (λ (y : ℕ). Grows (entry c y) (frees (entry c x))) (sym z) (grows_freed (entry c x)))).link
+      chained_grows ch b a (grows_rolled (entry c n)) (own_same ch b a (grows_rolled (entry c n)) refl (λ m e. let z : Rolled ≡ Granting m = e in cc))
+  step_chained (row.freed n x rest b at ps) =
+      let ch = changed_both c n (seat_with rest (point_at_end (seat c n).reason) (seat c n).reason) x (frees (entry c x)) w b (freed_node n x rest s b ps) in
+      chained_grows ch b a (grows_freed (entry c x)) (record {
+        links = λ i l. (along ch b a (on_way n (seat_with rest (point_at_end (seat c n).reason) (seat c n).reason).passed i) (λ z. subst (λ (y : ℕ). Grows (entry c y) (frees (entry c x))) (sym z) (grows_freed (entry c x)))).link
             (subst (λ (ys : List ℕ). (entry c (on_way n ys i)).link ≢ 0) (sym (kept rest)) (rests rest ps i (subst (λ (ys : List ℕ). i < length ys) (kept rest) l)));
         done = λ m e. absurd (not_granting rest m e);
       })
@@ -252,6 +269,4 @@ module _ (opening : List ℕ) (c : State) (h : Queue) (w : IsWide c) (s : Matche
       rests rest ps (suc i) l =
           subst (λ (ys : List ℕ). (entry c (on_way n ys (suc (suc i)))).link ≢ 0) ps (a.links n (suc (suc i)) b (subst (λ (ys : List ℕ). suc (suc i) < length ys) (sym ps) (omega arith)))
   step_chained (row.write n mask bytes b at) = record { links = a.links; done = a.done }
-  step_chained {d = d} (row.close n b at) =
-      let ch = moved_seat c c.home c.place true c.mask n (record (seat c n) { point = Leaving n; reason = Closing }) w b in
-      chained_grows c d n _ n _ ch b a (grows_same (entry c n)) (own_same c d n _ n _ ch b a (grows_same (entry c n)) refl (λ m e. let z : Leaving n ≡ Granting m = e in cc))
+  step_chained (row.close n b at) = close_chained n b

@@ -1,12 +1,14 @@
 -- Putting ended requests on the clear list.
-use Rattle.std.proofs.Common.{◌≡◌, ◌≢◌, ℕ, ◌<◌, ◌≤◌, Bool, true, false, ◌||◌, List, [], ◌∷◌, ◌++◌, ◌⊎◌, length, refl, sym, ◌∙◌, ap, subst, inl, inr}
+use Rattle.std.proofs.Common.{◌≡◌, ◌≢◌, ℕ, ◌<◌, ◌≤◌, Bool, true, false, List, [], ◌∷◌, ◌++◌, length, sym, ◌∙◌, ap, subst, inl, inr}
 use Rattle.link_core.specs.Places.{request, asker, IsLast}
 use Rattle.qolb_model.specs.Histories.{Clears, more}
-use Rattle.qolb_model.specs.Requests.{count_of, has, is_same}
+use Rattle.qolb_model.specs.Requests.{count_of, has}
 use Rattle.qolb_model.specs.declared.request.Request.{Request}
 use Rattle.link_core.specs.State.{State, IsNode}
 use Rattle.std.proofs.lemmas.Bool.{cases_eq, cases_Bool}
-use Rattle.link_core.proofs.Orders.{get_request, last_once, holds_push, other_request, same_request, request_node, request_number}
+use Rattle.qolb_model.proofs.Requests.{has_push, has_last}
+use Rattle.qolb_model.proofs.Follows.{has_push_other}
+use Rattle.link_core.proofs.Orders.{get_request, last_once}
 
 -- the clear list, in which the last requests are as f says
 pub record Cleared (c : State) (o : List Request) (t : ℕ) (old : List Request) (f : ℕ → Bool) : Type 0 where
@@ -14,18 +16,6 @@ pub record Cleared (c : State) (o : List Request) (t : ℕ) (old : List Request)
   pub grows : Clears o t old clear
   pub says : (m q : ℕ) → IsNode c m → IsLast o m q → has clear (request o q) ≡ f m
   pub known : (r : Request) → has clear r ≡ true → r.number ≤ count_of r.node o
-
-or_cases : (a b : Bool) → (a || b) ≡ true → (a ≡ true) ⊎ (b ≡ true)
-or_cases true b e = inl e
-or_cases false b e = inr e
-
-or_true : (a : Bool) → (a || true) ≡ true
-or_true true = refl
-or_true false = refl
-
-or_false : (a : Bool) → (a || false) ≡ a
-or_false true = refl
-or_false false = refl
 
 module _ (c : State) (o : List Request) (t : ℕ) (old : List Request) (numbered : (p : ℕ) → p < length o → (request o p).number ≤ count_of (asker o p) o) where
   -- nothing is cleared
@@ -37,14 +27,13 @@ module _ (c : State) (o : List Request) (t : ℕ) (old : List Request) (numbered
   push_cleared f g n p k l a u fn gn e = record {
     clear = k.clear ++ request o p ∷ [];
     grows = more p (request o p) k.grows u (get_request o p l.known) (k.says n p a l ∙ fn);
-    says = λ m q b j. holds_push k.clear (request o p) (request o q) ∙ elim (cases_eq m n) [
-      | inl s ↦ let i : q ≡ p = last_once o n q p (subst (λ (m : ℕ). IsLast o m q) s j) l in
-          rw (s, i, same_request (request o p), gn) (or_true (has k.clear (request o p)))
-      | inr ne ↦ rw (other_request (request o p) (request o q) (λ s. ne (sym j.its ∙ sym s ∙ l.its))) (or_false (has k.clear (request o q)) ∙ k.says m q b j ∙ sym (e m q ne b j))
+    says = λ m q b j. elim (cases_eq m n) [
+      | inl s ↦ let i : q ≡ p = last_once o n q p (subst (λ (m : ℕ). IsLast o m q) s j) l in rw (s, i, gn) (has_last k.clear (request o p))
+      | inr ne ↦ has_push_other k.clear (request o p) (request o q) (λ s. ne (sym j.its ∙ s ∙ l.its)) ∙ k.says m q b j ∙ sym (e m q ne b j)
     ];
-    known = λ r y. elim (or_cases (has k.clear r) (is_same (request o p) r) (sym (holds_push k.clear (request o p) r) ∙ y)) [
+    known = λ r y. elim (has_push k.clear (request o p) r y) [
       | inl z ↦ k.known r z
-      | inr z ↦ subst (λ (x : ℕ). x ≤ count_of r.node o) (request_number (request o p) r z) (subst (λ (x : ℕ). (request o p).number ≤ count_of x o) (request_node (request o p) r z) (numbered p l.known))
+      | inr z ↦ subst (λ (x : Request). x.number ≤ count_of x.node o) (sym z) (numbered p l.known)
     ];
   }
 

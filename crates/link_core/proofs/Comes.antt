@@ -1,14 +1,14 @@
 -- The line comes to a node that waits.
-use Rattle.link_core.proofs.Deeds.{Stays, Marks}
-use Rattle.std.proofs.Common.{◌≡◌, ◌≢◌, ℕ, ◌<◌, ◌≤◌, Bool, true, false, ◌||◌, List, [], ◌∷◌, ◌++◌, ◌⊎◌, length, refl, sym, ◌∙◌, ap, subst, inl, inr, arith}
+use Rattle.qolb_model.specs.declared.terms.Terms.{Terms}
+use Rattle.std.proofs.Common.{◌≡◌, ◌≢◌, ℕ, ◌<◌, ◌≤◌, true, false, ◌||◌, List, [], ◌∷◌, ◌++◌, length, Some, None, refl, sym, ◌∙◌, ap, subst, inl, inr, arith}
 use Rattle.link_core.specs.declared.point.Point.{Point}
 use Rattle.link_core.specs.declared.point.Point.TheVariants.{Linking, Queued, Granting, Left, Rolled}
 use Rattle.link_core.specs.declared.place.Place.TheVariants.{Mailbox, Hand}
 use Rattle.link_core.specs.declared.entry.Entry.{Entry}
 use Rattle.link_core.specs.Places.{request, asker, IsLast}
-use Rattle.qolb_model.specs.Histories.{none}
-use Rattle.qolb_model.specs.Queue.{Queue}
-use Rattle.qolb_model.specs.Requests.{count_of, has, is_same}
+use Rattle.qolb_model.specs.Histories.{none, IsLegal}
+use Rattle.qolb_model.specs.Queue.{Queue, mark}
+use Rattle.qolb_model.specs.Requests.{count_of, last_of}
 use Rattle.qolb_model.specs.declared.request.Request.{Request}
 use Rattle.link_core.specs.State.{State, Seat, entry, seat, point, IsNode, is_clear}
 use Rattle.link_core.specs.Shown.{is_rolled, has_line, is_freeing, IsWhole, IsWaiting, Matches}
@@ -16,27 +16,36 @@ use Rattle.link_core.specs.declared.told.Told.TheVariants as told
 use Rattle.link_core.specs.State.{no_mask}
 use Rattle.link_core.specs.Steps.{seat_at_arrival, told_at_arrival}
 use Rattle.link_core.proofs.Deeds.{GoesOn}
-use Rattle.link_core.proofs.Orders.{holds_push, last_once, same_request, other_request, request_node, request_number}
-use Rattle.link_core.proofs.Changes.{Changed}
+use Rattle.qolb_model.proofs.Requests.{has_push, has_last}
+use Rattle.qolb_model.proofs.Follows.{has_push_other}
+use Rattle.qolb_model.proofs.Prefixes.{prefix_self}
+use Rattle.link_core.proofs.Orders.{last_once, last_is}
+use Rattle.link_core.proofs.Changes.{Changed, point_other, at_other}
 use Rattle.link_core.proofs.Arrival.{arrival_lies, arrival_sits, arrival_says, arrival_unrolled, arrival_unclear, arrival_unpassed}
 use Rattle.link_core.proofs.Follows.{sits_at, granted_for, granted_turn, waits_behind}
-use Rattle.link_core.proofs.Kept.{Leaves, lies_kept}
+use Rattle.link_core.proofs.Kept.{Leaves, lies_kept, rests_kept, rests_held}
 use Rattle.link_core.proofs.Quiet.{IsQuiet, quiet_shows}
 
 -- by a load, or by a roll that comes too late; w is n's entry after it
-module _ (opening : List ℕ) (c : State) (h : Queue) (n : ℕ) (s : Matches opening c h) (is : IsNode c n) (at : point c n ≡ Queued) (gr : (entry c n).granted ≡ true)
+module _ (terms : Terms) (c : State) (h : Queue) (n : ℕ) (s : Matches terms c h) (is : IsNode c n) (at : point c n ≡ Queued) (gr : (entry c n).granted ≡ true)
     (ents : List Entry) (sts : List Seat) (w : Entry) (ch : Changed c (record c { place = Hand n; mask = no_mask; entries = ents; seats = sts }) n (seat_at_arrival n c.closed) n w) where
   abbrev d : State
   d = record c { place = Hand n; mask = no_mask; entries = ents; seats = sts }
 
   last : IsLast h.order n (length h.ends)
-  last = granted_turn opening c h s n is at gr
+  last = granted_turn s n is at gr
 
-  found : (opening : List ℕ) → Matches opening c h → (c.place ≡ Mailbox n) × ((entry c n).granted ≡ true) × IsWhole opening c h.ends
-  found opening s = granted_for opening c h s n s.lies last.known last.its at
+  found : (terms : Terms) → Matches terms c h → (c.place ≡ Mailbox n) × ((entry c n).granted ≡ true) × IsWhole terms c h.ends
+  found terms s = granted_for s n s.lies last.known last.its at
 
   none_passed : (seat c n).passed ≡ []
   none_passed = s.unpassed n is (ap (λ (p : Point). has_line p || is_freeing p) at)
+
+  -- n's request is at its turn, and no release is at it
+  undone : (entry c n).done ≡ true → ⊥
+  undone e =
+      let g = ((s.fresh (length h.ends) (omega arith) last.known).done (ap (λ (m : ℕ). (entry c m).done) last.its ∙ e)).1 in
+      let z : Mailbox n ≡ Hand g.by = sym (found terms s).0 ∙ g.place in cc
 
   quiet : w.link ≡ (entry c n).link → w.freed ≡ (entry c n).freed → w.granted ≡ (entry c n).granted → w.done ≡ (entry c n).done → IsQuiet c d h h.marked n (seat_at_arrival n c.closed) n w
   quiet lk fr gd dn = record {
@@ -49,7 +58,7 @@ module _ (opening : List ℕ) (c : State) (h : Queue) (n : ℕ) (s : Matches ope
     clear = λ ne. absurd (ne refl);
     clear_own = arrival_unclear n c.closed (entry d n) ∙ ap (λ (p : Point). is_clear p (entry c n)) (sym at);
     passed = arrival_unpassed n c.closed ∙ sym none_passed;
-    hands = λ m e. let z : Mailbox n ≡ Hand m = sym (found opening s).0 ∙ e in cc;
+    hands = λ m e. let z : Mailbox n ≡ Hand m = sym (found terms s).0 ∙ e in cc;
     marks = λ p a l e. s.marks p a l ∙ ap (λ (m : ℕ). is_rolled (point c m)) e ∙ ap is_rolled at ∙ sym (arrival_unrolled n c.closed);
     marks_other = λ p ne. refl;
     marked_known = s.marked_known;
@@ -57,62 +66,50 @@ module _ (opening : List ℕ) (c : State) (h : Queue) (n : ℕ) (s : Matches ope
     not_linking = λ q g. let z : Queued ≡ Linking q = sym at ∙ g in cc;
     not_passed = λ g. let z : Queued ≡ Rolled = sym at ∙ g in cc;
     unpassed = λ _. arrival_unpassed n c.closed;
-    lies = λ opening s. arrival_lies opening c d h.order h.ends n last.known last.its (found opening s).2 s.opened is refl refl refl refl ch.seat_own;
-    own = arrival_sits opening c d h.order h.ends n last.known last.its (found opening s).2 s.opened is refl refl refl refl ch.seat_own;
+    node = is;
+    boxes = λ x ne e. let z : Mailbox n ≡ Mailbox x = sym (found terms s).0 ∙ e in let y : n ≡ x = cc in absurd (ne (sym y));
+    box = λ e _. absurd (undone (sym dn ∙ e));
+    rests = rests_held d n h.order h.ends h.clear refl;
+    lies = λ terms s. arrival_lies terms c d h.order h.ends n last.known last.its (found terms s).2 s.opened is refl refl refl refl ch.seat_own;
+    own = arrival_sits terms c d h.order h.ends n last.known last.its (found terms s).2 s.opened is refl refl refl refl ch.seat_own;
   }
 
-  pub come_keeps : w.link ≡ (entry c n).link → w.freed ≡ (entry c n).freed → w.granted ≡ (entry c n).granted → w.done ≡ (entry c n).done → GoesOn opening c d h n (told_at_arrival c.closed)
+  pub come_keeps : w.link ≡ (entry c n).link → w.freed ≡ (entry c n).freed → w.granted ≡ (entry c n).granted → w.done ≡ (entry c n).done → GoesOn terms d h n (told_at_arrival c.closed) None false
   come_keeps lk fr gd dn = record {
     after = h;
+    makes = refl;
     clears = none;
-    shows = quiet_shows opening c h n s is (Hand n) c.bytes c.closed no_mask ents sts h.marked (seat_at_arrival n c.closed) n w ch (quiet lk fr gd dn);
-    says = arrival_says h n c.closed (found opening s).2.closed last;
+    uncleared = λ _. refl;
+    shows = quiet_shows terms c h n s is (Hand n) c.bytes c.closed no_mask ents sts h.marked (seat_at_arrival n c.closed) n w ch (quiet lk fr gd dn);
+    says = arrival_says h n c.closed (found terms s).2.closed last;
   }
 
-  pub come_does : (lk : w.link ≡ (entry c n).link) (fr : w.freed ≡ (entry c n).freed) (gr : w.granted ≡ (entry c n).granted) (dn : w.done ≡ (entry c n).done) → Stays h (come_keeps lk fr gr dn).after
-  unfolding come_keeps
-  come_does lk fr gr dn = refl
+pub load_waiting_keeps : (terms : Terms) (c : State) (h : Queue) (n : ℕ) (s : Matches terms c h) (is : IsNode c n) (at : point c n ≡ Queued) → (entry c n).granted ≡ false → GoesOn terms c h n told.Waiting None false
+load_waiting_keeps terms c h n s is at un =
+    let b = sits_at s n Queued is at in
+    record { after = h; makes = refl; clears = none; uncleared = λ _. refl; shows = s; says = record { at = b.at; last = b.own; behind = waits_behind s n is at un b } }
 
-pub load_waiting_keeps : (opening : List ℕ) (c : State) (h : Queue) (n : ℕ) (s : Matches opening c h) (is : IsNode c n) (at : point c n ≡ Queued) → (entry c n).granted ≡ false → GoesOn opening c c h n told.Waiting
-load_waiting_keeps opening c h n s is at un =
-    let b = sits_at opening c h s n Queued is at in
-    record { after = h; clears = none; shows = s; says = record { at = b.at; last = b.own; behind = waits_behind opening c h s n is at un b } }
-
-pub load_waiting_does : (opening : List ℕ) (c : State) (h : Queue) (n : ℕ) (s : Matches opening c h) (is : IsNode c n) (at : point c n ≡ Queued) (un : (entry c n).granted ≡ false) → Stays h (load_waiting_keeps opening c h n s is at un).after
-unfolding load_waiting_keeps
-load_waiting_does opening c h n s is at un = refl
-
-pub load_busy_keeps : (opening : List ℕ) (c : State) (h : Queue) (n : ℕ) (s : Matches opening c h) (is : IsNode c n) → is_clear (point c n) (entry c n) ≡ false → GoesOn opening c c h n told.Busy
-load_busy_keeps opening c h n s is un =
-    record { after = h; clears = none; shows = s; says = λ p l. s.clears n p is l ∙ un }
-
-pub load_busy_does : (opening : List ℕ) (c : State) (h : Queue) (n : ℕ) (s : Matches opening c h) (is : IsNode c n) (un : is_clear (point c n) (entry c n) ≡ false) → Stays h (load_busy_keeps opening c h n s is un).after
-unfolding load_busy_keeps
-load_busy_does opening c h n s is un = refl
+pub load_busy_keeps : (terms : Terms) (c : State) (h : Queue) (n : ℕ) (s : Matches terms c h) (is : IsNode c n) → is_clear (point c n) (entry c n) ≡ false → GoesOn terms c h n told.Busy None false
+load_busy_keeps terms c h n s is un =
+    record { after = h; makes = refl; clears = none; uncleared = λ _. refl; shows = s; says = λ p l. s.clears n p is l ∙ un }
 
 abbrev pub rolls : Entry → Entry
 rolls w = record w { rolled = true }
 
 -- withdrawing
-module _ (opening : List ℕ) (c : State) (h : Queue) (n : ℕ) (s : Matches opening c h) (is : IsNode c n) (at : point c n ≡ Queued) (un : (entry c n).granted ≡ false)
+module _ (terms : Terms) (c : State) (h : Queue) (n : ℕ) (s : Matches terms c h) (is : IsNode c n) (at : point c n ≡ Queued) (un : (entry c n).granted ≡ false)
     (ents : List Entry) (sts : List Seat) (ch : Changed c (record c { entries = ents; seats = sts }) n (record (seat c n) { point = Rolled }) n (rolls (entry c n))) where
   abbrev e : State
   e = record c { entries = ents; seats = sts }
 
   b : IsWaiting c h.order h.ends n
-  b = sits_at opening c h s n Queued is at
+  b = sits_at s n Queued is at
 
   behind : length h.ends < b.at
-  behind = waits_behind opening c h s n is at un b
+  behind = waits_behind s n is at un b
 
   not_turn : length h.ends < length h.order → asker h.order (length h.ends) ≢ n
   not_turn l f = let k = last_once h.order n (length h.ends) b.at (subst (λ (x : ℕ). IsLast h.order x (length h.ends)) f (s.distinct (length h.ends) (omega arith) l)) b.own in let w = behind in absurd (omega arith)
-
-  other : (m : ℕ) → m ≢ n → point e m ≡ point c m
-  other m ne = ap (λ (s : Seat). s.point) (ch.seat_other m ne)
-
-  elsewhere : (m : ℕ) (q : Point) → point c m ≡ q → (Queued ≡ q → ⊥) → m ≢ n
-  elsewhere m q e ne f = ne (sym at ∙ ap (point c) (sym f) ∙ e)
 
   leaves : Leaves c e h.order h.order h.ends
   leaves = record {
@@ -125,13 +122,10 @@ module _ (opening : List ℕ) (c : State) (h : Queue) (n : ℕ) (s : Matches ope
     turn = λ l. (l, refl);
     fwd = λ m q e l. l;
     hand = λ m f. ch.seat_other m (λ g. let x : has_line Queued ≡ true = ap has_line (sym at) ∙ ap (λ (x : ℕ). has_line (point c x)) (sym g) ∙ f in cc);
-    box = λ t l a q g. (other t (λ f. not_turn l (a ∙ f)) ∙ q, ap (λ (w : Entry). w.granted) (ch.entry_other t (λ f. not_turn l (a ∙ f))) ∙ g);
-    linking = λ t q l a f. other t (λ g. not_turn l (a ∙ g)) ∙ f;
-    tail = λ q a f g. let ne : q ≢ n = elim a [ inl i ↦ elsewhere q Left i (λ e. cc) | inr i ↦ elsewhere q Rolled i (λ e. cc) ] in (
-      elim a [ inl i ↦ inl (other q ne ∙ i) | inr i ↦ inr (other q ne ∙ i) ],
-      ap (λ (w : Entry). w.link) (ch.entry_other q ne) ∙ f,
-      ap (λ (w : Entry). w.done) (ch.entry_other q ne) ∙ g,
-    );
+    box = λ t l a q g. (point_other ch t (λ f. not_turn l (a ∙ f)) ∙ q, ap (λ (w : Entry). w.granted) (ch.entry_other t (λ f. not_turn l (a ∙ f))) ∙ g);
+    linking = λ t q l a f. point_other ch t (λ g. not_turn l (a ∙ g)) ∙ f;
+    tail = λ q a f g. let ne : q ≢ n = elim a [ inl i ↦ at_other ch q Queued Left at i (λ e. cc) | inr i ↦ at_other ch q Queued Rolled at i (λ e. cc) ] in
+        (point_other ch q ne, ap (λ (w : Entry). w.link) (ch.entry_other q ne), ap (λ (w : Entry). w.done) (ch.entry_other q ne));
   }
 
   abbrev after_roll : List Request
@@ -152,40 +146,30 @@ module _ (opening : List ℕ) (c : State) (h : Queue) (n : ℕ) (s : Matches ope
     clear_own = rw ch.entry_own (rw unfreed refl) ∙ ap (λ (p : Point). is_clear p (entry c n)) (sym at);
     passed = refl;
     hands = λ m e. e;
-    marks = λ p a l f. let k = last_once h.order n p b.at (subst (λ (m : ℕ). IsLast h.order m p) f (s.distinct p a l)) b.own in rw k (holds_push h.marked (request h.order b.at) (request h.order b.at) ∙ ap (λ x. has h.marked (request h.order b.at) || x) (same_request (request h.order b.at)) ∙ or_true (has h.marked (request h.order b.at)));
-    marks_other = λ p ne. holds_push h.marked (request h.order b.at) (request h.order p) ∙ ap (λ x. has h.marked (request h.order p) || x) (other_request (request h.order b.at) (request h.order p) (λ f. ne (sym f ∙ b.own.its))) ∙ or_false (has h.marked (request h.order p));
-    marked_known = λ r y. elim (or_cases (has h.marked r) (is_same (request h.order b.at) r) (sym (holds_push h.marked (request h.order b.at) r) ∙ y)) [
-      | inr z ↦ subst (λ (x : ℕ). x ≤ count_of r.node h.order) (request_number (request h.order b.at) r z) (subst (λ (x : ℕ). (request h.order b.at).number ≤ count_of x h.order) (request_node (request h.order b.at) r z) (s.numbered b.at b.own.known))
+    marks = λ p a l f. let k = last_once h.order n p b.at (subst (λ (m : ℕ). IsLast h.order m p) f (s.distinct p a l)) b.own in rw k (has_last h.marked (request h.order b.at));
+    marks_other = λ p ne. has_push_other h.marked (request h.order b.at) (request h.order p) (λ f. ne (f ∙ b.own.its));
+    marked_known = λ r y. elim (has_push h.marked (request h.order b.at) r y) [
       | inl z ↦ s.marked_known r z
+      | inr z ↦ subst (λ (x : Request). x.number ≤ count_of x.node h.order) (sym z) (s.numbered b.at b.own.known)
     ];
     not_granting = λ m g. let z : Queued ≡ Granting m = sym at ∙ g in cc;
     not_linking = λ q g. let z : Queued ≡ Linking q = sym at ∙ g in cc;
     not_passed = λ g. let z : Queued ≡ Rolled = sym at ∙ g in cc;
     unpassed = λ _. s.unpassed n is (ap (λ (p : Point). has_line p || is_freeing p) at);
-    lies = λ opening s. lies_kept opening c e h.order h.order h.ends leaves s.lies;
+    lies = λ terms s. lies_kept leaves terms s.lies;
     own = ap (λ (w : Entry). w.rolled) ch.entry_own;
+    node = is;
+    boxes = λ x ne e. e;
+    box = s.settled.boxed n is;
+    rests = rests_kept leaves h.clear h.clear s.known (prefix_self h.order) (prefix_self h.clear) s.settled.rests;
   }
-    where
-      or_cases : (a b : Bool) → (a || b) ≡ true → (a ≡ true) ⊎ (b ≡ true)
-      or_cases true b e = inl e
-      or_cases false b e = inr e
 
-      or_true : (a : Bool) → (a || true) ≡ true
-      or_true true = refl
-      or_true false = refl
-
-      or_false : (a : Bool) → (a || false) ≡ a
-      or_false true = refl
-      or_false false = refl
-
-  pub roll_keeps : GoesOn opening c e h n told.Withdrawn
-  roll_keeps = record {
+  pub roll_keeps : IsLegal terms.lease h.order h.ends → GoesOn terms e h n told.Withdrawn (Some (mark (last_of n h.order))) false
+  roll_keeps legal = record {
     after = record h { marked = after_roll };
+    makes = ap (λ (r : Request). record h { marked = h.marked ++ r ∷ [] }) (last_is terms.lease h.order h.ends n b.at legal b.own);
     clears = none;
-    shows = quiet_shows opening c h n s is c.place c.bytes c.closed c.mask ents sts after_roll (record (seat c n) { point = Rolled }) n (rolls (entry c n)) ch quiet_roll;
+    uncleared = λ _. refl;
+    shows = quiet_shows terms c h n s is c.place c.bytes c.closed c.mask ents sts after_roll (record (seat c n) { point = Rolled }) n (rolls (entry c n)) ch quiet_roll;
     says = record { at = b.at; last = b.own; behind = behind };
   }
-
-  pub roll_does : Marks n h roll_keeps.after
-  unfolding roll_keeps
-  roll_does = (b.at, b.own, refl)

@@ -1,51 +1,37 @@
 -- The turn ends: what the end is, and what it leaves true.
-use Rattle.std.proofs.Common.{◌≡◌, ◌≢◌, ℕ, ◌+◌, ◌<◌, Bool, true, false, ◌||◌, List, [], ◌∷◌, ◌++◌, length, refl, sym, ◌∙◌, ap, subst, inl, inr, arith}
-use Rattle.std.specs.Prelude.{slice_index_or}
+use Rattle.qolb_model.specs.declared.terms.Terms.{Terms}
+use Rattle.std.proofs.Common.{◌≡◌, ◌≢◌, ℕ, ◌+◌, ◌<◌, Bool, true, false, ◌||◌, List, [], ◌∷◌, ◌++◌, length, Some, slice_get, refl, sym, ◌∙◌, ap, subst, inl, inr, arith}
 use Rattle.link_core.specs.declared.point.Point.{Point}
-use Rattle.link_core.specs.declared.point.Point.TheVariants.{Rolled}
+use Rattle.link_core.specs.declared.point.Point.TheVariants.{Holding, Rolled}
+use Rattle.link_core.specs.declared.place.Place.TheVariants.{Mailbox, Hand}
 use Rattle.link_core.specs.declared.seat.Reason.{Reason}
 use Rattle.link_core.specs.declared.seat.Reason.TheVariants.{Own, Closing, Refused}
-use Rattle.link_core.proofs.Deeds.{after_end, shuts}
 use Rattle.link_core.specs.Places.{request, asker, IsLast}
-use Rattle.qolb_model.specs.Ends.{is_closed, bytes_after, written}
+use Rattle.qolb_model.specs.Ends.{is_closed, bytes_after}
 use Rattle.qolb_model.specs.Queue.{Queue, EndsAs}
 use Rattle.qolb_model.specs.Requests.{has}
 use Rattle.qolb_model.specs.declared.end.End.{End}
-use Rattle.qolb_model.specs.declared.end.End.TheVariants.{Served, Gone, Told}
+use Rattle.qolb_model.specs.declared.end.End.TheVariants.{Gone, Told}
 use Rattle.link_core.specs.State.{State, seat, point, IsNode, last_or, current}
-use Rattle.link_core.specs.Shown.{is_rolled, has_line, ByReason, EndedBy, HasEnded, IsWhole, IsCarried, Matches}
+use Rattle.link_core.specs.Shown.{is_rolled, has_line, ByReason, EndedBy, IsWhole, IsCarried, HasCome, Matches}
 use Rattle.std.proofs.Common.{length-append}
-use Rattle.std.proofs.Math.ListN.{get_or-append}
-use Rattle.std.proofs.Math.Seq.{get_or-append_seam}
-use Rattle.link_core.proofs.Orders.{last_once}
+use mathlib.Core.List.{IsPrefix}
+use Rattle.qolb_model.proofs.Histories.{bytes_after-append, is_closed-append}
+use Rattle.qolb_model.proofs.Lists.{never, slice_get-push}
+use Rattle.qolb_model.proofs.Prefixes.{prefix_append, prefix_get}
+use Rattle.link_core.proofs.Orders.{has_ended}
+use Rattle.qolb_model.specs.Leases.{is_last_turn, turns_left}
+use Rattle.qolb_model.specs.Steps.{one_fewer}
+use Rattle.qolb_model.proofs.Leases.{turns_left-served, turns_left-same}
+use Rattle.link_core.specs.Steps.{left_after, turns_after}
 use Rattle.link_core.specs.Moves.{end_by}
 use Rattle.link_core.proofs.Follows.{in_its_hand, hand_lies, current_cases}
-
-pub bytes_push : (opening : List ℕ) (es : List End) (x : End) → bytes_after opening (es ++ x ∷ []) ≡ after_end (bytes_after opening es) x
-bytes_push opening [] (Served w shut) = refl
-bytes_push opening [] Gone = refl
-bytes_push opening [] Told = refl
-bytes_push opening (Served w shut ∷ es) x = bytes_push (written opening w) es x
-bytes_push opening (Gone ∷ es) x = bytes_push opening es x
-bytes_push opening (Told ∷ es) x = bytes_push opening es x
 
 or_false : (a : Bool) → (a || false) ≡ a
 or_false true = refl
 or_false false = refl
 
-or_assoc : (a b c : Bool) → (a || (b || c)) ≡ ((a || b) || c)
-or_assoc true b c = refl
-or_assoc false b c = refl
-
-pub closed_push : (es : List End) (x : End) → is_closed (es ++ x ∷ []) ≡ (is_closed es || shuts x)
-closed_push [] (Served w shut) = or_false shut
-closed_push [] Gone = refl
-closed_push [] Told = refl
-closed_push (Served w shut ∷ es) x = ap (λ b. shut || b) (closed_push es x) ∙ or_assoc shut (is_closed es) (shuts x)
-closed_push (Gone ∷ es) x = closed_push es x
-closed_push (Told ∷ es) x = closed_push es x
-
-module _ (opening : List ℕ) (c : State) (h : Queue) (n : ℕ) (s : Matches opening c h) (is : IsNode c n) (lined : has_line (point c n) ≡ true) where
+module _ {terms : Terms} {c : State} {h : Queue} {n : ℕ} (s : Matches terms c h) (is : IsNode c n) (lined : has_line (point c n) ≡ true) where
   abbrev pub x : End
   x = end_by c (seat c n).reason (seat c n).passed
 
@@ -55,8 +41,8 @@ module _ (opening : List ℕ) (c : State) (h : Queue) (n : ℕ) (s : Matches ope
   pub longer : length fs ≡ length h.ends + 1
   longer = length-append h.ends (x ∷ [])
 
-  pub facts : (length h.ends < length h.order) × (IsNode c n) × (has_line (point c n) ≡ true) × (asker h.order (length h.ends) ≡ current c n) × (IsCarried opening c h.order h.ends n (seat c n).reason (seat c n).passed)
-  facts = hand_lies opening c h s n (in_its_hand opening c h s n is lined) s.lies
+  pub facts : (length h.ends < length h.order) × (IsNode c n) × (has_line (point c n) ≡ true) × (asker h.order (length h.ends) ≡ current c n) × (IsCarried terms c h.order h.ends n (seat c n).reason (seat c n).passed)
+  facts = hand_lies s n (in_its_hand s n is lined) s.lies
 
   -- the current node's last request is the one at its turn
   pub its : IsLast h.order (current c n) (length h.ends)
@@ -73,27 +59,40 @@ module _ (opening : List ℕ) (c : State) (h : Queue) (n : ℕ) (s : Matches ope
   unpassed_mark e = mark ∙ ap (λ (ps : List ℕ). is_rolled (point c (last_or n ps))) e ∙ lined_unrolled (point c n) lined
 
   passed_mark : (m : ℕ) (ms : List ℕ) → (seat c n).passed ≡ m ∷ ms → has h.marked (request h.order (length h.ends)) ≡ true
-  passed_mark m ms e = mark ∙ elim (current_cases opening c h s n is) [
+  passed_mark m ms e = mark ∙ elim (current_cases s n is) [
     | inl k ↦ let z : [] ≡ m ∷ ms = sym k.0 ∙ e in cc
     | inr k ↦ ap is_rolled k.point
   ]
 
-  pub may : EndsAs h (request h.order (length h.ends)) x
-  may = go (seat c n).reason (seat c n).passed refl facts.4
+  -- a holder that lets go at the last turn of a lease closes the line before
+  pub may : (point c n ≡ Holding → is_last_turn terms.lease h.ends ≡ false) → EndsAs terms.lease h (request h.order (length h.ends)) x
+  may early = go (seat c n).reason (seat c n).passed refl facts.4
     where
-      go : (r : Reason) (ps : List ℕ) → (seat c n).passed ≡ ps → IsCarried opening c h.order h.ends n r ps → EndsAs h (request h.order (length h.ends)) (end_by c r ps)
-      go Own [] e k = (unpassed_mark e, k.1)
-      go Closing [] e k = (unpassed_mark e, k.1)
+      go : (r : Reason) (ps : List ℕ) → (seat c n).passed ≡ ps → IsCarried terms c h.order h.ends n r ps → EndsAs terms.lease h (request h.order (length h.ends)) (end_by c r ps)
+      go Own [] e k = (unpassed_mark e, k.1, λ last. absurd (never last (elim k.3 [ inl y ↦ early y | inr y ↦ y ])))
+      go Closing [] e k = (unpassed_mark e, k.1, λ _. refl)
       go Refused [] e k = (unpassed_mark e, k.1)
       go Own (m ∷ ms) e k = passed_mark m ms e
       go Closing (m ∷ ms) e k = passed_mark m ms e
       go Refused (m ∷ ms) e k = passed_mark m ms e
 
-  -- the line is as all ends left it
-  pub whole : IsWhole opening c fs
-  whole = record { bytes = b (seat c n).reason (seat c n).passed facts.4 ∙ sym (bytes_push opening h.ends x); closed = mk (seat c n).reason (seat c n).passed facts.4 ∙ sym (closed_push h.ends x) }
+  -- and the turns that are left
+  pub turns : turns_after n c ≡ turns_left terms.lease fs
+  turns = go (seat c n).reason (seat c n).passed
     where
-      b : (r : Reason) (ps : List ℕ) → IsCarried opening c h.order h.ends n r ps → c.bytes.bytes ≡ after_end (bytes_after opening h.ends) (end_by c r ps)
+      go : (r : Reason) (ps : List ℕ) → left_after c.left r ps ≡ turns_left terms.lease (h.ends ++ end_by c r ps ∷ [])
+      go Own [] = ap one_fewer s.turns ∙ sym (turns_left-served terms.lease h.ends _ false)
+      go Closing [] = ap one_fewer s.turns ∙ sym (turns_left-served terms.lease h.ends _ true)
+      go Refused [] = s.turns ∙ sym (turns_left-same terms.lease h.ends (Told ∷ []) refl)
+      go Own (m ∷ ms) = s.turns ∙ sym (turns_left-same terms.lease h.ends (Gone ∷ []) refl)
+      go Closing (m ∷ ms) = s.turns ∙ sym (turns_left-same terms.lease h.ends (Gone ∷ []) refl)
+      go Refused (m ∷ ms) = s.turns ∙ sym (turns_left-same terms.lease h.ends (Gone ∷ []) refl)
+
+  -- the line is as all ends left it
+  pub whole : IsWhole terms c fs
+  whole = record { bytes = b (seat c n).reason (seat c n).passed facts.4 ∙ sym (bytes_after-append terms.opening.bytes h.ends (x ∷ [])); closed = mk (seat c n).reason (seat c n).passed facts.4 ∙ sym (is_closed-append h.ends (x ∷ [])) }
+    where
+      b : (r : Reason) (ps : List ℕ) → IsCarried terms c h.order h.ends n r ps → c.bytes.bytes ≡ bytes_after (bytes_after terms.opening.bytes h.ends) (end_by c r ps ∷ [])
       b Own [] k = sym k.2
       b Closing [] k = sym k.2
       b Refused [] k = k.2
@@ -101,7 +100,7 @@ module _ (opening : List ℕ) (c : State) (h : Queue) (n : ℕ) (s : Matches ope
       b Closing (m ∷ ms) k = k.0.bytes
       b Refused (m ∷ ms) k = k.0.bytes
 
-      mk : (r : Reason) (ps : List ℕ) → IsCarried opening c h.order h.ends n r ps → c.closed ≡ (is_closed h.ends || shuts (end_by c r ps))
+      mk : (r : Reason) (ps : List ℕ) → IsCarried terms c h.order h.ends n r ps → c.closed ≡ (is_closed h.ends || is_closed (end_by c r ps ∷ []))
       mk Own [] k = rw (k.0, k.1) refl
       mk Closing [] k = rw (k.0, k.1) refl
       mk Refused [] k = rw (k.0, k.1) refl
@@ -109,8 +108,8 @@ module _ (opening : List ℕ) (c : State) (h : Queue) (n : ℕ) (s : Matches ope
       mk Closing (m ∷ ms) k = k.0.closed ∙ sym (or_false (is_closed h.ends))
       mk Refused (m ∷ ms) k = k.0.closed ∙ sym (or_false (is_closed h.ends))
 
-  pub old_end : (p : ℕ) → p < length h.ends → (p < length fs) × (slice_index_or fs p Gone ≡ slice_index_or h.ends p Gone)
-  old_end p l = (let k = longer in omega arith, get_or-append h.ends (x ∷ []) Gone p l)
+  pub grows : IsPrefix h.ends fs
+  grows = prefix_append h.ends (x ∷ [])
 
   -- n's own last request has ended, by its reason
   pub ended : EndedBy h.order fs n (seat c n).reason
@@ -119,43 +118,46 @@ module _ (opening : List ℕ) (c : State) (h : Queue) (n : ℕ) (s : Matches ope
       now : (r : Reason) → (seat c n).passed ≡ [] → x ≡ end_by c r [] → ByReason r (end_by c r []) → EndedBy h.order fs n r
       now r e f k = record {
         at = length h.ends;
+        end = x;
         last = subst (λ (ps : List ℕ). IsLast h.order (last_or n ps) (length h.ends)) e its;
-        ended = let k = longer in omega arith;
-        how = subst (λ (y : End). ByReason r y) (sym (get_or-append_seam h.ends x [] Gone ∙ f)) k;
+        ended = slice_get-push h.ends x;
+        how = subst (λ (y : End). ByReason r y) (sym f) k;
       }
 
       before : (r : Reason) → EndedBy h.order h.ends n r → EndedBy h.order fs n r
-      before r k = record { at = k.at; last = k.last; ended = (old_end k.at k.ended).0; how = subst (λ (y : End). ByReason r y) (sym (old_end k.at k.ended).1) k.how }
+      before r k = record { at = k.at; end = k.end; last = k.last; ended = prefix_get h.ends fs k.at k.end grows k.ended; how = k.how }
 
-      go : (r : Reason) (ps : List ℕ) → (seat c n).reason ≡ r → (seat c n).passed ≡ ps → IsCarried opening c h.order h.ends n r ps → EndedBy h.order fs n r
+      go : (r : Reason) (ps : List ℕ) → (seat c n).reason ≡ r → (seat c n).passed ≡ ps → IsCarried terms c h.order h.ends n r ps → EndedBy h.order fs n r
       go Own [] f e k = now Own e (rw (f, e) refl) refl
       go Closing [] f e k = now Closing e (rw (f, e) refl) refl
       go Refused [] f e k = now Refused e (rw (f, e) refl) tt
       go r (m ∷ ms) f e k = before r k.1
 
-  pub has_ended : HasEnded h.order fs n
-  has_ended p l = let k = last_once h.order n p ended.at l ended.last in let e = ended.ended in omega arith
-
   -- the later requests are of others
   pub later_other : (p : ℕ) → length h.ends < p → p < length h.order → asker h.order p ≢ n
-  later_other p a l e = let k = has_ended p (subst (λ (m : ℕ). IsLast h.order m p) e (s.distinct p (omega arith) l)) in let j = longer in absurd (omega arith)
+  later_other p a l e = let k = has_ended ended p (subst (λ (m : ℕ). IsLast h.order m p) e (s.distinct p (omega arith) l)) in let j = longer in absurd (omega arith)
 
   -- a line that was told closed is closed
   pub told_closed : (seat c n).reason ≡ Refused → is_closed fs ≡ true
-  told_closed e = closed_push h.ends x ∙ ap (λ b. b || shuts x) (old (seat c n).reason (seat c n).passed e facts.4)
+  told_closed e = is_closed-append h.ends (x ∷ []) ∙ ap (λ b. b || is_closed (x ∷ [])) (old (seat c n).reason (seat c n).passed e facts.4)
     where
-      old : (r : Reason) (ps : List ℕ) → r ≡ Refused → IsCarried opening c h.order h.ends n r ps → is_closed h.ends ≡ true
+      old : (r : Reason) (ps : List ℕ) → r ≡ Refused → IsCarried terms c h.order h.ends n r ps → is_closed h.ends ≡ true
       old Own [] e k = cc
       old Closing [] e k = cc
       old Refused [] e k = k.1
       old r (m ∷ ms) e k = k.2 e
 
-  pub old_end_at : (p : ℕ) → (p < length h.ends) × (slice_index_or h.ends p Told ≡ Gone) → (p < length fs) × (slice_index_or fs p Told ≡ Gone)
-  old_end_at p e = (let k = longer in let l = e.0 in omega arith, get_or-append h.ends (x ∷ []) Told p e.0 ∙ e.1)
+  -- and in no mailbox
+  pub unboxed : (q : ℕ) → c.place ≢ Mailbox q
+  unboxed q e = let f : Hand n ≡ Mailbox q = sym (in_its_hand s n is lined) ∙ e in cc
 
-  -- the request of a passed node ends as gone
-  pub gone : (i p : ℕ) → i < length (seat c n).passed → p ≡ length h.ends → (p < length fs) × (slice_index_or fs p Told ≡ Gone)
-  gone i p l e = (let k = longer in omega arith, ap (λ (p : ℕ). slice_index_or fs p Told) e ∙ get_or-append_seam h.ends x [] Told ∙ at (seat c n).reason (seat c n).passed l)
+  -- the request of a passed node ends as gone, and what was gone stays so
+  pub gone : (m i p : ℕ) → i < length (seat c m).passed → HasCome c h.ends m p → slice_get fs p ≡ Some Gone
+  gone m i p l (inl e) = prefix_get h.ends fs p Gone grows e
+  gone m i p l (inr e) =
+      let f : Hand m ≡ Hand n = sym e.1 ∙ in_its_hand s n is lined in
+      let g : m ≡ n = cc in
+      ap (slice_get fs) e.0 ∙ slice_get-push h.ends x ∙ ap Some (at (seat c n).reason (seat c n).passed (subst (λ (m : ℕ). i < length (seat c m).passed) g l))
     where
       at : (r : Reason) (ps : List ℕ) → i < length ps → end_by c r ps ≡ Gone
       at r [] l = absurd (omega arith)

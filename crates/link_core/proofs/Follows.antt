@@ -1,4 +1,5 @@
 -- What follows when a state shows a history.
+use Rattle.qolb_model.specs.declared.terms.Terms.{Terms}
 use Rattle.std.proofs.Common.{◌≡◌, ◌≢◌, ℕ, suc, ◌+◌, ◌<◌, Bool, true, false, ◌&&◌, List, [], ◌∷◌, ◌⊎◌, length, refl, sym, ◌∙◌, ap, subst, inl, inr, arith, eqb}
 use Rattle.std.specs.Prelude.{slice_index_or}
 use Rattle.link_core.specs.declared.point.Point.{Point}
@@ -31,7 +32,7 @@ and_false false = refl
 rolled_unclear : (w : Entry) → w.done ≡ true → w.link ≡ 0 → is_clear Rolled w ≡ false
 rolled_unclear w a b = rw (a, b) (and_false w.freed)
 
-module _ (opening : List ℕ) (c : State) (h : Queue) (s : Matches opening c h) where
+module _ {terms : Terms} {c : State} {h : Queue} (s : Matches terms c h) where
   pub current_cases : (n : ℕ) → IsNode c n → (((seat c n).passed ≡ []) × (current c n ≡ n)) ⊎ IsPassed c h.order h.ends n (current c n)
   current_cases n a = elim (last_or_cases n (seat c n).passed) [
     | inl e ↦ inl e
@@ -49,7 +50,7 @@ module _ (opening : List ℕ) (c : State) (h : Queue) (s : Matches opening c h) 
   sits_at n p a e = subst (λ (p : Point). Sits c h.order h.ends n p) e (s.sits n a)
 
   -- who is to link at its turn finds the line left for it
-  pub left_for : (x q : ℕ) → Lies opening c h.order h.ends → length h.ends < length h.order → asker h.order (length h.ends) ≡ x → point c x ≡ Linking q → (c.place ≡ Mailbox q) × ((entry c q).done ≡ true) × ((point c q ≡ Left) ⊎ (point c q ≡ Rolled)) × IsWhole opening c h.ends
+  pub left_for : (x q : ℕ) → Lies terms c h.order h.ends → length h.ends < length h.order → asker h.order (length h.ends) ≡ x → point c x ≡ Linking q → (c.place ≡ Mailbox q) × ((entry c q).done ≡ true) × ((point c q ≡ Left) ⊎ (point c q ≡ Rolled)) × IsWhole terms c h.ends
   left_for x q (at_home e b w) l t p = absurd (omega arith)
   left_for x q (in_hand r a i b f g y) l t p = elim (turn_in_hand r i f) [
     | inl k ↦ let e : has_line (Linking q) ≡ true = ap has_line (sym p) ∙ ap (λ (n : ℕ). has_line (point c n)) (sym t ∙ g) ∙ k in cc
@@ -131,7 +132,7 @@ module _ (opening : List ℕ) (c : State) (h : Queue) (s : Matches opening c h) 
       omega arith
 
   -- the line in a hand
-  pub hand_lies : (n : ℕ) → c.place ≡ Hand n → Lies opening c h.order h.ends → (length h.ends < length h.order) × (IsNode c n) × (has_line (point c n) ≡ true) × (asker h.order (length h.ends) ≡ current c n) × (IsCarried opening c h.order h.ends n (seat c n).reason (seat c n).passed)
+  pub hand_lies : (n : ℕ) → c.place ≡ Hand n → Lies terms c h.order h.ends → (length h.ends < length h.order) × (IsNode c n) × (has_line (point c n) ≡ true) × (asker h.order (length h.ends) ≡ current c n) × (IsCarried terms c h.order h.ends n (seat c n).reason (seat c n).passed)
   hand_lies n e (at_home a b w) = let k : Hand n ≡ Home = sym e ∙ b in cc
   hand_lies n e (in_hand r a i b f g y) =
       let k : Hand n ≡ Hand r = sym e ∙ b in
@@ -153,7 +154,7 @@ module _ (opening : List ℕ) (c : State) (h : Queue) (s : Matches opening c h) 
   ]
 
   -- who waits at its turn finds the line granted
-  pub granted_for : (x : ℕ) → Lies opening c h.order h.ends → length h.ends < length h.order → asker h.order (length h.ends) ≡ x → point c x ≡ Queued → (c.place ≡ Mailbox x) × ((entry c x).granted ≡ true) × IsWhole opening c h.ends
+  pub granted_for : (x : ℕ) → Lies terms c h.order h.ends → length h.ends < length h.order → asker h.order (length h.ends) ≡ x → point c x ≡ Queued → (c.place ≡ Mailbox x) × ((entry c x).granted ≡ true) × IsWhole terms c h.ends
   granted_for x (at_home e b w) l t p = absurd (omega arith)
   granted_for x (in_hand r a i b f g y) l t p = elim (turn_in_hand r i f) [
     | inl k ↦ let e : has_line Queued ≡ true = ap has_line (sym p) ∙ ap (λ (n : ℕ). has_line (point c n)) (sym t ∙ g) ∙ k in cc

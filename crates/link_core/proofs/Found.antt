@@ -1,6 +1,6 @@
 -- What the nodes find, and what the ends of a history say.
-use Rattle.std.proofs.Common.{◌≡◌, ◌≢◌, ℕ, zero, suc, ◌<◌, ◌⊎◌, Bool, true, false, ◌||◌, List, [], ◌∷◌, length, take, Option, Some, None, slice_get, refl, sym, ◌∙◌, ap, subst, inl, inr, arith}
-use Rattle.std.specs.Prelude.{slice_index_or}
+use Rattle.qolb_model.specs.declared.terms.Terms.{Terms}
+use Rattle.std.proofs.Common.{◌≡◌, ◌≢◌, ℕ, zero, suc, ◌+◌, ◌-◌, ◌<◌, ◌≤◌, ◌⊎◌, Bool, true, false, ◌||◌, List, [], ◌∷◌, length, take, Option, Some, None, slice_get, refl, sym, ◌∙◌, ap, subst, inl, inr, arith}
 use Rattle.std.proofs.lemmas.Bool.{or_right}
 use Rattle.qolb_model.specs.declared.end.End.{End}
 use Rattle.qolb_model.specs.declared.end.End.TheVariants.{Served, Gone, Told}
@@ -9,59 +9,106 @@ use Rattle.qolb_model.specs.Histories.{IsLegal}
 use Rattle.qolb_model.specs.Queue.{Queue, empty_queue, Move, moved, Runs}
 use Rattle.qolb_model.proofs.Runs.{has_cleared_none, has_cleared_twice}
 use Rattle.line_lanes.specs.declared.line.Line64.{Line64}
-use Rattle.link_core.specs.declared.point.Point.TheVariants.{Linking, Queued, Marking, Granting, Rolled}
+use Rattle.link_core.specs.declared.point.Point.TheVariants.{Idle, Ready, Linking, Queued, Holding, Leaving, Marking, Granting, Freeing, Left, Rolled, Shut}
+use Rattle.link_core.specs.declared.point.Point.{Point}
+use Rattle.link_core.specs.declared.place.Place.TheVariants.{Home, Hand}
 use Rattle.link_core.specs.declared.seat.Reason.{Reason}
 use Rattle.link_core.specs.declared.seat.Reason.TheVariants.{Own, Closing, Refused}
 use Rattle.link_core.specs.declared.event.Event.{Event}
-use Rattle.link_core.specs.Places.{IsLast}
+use Rattle.link_core.specs.Places.{asker, IsLast}
 use Rattle.link_core.specs.State.{State, entry, point, IsNode}
-use Rattle.link_core.specs.Shown.{EndedBy, ByReason, Shows}
+use Rattle.link_core.specs.Shown.{has_line, is_active, EndedBy, ByReason, IsWhole, Lies, at_home, in_hand, granted, left, Shows}
 use Rattle.link_core.specs.Moves.{move_of, Goes}
 use Rattle.link_core.specs.Promise.{Run, opened, event}
 use Rattle.link_core.specs.Laws.{Unset, Found}
 use Rattle.link_core.proofs.Follows.{sits_at, in_its_hand, granted_turn, done_turn, waits_behind}
-use Rattle.link_core.proofs.Ending.{its}
-use Rattle.link_core.proofs.Leave.{releases_at}
+use Rattle.qolb_model.proofs.Lists.{never}
+use Rattle.link_core.proofs.Orders.{last_once}
+use Rattle.link_core.proofs.Ending.{facts, its}
+use Rattle.link_core.proofs.Leave.{releases_line, releases_at}
+use Rattle.link_core.proofs.Leave as Leave
+use Rattle.link_core.proofs.All.{freed_node, freed_rolled}
 use Rattle.link_core.proofs.Grant.{sat, node_m, granted_point}
 use Rattle.link_core.proofs.Sound.{names, step_sizes}
 use Rattle.link_core.proofs.Others.{one_hand, linked_box, granted_box, idle_home}
 use Rattle.link_core.proofs.Unset.{done_unset, granted_unset, rolled_unset, link_unset, freed_unset}
 
-module _ (opening : List ℕ) (c : State) (q : Queue) (s : Shows opening c q) where
+module _ {terms : Terms} {c : State} {q : Queue} (s : Shows terms c q) where
   pub unset : Unset c
   unset = record {
-    link = link_unset opening c q s.matches;
-    done = done_unset opening c q s.matches;
-    granted = granted_unset opening c q s.matches;
-    rolled = rolled_unset opening c q s.matches;
-    freed = freed_unset opening c q s.matches;
+    link = link_unset s.matches;
+    done = done_unset s.matches;
+    granted = granted_unset s.matches;
+    rolled = rolled_unset s.matches;
+    freed = freed_unset s.matches;
   }
 
-  next_by : (n m : ℕ) (b : Bool) → IsNode c n → point c n ≡ Granting m → (entry c m).rolled ≡ b → IsNode c m → (point c m ≡ Queued) ⊎ (point c m ≡ Rolled) → ((b ≡ false) × (point c m ≡ Queued)) ⊎ ((b ≡ true) × (point c m ≡ Rolled))
-  next_by n m b a at e i (inl f) = inl (sym e ∙ rolled_unset opening c q s.matches m i f, f)
-  next_by n m b a at e i (inr f) = inr (sym e ∙ sits_at opening c q s.matches m Rolled i f, f)
+  next_by : (m : ℕ) (b : Bool) → (entry c m).rolled ≡ b → IsNode c m → (point c m ≡ Queued) ⊎ (point c m ≡ Rolled) → ((b ≡ false) × (point c m ≡ Queued)) ⊎ ((b ≡ true) × (point c m ≡ Rolled))
+  next_by m b e i (inl f) = inl (sym e ∙ rolled_unset s.matches m i f, f)
+  next_by m b e i (inr f) = inr (sym e ∙ sits_at s.matches m Rolled i f, f)
 
   next : (n m : ℕ) (b : Bool) → IsNode c n → point c n ≡ Granting m → (entry c m).rolled ≡ b → ((b ≡ false) × (point c m ≡ Queued)) ⊎ ((b ≡ true) × (point c m ≡ Rolled))
-  next n m b a at e = next_by n m b a at e (node_m opening c q n m s.matches a at) (granted_point opening c q n m s.matches a at)
+  next n m b a at e = next_by m b e (node_m s.matches a at) (granted_point s.matches a at)
 
-  pub found : Found c q
+  whole : ((n : ℕ) → c.place ≢ Hand n) → Lies terms c q.order q.ends → IsWhole terms c q.ends
+  whole nowhere (at_home a b w) = w
+  whole nowhere (in_hand n a b e f g h) = absurd (nowhere n e)
+  whole nowhere (granted t a b e f g w) = w
+  whole nowhere (left t x a b e f g h i w) = w
+
+  -- the node at its turn, and who has the line, are active
+  over : ((n : ℕ) → IsNode c n → is_active (point c n) ≡ false) → Lies terms c q.order q.ends → (length q.ends ≡ length q.order) × (c.place ≡ Home)
+  over rest (at_home a b w) = (a, b)
+  over rest (in_hand n a b e f g h) = absurd (never (active (point c n) f) (rest n b))
+    where
+      active : (p : Point) → has_line p ≡ true → is_active p ≡ true
+      active Holding e = refl
+      active (Leaving x) e = refl
+      active (Marking x) e = refl
+      active (Granting x) e = refl
+      active (Linking x) e = refl
+      active Queued e = refl
+      active Idle e = cc
+      active Ready e = cc
+      active Freeing e = cc
+      active Left e = cc
+      active Rolled e = cc
+      active Shut e = cc
+  over rest (granted t a b e f g w) = absurd (never (ap is_active g) (rest t (subst (λ (x : ℕ). IsNode c x) b (s.matches.nodes (length q.ends) a))))
+  over rest (left t x a b e f g h i w) = absurd (never (ap is_active i) (rest t (subst (λ (x : ℕ). IsNode c x) b (s.matches.nodes (length q.ends) a))))
+
+  -- home names the newest open request
+  home_newest : (p : ℕ) → length q.ends ≤ p → p < length q.order → c.home ≡ asker q.order p → p + 1 ≡ length q.order
+  home_newest p a l e =
+      let z : ℕ = length q.order - 1 in
+      let newest = s.matches.home_last z (omega arith) (omega arith) in
+      let k = last_once q.order (asker q.order p) z p (subst (λ (m : ℕ). IsLast q.order m z) (sym newest ∙ e) (s.matches.distinct z (omega arith) (omega arith))) (s.matches.distinct p a l) in
+      omega arith
+
+  pub found : Found terms c q
   found = record {
-    names = names opening c q s.matches;
-    hand = in_its_hand opening c q s.matches;
-    one = one_hand opening c q s.matches;
-    turn = λ n a f. its opening c q n s.matches a f;
-    releases = λ n e a r. releases_at opening c q n s.matches a e r;
-    marks = λ n e a at. (sits_at opening c q s.matches n (Marking e) a at).0.is;
-    grant = λ n m a at. let k = sat opening c q n m s.matches a at in (k.1, k.2);
+    names = names s.matches;
+    hand = in_its_hand s.matches;
+    one = one_hand s.matches;
+    turn = λ n a f. its s.matches a f;
+    carried = λ n a f. (facts s.matches a f).4;
+    whole = λ nowhere. whole nowhere s.matches.lies;
+    passed = λ n x rest a ps. (freed_node n x rest s.matches a ps, freed_rolled n x rest s.matches a ps);
+    releases = λ n e a r. (releases_line s.matches a e r, releases_at s.matches a e r);
+    marks = λ n e a at. let k = sits_at s.matches n (Marking e) a at in (k.0.is, k.1);
+    late = λ n e a at un. Leave.next s.matches a at un;
+    home = λ p a l. (home_newest p a l, λ last. s.matches.home_last p a last);
+    grant = λ n m a at. let k = sat s.matches a at in (k.1, k.2);
     grant_waits = λ n m a at e. elim (next n m false a at e) [ inl k ↦ k.1 | inr k ↦ let z : false ≡ true = k.0 in cc ];
     grant_rolled = λ n m a at e. elim (next n m true a at e) [ inl k ↦ let z : true ≡ false = k.0 in cc | inr k ↦ k.1 ];
-    link = λ n p a at. sits_at opening c q s.matches n (Linking p) a at;
+    link = λ n p a at. sits_at s.matches n (Linking p) a at;
     link_done = λ n p a at dn.
-        let b = sits_at opening c q s.matches n (Linking p) a at in
-        (linked_box opening c q s.matches n p a at dn, subst (λ (x : ℕ). IsLast q.order n x) (sym (done_turn opening c q s.matches n p a at dn b)) b.own);
-    granted = λ n a at gr. (granted_box opening c q s.matches n a at gr, granted_turn opening c q s.matches n a at gr);
-    waits = λ n a at un. let b = sits_at opening c q s.matches n Queued a at in (b.at, b.own, waits_behind opening c q s.matches n a at un b);
-    idle = idle_home opening c q s.matches;
+        let b = sits_at s.matches n (Linking p) a at in
+        (linked_box s.matches n p a at dn, subst (λ (x : ℕ). IsLast q.order n x) (sym (done_turn s.matches n p a at dn b)) b.own);
+    granted = λ n a at gr. (granted_box s.matches n a at gr, granted_turn s.matches n a at gr);
+    waits = λ n a at un. let b = sits_at s.matches n Queued a at in (b.at, b.own, waits_behind s.matches n a at un b);
+    idle = idle_home s.matches;
+    over = λ rest. over rest s.matches.lies;
   }
 
 -- ends that close the line
@@ -90,15 +137,10 @@ closed_since (Served w shut ∷ es) (suc p) e = by shut (closed_since es p) e
 closed_since (Gone ∷ es) (suc p) e = closed_since es p e
 closed_since (Told ∷ es) (suc p) e = closed_since es p e
 
-end_at : (es : List End) (p : ℕ) → p < length es → slice_get es p ≡ Some (slice_index_or es p Gone)
-end_at [] p l = absurd (omega arith)
-end_at (x ∷ es) zero l = refl
-end_at (x ∷ es) (suc p) l = end_at es p (omega arith)
-
-pub ends_close : (q : Queue) (n : ℕ) (r : Reason) → IsLegal q.order q.ends → r ≢ Own → EndedBy q.order q.ends n r → is_closed q.ends ≡ true
-ends_close q n Own l ne e = absurd (ne refl)
-ends_close q n Closing l ne e = closed_with q.ends e.at (slice_index_or q.ends e.at Gone) (end_at q.ends e.at e.ended) e.how
-ends_close q n Refused l ne e = told (slice_index_or q.ends e.at Gone) (end_at q.ends e.at e.ended) e.how
+pub ends_close : (lease : Option ℕ) (q : Queue) (n : ℕ) (r : Reason) → IsLegal lease q.order q.ends → r ≢ Own → EndedBy q.order q.ends n r → is_closed q.ends ≡ true
+ends_close lease q n Own l ne e = absurd (ne refl)
+ends_close lease q n Closing l ne e = closed_with q.ends e.at e.end e.ended e.how
+ends_close lease q n Refused l ne e = told e.end e.ended e.how
   where
     told : (x : End) → slice_get q.ends e.at ≡ Some x → ByReason Refused x → is_closed q.ends ≡ true
     told (Served w shut) at k = absurd k
@@ -106,17 +148,11 @@ ends_close q n Refused l ne e = told (slice_index_or q.ends e.at Gone) (end_at q
     told Told at k = closed_since q.ends e.at (l.closing e.at Told at)
 
 -- one more move at the end of a run
-runs_more : (nodes : ℕ) (a b g : Queue) (ms : List Move) (m : Option Move) → Runs nodes a ms b → Goes nodes b m g → (ns : List Move) × Runs nodes a ns g
-runs_more nodes a b g [] None r k = ([], has_cleared_twice a b g r k.cleared)
-runs_more nodes a b g [] (Some x) r k = (x ∷ [], (b, r, k.may, k.cleared))
-runs_more nodes a b g (y ∷ ms) m r k = let rest = runs_more nodes (moved r.0 y) b g ms m r.3 k in (y ∷ rest.0, (r.0, r.1, r.2, rest.1))
+runs_more : (terms : Terms) (a b g : Queue) (ms : List Move) (m : Option Move) → Runs terms a ms b → Goes terms b m g → (ns : List Move) × Runs terms a ns g
+runs_more terms a b g [] None r k = ([], has_cleared_twice a b g r k.cleared)
+runs_more terms a b g [] (Some x) r k = (x ∷ [], (b, r, k.may, k.cleared))
+runs_more terms a b g (y ∷ ms) m r k = let rest = runs_more terms (moved r.0 y) b g ms m r.3 k in (y ∷ rest.0, (r.0, r.1, r.2, rest.1))
 
-run_nodes : {nodes : ℕ} {opening : Line64} {es : List Event} {c : State} {q : Queue} → Run nodes opening es c q → c.nodes ≡ nodes
-run_nodes opened = refl
-run_nodes (event {c = c} r e t d g k goes s) = (step_sizes c k).0 ∙ run_nodes r
-
-pub runs_move : {nodes : ℕ} {opening : Line64} {es : List Event} {c : State} {q : Queue} → Run nodes opening es c q → (moves : List Move) × Runs nodes empty_queue moves q
+pub runs_move : {terms : Terms} {es : List Event} {c : State} {q : Queue} → Run terms es c q → (moves : List Move) × Runs terms empty_queue moves q
 runs_move opened = ([], has_cleared_none empty_queue)
-runs_move {nodes = nodes} (event {c = c} {q = q} r e t d g k goes s) =
-    let before = runs_move r in
-    runs_more nodes empty_queue q g before.0 (move_of c q.order e) before.1 (subst (λ (n : ℕ). Goes n q (move_of c q.order e) g) (run_nodes r) goes)
+runs_move {terms = terms} (event {c = c} {q = q} r e t d g k goes s) = let before = runs_move r in runs_more terms empty_queue q g before.0 (move_of k q.order) before.1 goes

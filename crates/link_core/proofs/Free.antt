@@ -1,6 +1,6 @@
 -- Freeing a passed node.
-use Rattle.link_core.proofs.Deeds.{Frees}
-use Rattle.std.proofs.Common.{◌≡◌, ◌≢◌, ℕ, suc, ◌+◌, ◌<◌, ◌≤◌, true, false, ◌||◌, List, [], ◌∷◌, ◌⊎◌, length, refl, sym, ◌∙◌, ap, subst, inl, inr, arith}
+use Rattle.qolb_model.specs.declared.terms.Terms.{Terms}
+use Rattle.std.proofs.Common.{◌≡◌, ◌≢◌, ℕ, suc, ◌+◌, ◌<◌, ◌≤◌, true, false, ◌||◌, List, [], ◌∷◌, ◌⊎◌, length, None, refl, sym, ◌∙◌, ap, subst, inl, inr, arith}
 use Rattle.std.specs.Prelude.{slice_index_or}
 use Rattle.link_core.specs.declared.point.Point.{Point}
 use Rattle.link_core.specs.declared.point.Point.TheVariants.{Ready, Linking, Queued, Granting, Freeing, Left, Rolled}
@@ -11,16 +11,20 @@ use Rattle.link_core.specs.Places.{asker, IsLast}
 use Rattle.qolb_model.specs.Histories.{none}
 use Rattle.qolb_model.specs.Queue.{Queue}
 use Rattle.link_core.specs.State.{State, Seat, entry, seat, point, IsNode, current, is_clear}
-use Rattle.link_core.specs.Shown.{is_rolled, has_line, is_freeing, EndedBy, HasEnded, Sits, IsPassed, IsGranting, IsFresh, passed, Matches}
+use Rattle.link_core.specs.Shown.{is_rolled, has_line, is_freeing, EndedBy, HasEnded, Sits, IsPassed, ArePassed, IsOnce, IsGranting, IsFresh, passed, Matches}
 use Rattle.std.proofs.lemmas.Bool.{cases_eq}
 use Rattle.link_core.specs.Steps.{seat_with, told_with, point_at_end}
 use Rattle.link_core.proofs.Deeds.{GoesOn}
 use Rattle.link_core.specs.Promise.{Says}
-use Rattle.link_core.proofs.Orders.{last_once}
-use Rattle.link_core.proofs.Changes.{Changed, entry_field}
+use Rattle.std.proofs.lemmas.Option.{slice_get_within}
+use Rattle.qolb_model.specs.declared.end.End.TheVariants.{Gone}
+use Rattle.qolb_model.proofs.Prefixes.{prefix_self}
+use Rattle.qolb_model.proofs.Clearing.{clears_begin}
+use Rattle.link_core.proofs.Orders.{last_once, has_ended, ended_at}
+use Rattle.link_core.proofs.Changes.{Changed, point_other, point_own, at_other, field}
 use Rattle.link_core.proofs.Clearing.{Cleared, may_push_cleared}
 use Rattle.link_core.proofs.Follows.{sits_at, hand_lies}
-use Rattle.link_core.proofs.Kept.{Spares, sits_kept, fresh_kept, passed_kept, Leaves, lies_kept}
+use Rattle.link_core.proofs.Kept.{Spares, sits_kept, fresh_kept, passed_kept, Leaves, lies_kept, rests_kept, settled_by}
 use Rattle.link_core.proofs.Close.{end_says}
 
 abbrev pub frees : Entry → Entry
@@ -48,7 +52,7 @@ freed_says : (h : Queue) (n : ℕ) (ps : List ℕ) (r : Reason) → EndedBy h.or
 freed_says h n [] r e = end_says h n r e
 freed_says h n (m ∷ ms) r e = tt
 
-module _ (opening : List ℕ) (c : State) (h : Queue) (n x : ℕ) (rest : List ℕ) (s : Matches opening c h) (is : IsNode c n) (at : point c n ≡ Freeing) (ps : (seat c n).passed ≡ x ∷ rest)
+module _ (terms : Terms) (c : State) (h : Queue) (n x : ℕ) (rest : List ℕ) (s : Matches terms c h) (is : IsNode c n) (at : point c n ≡ Freeing) (ps : (seat c n).passed ≡ x ∷ rest)
     (ents : List Entry) (sts : List Seat) (ch : Changed c (record c { entries = ents; seats = sts }) n (seat_with rest (point_at_end (seat c n).reason) (seat c n).reason) x (frees (entry c x))) where
   abbrev d : State
   d = record c { entries = ents; seats = sts }
@@ -57,10 +61,10 @@ module _ (opening : List ℕ) (c : State) (h : Queue) (n x : ℕ) (rest : List �
   st = seat_with rest (point_at_end (seat c n).reason) (seat c n).reason
 
   ended : EndedBy h.order h.ends n (seat c n).reason
-  ended = (sits_at opening c h s n Freeing is at).0
+  ended = (sits_at s n Freeing is at).0
 
   over : HasEnded h.order h.ends n
-  over p l = let k = last_once h.order n p ended.at l ended.last in let e = ended.ended in omega arith
+  over = has_ended ended
 
   -- the nodes passed by n: x at first
   first : IsPassed c h.order h.ends n x
@@ -69,8 +73,8 @@ module _ (opening : List ℕ) (c : State) (h : Queue) (n x : ℕ) (rest : List �
   -- a passed node has ended, since n has not the line
   first_ended : first.at < length h.ends
   first_ended = elim first.come [
-    | inl l ↦ l.0
-    | inr g ↦ let y = (hand_lies opening c h s n g.1 s.lies).2 in let z : false ≡ true = ap has_line (sym at) ∙ y in cc
+    | inl l ↦ slice_get_within h.ends first.at Gone l
+    | inr g ↦ let y = (hand_lies s n g.1 s.lies).2 in let z : false ≡ true = ap has_line (sym at) ∙ y in cc
   ]
 
   x_over : HasEnded h.order h.ends x
@@ -79,24 +83,12 @@ module _ (opening : List ℕ) (c : State) (h : Queue) (n x : ℕ) (rest : List �
   apart : x ≢ n
   apart e = let z : Rolled ≡ Freeing = sym first.point ∙ ap (point c) e ∙ at in cc
 
-  point_other : (m : ℕ) → m ≢ n → point d m ≡ point c m
-  point_other m ne = ap (λ (s : Seat). s.point) (ch.seat_other m ne)
-
-  point_own : point d n ≡ st.point
-  point_own = ap (λ (s : Seat). s.point) ch.seat_own
-
-  field : {A : Type 0} (f : Entry → A) → f (frees (entry c x)) ≡ f (entry c x) → (m : ℕ) → f (entry d m) ≡ f (entry c m)
-  field f e m = entry_field c d n st x (frees (entry c x)) ch f e m
-
   -- the open requests are of others
   open_n : (p : ℕ) → length h.ends ≤ p → p < length h.order → asker h.order p ≢ n
   open_n p a l e = let k = over p (subst (λ (m : ℕ). IsLast h.order m p) e (s.distinct p a l)) in absurd (omega arith)
 
   open_x : (p : ℕ) → length h.ends ≤ p → p < length h.order → asker h.order p ≢ x
   open_x p a l e = let k = x_over p (subst (λ (m : ℕ). IsLast h.order m p) e (s.distinct p a l)) in absurd (omega arith)
-
-  not_n : (m : ℕ) (q : Point) → point c m ≡ q → (Freeing ≡ q → ⊥) → m ≢ n
-  not_n m q e ne f = ne (sym at ∙ ap (point c) (sym f) ∙ e)
 
   -- first x is cleared, and then n
   cleared : Cleared c h.order (length h.ends) h.clear (λ m. is_clear (point d m) (entry d m))
@@ -106,8 +98,8 @@ module _ (opening : List ℕ) (c : State) (h : Queue) (n x : ℕ) (rest : List �
       (record { clear = h.clear; grows = none; says = s.clears; known = s.clear_known })
       first.last first.node (rw first.point (kept (entry c x) first.kept)) (λ _. first_ended)
       (λ m q ne a l. ap (is_clear (point c m)) (ch.entry_other m ne)))
-      ended.last is (ap (λ (p : Point). is_clear p (entry d n)) at) (λ _. ended.ended)
-      (λ m q ne a l. ap (λ (p : Point). is_clear p (entry d m)) (point_other m ne))
+      ended.last is (ap (λ (p : Point). is_clear p (entry d n)) at) (λ _. ended_at ended)
+      (λ m q ne a l. ap (λ (p : Point). is_clear p (entry d m)) (point_other ch m ne))
     where
       kept : (v : Entry) → v.freed ≡ false → is_clear Rolled v ≡ false
       kept v e = rw e refl
@@ -116,21 +108,21 @@ module _ (opening : List ℕ) (c : State) (h : Queue) (n x : ℕ) (rest : List �
   spares m a ne = record {
     nodes = refl;
     seat = ch.seat_other m ne;
-    rolled = field (λ w. w.rolled) refl m;
+    rolled = field ch (λ w. w.rolled) refl m;
     ready = λ e. ch.entry_other m (λ f. let z : Rolled ≡ Ready = sym first.point ∙ ap (point c) (sym f) ∙ e in cc);
     fwd = λ p l. l;
     back = λ p l. l;
-    ended = λ p l. (l, refl);
+    ended = prefix_self h.ends;
     later = λ p _ _ l. l;
-    behind = λ y p e l j t. (l, field (λ w. w.link) refl y);
-    line = λ e. (refl, refl, (λ l. (l, refl)), λ x e. field (λ w. w.link) refl (current c m));
+    behind = λ y p e l j t. (l, field ch (λ w. w.link) refl y);
+    line = λ e. (refl, refl, (λ l. (l, refl)), λ x e. field ch (λ w. w.link) refl (current c m));
   }
 
   granting : IsGranting c → IsGranting d
-  granting g = record { by = g.by; to = g.to; node = g.node; place = g.place; point = point_other g.by (not_n g.by (Granting g.to) g.point (λ e. cc)) ∙ g.point }
+  granting g = record { by = g.by; to = g.to; node = g.node; place = g.place; point = point_other ch g.by (at_other ch g.by Freeing (Granting g.to) at g.point (λ e. cc)) ∙ g.point }
 
   fresh : (p : ℕ) → length h.ends ≤ p → p < length h.order → IsFresh d (length h.ends) (asker h.order p) p
-  fresh p a l = fresh_kept c d (length h.ends) (length h.ends) (asker h.order p) p (ap (λ (w : Entry). w.freed) (ch.entry_other (asker h.order p) (open_x p a l))) (field (λ w. w.granted) refl (asker h.order p)) (field (λ w. w.done) refl (asker h.order p)) (λ e. e) granting (s.fresh p a l)
+  fresh p a l = fresh_kept c d (length h.ends) (length h.ends) (asker h.order p) p (ap (λ (w : Entry). w.freed) (ch.entry_other (asker h.order p) (open_x p a l))) (field ch (λ w. w.granted) refl (asker h.order p)) (field ch (λ w. w.done) refl (asker h.order p)) (λ e. e) granting (s.fresh p a l)
 
   own_passed : (seat d n).passed ≡ rest
   own_passed = ap (λ (s : Seat). s.passed) ch.seat_own ∙ with_passed rest (point_at_end (seat c n).reason) (seat c n).reason
@@ -153,14 +145,14 @@ module _ (opening : List ℕ) (c : State) (h : Queue) (n x : ℕ) (rest : List �
       let z = s.once m n y.0 0 a is y.1 (subst (λ (ps : List ℕ). 0 < length ps) (sym ps) (omega arith)) (e ∙ ap (λ (ps : List ℕ). slice_index_or ps 0 0) (sym ps)) in
       elim y.3 [ inl f ↦ let g = f.1 in let k = z.1 in omega arith | inr f ↦ f.0 z.0 ]
 
-  passes : (m i : ℕ) → IsNode d m → i < length (seat d m).passed → IsPassed d h.order h.ends m (passed d m i)
+  passes : ArePassed d h.order h.ends
   passes m i a l =
       let y = passed_cases m i l in
       let j = s.passes m y.0 a y.1 in
       subst (λ (x : ℕ). IsPassed d h.order h.ends m x) (sym y.2)
-      (passed_kept c d h.order h.order h.ends h.ends m (passed c m y.0) refl (point_other (passed c m y.0) (not_n (passed c m y.0) Rolled j.point (λ e. cc))) (ap (λ (w : Entry). w.freed) (ch.entry_other (passed c m y.0) (not_x m i a l))) (λ p l. l) (λ p _ w. w) j)
+      (passed_kept c d h.order h.order h.ends h.ends m (passed c m y.0) refl (point_other ch (passed c m y.0) (at_other ch (passed c m y.0) Freeing Rolled at j.point (λ e. cc))) (ap (λ (w : Entry). w.freed) (ch.entry_other (passed c m y.0) (not_x m i a l))) (λ p l. l) (λ p _ w. w) j)
 
-  once : (m y i j : ℕ) → IsNode d m → IsNode d y → i < length (seat d m).passed → j < length (seat d y).passed → passed d m i ≡ passed d y j → (m ≡ y) × (i ≡ j)
+  once : IsOnce d
   once m y i j a b k l e =
       let f = passed_cases m i k in
       let g = passed_cases y j l in
@@ -189,10 +181,9 @@ module _ (opening : List ℕ) (c : State) (h : Queue) (n x : ℕ) (rest : List �
     turn = λ l. (l, refl);
     fwd = λ m q e l. l;
     hand = λ m f. ch.seat_other m (λ g. let x : has_line Freeing ≡ true = ap has_line (sym at) ∙ ap (λ (x : ℕ). has_line (point c x)) (sym g) ∙ f in cc);
-    box = λ t l a q g. (point_other t (not_n t Queued q (λ e. cc)) ∙ q, field (λ w. w.granted) refl t ∙ g);
-    linking = λ t q l a f. point_other t (not_n t (Linking q) f (λ e. cc)) ∙ f;
-    tail = λ q a f g. let ne : q ≢ n = elim a [ inl i ↦ not_n q Left i (λ e. cc) | inr i ↦ not_n q Rolled i (λ e. cc) ] in
-        (elim a [ inl i ↦ inl (point_other q ne ∙ i) | inr i ↦ inr (point_other q ne ∙ i) ], field (λ w. w.link) refl q ∙ f, field (λ w. w.done) refl q ∙ g);
+    box = λ t l a q g. (point_other ch t (at_other ch t Freeing Queued at q (λ e. cc)) ∙ q, field ch (λ w. w.granted) refl t ∙ g);
+    linking = λ t q l a f. point_other ch t (at_other ch t Freeing (Linking q) at f (λ e. cc)) ∙ f;
+    tail = λ q a f g. (point_other ch q (elim a [ inl i ↦ at_other ch q Freeing Left at i (λ e. cc) | inr i ↦ at_other ch q Freeing Rolled at i (λ e. cc) ]), field ch (λ w. w.link) refl q, field ch (λ w. w.done) refl q);
   }
 
   own : (ps : List ℕ) (r : Reason) → (seat d n).passed ≡ ps → r ≡ (seat d n).reason → EndedBy h.order h.ends n r → Sits d h.order h.ends n (seat_with ps (point_at_end r) r).point
@@ -201,12 +192,16 @@ module _ (opening : List ℕ) (c : State) (h : Queue) (n x : ℕ) (rest : List �
   own [] Refused f e k = over
   own (m ∷ ms) r f e k = (subst (λ (r : Reason). EndedBy h.order h.ends n r) e k, λ g. let z : m ∷ ms ≡ [] = sym f ∙ g in cc)
 
-  pub freed_keeps : GoesOn opening c d h n (told_with rest (seat c n).reason)
+  pub freed_keeps : GoesOn terms d h n (told_with rest (seat c n).reason) None true
   freed_keeps = record {
     after = record h { clear = cleared.clear };
+    makes = refl;
     clears = cleared.grows;
+    uncleared = λ e. cc;
     shows = record {
       opened = s.opened;
+      size = s.size;
+      turns = s.turns;
       known = s.known;
       nodes = s.nodes;
       numbered = s.numbered;
@@ -216,28 +211,25 @@ module _ (opening : List ℕ) (c : State) (h : Queue) (n x : ℕ) (rest : List �
       home_idle = s.home_idle;
       home_last = s.home_last;
       links = λ p a l. elim (s.links p a l) [
-        | inl f ↦ inl (field (λ w. w.link) refl (asker h.order p) ∙ f)
-        | inr f ↦ inr (field (λ w. w.link) refl (asker h.order p) ∙ f.0, point_other (asker h.order (p + 1)) (open_n (p + 1) (omega arith) l) ∙ f.1)
+        | inl f ↦ inl (field ch (λ w. w.link) refl (asker h.order p) ∙ f)
+        | inr f ↦ inr (field ch (λ w. w.link) refl (asker h.order p) ∙ f.0, point_other ch (asker h.order (p + 1)) (open_n (p + 1) (omega arith) l) ∙ f.1)
       ];
-      last_link = λ p a e. field (λ w. w.link) refl (asker h.order p) ∙ s.last_link p a e;
-      lies = lies_kept opening c d h.order h.order h.ends leaves s.lies;
-      marks = λ p a l. s.marks p a l ∙ ap is_rolled (sym (point_other (asker h.order p) (open_n p a l)));
+      last_link = λ p a e. field ch (λ w. w.link) refl (asker h.order p) ∙ s.last_link p a e;
+      lies = lies_kept leaves terms s.lies;
+      marks = λ p a l. s.marks p a l ∙ ap is_rolled (sym (point_other ch (asker h.order p) (open_n p a l)));
       clears = λ m q a l. cleared.says m q a l;
       sits = λ m a. elim (cases_eq m n) [
-        | inl e ↦ rw (e, point_own) (own rest (seat c n).reason own_passed (sym (with_reason rest (point_at_end (seat c n).reason) (seat c n).reason) ∙ ap (λ (s : Seat). s.reason) (sym ch.seat_own)) ended)
-        | inr ne ↦ sits_kept c d h.order h.order h.ends h.ends m (spares m a ne) (s.sits m a)
+        | inl e ↦ rw (e, point_own ch) (own rest (seat c n).reason own_passed (sym (with_reason rest (point_at_end (seat c n).reason) (seat c n).reason) ∙ ap (λ (s : Seat). s.reason) (sym ch.seat_own)) ended)
+        | inr ne ↦ sits_kept (spares m a ne) (s.sits m a)
       ];
       fresh = fresh;
       passes = passes;
       once = once;
       unpassed = λ m a e. elim (cases_eq m n) [
-        | inl f ↦ rw (f, ch.seat_own) (with_unpassed rest (point_at_end (seat c n).reason) (seat c n).reason (ap (λ (p : Point). has_line p || is_freeing p) (sym point_own ∙ ap (point d) (sym f)) ∙ e))
-        | inr ne ↦ ap (λ (s : Seat). s.passed) (ch.seat_other m ne) ∙ s.unpassed m a (ap (λ (p : Point). has_line p || is_freeing p) (sym (point_other m ne)) ∙ e)
+        | inl f ↦ rw (f, ch.seat_own) (with_unpassed rest (point_at_end (seat c n).reason) (seat c n).reason (ap (λ (p : Point). has_line p || is_freeing p) (sym (point_own ch) ∙ ap (point d) (sym f)) ∙ e))
+        | inr ne ↦ ap (λ (s : Seat). s.passed) (ch.seat_other m ne) ∙ s.unpassed m a (ap (λ (p : Point). has_line p || is_freeing p) (sym (point_other ch m ne)) ∙ e)
       ];
+      settled = settled_by ch h.order h.order h.ends h.ends h.clear cleared.clear first.node s.settled (λ x ne e. e) (s.settled.boxed x first.node) (λ l. l) (rests_kept leaves h.clear cleared.clear s.known (prefix_self h.order) (clears_begin cleared.grows) s.settled.rests);
     };
     says = freed_says _ n rest (seat c n).reason ended;
   }
-
-  pub freed_does : Frees h freed_keeps.after
-  unfolding freed_keeps
-  freed_does = refl

@@ -1,51 +1,53 @@
 -- Granting: the next node has the line in its mailbox, or is passed.
-use Rattle.link_core.proofs.Deeds.{Ends}
-use Rattle.std.proofs.Common.{◌≡◌, ◌≢◌, ℕ, ◌+◌, ◌<◌, true, false, List, [], ◌∷◌, ◌++◌, ◌⊎◌, length, refl, sym, ◌∙◌, ap, subst, inl, inr, arith}
+use Rattle.qolb_model.specs.declared.terms.Terms.{Terms}
+use Rattle.std.proofs.Common.{◌≡◌, ◌≢◌, ℕ, ◌+◌, ◌<◌, true, false, List, [], ◌∷◌, ◌++◌, ◌⊎◌, length, Some, refl, sym, ◌∙◌, ap, subst, inl, inr, arith}
 use Rattle.std.specs.Prelude.{slice_index_or}
 use Rattle.link_core.specs.declared.point.Point.{Point}
 use Rattle.link_core.specs.declared.point.Point.TheVariants.{Idle, Ready, Linking, Queued, Holding, Leaving, Marking, Granting, Freeing, Left, Rolled, Shut}
 use Rattle.link_core.specs.declared.seat.Reason.{Reason}
 use Rattle.link_core.specs.declared.seat.Reason.TheVariants.{Refused}
+use Rattle.link_core.specs.declared.place.Place.{Place}
 use Rattle.link_core.specs.declared.place.Place.TheVariants.{Mailbox, Hand}
 use Rattle.link_core.specs.declared.entry.Entry.{Entry}
 use Rattle.link_core.specs.Places.{asker, IsLast}
 use Rattle.qolb_model.specs.Ends.{is_closed}
-use Rattle.qolb_model.specs.Queue.{Queue}
+use Rattle.qolb_model.specs.Queue.{Queue, finish}
+use Rattle.link_core.specs.Moves.{end_of}
 use Rattle.qolb_model.specs.declared.end.End.{End}
-use Rattle.qolb_model.specs.declared.end.End.TheVariants.{Gone, Told}
+use Rattle.qolb_model.specs.declared.end.End.TheVariants.{Gone}
 use Rattle.qolb_model.specs.declared.request.Request.{Request}
 use Rattle.link_core.specs.State.{State, Seat, entry, seat, point, IsNode, last_or, current, is_clear}
-use Rattle.link_core.specs.Shown.{has_line, EndedBy, HasEnded, IsWhole, IsCarried, Lies, in_hand, granted, IsReleasing, Sits, IsPassed, IsFresh, passed, Matches}
+use Rattle.link_core.specs.Shown.{has_line, EndedBy, HasEnded, IsWhole, IsCarried, Lies, in_hand, granted, IsReleasing, Sits, IsPassed, ArePassed, IsOnce, IsFresh, passed, Matches}
 use Rattle.std.proofs.lemmas.Bool.{cases_eq, cases_lt, cases_Bool}
 use Rattle.std.proofs.Common.{length-append}
 use Rattle.std.proofs.Math.ListN.{get_or-append}
 use Rattle.std.proofs.Math.Seq.{get_or-append_seam}
 use Rattle.link_core.specs.declared.told.Told.TheVariants as told
-use Rattle.link_core.specs.Steps.{seat_at_close, told_with, point_at_end}
+use Rattle.link_core.specs.Steps.{turns_after, seat_at_close, told_with, point_at_end}
 use Rattle.link_core.proofs.Deeds.{GoesOn}
-use Rattle.link_core.proofs.Orders.{last_once}
-use Rattle.link_core.proofs.Changes.{Changed, entry_field}
-use Rattle.link_core.proofs.Ending.{longer, facts, fs, whole, ended, later_other, told_closed, old_end_at, gone}
+use Rattle.link_core.proofs.Orders.{last_once, ended_at}
+use Rattle.std.proofs.lemmas.Option.{slice_get_within}
+use Rattle.link_core.proofs.Changes.{Changed, point_other, at_other, field}
+use Rattle.link_core.proofs.Ending.{longer, facts, fs, whole, ended, later_other, told_closed, gone, unboxed}
 use Rattle.link_core.proofs.Follows.{sits_at, granting_link, in_its_hand}
-use Rattle.link_core.proofs.Kept.{passed_kept}
-use Rattle.link_core.proofs.Close.{close_keeps, close_does}
-use Rattle.link_core.proofs.Over.{after_end, end_clears, end_shows}
-use Rattle.link_core.proofs.Leave.{clear_same, grants, rests_at_end}
+use Rattle.link_core.proofs.Close.{close_keeps}
+use Rattle.link_core.proofs.Over.{IsOver, after_end, end_clears, end_shows}
+use Rattle.link_core.proofs.Leave.{clear_same, grants, rests_at_end, clear_rest}
 
 last_or_push : (n : ℕ) (ps : List ℕ) (m : ℕ) → last_or n (ps ++ m ∷ []) ≡ m
 last_or_push n [] m = refl
 last_or_push n (p ∷ ps) m = last_or_push p ps m
 
-carried_push : (opening : List ℕ) (c : State) (o : List Request) (es : List End) (n : ℕ) (r : Reason) (ps : List ℕ) (m : ℕ) → IsWhole opening c es → EndedBy o es n r → (r ≡ Refused → is_closed es ≡ true) → IsCarried opening c o es n r (ps ++ m ∷ [])
-carried_push opening c o es n r [] m w e t = (w, e, t)
-carried_push opening c o es n r (p ∷ ps) m w e t = (w, e, t)
+carried_push : (terms : Terms) (c : State) (o : List Request) (es : List End) (n : ℕ) (r : Reason) (ps : List ℕ) (m : ℕ) → IsWhole terms c es → EndedBy o es n r → (r ≡ Refused → is_closed es ≡ true) → IsCarried terms c o es n r (ps ++ m ∷ [])
+carried_push terms c o es n r [] m w e t = (w, e, t)
+carried_push terms c o es n r (p ∷ ps) m w e t = (w, e, t)
 
-module _ (opening : List ℕ) (c : State) (h : Queue) (n m : ℕ) (s : Matches opening c h) (is : IsNode c n) (at : point c n ≡ Granting m) where
+module _ {terms : Terms} {c : State} {h : Queue} {n m : ℕ} (s : Matches terms c h) (is : IsNode c n) (at : point c n ≡ Granting m) where
   pub lined : has_line (point c n) ≡ true
   lined = ap has_line at
 
   pub sat : IsReleasing c n (current c n) × (length h.ends + 1 < length h.order) × (asker h.order (length h.ends + 1) ≡ m) × ((entry c (current c n)).link ≡ m)
-  sat = sits_at opening c h s n (Granting m) is at
+  sat = sits_at s n (Granting m) is at
 
   more : length h.ends + 1 < length h.order
   more = sat.1
@@ -57,7 +59,7 @@ module _ (opening : List ℕ) (c : State) (h : Queue) (n m : ℕ) (s : Matches o
   node_m = subst (λ (x : ℕ). IsNode c x) sat.2 (s.nodes (length h.ends + 1) more)
 
   m_other : m ≢ n
-  m_other e = let l = more in later_other opening c h n s is lined (length h.ends + 1) (omega arith) l (sat.2 ∙ e)
+  m_other e = let l = more in later_other s is lined (length h.ends + 1) (omega arith) l (sat.2 ∙ e)
 
   pub fresh_m : IsFresh c (length h.ends) m (length h.ends + 1)
   fresh_m = subst (λ (x : ℕ). IsFresh c (length h.ends) x (length h.ends + 1)) sat.2 (let l = more in s.fresh (length h.ends + 1) (omega arith) l)
@@ -70,19 +72,19 @@ module _ (opening : List ℕ) (c : State) (h : Queue) (n m : ℕ) (s : Matches o
       over e = let k = e (length h.ends + 1) last_m in omega arith
 
       unlined : has_line (point c m) ≡ true → ⊥
-      unlined e = let f : Hand n ≡ Hand m = sym (in_its_hand opening c h s n is lined) ∙ in_its_hand opening c h s m node_m e in let g : n ≡ m = cc in m_other (sym g)
+      unlined e = let f : Hand n ≡ Hand m = sym (in_its_hand s n is lined) ∙ in_its_hand s m node_m e in let g : n ≡ m = cc in m_other (sym g)
 
       go : (q : Point) → point c m ≡ q → Sits c h.order h.ends m q → (point c m ≡ Queued) ⊎ (point c m ≡ Rolled)
       go Idle e y = absurd (over y)
       go Ready e y = absurd (over y.0)
       go Shut e y = absurd (over y)
       go Left e y = absurd (over y)
-      go Freeing e y = let k = last_once h.order m y.0.at (length h.ends + 1) y.0.last last_m in let l = y.0.ended in absurd (omega arith)
+      go Freeing e y = let k = last_once h.order m y.0.at (length h.ends + 1) y.0.last last_m in let l = ended_at y.0 in absurd (omega arith)
       go (Linking q) e y =
           let k = last_once h.order m (y.at + 1) (length h.ends + 1) y.own last_m in
           let j : y.at ≡ length h.ends = omega arith in
-          let f : q ≡ current c n = sym y.before.its ∙ ap (asker h.order) j ∙ (facts opening c h n s is lined).3 in
-          absurd (granting_link opening c h s n m is at (ap (λ (x : ℕ). (entry c x).link) (sym f) ∙ y.unlinked))
+          let f : q ≡ current c n = sym y.before.its ∙ ap (asker h.order) j ∙ (facts s is lined).3 in
+          absurd (granting_link s n m is at (ap (λ (x : ℕ). (entry c x).link) (sym f) ∙ y.unlinked))
       go Queued e y = inl e
       go Rolled e y = inr e
       go Holding e y = absurd (unlined (ap has_line e))
@@ -109,56 +111,61 @@ module _ (opening : List ℕ) (c : State) (h : Queue) (n m : ℕ) (s : Matches o
         ],
       )
 
-  pub grant_keeps : (ents : List Entry) (sts : List Seat) → (entry c m).rolled ≡ false → Changed c (record c { place = Mailbox m; entries = ents; seats = sts }) n (seat_at_close (point_at_end (seat c n).reason) (seat c n)) m (grants (entry c m))
-      → GoesOn opening c (record c { place = Mailbox m; entries = ents; seats = sts }) h n (told_with (seat c n).passed (seat c n).reason)
-  grant_keeps ents sts unrolled ch =
-      let w = whole opening c h n s is lined in
-      let l = longer opening c h n s is lined in
+  -- in both cases m's entry is granted, and n's request has ended
+  grant_over : (pl : Place) → IsOver c h n c.home pl (turns_after n c) m (grants (entry c m))
+  grant_over pl = record {
+    link = refl;
+    rolled = refl;
+    freed = refl;
+    ready = unready;
+    clear = same_clear;
+    fresh = fresh_k;
+    home_idle = λ f. let k = more in absurd (omega arith);
+    home_last = λ _. refl;
+    turns = refl;
+    node = node_m;
+    box = λ dn un. absurd (unboxed s is lined m (s.settled.boxed m node_m dn un));
+  }
+
+  pub grant_keeps : {ents : List Entry} {sts : List Seat} → (entry c m).rolled ≡ false → Changed c (record c { place = Mailbox m; left = turns_after n c; entries = ents; seats = sts }) n (seat_at_close (point_at_end (seat c n).reason) (seat c n)) m (grants (entry c m))
+      → GoesOn terms (record c { place = Mailbox m; left = turns_after n c; entries = ents; seats = sts }) h n (told_with (seat c n).passed (seat c n).reason) (Some (finish (end_of c n))) true
+  grant_keeps unrolled ch =
+      let w = whole s is lined in
+      let l = longer s is lined in
       let k = more in
-      close_keeps opening c h n s is lined c.home (Mailbox m) ents sts (point_at_end (seat c n).reason) m (grants (entry c m)) ch refl refl refl
-      unready same_clear fresh_k (λ f. absurd (omega arith)) (λ _. refl)
+      close_keeps s is lined (point_at_end (seat c n).reason) ch (grant_over (Mailbox m))
       (granted m (omega arith) (ap (asker h.order) l ∙ sat.2) refl (ap (λ (w : Entry). w.granted) ch.entry_own)
-      (ap (λ (s : Seat). s.point) (ch.seat_other m m_other) ∙ queued) (record { bytes = w.bytes; closed = w.closed }))
-      (λ g _. rests_at_end opening c h n s is (seat c n).reason _ _ g)
+      (point_other ch m m_other ∙ queued) (record { bytes = w.bytes; closed = w.closed }))
+      (λ g _. rests_at_end s is (seat c n).reason _ _ g) (clear_rest s is _ ch.seat_own)
     where
       queued : point c m ≡ Queued
       queued = elim granted_point [
         | inl f ↦ f
-        | inr f ↦ let y = sits_at opening c h s m Rolled node_m f in cc
+        | inr f ↦ let y = sits_at s m Rolled node_m f in cc
       ]
-
-  pub grant_does : (ents : List Entry) (sts : List Seat) (un : (entry c m).rolled ≡ false) (ch : Changed c (record c { place = Mailbox m; entries = ents; seats = sts }) n (seat_at_close (point_at_end (seat c n).reason) (seat c n)) m (grants (entry c m))) → Ends c n h (grant_keeps ents sts un ch).after
-  unfolding grant_keeps
-  grant_does ents sts un ch = close_does _ _ _ _ _ _ _ _ _ _ _ _ _ _ _ _ _ _ _ _ _ _ _ _ _
 
 abbrev pub seat_passing : State → ℕ → ℕ → Seat
 seat_passing c n m = record { point = Leaving m; passed = (seat c n).passed ++ m ∷ []; reason = (seat c n).reason }
 
-module _ (opening : List ℕ) (c : State) (h : Queue) (n m : ℕ) (s : Matches opening c h) (is : IsNode c n) (at : point c n ≡ Granting m) (ents : List Entry) (sts : List Seat) (rolled : (entry c m).rolled ≡ true)
-    (ch : Changed c (record c { entries = ents; seats = sts }) n (seat_passing c n m) m (grants (entry c m))) where
-  abbrev pub d : State
-  d = record c { entries = ents; seats = sts }
+module _ {terms : Terms} {c : State} {h : Queue} {n m : ℕ} (s : Matches terms c h) (is : IsNode c n) (at : point c n ≡ Granting m) {ents : List Entry} {sts : List Seat} (rolled : (entry c m).rolled ≡ true)
+    (ch : Changed c (record c { left = turns_after n c; entries = ents; seats = sts }) n (seat_passing c n m) m (grants (entry c m))) where
+  abbrev d : State
+  d = record c { left = turns_after n c; entries = ents; seats = sts }
 
-  abbrev hs : has_line (point c n) ≡ true
-  hs = lined opening c h n m s is at
+  hs : has_line (point c n) ≡ true
+  hs = ap has_line at
 
   abbrev es : List End
-  es = fs opening c h n s is hs
-
-  long : length es ≡ length h.ends + 1
-  long = longer opening c h n s is hs
+  es = fs s is hs
 
   is_rolled_m : point c m ≡ Rolled
-  is_rolled_m = elim (granted_point opening c h n m s is at) [
-    | inl f ↦ let y = (sits_at opening c h s m Queued (node_m opening c h n m s is at) f).rolled in cc
+  is_rolled_m = elim (granted_point s is at) [
+    | inl f ↦ let y = (sits_at s m Queued (node_m s is at) f).rolled in cc
     | inr f ↦ f
   ]
 
   place : c.place ≡ Hand n
-  place = in_its_hand opening c h s n is hs
-
-  not_n : (x : ℕ) → point c x ≡ Rolled → x ≢ n
-  not_n x e f = let z : Rolled ≡ Granting m = sym e ∙ ap (point c) f ∙ at in cc
+  place = in_its_hand s n is hs
 
   own_passed : (seat d n).passed ≡ (seat c n).passed ++ m ∷ []
   own_passed = ap (λ (s : Seat). s.passed) ch.seat_own
@@ -177,29 +184,25 @@ module _ (opening : List ℕ) (c : State) (h : Queue) (n m : ℕ) (s : Matches o
     | inr ne ↦ inl (subst (λ (s : Seat). i < length s.passed) (ch.seat_other x ne) l, ap (λ (s : Seat). slice_index_or s.passed i 0) (ch.seat_other x ne))
   ]
 
-  come : (x i q : ℕ) → i < length (seat c x).passed → ((q < length h.ends) × (slice_index_or h.ends q Told ≡ Gone)) ⊎ ((q ≡ length h.ends) × (c.place ≡ Hand x)) → ((q < length es) × (slice_index_or es q Told ≡ Gone)) ⊎ ((q ≡ length es) × (d.place ≡ Hand x))
-  come x i q l (inl e) = inl (old_end_at opening c h n s is hs q e)
-  come x i q l (inr e) =
-      let f : Hand x ≡ Hand n = sym e.1 ∙ place in
-      let g : x ≡ n = cc in
-      inl (gone opening c h n s is hs i q (subst (λ (m : ℕ). i < length (seat c m).passed) g l) e.0)
-
-  freed_same : (x : ℕ) → (entry d x).freed ≡ (entry c x).freed
-  freed_same x = entry_field c d n (seat_passing c n m) m (grants (entry c m)) ch (λ w. w.freed) refl x
-
-  passes : (x i : ℕ) → IsNode d x → i < length (seat d x).passed → IsPassed d h.order es x (passed d x i)
+  passes : ArePassed d h.order es
   passes x i a l = elim (passed_cases x i l) [
     | inl e ↦
         let j = s.passes x i a e.0 in
-        subst (λ (y : ℕ). IsPassed d h.order es x y) (sym e.1)
-        (passed_kept c d h.order h.order h.ends es x (passed c x i) refl (ap (λ (s : Seat). s.point) (ch.seat_other (passed c x i) (not_n (passed c x i) j.point))) (freed_same (passed c x i)) (λ q l. l) (λ q _ w. come x i q e.0 w) j)
+        subst (λ (y : ℕ). IsPassed d h.order es x y) (sym e.1) (record {
+          node = j.node;
+          point = point_other ch (passed c x i) (at_other ch (passed c x i) (Granting m) Rolled at j.point (λ e. cc)) ∙ j.point;
+          kept = field ch (λ w. w.freed) refl (passed c x i) ∙ j.kept;
+          at = j.at;
+          last = j.last;
+          come = inl (gone s is hs x i j.at e.0 j.come);
+        })
     | inr e ↦ rw (e.2) (record {
-      node = node_m opening c h n m s is at;
-      point = ap (λ (s : Seat). s.point) (ch.seat_other m (m_other opening c h n m s is at)) ∙ is_rolled_m;
-      kept = freed_same m ∙ (fresh_m opening c h n m s is at).freed;
+      node = node_m s is at;
+      point = point_other ch m (m_other s is at) ∙ is_rolled_m;
+      kept = field ch (λ w. w.freed) refl m ∙ (fresh_m s is at).freed;
       at = length h.ends + 1;
-      last = last_m opening c h n m s is at;
-      come = inr (sym long, place ∙ ap Hand (sym e.0));
+      last = last_m s is at;
+      come = inr (sym (longer s is hs), place ∙ ap Hand (sym e.0));
     })
   ]
 
@@ -207,10 +210,10 @@ module _ (opening : List ℕ) (c : State) (h : Queue) (n m : ℕ) (s : Matches o
   new : (x i : ℕ) → IsNode c x → i < length (seat c x).passed → passed c x i ≢ m
   new x i a l e =
       let j = s.passes x i a l in
-      let k = last_once h.order m j.at (length h.ends + 1) (subst (λ (y : ℕ). IsLast h.order y j.at) e j.last) (last_m opening c h n m s is at) in
-      elim j.come [ inl b ↦ let z = b.0 in omega arith | inr b ↦ let z = b.0 in omega arith ]
+      let k = last_once h.order m j.at (length h.ends + 1) (subst (λ (y : ℕ). IsLast h.order y j.at) e j.last) (last_m s is at) in
+      elim j.come [ inl b ↦ let z = slice_get_within h.ends j.at Gone b in omega arith | inr b ↦ let z = b.0 in omega arith ]
 
-  once : (x y i j : ℕ) → IsNode d x → IsNode d y → i < length (seat d x).passed → j < length (seat d y).passed → passed d x i ≡ passed d y j → (x ≡ y) × (i ≡ j)
+  once : IsOnce d
   once x y i j a b k l e = elim (passed_cases x i k) [
     | inl f ↦ elim (passed_cases y j l) [
       | inl g ↦ s.once x y i j a b f.0 g.0 (sym f.1 ∙ e ∙ g.1)
@@ -222,23 +225,21 @@ module _ (opening : List ℕ) (c : State) (h : Queue) (n m : ℕ) (s : Matches o
     ]
   ]
 
-  pub grant_rolled_keeps : GoesOn opening c d h n told.Went
+  pub grant_rolled_keeps : GoesOn terms d h n told.Went (Some (finish (end_of c n))) true
   grant_rolled_keeps =
-      let w = whole opening c h n s is hs in
-      let l = long in
-      let k = more opening c h n m s is at in
-      let lies : Lies opening d h.order es = in_hand n (omega arith) is place (ap (λ (s : Seat). has_line s.point) ch.seat_own)
-      (ap (asker h.order) l ∙ (sat opening c h n m s is at).2 ∙ sym (ap (λ (s : Seat). last_or n s.passed) ch.seat_own ∙ last_or_push n (seat c n).passed m))
-      (subst (λ (s : Seat). IsCarried opening d h.order es n s.reason s.passed) (sym ch.seat_own) (carried_push opening d h.order es n (seat c n).reason (seat c n).passed m (record { bytes = w.bytes; closed = w.closed }) (ended opening c h n s is hs) (told_closed opening c h n s is hs))) in
-      let own : IsReleasing d n m = record { place = place; is = ap (λ (s : Seat). last_or n s.passed) ch.seat_own ∙ last_or_push n (seat c n).passed m } in
+      let w = whole s is hs in
+      let l = longer s is hs in
+      let k = more s is at in
+      let q = grant_over s is at c.place in
+      let cur : current d n ≡ m = ap (λ (s : Seat). last_or n s.passed) ch.seat_own ∙ last_or_push n (seat c n).passed m in
+      let lies : Lies terms d h.order es = in_hand n (omega arith) is place (ap (λ (s : Seat). has_line s.point) ch.seat_own)
+      (ap (asker h.order) l ∙ (sat s is at).2 ∙ sym cur)
+      (subst (λ (s : Seat). IsCarried terms d h.order es n s.reason s.passed) (sym ch.seat_own) (carried_push terms d h.order es n (seat c n).reason (seat c n).passed m (record { bytes = w.bytes; closed = w.closed }) (ended s is hs) (told_closed s is hs))) in
       record {
-        after = after_end opening c h n s is hs c.home c.place ents sts (seat_passing c n m) m (grants (entry c m)) ch refl refl refl (unready opening c h n m s is at) (same_clear opening c h n m s is at) (fresh_k opening c h n m s is at) (λ f. absurd (omega arith)) (λ _. refl);
-        clears = end_clears opening c h n s is hs c.home c.place ents sts (seat_passing c n m) m (grants (entry c m)) ch refl refl refl (unready opening c h n m s is at) (same_clear opening c h n m s is at) (fresh_k opening c h n m s is at) (λ f. absurd (omega arith)) (λ _. refl);
-        shows = end_shows opening c h n s is hs c.home c.place ents sts (seat_passing c n m) m (grants (entry c m)) ch refl refl refl (unready opening c h n m s is at) (same_clear opening c h n m s is at) (fresh_k opening c h n m s is at) (λ f. absurd (omega arith)) (λ _. refl)
-            lies own passes once (λ e. cc);
+        after = after_end s is hs ch q;
+        makes = refl;
+        clears = end_clears s is hs ch q;
+        uncleared = λ e. cc;
+        shows = end_shows s is hs ch q lies (record { place = place; is = cur }) passes once (λ e. cc) (λ nowhere. absurd (nowhere n place));
         says = tt;
       }
-
-  pub grant_rolled_does : Ends c n h grant_rolled_keeps.after
-  unfolding grant_rolled_keeps
-  grant_rolled_does = refl

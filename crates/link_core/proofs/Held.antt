@@ -1,6 +1,6 @@
 -- The steps of a release that end no turn.
-use Rattle.link_core.proofs.Deeds.{Stays}
-use Rattle.std.proofs.Common.{◌≡◌, ◌≢◌, ℕ, ◌+◌, ◌<◌, ◌≤◌, Bool, true, false, ◌||◌, List, [], ◌∷◌, ◌⊎◌, length, refl, sym, ◌∙◌, ap, subst, inl, inr, arith}
+use Rattle.qolb_model.specs.declared.terms.Terms.{Terms}
+use Rattle.std.proofs.Common.{◌≡◌, ◌≢◌, ℕ, ◌+◌, ◌<◌, ◌≤◌, Bool, true, false, ◌||◌, List, [], ◌∷◌, ◌⊎◌, length, None, refl, sym, ◌∙◌, ap, subst, inl, inr, arith}
 use Rattle.link_core.specs.declared.point.Point.{Point}
 use Rattle.link_core.specs.declared.point.Point.TheVariants.{Idle, Ready, Linking, Queued, Holding, Leaving, Marking, Granting, Freeing, Left, Rolled, Shut}
 use Rattle.link_core.specs.declared.seat.Reason.{Reason}
@@ -20,17 +20,22 @@ use Rattle.link_core.proofs.Orders.{last_once}
 use Rattle.link_core.proofs.Changes.{Changed}
 use Rattle.link_core.proofs.Follows.{sits_at, in_its_hand, hand_lies, current_cases}
 use Rattle.link_core.proofs.Ending.{facts, its}
-use Rattle.link_core.proofs.Leave.{releases_line, releases_at, done}
+use Rattle.qolb_model.specs.Leases.{is_last_turn}
+use Rattle.qolb_model.specs.Steps.{is_one}
+use Rattle.qolb_model.proofs.Leases.{last-is_one}
+use Rattle.link_core.proofs.Leave.{releases_line, releases_at, done, marked_node}
+use Rattle.link_core.proofs.Kept.{rests_held}
+use Rattle.link_core.specs.declared.place.Place.TheVariants.{Mailbox}
 use Rattle.link_core.proofs.Quiet.{IsQuiet, quiet_shows}
 
-held_again : (opening : List ℕ) (c : State) (es : List End) (ents : List Entry) (sts : List Seat) (r : Reason) → IsHeld opening c es r → IsHeld opening (record c { entries = ents; seats = sts }) es r
-held_again opening c es ents sts Own h = h
-held_again opening c es ents sts Closing h = h
-held_again opening c es ents sts Refused h = h
+held_again : (terms : Terms) (c : State) (es : List End) (n : ℕ) (ents : List Entry) (sts : List Seat) → (point c n ≡ Holding → is_last_turn terms.lease es ≡ false) → (r : Reason) → IsHeld terms c es n r → IsHeld terms (record c { entries = ents; seats = sts }) es n r
+held_again terms c es n ents sts early Own h = (h.0, h.1, h.2, inr (elim h.3 [ inl y ↦ early y | inr y ↦ y ]))
+held_again terms c es n ents sts early Closing h = h
+held_again terms c es n ents sts early Refused h = h
 
-carried_again : (opening : List ℕ) (c : State) (o : List Request) (es : List End) (n : ℕ) (ents : List Entry) (sts : List Seat) (r : Reason) (ps : List ℕ) → IsCarried opening c o es n r ps → IsCarried opening (record c { entries = ents; seats = sts }) o es n r ps
-carried_again opening c o es n ents sts r [] h = held_again opening c es ents sts r h
-carried_again opening c o es n ents sts r (m ∷ ms) h = (record { bytes = h.0.bytes; closed = h.0.closed }, h.1, h.2)
+carried_again : (terms : Terms) (c : State) (o : List Request) (es : List End) (n : ℕ) (ents : List Entry) (sts : List Seat) → (point c n ≡ Holding → is_last_turn terms.lease es ≡ false) → (r : Reason) (ps : List ℕ) → IsCarried terms c o es n r ps → IsCarried terms (record c { entries = ents; seats = sts }) o es n r ps
+carried_again terms c o es n ents sts early r [] h = held_again terms c es n ents sts early r h
+carried_again terms c o es n ents sts early r (m ∷ ms) h = (record { bytes = h.0.bytes; closed = h.0.closed }, h.1, h.2)
 
 lined_points : (p q : Point) → has_line p ≡ true → has_line q ≡ false → p ≢ q
 lined_points p q a b e = let z : true ≡ false = sym a ∙ ap has_line e ∙ b in cc
@@ -54,23 +59,23 @@ lined_unrolled Rolled e = cc
 lined_unrolled _ e = refl
 
 -- from one point with the line in hand to another
-module _ (opening : List ℕ) (c : State) (h : Queue) (n : ℕ) (s : Matches opening c h) (is : IsNode c n) (lined : has_line (point c n) ≡ true) (pt : Point) (has2 : has_line pt ≡ true)
+module _ (terms : Terms) (c : State) (h : Queue) (n : ℕ) (s : Matches terms c h) (is : IsNode c n) (lined : has_line (point c n) ≡ true) (pt : Point) (has2 : has_line pt ≡ true)
     (ents : List Entry) (sts : List Seat) (k : ℕ) (w : Entry) (ch : Changed c (record c { entries = ents; seats = sts }) n (record (seat c n) { point = pt }) k w) where
   abbrev pub d : State
   d = record c { entries = ents; seats = sts }
 
-  pub held_lies : (opening : List ℕ) → Matches opening c h → Lies opening d h.order h.ends
-  held_lies opening s =
-      let f = hand_lies opening c h s n (in_its_hand opening c h s n is lined) s.lies in
-      in_hand n f.0 is (in_its_hand opening c h s n is lined) (ap (λ (s : Seat). has_line s.point) ch.seat_own ∙ has2)
+  pub held_lies : (terms : Terms) → Matches terms c h → (point c n ≡ Holding → is_last_turn terms.lease h.ends ≡ false) → Lies terms d h.order h.ends
+  held_lies terms s early =
+      let f = hand_lies s n (in_its_hand s n is lined) s.lies in
+      in_hand n f.0 is (in_its_hand s n is lined) (ap (λ (s : Seat). has_line s.point) ch.seat_own ∙ has2)
       (f.3 ∙ sym (ap (λ (s : Seat). last_or n s.passed) ch.seat_own))
-      (subst (λ (s : Seat). IsCarried opening d h.order h.ends n s.reason s.passed) (sym ch.seat_own) (carried_again opening c h.order h.ends n ents sts (seat c n).reason (seat c n).passed f.4))
+      (subst (λ (s : Seat). IsCarried terms d h.order h.ends n s.reason s.passed) (sym ch.seat_own) (carried_again terms c h.order h.ends n ents sts early (seat c n).reason (seat c n).passed f.4))
 
   pub held_quiet : w.link ≡ (entry c k).link → w.freed ≡ (entry c k).freed → w.granted ≡ (entry c k).granted → w.rolled ≡ (entry c k).rolled
       → ((w.done ≡ (entry c k).done) ⊎ ((p : ℕ) → length h.ends ≤ p → p < length h.order → asker h.order p ≡ k → (p ≡ length h.ends) × IsGranting d))
       → (k ≢ n → point c k ≢ Ready) → (k ≢ n → is_clear (point c k) w ≡ is_clear (point c k) (entry c k)) → ((m : ℕ) → point c n ≢ Granting m)
-      → Sits d h.order h.ends n pt → IsQuiet c d h h.marked n (record (seat c n) { point = pt }) k w
-  held_quiet lk fr gr ro dn re cl ng own = record {
+      → ((terms : Terms) → Matches terms c h → point c n ≡ Holding → is_last_turn terms.lease h.ends ≡ false) → IsNode c k → (w.done ≡ true → w.link ≡ 0 → c.place ≡ Mailbox k) → Sits d h.order h.ends n pt → IsQuiet c d h h.marked n (record (seat c n) { point = pt }) k w
+  held_quiet lk fr gr ro dn re cl ng early node box own = record {
     link = lk;
     freed = fr;
     granted = gr;
@@ -88,60 +93,68 @@ module _ (opening : List ℕ) (c : State) (h : Queue) (n : ℕ) (s : Matches ope
     not_linking = λ q. lined_points (point c n) (Linking q) lined refl;
     not_passed = λ e. absurd (lined_points (point c n) Rolled lined refl e);
     unpassed = λ e. absurd (lined_free pt has2 e);
-    lies = held_lies;
+    node = node;
+    boxes = λ x ne e. e;
+    box = box;
+    rests = rests_held d n h.order h.ends h.clear (in_its_hand s n is lined);
+    lies = λ terms s. held_lies terms s (early terms s);
     own = own;
   }
     where
       lined_free : (p : Point) → has_line p ≡ true → has_line p || is_freeing p ≡ false → ⊥
       lined_free p a e = let z : true || is_freeing p ≡ false = subst (λ (b : Bool). b || is_freeing p ≡ false) a e in cc
 
-module _ (opening : List ℕ) (c : State) (h : Queue) (n e : ℕ) (s : Matches opening c h) (is : IsNode c n) where
-  pub home_failed_keeps : (r : Releases c n e) → c.home ≢ e → (sts : List Seat) → Changed c (record c { seats = sts }) n (record (seat c n) { point = Marking e }) n (entry c n) → GoesOn opening c (record c { seats = sts }) h n told.Went
+module _ (terms : Terms) (c : State) (h : Queue) (n e : ℕ) (s : Matches terms c h) (is : IsNode c n) where
+  pub home_failed_keeps : (r : Releases c n e) → c.home ≢ e → (sts : List Seat) → Changed c (record c { seats = sts }) n (record (seat c n) { point = Marking e }) n (entry c n) → GoesOn terms (record c { seats = sts }) h n told.Went None false
   home_failed_keeps r ne sts ch =
-      let lined = releases_line opening c h n s is e r in
-      let cur = releases_at opening c h n s is e r in
-      let f = facts opening c h n s is lined in
+      let lined = releases_line s is e r in
+      let cur = releases_at s is e r in
+      let f = facts s is lined in
       let more : length h.ends + 1 ≢ length h.order = λ last. ne (s.home_last (length h.ends) (omega arith) last ∙ f.3 ∙ cur) in
       let l = f.0 in
       record {
         after = h;
+        makes = refl;
         clears = none;
-        shows = quiet_shows opening c h n s is c.place c.bytes c.closed c.mask c.entries sts h.marked (record (seat c n) { point = Marking e }) n (entry c n) ch
-            (held_quiet opening c h n s is lined (Marking e) refl c.entries sts n (entry c n) ch refl refl refl refl (inl refl) (λ x. absurd (x refl)) (λ x. absurd (x refl)) (not_granting r)
-            (record { place = in_its_hand opening c h s n is lined; is = ap (λ (s : Seat). last_or n s.passed) ch.seat_own ∙ cur }, grind arith));
+        uncleared = λ _. refl;
+        shows = quiet_shows terms c h n s is c.place c.bytes c.closed c.mask c.entries sts h.marked (record (seat c n) { point = Marking e }) n (entry c n) ch
+            (held_quiet terms c h n s is lined (Marking e) refl c.entries sts n (entry c n) ch refl refl refl refl (inl refl) (λ x. absurd (x refl)) (λ x. absurd (x refl)) (not_granting r) (early r) is (s.settled.boxed n is)
+            (record { place = in_its_hand s n is lined; is = ap (λ (s : Seat). last_or n s.passed) ch.seat_own ∙ cur }, grind arith));
         says = tt;
       }
     where
+      early : Releases c n e → (terms : Terms) → Matches terms c h → point c n ≡ Holding → is_last_turn terms.lease h.ends ≡ false
+      early (holding a f l) terms s at = sym (last-is_one terms.lease h.ends) ∙ ap is_one (sym s.turns) ∙ l
+      early (leaving a) terms s at = let z : Leaving e ≡ Holding = sym a ∙ at in cc
+
       not_granting : Releases c n e → (m : ℕ) → point c n ≢ Granting m
-      not_granting (holding a f) m g = let z : Holding ≡ Granting m = sym a ∙ g in cc
+      not_granting (holding a f l) m g = let z : Holding ≡ Granting m = sym a ∙ g in cc
       not_granting (leaving a) m g = let z : Leaving e ≡ Granting m = sym a ∙ g in cc
 
-  pub home_failed_does : (r : Releases c n e) (ne : c.home ≢ e) (sts : List Seat) (ch : Changed c (record c { seats = sts }) n (record (seat c n) { point = Marking e }) n (entry c n)) → Stays h (home_failed_keeps r ne sts ch).after
-  unfolding home_failed_keeps
-  home_failed_does r ne sts ch = refl
-
-  pub done_linked_keeps : (at : point c n ≡ Marking e) → (entry c e).link ≢ 0 → (ents : List Entry) (sts : List Seat) → Changed c (record c { entries = ents; seats = sts }) n (record (seat c n) { point = Granting (entry c e).link }) e (done (entry c e)) → GoesOn opening c (record c { entries = ents; seats = sts }) h n told.Went
+  pub done_linked_keeps : (at : point c n ≡ Marking e) → (entry c e).link ≢ 0 → (ents : List Entry) (sts : List Seat) → Changed c (record c { entries = ents; seats = sts }) n (record (seat c n) { point = Granting (entry c e).link }) e (done (entry c e)) → GoesOn terms (record c { entries = ents; seats = sts }) h n told.Went None false
   done_linked_keeps at linked ents sts ch =
       let lined : has_line (point c n) ≡ true = ap has_line at in
-      let y = sits_at opening c h s n (Marking e) is at in
+      let y = sits_at s n (Marking e) is at in
       let more = y.1 in
-      let at_e : IsLast h.order e (length h.ends) = subst (λ (m : ℕ). IsLast h.order m (length h.ends)) y.0.is (its opening c h n s is lined) in
+      let at_e : IsLast h.order e (length h.ends) = subst (λ (m : ℕ). IsLast h.order m (length h.ends)) y.0.is (its s is lined) in
       let next : asker h.order (length h.ends + 1) ≡ (entry c e).link = elim (s.links (length h.ends) (omega arith) more) [
         | inl f ↦ sym f ∙ ap (λ (m : ℕ). (entry c m).link) at_e.its
         | inr f ↦ absurd (linked (sym (ap (λ (m : ℕ). (entry c m).link) at_e.its) ∙ f.0))
       ] in
-      let place = in_its_hand opening c h s n is lined in
+      let place = in_its_hand s n is lined in
       record {
         after = h;
+        makes = refl;
         clears = none;
-        shows = quiet_shows opening c h n s is c.place c.bytes c.closed c.mask ents sts h.marked (record (seat c n) { point = Granting (entry c e).link }) e (done (entry c e)) ch
-            (held_quiet opening c h n s is lined (Granting (entry c e).link) refl ents sts e (done (entry c e)) ch refl refl refl refl
+        uncleared = λ _. refl;
+        shows = quiet_shows terms c h n s is c.place c.bytes c.closed c.mask ents sts h.marked (record (seat c n) { point = Granting (entry c e).link }) e (done (entry c e)) ch
+            (held_quiet terms c h n s is lined (Granting (entry c e).link) refl ents sts e (done (entry c e)) ch refl refl refl refl
             (inr (λ p a l f. (
               last_once h.order e p (length h.ends) (subst (λ (m : ℕ). IsLast h.order m p) f (s.distinct p a l)) at_e,
               record { by = n; to = (entry c e).link; node = is; place = place; point = ap (λ (s : Seat). s.point) ch.seat_own },
             )))
             (unready at) (unclear at)
-            (λ m g. let z : Marking e ≡ Granting m = sym at ∙ g in cc) (
+            (λ m g. let z : Marking e ≡ Granting m = sym at ∙ g in cc) (λ terms s g. let z : Marking e ≡ Holding = sym at ∙ g in cc) (marked_node s is at) (λ _ un. absurd (linked un)) (
               record { place = place; is = refl },
               more,
               next,
@@ -152,8 +165,8 @@ module _ (opening : List ℕ) (c : State) (h : Queue) (n e : ℕ) (s : Matches o
     where
       e_cases : point c n ≡ Marking e → (n ≡ e) ⊎ IsPassed c h.order h.ends n e
       e_cases at =
-          let cur = (sits_at opening c h s n (Marking e) is at).0.is in
-          elim (current_cases opening c h s n is) [
+          let cur = (sits_at s n (Marking e) is at).0.is in
+          elim (current_cases s n is) [
             | inl j ↦ inl (sym j.1 ∙ cur)
             | inr j ↦ inr (subst (λ (x : ℕ). IsPassed c h.order h.ends n x) cur j)
           ]
@@ -166,7 +179,3 @@ module _ (opening : List ℕ) (c : State) (h : Queue) (n e : ℕ) (s : Matches o
 
       unclear : point c n ≡ Marking e → e ≢ n → is_clear (point c e) (done (entry c e)) ≡ is_clear (point c e) (entry c e)
       unclear at ne = elim (e_cases at) [ inl j ↦ absurd (ne (sym j)) | inr j ↦ rw j.point (rolled_kept (done (entry c e)) j.kept ∙ sym (rolled_kept (entry c e) j.kept)) ]
-
-  pub done_linked_does : (at : point c n ≡ Marking e) (ne : (entry c e).link ≢ 0) (ents : List Entry) (sts : List Seat) (ch : Changed c (record c { entries = ents; seats = sts }) n (record (seat c n) { point = Granting (entry c e).link }) e (done (entry c e))) → Stays h (done_linked_keeps at ne ents sts ch).after
-  unfolding done_linked_keeps
-  done_linked_does at ne ents sts ch = refl

@@ -1,18 +1,25 @@
 -- What an act leaves true of the nodes that it doesn't touch.
-use Rattle.std.proofs.Common.{◌≡◌, ℕ, ◌+◌, ◌<◌, ◌≤◌, true, false, List, [], ◌∷◌, ◌⊎◌, length, refl, sym, ◌∙◌, ap, subst}
-use Rattle.std.specs.Prelude.{slice_index_or}
+use Rattle.qolb_model.specs.declared.terms.Terms.{Terms}
+use Rattle.std.proofs.Common.{◌≡◌, ◌≢◌, ℕ, ◌+◌, ◌<◌, ◌≤◌, true, false, List, [], ◌∷◌, ◌⊎◌, length, refl, sym, ◌∙◌, ap, subst, inl, inr, arith}
+use mathlib.Core.List.{IsPrefix}
+use Rattle.std.proofs.lemmas.Bool.{cases_eq}
+use Rattle.qolb_model.specs.Requests.{Has}
+use Rattle.qolb_model.proofs.Requests.{has_left}
+use Rattle.qolb_model.proofs.Prefixes.{prefix_get, prefix_length}
+use Rattle.qolb_model.proofs.Bounds.{prefix_get_back}
 use Rattle.line_lanes.specs.declared.line.Line64.{Line64}
 use Rattle.link_core.specs.declared.point.Point.{Point}
 use Rattle.link_core.specs.declared.point.Point.TheVariants.{Idle, Ready, Linking, Queued, Holding, Leaving, Marking, Granting, Freeing, Left, Rolled, Shut}
 use Rattle.link_core.specs.declared.seat.Reason.{Reason}
 use Rattle.link_core.specs.declared.seat.Reason.TheVariants.{Own, Closing, Refused}
-use Rattle.link_core.specs.declared.place.Place.TheVariants.{Hand}
+use Rattle.link_core.specs.declared.place.Place.TheVariants.{Mailbox, Hand}
+use Rattle.link_core.specs.declared.entry.Entry.{Entry}
 use Rattle.link_core.specs.Places.{asker, IsLast}
 use Rattle.qolb_model.specs.declared.end.End.{End}
-use Rattle.qolb_model.specs.declared.end.End.TheVariants.{Gone, Told}
 use Rattle.qolb_model.specs.declared.request.Request.{Request}
-use Rattle.link_core.specs.State.{State, Seat, entry, seat, point, last_or, current}
-use Rattle.link_core.specs.Shown.{is_rolled, has_line, ByReason, HasEnded, IsWhole, IsHeld, IsCarried, Lies, at_home, in_hand, granted, left, IsReleasing, Sits, IsPassed, IsGranting, IsFresh}
+use Rattle.link_core.specs.State.{State, Seat, entry, seat, point, IsNode, last_or, current}
+use Rattle.link_core.specs.Shown.{is_rolled, has_line, ByReason, HasEnded, IsWhole, IsHeld, IsCarried, Lies, at_home, in_hand, granted, left, IsReleasing, Sits, HasCome, IsPassed, IsGranting, IsFresh, HasLeft, Rests, IsSettled}
+use Rattle.link_core.proofs.Changes.{Changed, is_node}
 
 -- an act from c to d, which takes the order o to o2 and the ends es to fs, leaves alone what x is in
 pub record Spares (c d : State) (o o2 : List Request) (es fs : List End) (x : ℕ) : Type 0 where
@@ -22,14 +29,14 @@ pub record Spares (c d : State) (o o2 : List Request) (es fs : List End) (x : �
   pub ready : point c x ≡ Ready → entry d x ≡ entry c x
   pub fwd : (p : ℕ) → IsLast o x p → IsLast o2 x p
   pub back : (p : ℕ) → IsLast o2 x p → IsLast o x p
-  pub ended : (p : ℕ) → p < length es → (p < length fs) × (slice_index_or fs p Gone ≡ slice_index_or es p Gone)
+  pub ended : IsPrefix es fs
   pub later : (p : ℕ) → is_rolled (point c x) ≡ false → IsLast o x p → length es ≤ p → length fs ≤ p
   pub behind : (q p : ℕ) → point c x ≡ Linking q → IsLast o q p → IsLast o x (p + 1) → length es ≤ p + 1 → IsLast o2 q p × ((entry d q).link ≡ (entry c q).link)
   pub line : has_line (point c x) ≡ true → (d.place ≡ c.place) × (length fs ≡ length es) × (length es + 1 < length o → (length es + 1 < length o2) × (asker o2 (length es + 1) ≡ asker o (length es + 1))) × ((m : ℕ) → point c x ≡ Granting m → (entry d (current c x)).link ≡ (entry c (current c x)).link)
 
-module _ (c d : State) (o o2 : List Request) (es fs : List End) (x : ℕ) (k : Spares c d o o2 es fs x) where
+module _ {c d : State} {o o2 : List Request} {es fs : List End} {x : ℕ} (k : Spares c d o o2 es fs x) where
   ended_kept : HasEnded o es x → HasEnded o2 fs x
-  ended_kept h p a = (k.ended p (h p (k.back p a))).0
+  ended_kept h p a = let l = h p (k.back p a) in let e = prefix_length es fs k.ended in omega arith
 
   current_kept : current d x ≡ current c x
   current_kept = ap (λ (s : Seat). last_or x s.passed) k.seat
@@ -48,9 +55,10 @@ module _ (c d : State) (o o2 : List Request) (es fs : List End) (x : ℕ) (k : S
   at_point_kept Freeing e h = (
     record {
       at = h.0.at;
+      end = h.0.end;
       last = k.fwd h.0.at h.0.last;
-      ended = (k.ended h.0.at h.0.ended).0;
-      how = subst (λ (r : Reason). ByReason r (slice_index_or fs h.0.at Gone)) (sym (ap (λ (s : Seat). s.reason) k.seat)) (subst (λ (w : End). ByReason (seat c x).reason w) (sym (k.ended h.0.at h.0.ended).1) h.0.how);
+      ended = prefix_get es fs h.0.at h.0.end k.ended h.0.ended;
+      how = subst (λ (r : Reason). ByReason r h.0.end) (sym (ap (λ (s : Seat). s.reason) k.seat)) h.0.how;
     },
     λ f. h.1 (ap (λ (s : Seat). s.passed) (sym k.seat) ∙ f),
   )
@@ -96,7 +104,7 @@ fresh_kept c d t t2 x p a b e f g h = record {
 }
 
 -- what is passed stays so
-pub passed_kept : (c d : State) (o o2 : List Request) (es fs : List End) (n x : ℕ) → d.nodes ≡ c.nodes → point d x ≡ point c x → (entry d x).freed ≡ (entry c x).freed → ((p : ℕ) → IsLast o x p → IsLast o2 x p) → ((p : ℕ) → IsLast o x p → ((p < length es) × (slice_index_or es p Told ≡ Gone)) ⊎ ((p ≡ length es) × (c.place ≡ Hand n)) → ((p < length fs) × (slice_index_or fs p Told ≡ Gone)) ⊎ ((p ≡ length fs) × (d.place ≡ Hand n))) → IsPassed c o es n x → IsPassed d o2 fs n x
+pub passed_kept : (c d : State) (o o2 : List Request) (es fs : List End) (n x : ℕ) → d.nodes ≡ c.nodes → point d x ≡ point c x → (entry d x).freed ≡ (entry c x).freed → ((p : ℕ) → IsLast o x p → IsLast o2 x p) → ((p : ℕ) → IsLast o x p → HasCome c es n p → HasCome d fs n p) → IsPassed c o es n x → IsPassed d o2 fs n x
 passed_kept c d o o2 es fs n x ns a b e f h = record {
   node = (h.node.0, subst (λ (n : ℕ). x ≤ n) (sym ns) h.node.1);
   point = a ∙ h.point;
@@ -105,6 +113,10 @@ passed_kept c d o o2 es fs n x ns a b e f h = record {
   last = e h.at h.last;
   come = f h.at h.last h.come;
 }
+
+-- what a list has, a longer one has
+pub has_more : (old new : List Request) (r : Request) → IsPrefix old new → Has old r → Has new r
+has_more old new r b h = subst (λ (rs : List Request). Has rs r) b.1 (has_left old b.0 r h)
 
 -- an act that leaves the line alone leaves it where it lies
 pub record Leaves (c d : State) (o o2 : List Request) (es : List End) : Type 0 where
@@ -119,29 +131,66 @@ pub record Leaves (c d : State) (o o2 : List Request) (es : List End) : Type 0 w
   pub hand : (n : ℕ) → has_line (point c n) ≡ true → seat d n ≡ seat c n
   pub box : (t : ℕ) → length es < length o → asker o (length es) ≡ t → point c t ≡ Queued → (entry c t).granted ≡ true → (point d t ≡ Queued) × ((entry d t).granted ≡ true)
   pub linking : (t q : ℕ) → length es < length o → asker o (length es) ≡ t → point c t ≡ Linking q → point d t ≡ Linking q
-  pub tail : (q : ℕ) → (point c q ≡ Left) ⊎ (point c q ≡ Rolled) → (entry c q).link ≡ 0 → (entry c q).done ≡ true → ((point d q ≡ Left) ⊎ (point d q ≡ Rolled)) × ((entry d q).link ≡ 0) × ((entry d q).done ≡ true)
+  pub tail : (q : ℕ) → (point c q ≡ Left) ⊎ (point c q ≡ Rolled) → (entry c q).link ≡ 0 → (entry c q).done ≡ true → (point d q ≡ point c q) × ((entry d q).link ≡ (entry c q).link) × ((entry d q).done ≡ (entry c q).done)
 
-module _ (opening : List ℕ) (c d : State) (o o2 : List Request) (es : List End) (k : Leaves c d o o2 es) where
+module _ {c d : State} {o o2 : List Request} {es : List End} (k : Leaves c d o o2 es) where
   same_bytes : d.bytes.bytes ≡ c.bytes.bytes
   same_bytes = ap (λ (l : Line64). l.bytes) k.bytes
 
-  whole_kept : IsWhole opening c es → IsWhole opening d es
-  whole_kept w = record { bytes = same_bytes ∙ w.bytes; closed = k.closed ∙ w.closed }
+  whole_kept : (terms : Terms) → IsWhole terms c es → IsWhole terms d es
+  whole_kept terms w = record { bytes = same_bytes ∙ w.bytes; closed = k.closed ∙ w.closed }
 
-  held_kept : (r : Reason) → IsHeld opening c es r → IsHeld opening d es r
-  held_kept Own h = (k.closed ∙ h.0, h.1, rw (k.bytes, k.mask) h.2)
-  held_kept Closing h = (k.closed ∙ h.0, h.1, rw (k.bytes, k.mask) h.2)
-  held_kept Refused h = (k.closed ∙ h.0, h.1, same_bytes ∙ h.2)
+  held_kept : (terms : Terms) (n : ℕ) → seat d n ≡ seat c n → (r : Reason) → IsHeld terms c es n r → IsHeld terms d es n r
+  held_kept terms n e Own h = (k.closed ∙ h.0, h.1, rw (k.bytes, k.mask) h.2, elim h.3 [ inl y ↦ inl (ap (λ (s : Seat). s.point) e ∙ y) | inr y ↦ inr y ])
+  held_kept terms n e Closing h = (k.closed ∙ h.0, h.1, rw (k.bytes, k.mask) h.2)
+  held_kept terms n e Refused h = (k.closed ∙ h.0, h.1, same_bytes ∙ h.2)
 
-  carried_kept : (n : ℕ) (r : Reason) (ps : List ℕ) → ((p : ℕ) → IsLast o n p → IsLast o2 n p) → IsCarried opening c o es n r ps → IsCarried opening d o2 es n r ps
-  carried_kept n r [] f h = held_kept r h
-  carried_kept n r (m ∷ ms) f h = (whole_kept h.0, record { at = h.1.at; last = f h.1.at h.1.last; ended = h.1.ended; how = h.1.how }, h.2)
+  carried_kept : (terms : Terms) (n : ℕ) → seat d n ≡ seat c n → (r : Reason) (ps : List ℕ) → ((p : ℕ) → IsLast o n p → IsLast o2 n p) → IsCarried terms c o es n r ps → IsCarried terms d o2 es n r ps
+  carried_kept terms n e r [] f h = held_kept terms n e r h
+  carried_kept terms n e r (m ∷ ms) f h = (whole_kept terms h.0, record { at = h.1.at; end = h.1.end; last = f h.1.at h.1.last; ended = h.1.ended; how = h.1.how }, h.2)
 
-  pub lies_kept : Lies opening c o es → Lies opening d o2 es
-  lies_kept (at_home a b w) = at_home (k.home a) (k.place ∙ b) (whole_kept w)
-  lies_kept (in_hand n a b e f g h) = in_hand n (k.turn a).0 (b.0, subst (λ (m : ℕ). n ≤ m) (sym k.nodes) b.1) (k.place ∙ e)
+  pub lies_kept : (terms : Terms) → Lies terms c o es → Lies terms d o2 es
+  lies_kept terms (at_home a b w) = at_home (k.home a) (k.place ∙ b) (whole_kept terms w)
+  lies_kept terms (in_hand n a b e f g h) = in_hand n (k.turn a).0 (b.0, subst (λ (m : ℕ). n ≤ m) (sym k.nodes) b.1) (k.place ∙ e)
       (ap (λ (s : Seat). has_line s.point) (k.hand n f) ∙ f)
       ((k.turn a).1 ∙ g ∙ ap (λ (s : Seat). last_or n s.passed) (sym (k.hand n f)))
-      (subst (λ (s : Seat). IsCarried opening d o2 es n s.reason s.passed) (sym (k.hand n f)) (carried_kept n (seat c n).reason (seat c n).passed (λ p. k.fwd n p f) h))
-  lies_kept (granted t a b e f g h) = let y = k.box t a b g f in granted t (k.turn a).0 ((k.turn a).1 ∙ b) (k.place ∙ e) y.1 y.0 (whole_kept h)
-  lies_kept (left t q a b e f g h i j) = let y = k.tail q h g f in left t q (k.turn a).0 ((k.turn a).1 ∙ b) (k.place ∙ e) y.2 y.1 y.0 (k.linking t q a b i) (whole_kept j)
+      (subst (λ (s : Seat). IsCarried terms d o2 es n s.reason s.passed) (sym (k.hand n f)) (carried_kept terms n (k.hand n f) (seat c n).reason (seat c n).passed (λ p. k.fwd n p f) h))
+  lies_kept terms (granted t a b e f g h) = let y = k.box t a b g f in granted t (k.turn a).0 ((k.turn a).1 ∙ b) (k.place ∙ e) y.1 y.0 (whole_kept terms h)
+  lies_kept terms (left t q a b e f g h i j) =
+      let y = k.tail q h g f in
+      let stays : (point d q ≡ Left) ⊎ (point d q ≡ Rolled) = elim h [ inl v ↦ inl (y.0 ∙ v) | inr v ↦ inr (y.0 ∙ v) ] in
+      left t q (k.turn a).0 ((k.turn a).1 ∙ b) (k.place ∙ e) (y.2 ∙ f) (y.1 ∙ g) stays (k.linking t q a b i) (whole_kept terms j)
+
+  -- and what was left behind it leaves there
+  left_kept : (x : ℕ) → HasLeft c x → HasLeft d x
+  left_kept x l = let y = k.tail x (inl l.point) l.unlinked l.done in record { point = y.0 ∙ l.point; done = y.2 ∙ l.done; unlinked = y.1 ∙ l.unlinked }
+
+  pub rests_kept : (old new : List Request) → length es ≤ length o → IsPrefix o o2 → IsPrefix old new → Rests c o es old → Rests d o2 es new
+  rests_kept old new known whole more f none p r e l at is ng = elim (f (λ m g. none m (k.place ∙ g)) p r e l (prefix_get_back o o2 p r whole (omega arith) at) is ng) [
+    | inl y ↦ inl (has_more old new r more y)
+    | inr y ↦ inr (left_kept r.node y)
+  ]
+
+-- with the line in a hand nothing is said of the last end
+pub rests_held : (d : State) (n : ℕ) (o : List Request) (es : List End) (clear : List Request) → d.place ≡ Hand n → Rests d o es clear
+rests_held d n o es clear a none = absurd (none n a)
+
+-- of the entries only k's is changed, to w, and the line may move
+pub settled_by : {c d : State} {n : ℕ} {s : Seat} {k : ℕ} {w : Entry} (ch : Changed c d n s k w) (o o2 : List Request) (es fs : List End) (old new : List Request) → IsNode c k → IsSettled c o es old
+    → ((x : ℕ) → x ≢ k → c.place ≡ Mailbox x → d.place ≡ Mailbox x) → (w.done ≡ true → w.link ≡ 0 → d.place ≡ Mailbox k) → ((entry c k).link ≤ c.nodes → w.link ≤ c.nodes)
+    → Rests d o2 fs new → IsSettled d o2 fs new
+settled_by {c} {d} {n} {s} {k} {w} ch o o2 es fs old new a was boxes box bound rests = record {
+  boxed = λ x b dn un. elim (cases_eq x k) [
+    | inl e ↦
+        let same : w ≡ entry d x = sym ch.entry_own ∙ ap (entry d) (sym e) in
+        box (ap (λ (v : Entry). v.done) same ∙ dn) (ap (λ (v : Entry). v.link) same ∙ un) ∙ ap Mailbox (sym e)
+    | inr ne ↦
+        let same : entry c x ≡ entry d x = sym (ch.entry_other x ne) in
+        boxes x ne (was.boxed x (is_node ch x b) (ap (λ (v : Entry). v.done) same ∙ dn) (ap (λ (v : Entry). v.link) same ∙ un))
+  ];
+  rests = rests;
+  bounded = λ x b. subst (λ (m : ℕ). (entry d x).link ≤ m) (sym ch.nodes) (elim (cases_eq x k) [
+    | inl e ↦ subst (λ (v : Entry). v.link ≤ c.nodes) (sym (ap (entry d) e ∙ ch.entry_own)) (bound (was.bounded k a))
+    | inr ne ↦ subst (λ (v : Entry). v.link ≤ c.nodes) (sym (ch.entry_other x ne)) (was.bounded x (is_node ch x b))
+  ]);
+}

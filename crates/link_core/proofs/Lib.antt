@@ -26,6 +26,7 @@ pub mod Cases
 pub mod Unset
 pub mod Others
 pub mod Made
+pub mod Came
 pub mod Steady
 pub mod Marked
 pub mod Chained

@@ -1,8 +1,7 @@
 -- Linking to the request before.
+use Rattle.qolb_model.specs.declared.terms.Terms.{Terms}
 use Rattle.line_lanes.specs.declared.line.Mask.{Mask}
-use Rattle.link_core.proofs.Deeds.{Frees}
-use Rattle.std.proofs.Common.{◌≡◌, ◌≢◌, ℕ, ◌+◌, ◌<◌, ◌≤◌, true, false, ◌||◌, List, [], ◌⊎◌, length, refl, sym, ◌∙◌, ap, subst, inl, inr, arith}
-use Rattle.std.specs.Prelude.{slice_index_or}
+use Rattle.std.proofs.Common.{◌≡◌, ◌≢◌, ℕ, ◌+◌, ◌<◌, ◌≤◌, true, false, ◌||◌, List, [], ◌⊎◌, length, None, refl, sym, ◌∙◌, ap, subst, inl, inr, arith}
 use Rattle.link_core.specs.declared.point.Point.{Point}
 use Rattle.link_core.specs.declared.point.Point.TheVariants.{Ready, Linking, Queued, Granting, Left, Rolled}
 use Rattle.link_core.specs.declared.place.Place.{Place}
@@ -12,53 +11,40 @@ use Rattle.link_core.specs.Places.{request, asker, IsLast}
 use Rattle.qolb_model.specs.Histories.{none, Clears}
 use Rattle.qolb_model.specs.Queue.{Queue}
 use Rattle.qolb_model.specs.Requests.{has}
-use Rattle.qolb_model.specs.declared.end.End.TheVariants.{Gone, Told}
 use Rattle.link_core.specs.State.{State, Seat, entry, seat, point, IsNode, current, is_clear}
-use Rattle.link_core.specs.Shown.{is_rolled, has_line, is_freeing, IsWhole, Lies, IsLinked, IsBehind, Sits, IsPassed, IsGranting, IsFresh, passed, Matches}
+use Rattle.link_core.specs.Shown.{is_rolled, has_line, is_freeing, IsWhole, Lies, IsLinked, IsBehind, Sits, HasCome, IsGranting, IsFresh, Rests, Matches}
 use Rattle.std.proofs.lemmas.Bool.{cases_eq, cases_lt}
 use Rattle.link_core.specs.declared.told.Told.TheVariants as told
 use Rattle.link_core.specs.State.{no_mask}
 use Rattle.link_core.specs.Steps.{seat_at_arrival, told_at_arrival}
 use Rattle.link_core.proofs.Deeds.{GoesOn}
 use Rattle.link_core.proofs.Orders.{last_once}
-use Rattle.link_core.proofs.Changes.{Changed, seat_field, entry_field}
+use Rattle.qolb_model.proofs.Prefixes.{prefix_self}
+use Rattle.qolb_model.proofs.Clearing.{clears_begin}
+use Rattle.link_core.proofs.Changes.{Changed, point_other, point_own, at_other, field, passes_kept, once_kept, unpassed_kept}
 use Rattle.link_core.proofs.Clearing.{Cleared, may_push_cleared}
 use Rattle.link_core.proofs.Follows.{left_for, sits_at, clear_ended, behind_unclear, in_its_hand, granting_link, done_turn}
 use Rattle.link_core.proofs.Arrival.{arrival_lies, arrival_sits, arrival_says, arrival_unrolled, arrival_unclear, arrival_unpassed}
-use Rattle.link_core.proofs.Kept.{Spares, sits_kept, fresh_kept, passed_kept, Leaves, lies_kept}
+use Rattle.link_core.proofs.Kept.{Spares, sits_kept, fresh_kept, Leaves, lies_kept, rests_kept, rests_held, settled_by}
 
 abbrev pub linked : Entry → ℕ → Entry
 linked w n = record w { link = n }
 
-module _ (opening : List ℕ) (c : State) (h : Queue) (n p : ℕ) (pl : Place) (mk : Mask) (ents : List Entry) (sts : List Seat) (st : Seat)
-    (s : Matches opening c h) (is : IsNode c n) (at : point c n ≡ Linking p)
+module _ (terms : Terms) (c : State) (h : Queue) (n p : ℕ) (pl : Place) (mk : Mask) (ents : List Entry) (sts : List Seat) (st : Seat)
+    (s : Matches terms c h) (is : IsNode c n) (at : point c n ≡ Linking p)
     (ch : Changed c (record c { place = pl; mask = mk; entries = ents; seats = sts }) n st p (linked (entry c p) n))
     (unrolled : is_rolled st.point ≡ false) (unclear : (w : Entry) → is_clear st.point w ≡ false) (none_passed : st.passed ≡ []) (hands : (m : ℕ) → c.place ≡ Hand m → pl ≡ Hand m) where
   abbrev d : State
   d = record c { place = pl; mask = mk; entries = ents; seats = sts }
 
   behind : IsBehind c h.order h.ends p n
-  behind = sits_at opening c h s n (Linking p) is at
-
-  point_other : (m : ℕ) → m ≢ n → point d m ≡ point c m
-  point_other m ne = ap (λ (s : Seat). s.point) (ch.seat_other m ne)
-
-  point_own : point d n ≡ st.point
-  point_own = ap (λ (s : Seat). s.point) ch.seat_own
+  behind = sits_at s n (Linking p) is at
 
   link_other : (m : ℕ) → m ≢ p → (entry d m).link ≡ (entry c m).link
   link_other m ne = ap (λ (w : Entry). w.link) (ch.entry_other m ne)
 
   link_own : (entry d p).link ≡ n
   link_own = ap (λ (w : Entry). w.link) ch.entry_own
-
-  -- a field of the entries other than the link
-  field : {A : Type 0} (f : Entry → A) → f (linked (entry c p) n) ≡ f (entry c p) → (m : ℕ) → f (entry d m) ≡ f (entry c m)
-  field f e m = entry_field c d n st p (linked (entry c p) n) ch f e m
-
-  -- a node at another point isn't n
-  not_n : (m : ℕ) (q : Point) → point c m ≡ q → (Linking p ≡ q → ⊥) → m ≢ n
-  not_n m q e ne f = ne (sym at ∙ ap (point c) (sym f) ∙ e)
 
   apart : p ≢ n
   apart e = let y = behind.before.newest (behind.at + 1) (omega arith) behind.own.known in y (behind.own.its ∙ sym e)
@@ -75,7 +61,7 @@ module _ (opening : List ℕ) (c : State) (h : Queue) (n p : ℕ) (pl : Place) (
       | inl e ↦ inl (link_other (asker h.order q) ne ∙ e)
       | inr e ↦ inr (
         link_other (asker h.order q) ne ∙ e.0,
-        point_other (asker h.order (q + 1)) (λ f.
+        point_other ch (asker h.order (q + 1)) (λ f.
             let k : Linking p ≡ Linking (asker h.order q) = sym at ∙ ap (point c) (sym f) ∙ e.1 in
             let j : p ≡ asker h.order q = cc in ne (sym j)) ∙ e.1,
       )
@@ -88,29 +74,29 @@ module _ (opening : List ℕ) (c : State) (h : Queue) (n p : ℕ) (pl : Place) (
 
   marks : (q : ℕ) → length h.ends ≤ q → q < length h.order → has h.marked (request h.order q) ≡ is_rolled (point d (asker h.order q))
   marks q a l = s.marks q a l ∙ elim (cases_eq (asker h.order q) n) [
-    | inl e ↦ rw (e, point_own, at) (sym unrolled)
-    | inr ne ↦ ap is_rolled (sym (point_other (asker h.order q) ne))
+    | inl e ↦ rw (e, point_own ch, at) (sym unrolled)
+    | inr ne ↦ ap is_rolled (sym (point_other ch (asker h.order q) ne))
   ]
 
   pub cleared : Cleared c h.order (length h.ends) h.clear (λ m. is_clear (point d m) (entry d m))
   cleared = may_push_cleared c h.order (length h.ends) h.clear s.numbered (λ m. is_clear (point c m) (entry c m)) (λ m. is_clear (point d m) (entry d m)) p behind.at
       (record { clear = h.clear; grows = none; says = s.clears; known = s.clear_known })
-      behind.before behind.node (behind_unclear opening c h s n p is at)
-      (λ e. clear_ended opening c h s p (linked (entry c p) n) refl behind.node (rw (ch.entry_own, point_other p apart) at e) behind.at behind.before)
+      behind.before behind.node (behind_unclear s n p is at)
+      (λ e. clear_ended s p (linked (entry c p) n) refl behind.node (rw (ch.entry_own, point_other ch p apart) at e) behind.at behind.before)
       (λ m q ne a l. elim (cases_eq m n) [
-        | inl e ↦ rw (e, point_own, at) (unclear (entry d n))
-        | inr ne2 ↦ rw (point_other m ne2, ch.entry_other m ne) refl
+        | inl e ↦ rw (e, point_own ch, at) (unclear (entry d n))
+        | inr ne2 ↦ rw (point_other ch m ne2, ch.entry_other m ne) refl
       ])
 
   spares : (m : ℕ) → IsNode c m → m ≢ n → Spares c d h.order h.order h.ends h.ends m
   spares m a ne = record {
     nodes = refl;
     seat = ch.seat_other m ne;
-    rolled = field (λ w. w.rolled) refl m;
+    rolled = field ch (λ w. w.rolled) refl m;
     ready = λ e. ch.entry_other m (λ f. absurd (ready_p (ap (point c) (sym f) ∙ e)));
     fwd = λ q l. l;
     back = λ q l. l;
-    ended = λ q l. (l, refl);
+    ended = prefix_self h.ends;
     later = λ q _ _ l. l;
     behind = λ q x e l k _. (
       l,
@@ -119,57 +105,42 @@ module _ (opening : List ℕ) (c : State) (h : Queue) (n p : ℕ) (pl : Place) (
           ne (sym k.its ∙ ap (λ (x : ℕ). asker h.order (x + 1)) i ∙ behind.own.its)),
     );
     line = λ e. (
-      let k = in_its_hand opening c h s m a e in hands m k ∙ sym k,
+      let k = in_its_hand s m a e in hands m k ∙ sym k,
       refl,
       (λ l. (l, refl)),
       λ x k. link_other (current c m) (λ f.
-          granting_link opening c h s m x a k (ap (λ (x : ℕ). (entry c x).link) f ∙ behind.unlinked)),
+          granting_link s m x a k (ap (λ (x : ℕ). (entry c x).link) f ∙ behind.unlinked)),
     );
   }
     where
       ready_p : point c p ≡ Ready → ⊥
-      ready_p e = let k = behind_unclear opening c h s n p is at in let j : is_clear (point c p) (entry c p) ≡ true = ap (λ (q : Point). is_clear q (entry c p)) e in cc
+      ready_p e = let k = behind_unclear s n p is at in let j : is_clear (point c p) (entry c p) ≡ true = ap (λ (q : Point). is_clear q (entry c p)) e in cc
 
   granting : IsGranting c → IsGranting d
-  granting g = record { by = g.by; to = g.to; node = g.node; place = hands g.by g.place; point = point_other g.by (not_n g.by (Granting g.to) g.point (λ e. cc)) ∙ g.point }
+  granting g = record { by = g.by; to = g.to; node = g.node; place = hands g.by g.place; point = point_other ch g.by (at_other ch g.by (Linking p) (Granting g.to) at g.point (λ e. cc)) ∙ g.point }
 
   fresh : (q : ℕ) → length h.ends ≤ q → q < length h.order → IsFresh d (length h.ends) (asker h.order q) q
-  fresh q a l = fresh_kept c d (length h.ends) (length h.ends) (asker h.order q) q (field (λ w. w.freed) refl (asker h.order q)) (field (λ w. w.granted) refl (asker h.order q)) (field (λ w. w.done) refl (asker h.order q)) (λ e. e) granting (s.fresh q a l)
+  fresh q a l = fresh_kept c d (length h.ends) (length h.ends) (asker h.order q) q (field ch (λ w. w.freed) refl (asker h.order q)) (field ch (λ w. w.granted) refl (asker h.order q)) (field ch (λ w. w.done) refl (asker h.order q)) (λ e. e) granting (s.fresh q a l)
 
-  passed_same : (m : ℕ) → (seat d m).passed ≡ (seat c m).passed
-  passed_same m = seat_field c d n st p (linked (entry c p) n) ch (λ (s : Seat). s.passed) (none_passed ∙ sym (s.unpassed n is (ap (λ (p : Point). has_line p || is_freeing p) at))) m
+  same_passed : st.passed ≡ (seat c n).passed
+  same_passed = none_passed ∙ sym (s.unpassed n is (ap (λ (p : Point). has_line p || is_freeing p) at))
 
-  at_same : (m i : ℕ) → passed d m i ≡ passed c m i
-  at_same m i = ap (λ (ps : List ℕ). slice_index_or ps i 0) (passed_same m)
-
-  below_same : (m i : ℕ) → i < length (seat d m).passed → i < length (seat c m).passed
-  below_same m i l = subst (λ (ps : List ℕ). i < length ps) (passed_same m) l
-
-  come : (m x q : ℕ) → ((q < length h.ends) × (slice_index_or h.ends q Told ≡ Gone)) ⊎ ((q ≡ length h.ends) × (c.place ≡ Hand m)) → ((q < length h.ends) × (slice_index_or h.ends q Told ≡ Gone)) ⊎ ((q ≡ length h.ends) × (d.place ≡ Hand m))
-  come m x q (inl e) = inl e
-  come m x q (inr e) = inr (e.0, hands m e.1)
-
-  passes : (m i : ℕ) → IsNode d m → i < length (seat d m).passed → IsPassed d h.order h.ends m (passed d m i)
-  passes m i a l =
-      let k = s.passes m i a (below_same m i l) in
-      subst (λ (x : ℕ). IsPassed d h.order h.ends m x) (sym (at_same m i))
-      (passed_kept c d h.order h.order h.ends h.ends m (passed c m i) refl (point_other (passed c m i) (not_n (passed c m i) Rolled k.point (λ e. cc))) (field (λ w. w.freed) refl (passed c m i)) (λ q l. l) (λ q _ w. come m (passed c m i) q w) k)
-
-  once : (m x i j : ℕ) → IsNode d m → IsNode d x → i < length (seat d m).passed → j < length (seat d x).passed → passed d m i ≡ passed d x j → (m ≡ x) × (i ≡ j)
-  once m x i j a b l k e = s.once m x i j a b (below_same m i l) (below_same x j k) (sym (at_same m i) ∙ e ∙ at_same x j)
-
-  unpassed : (m : ℕ) → IsNode d m → has_line (point d m) || is_freeing (point d m) ≡ false → (seat d m).passed ≡ []
-  unpassed m a e = elim (cases_eq m n) [
-    | inl f ↦ passed_same m ∙ rw f (s.unpassed n is (ap (λ (p : Point). has_line p || is_freeing p) at))
-    | inr ne ↦ passed_same m ∙ s.unpassed m a (rw (point_other m ne) at e)
-  ]
+  come : (m q : ℕ) → HasCome c h.ends m q → HasCome d h.ends m q
+  come m q (inl e) = inl e
+  come m q (inr e) = inr (e.0, hands m e.1)
 
   abbrev pub after_link : Queue
   after_link = record h { clear = cleared.clear }
 
-  pub link_shows : Lies opening d h.order h.ends → Sits d h.order h.ends n st.point → Matches opening d after_link
-  link_shows lies own = record {
+  box : n ≡ 0 → pl ≡ Mailbox p
+  box e = let k = is.0 in absurd (omega arith)
+
+  pub link_shows : Lies terms d h.order h.ends → Sits d h.order h.ends n st.point
+      → ((x : ℕ) → x ≢ p → c.place ≡ Mailbox x → pl ≡ Mailbox x) → Rests d h.order h.ends cleared.clear → Matches terms d after_link
+  link_shows lies own boxes rests = record {
     opened = s.opened;
+    size = s.size;
+    turns = s.turns;
     known = s.known;
     nodes = s.nodes;
     numbered = s.numbered;
@@ -184,13 +155,14 @@ module _ (opening : List ℕ) (c : State) (h : Queue) (n p : ℕ) (pl : Place) (
     marks = marks;
     clears = λ m q a l. cleared.says m q a l;
     sits = λ m a. elim (cases_eq m n) [
-      | inl e ↦ rw (e, point_own) own
-      | inr ne ↦ sits_kept c d h.order h.order h.ends h.ends m (spares m a ne) (s.sits m a)
+      | inl e ↦ rw (e, point_own ch) own
+      | inr ne ↦ sits_kept (spares m a ne) (s.sits m a)
     ];
     fresh = fresh;
-    passes = passes;
-    once = once;
-    unpassed = unpassed;
+    passes = passes_kept ch same_passed h.order h.order h.ends h.ends (λ x q e kept l. (at_other ch x (Linking p) Rolled at e (λ e. cc), field ch (λ w. w.freed) refl x, l)) (λ m i q l. come m q) s.passes;
+    once = once_kept ch same_passed s.once;
+    unpassed = unpassed_kept ch same_passed (λ _. s.unpassed n is (ap (λ (p : Point). has_line p || is_freeing p) at)) s.unpassed;
+    settled = settled_by ch h.order h.order h.ends h.ends h.clear cleared.clear behind.node s.settled boxes (λ _. box) (λ _. is.1) rests;
   }
 
   pub link_clears : Clears after_link.order (length after_link.ends) h.clear after_link.clear
@@ -200,14 +172,14 @@ module _ (opening : List ℕ) (c : State) (h : Queue) (n p : ℕ) (pl : Place) (
   link_behind = behind
 
 -- the older request isn't done: n waits
-module _ (opening : List ℕ) (c : State) (h : Queue) (n p : ℕ) (ents : List Entry) (sts : List Seat)
-    (s : Matches opening c h) (is : IsNode c n) (at : point c n ≡ Linking p) (undone : (entry c p).done ≡ false)
+module _ (terms : Terms) (c : State) (h : Queue) (n p : ℕ) (ents : List Entry) (sts : List Seat)
+    (s : Matches terms c h) (is : IsNode c n) (at : point c n ≡ Linking p) (undone : (entry c p).done ≡ false)
     (ch : Changed c (record c { entries = ents; seats = sts }) n (record (seat c n) { point = Queued }) p (linked (entry c p) n)) where
   abbrev e : State
   e = record c { entries = ents; seats = sts }
 
   b : IsBehind c h.order h.ends p n
-  b = sits_at opening c h s n (Linking p) is at
+  b = sits_at s n (Linking p) is at
 
   waits : length h.ends < b.at + 1
   waits = elim (cases_lt (length h.ends) (b.at + 1)) [
@@ -215,18 +187,12 @@ module _ (opening : List ℕ) (c : State) (h : Queue) (n p : ℕ) (ents : List E
     | inr g ↦
         let t : length h.ends ≡ b.at + 1 = let w = b.waits in omega arith in
         let k = b.own.known in
-        let y = left_for opening c h s n p s.lies (omega arith) (ap (asker h.order) t ∙ b.own.its) at in
+        let y = left_for s n p s.lies (omega arith) (ap (asker h.order) t ∙ b.own.its) at in
         let z = y.1 in cc
   ]
 
   not_turn : length h.ends < length h.order → asker h.order (length h.ends) ≢ n
   not_turn l f = let k = last_once h.order n (length h.ends) (b.at + 1) (subst (λ (x : ℕ). IsLast h.order x (length h.ends)) f (s.distinct (length h.ends) (omega arith) l)) b.own in let w = waits in absurd (omega arith)
-
-  other : (m : ℕ) → m ≢ n → point e m ≡ point c m
-  other m ne = ap (λ (s : Seat). s.point) (ch.seat_other m ne)
-
-  elsewhere : (m : ℕ) (q : Point) → point c m ≡ q → (Linking p ≡ q → ⊥) → m ≢ n
-  elsewhere m q e ne f = ne (sym at ∙ ap (point c) (sym f) ∙ e)
 
   leaves : Leaves c e h.order h.order h.ends
   leaves = record {
@@ -239,47 +205,46 @@ module _ (opening : List ℕ) (c : State) (h : Queue) (n p : ℕ) (ents : List E
     turn = λ l. (l, refl);
     fwd = λ m q e l. l;
     hand = λ m f. ch.seat_other m (λ g. let x : has_line (Linking p) ≡ true = ap has_line (sym at) ∙ ap (λ (x : ℕ). has_line (point c x)) (sym g) ∙ f in cc);
-    box = λ t _ _ q g. (other t (elsewhere t Queued q (λ e. cc)) ∙ q, entry_field c e n (record (seat c n) { point = Queued }) p (linked (entry c p) n) ch (λ w. w.granted) refl t ∙ g);
-    linking = λ t q l a f. other t (λ g. not_turn l (a ∙ g)) ∙ f;
+    box = λ t _ _ q g. (point_other ch t (at_other ch t (Linking p) Queued at q (λ e. cc)) ∙ q, field ch (λ w. w.granted) refl t ∙ g);
+    linking = λ t q l a f. point_other ch t (λ g. not_turn l (a ∙ g)) ∙ f;
     tail = λ q a f g. (
-      elim a [
-        | inl i ↦ inl (other q (elsewhere q Left i (λ e. cc)) ∙ i)
-        | inr i ↦ inr (other q (elsewhere q Rolled i (λ e. cc)) ∙ i)
-      ],
-      ap (λ (w : Entry). w.link) (ch.entry_other q (not_p q g)) ∙ f,
-      ap (λ (w : Entry). w.done) (ch.entry_other q (not_p q g)) ∙ g,
+      point_other ch q (elim a [ inl i ↦ at_other ch q (Linking p) Left at i (λ e. cc) | inr i ↦ at_other ch q (Linking p) Rolled at i (λ e. cc) ]),
+      ap (λ (w : Entry). w.link) (ch.entry_other q (not_p q g)),
+      ap (λ (w : Entry). w.done) (ch.entry_other q (not_p q g)),
     );
   }
     where
       not_p : (q : ℕ) → (entry c q).done ≡ true → q ≢ p
       not_p q g k = let x : false ≡ true = sym undone ∙ ap (λ (m : ℕ). (entry c m).done) (sym k) ∙ g in cc
 
-  pub link_keeps : GoesOn opening c e h n told.Queued
-  link_keeps = record {
-    after = after_link opening c h n p c.place c.mask ents sts (record (seat c n) { point = Queued }) s is at ch refl (λ _. refl) (s.unpassed n is (ap (λ (p : Point). has_line p || is_freeing p) at)) (λ _ e. e);
-    clears = link_clears opening c h n p c.place c.mask ents sts (record (seat c n) { point = Queued }) s is at ch refl (λ _. refl) (s.unpassed n is (ap (λ (p : Point). has_line p || is_freeing p) at)) (λ _ e. e);
-    shows = link_shows opening c h n p c.place c.mask ents sts (record (seat c n) { point = Queued }) s is at ch refl (λ _. refl) (s.unpassed n is (ap (λ (p : Point). has_line p || is_freeing p) at)) (λ _ e. e)
-        (lies_kept opening c e h.order h.order h.ends leaves s.lies)
-        (record { at = b.at + 1; own = b.own; waits = b.waits; rolled = entry_field c e n (record (seat c n) { point = Queued }) p (linked (entry c p) n) ch (λ w. w.rolled) refl n ∙ b.rolled });
-    says = record { at = b.at + 1; last = b.own; behind = waits };
-  }
-
-  pub link_does : Frees h link_keeps.after
-  unfolding link_keeps
-  link_does = refl
+  pub link_keeps : GoesOn terms e h n told.Queued None true
+  link_keeps =
+      let none = s.unpassed n is (ap (λ (p : Point). has_line p || is_freeing p) at) in
+      let clears = link_clears terms c h n p c.place c.mask ents sts (record (seat c n) { point = Queued }) s is at ch refl (λ _. refl) none (λ _ e. e) in
+      record {
+        after = after_link terms c h n p c.place c.mask ents sts (record (seat c n) { point = Queued }) s is at ch refl (λ _. refl) none (λ _ e. e);
+        makes = refl;
+        clears = clears;
+        uncleared = λ e. cc;
+        shows = link_shows terms c h n p c.place c.mask ents sts (record (seat c n) { point = Queued }) s is at ch refl (λ _. refl) none (λ _ e. e)
+            (lies_kept leaves terms s.lies)
+            (record { at = b.at + 1; own = b.own; waits = b.waits; rolled = field ch (λ w. w.rolled) refl n ∙ b.rolled })
+            (λ x ne e. e) (rests_kept leaves h.clear _ s.known (prefix_self h.order) (clears_begin clears) s.settled.rests);
+        says = record { at = b.at + 1; last = b.own; behind = waits };
+      }
 
 -- the older request is done, and left the line: it comes
-module _ (opening : List ℕ) (c : State) (h : Queue) (n p : ℕ) (ents : List Entry) (sts : List Seat)
-    (s : Matches opening c h) (is : IsNode c n) (at : point c n ≡ Linking p) (done : (entry c p).done ≡ true)
+module _ (terms : Terms) (c : State) (h : Queue) (n p : ℕ) (ents : List Entry) (sts : List Seat)
+    (s : Matches terms c h) (is : IsNode c n) (at : point c n ≡ Linking p) (done : (entry c p).done ≡ true)
     (ch : Changed c (record c { place = Hand n; mask = no_mask; entries = ents; seats = sts }) n (seat_at_arrival n c.closed) p (linked (entry c p) n)) where
   abbrev f : State
   f = record c { place = Hand n; mask = no_mask; entries = ents; seats = sts }
 
   bb : IsBehind c h.order h.ends p n
-  bb = sits_at opening c h s n (Linking p) is at
+  bb = sits_at s n (Linking p) is at
 
   turn : length h.ends ≡ bb.at + 1
-  turn = done_turn opening c h s n p is at done bb
+  turn = done_turn s n p is at done bb
 
   some : length h.ends < length h.order
   some = let k = bb.own.known in let t = turn in omega arith
@@ -287,22 +252,21 @@ module _ (opening : List ℕ) (c : State) (h : Queue) (n p : ℕ) (ents : List E
   its : asker h.order (length h.ends) ≡ n
   its = ap (asker h.order) turn ∙ bb.own.its
 
-  found : (c.place ≡ Mailbox p) × ((entry c p).done ≡ true) × ((point c p ≡ Left) ⊎ (point c p ≡ Rolled)) × IsWhole opening c h.ends
-  found = left_for opening c h s n p s.lies some its at
+  found : (c.place ≡ Mailbox p) × ((entry c p).done ≡ true) × ((point c p ≡ Left) ⊎ (point c p ≡ Rolled)) × IsWhole terms c h.ends
+  found = left_for s n p s.lies some its at
 
   no_hand : (m : ℕ) → c.place ≡ Hand m → Hand n ≡ Hand m
   no_hand m e = let x : Mailbox p ≡ Hand m = sym found.0 ∙ e in cc
 
-  pub link_done_keeps : GoesOn opening c f h n (told_at_arrival c.closed)
+  pub link_done_keeps : GoesOn terms f h n (told_at_arrival c.closed) None true
   link_done_keeps = record {
-    after = after_link opening c h n p (Hand n) no_mask ents sts (seat_at_arrival n c.closed) s is at ch (arrival_unrolled n c.closed) (arrival_unclear n c.closed) (arrival_unpassed n c.closed) no_hand;
-    clears = link_clears opening c h n p (Hand n) no_mask ents sts (seat_at_arrival n c.closed) s is at ch (arrival_unrolled n c.closed) (arrival_unclear n c.closed) (arrival_unpassed n c.closed) no_hand;
-    shows = link_shows opening c h n p (Hand n) no_mask ents sts (seat_at_arrival n c.closed) s is at ch (arrival_unrolled n c.closed) (arrival_unclear n c.closed) (arrival_unpassed n c.closed) no_hand
-        (arrival_lies opening c f h.order h.ends n some its found.3 s.opened is refl refl refl refl ch.seat_own)
-        (arrival_sits opening c f h.order h.ends n some its found.3 s.opened is refl refl refl refl ch.seat_own);
+    after = after_link terms c h n p (Hand n) no_mask ents sts (seat_at_arrival n c.closed) s is at ch (arrival_unrolled n c.closed) (arrival_unclear n c.closed) (arrival_unpassed n c.closed) no_hand;
+    makes = refl;
+    clears = link_clears terms c h n p (Hand n) no_mask ents sts (seat_at_arrival n c.closed) s is at ch (arrival_unrolled n c.closed) (arrival_unclear n c.closed) (arrival_unpassed n c.closed) no_hand;
+    uncleared = λ e. cc;
+    shows = link_shows terms c h n p (Hand n) no_mask ents sts (seat_at_arrival n c.closed) s is at ch (arrival_unrolled n c.closed) (arrival_unclear n c.closed) (arrival_unpassed n c.closed) no_hand
+        (arrival_lies terms c f h.order h.ends n some its found.3 s.opened is refl refl refl refl ch.seat_own)
+        (arrival_sits terms c f h.order h.ends n some its found.3 s.opened is refl refl refl refl ch.seat_own)
+        (λ x ne e. let z : Mailbox p ≡ Mailbox x = sym found.0 ∙ e in let y : p ≡ x = cc in absurd (ne (sym y))) (rests_held f n h.order h.ends _ refl);
     says = arrival_says _ n c.closed found.3.closed (rw turn bb.own);
   }
-
-  pub link_done_does : Frees h link_done_keeps.after
-  unfolding link_done_keeps
-  link_done_does = refl

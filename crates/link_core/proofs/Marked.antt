@@ -1,51 +1,55 @@
--- The ended requests that were marked are those that are gone, whatever move is made.
-use Rattle.std.proofs.Common.{◌≡◌, ℕ, ◌<◌, ◌⊎◌, List, [], ◌∷◌, ◌++◌, length, Option, Some, None, slice_get, refl, sym, ◌∙◌, ap, subst, inl, inr, arith, length-append}
+-- The ended requests that were marked are those that are gone, and requests that are not their node's last are clear, whatever move is made.
+use Rattle.qolb_model.specs.declared.terms.Terms.{Terms}
+use Rattle.std.proofs.lemmas.Bool.{cases_eq, cases_lt}
+use Rattle.std.proofs.Common.{◌≡◌, ℕ, ◌+◌, ◌<◌, ◌⊎◌, List, [], ◌∷◌, ◌++◌, length, Option, Some, None, slice_get, refl, sym, ◌∙◌, ap, subst, inl, inr, arith, length-append}
 use Rattle.std.proofs.lemmas.Option.{slice_get_within}
 use Rattle.qolb_model.specs.declared.request.Request.{Request}
 use Rattle.qolb_model.specs.declared.end.End.{End}
 use Rattle.qolb_model.specs.declared.end.End.TheVariants.{Served, Gone, Told}
-use Rattle.qolb_model.specs.Requests.{Has, next_of}
+use Rattle.qolb_model.specs.Requests.{Has, count_of, next_of}
 use Rattle.qolb_model.specs.Histories.{IsLegal}
 use Rattle.qolb_model.specs.Queue.{Queue, Move, ask, mark, finish, EndsAs, CanMove, moved}
 use Rattle.qolb_model.proofs.Lists.{never, same_some, push_cases, slice_get-append_left, slice_get-push}
-use Rattle.qolb_model.proofs.Requests.{has_push, has_left}
+use Rattle.qolb_model.proofs.Requests.{has_push, has_left, place_of_request, same_request, count_of-push_same, count_of-push_other}
+use Rattle.qolb_model.proofs.Clearing.{clears_begin}
 use Rattle.qolb_model.proofs.Histories.{same_place_legal}
 use Rattle.link_core.specs.Moves.{MayMake, made, Goes}
-use Rattle.link_core.specs.Shown.{AreMarked}
+use Rattle.link_core.specs.Shown.{AreMarked, AreEarlierClear}
+use Rattle.link_core.proofs.Kept.{has_more}
 
 -- an old place of an order with one more request
 old_place : (o : List Request) (x : Request) (p : ℕ) (r : Request) → p < length o → slice_get (o ++ x ∷ []) p ≡ Some r → slice_get o p ≡ Some r
 old_place o x p r l e = sym (slice_get-append_left o (x ∷ []) p l) ∙ e
 
 -- a marked request can end in one way
-gone_only : (q : Queue) (r : Request) (x : End) → EndsAs q r x → Has q.marked r → x ≡ Gone
-gone_only q r (Served w shut) a h = absurd (never h a.0)
-gone_only q r Gone a h = refl
-gone_only q r Told a h = absurd (never h a.0)
+gone_only : (lease : Option ℕ) (q : Queue) (r : Request) (x : End) → EndsAs lease q r x → Has q.marked r → x ≡ Gone
+gone_only lease q r (Served w shut) a h = absurd (never h a.0)
+gone_only lease q r Gone a h = refl
+gone_only lease q r Told a h = absurd (never h a.0)
 
-gone_marked : (q : Queue) (r : Request) (x : End) → EndsAs q r x → x ≡ Gone → Has q.marked r
-gone_marked q r x a e = subst (λ (y : End). EndsAs q r y) e a
+gone_marked : (lease : Option ℕ) (q : Queue) (r : Request) (x : End) → EndsAs lease q r x → x ≡ Gone → Has q.marked r
+gone_marked lease q r x a e = subst (λ (y : End). EndsAs lease q r y) e a
 
-marked_move : (nodes : ℕ) (q : Queue) (m : Move) → CanMove nodes q m → IsLegal q.order q.ends → AreMarked q → AreMarked (moved q m)
-marked_move nodes q (ask n) can l a = record {
+marked_move : (terms : Terms) (q : Queue) (m : Move) → CanMove terms q m → IsLegal terms.lease q.order q.ends → AreMarked q → AreMarked (moved q m)
+marked_move terms q (ask n) can l a = record {
   gone = λ p r at e. let k = slice_get_within q.ends p Gone e in a.gone p r (old_place q.order (next_of n q.order) p r (omega (arith, l.ended, k)) at) e;
   marked = λ p r at lt h. a.marked p r (old_place q.order (next_of n q.order) p r (omega (arith, l.ended, lt)) at) lt h;
 }
-marked_move nodes q (mark x) can l a = record {
+marked_move terms q (mark x) can l a = record {
   gone = λ p r at e. has_left q.marked (x ∷ []) r (a.gone p r at e);
   marked = λ p r at lt h. elim (has_push q.marked x r h) [
     | inl old ↦ a.marked p r at lt old
-    | inr is ↦ let k = same_place_legal q.order q.ends l p can.0 x (at ∙ ap Some is) can.2 in let j = can.1 in absurd (omega arith)
+    | inr is ↦ let k = same_place_legal terms.lease q.order q.ends l p can.0 x (at ∙ ap Some is) can.2 in let j = can.1 in absurd (omega arith)
   ];
 }
-marked_move nodes q (finish x) can l a = record {
+marked_move terms q (finish x) can l a = record {
   gone = λ p r at e. elim (push_cases q.ends x p Gone e) [
     | inl old ↦ a.gone p r at old.1
-    | inr new ↦ gone_marked q r x (subst (λ (y : Request). EndsAs q y x) (turn p r at new.0) can.2) (sym new.1)
+    | inr new ↦ gone_marked terms.lease q r x (subst (λ (y : Request). EndsAs terms.lease q y x) (turn p r at new.0) can.2) (sym new.1)
   ];
   marked = λ p r at lt h. elim (below p lt) [
     | inl old ↦ slice_get-append_left q.ends (x ∷ []) p old ∙ a.marked p r at old h
-    | inr new ↦ ap (slice_get (q.ends ++ x ∷ [])) new ∙ slice_get-push q.ends x ∙ ap Some (gone_only q r x (subst (λ (y : Request). EndsAs q y x) (turn p r at new) can.2) h)
+    | inr new ↦ ap (slice_get (q.ends ++ x ∷ [])) new ∙ slice_get-push q.ends x ∙ ap Some (gone_only terms.lease q r x (subst (λ (y : Request). EndsAs terms.lease q y x) (turn p r at new) can.2) h)
   ];
 }
   where
@@ -55,11 +59,47 @@ marked_move nodes q (finish x) can l a = record {
     below : (p : ℕ) → p < length (q.ends ++ x ∷ []) → (p < length q.ends) ⊎ (p ≡ length q.ends)
     below p lt = let k = length-append q.ends (x ∷ []) in grind arith
 
-marked_made : (nodes : ℕ) (q : Queue) (m : Option Move) → MayMake nodes q m → IsLegal q.order q.ends → AreMarked q → AreMarked (made q m)
-marked_made nodes q None may l a = a
-marked_made nodes q (Some x) may l a = marked_move nodes q x may l a
+marked_made : (terms : Terms) (q : Queue) (m : Option Move) → MayMake terms q m → IsLegal terms.lease q.order q.ends → AreMarked q → AreMarked (made q m)
+marked_made terms q None may l a = a
+marked_made terms q (Some x) may l a = marked_move terms q x may l a
 
-pub marked_goes : (nodes : ℕ) (q : Queue) (m : Option Move) (g : Queue) → Goes nodes q m g → IsLegal q.order q.ends → AreMarked q → AreMarked g
-marked_goes nodes q m g k l a =
-    let b = marked_made nodes q m k.may l a in
+pub marked_goes : (terms : Terms) (q : Queue) (m : Option Move) (g : Queue) → Goes terms q m g → IsLegal terms.lease q.order q.ends → AreMarked q → AreMarked g
+marked_goes terms q m g k l a =
+    let b = marked_made terms q m k.may l a in
     subst (λ (y : Queue). AreMarked y) (sym k.cleared.2) (record { gone = b.gone; marked = b.marked })
+
+-- a node asks where its last request is clear
+earlier_move : (terms : Terms) (q : Queue) (m : Move) → CanMove terms q m → IsLegal terms.lease q.order q.ends → AreEarlierClear q → AreEarlierClear (moved q m)
+earlier_move terms q (mark x) can l a r h lt = a r h lt
+earlier_move terms q (finish x) can l a r h lt = a r h lt
+earlier_move terms q (ask n) can l a r h lt = elim (has_push q.order (next_of n q.order) r h) [
+  | inl old ↦ elim (cases_eq r.node n) [
+    | inl same ↦
+        let (p, at) = place_of_request q.order r old in
+        let first = l.numbered p r at in
+        let more = count_of-push_same n q.order (next_of n q.order) refl in
+        let low = subst (λ (m : ℕ). r.number < count_of m (q.order ++ next_of n q.order ∷ [])) same lt in
+        elim (cases_lt r.number (count_of n q.order)) [
+          | inl below ↦ a r old (subst (λ (m : ℕ). r.number < count_of m q.order) (sym same) below)
+          | inr least ↦
+              let number : r.number ≡ count_of n q.order = omega arith in
+              subst (λ (x : Request). Has q.clear x) (same_request n r.node (count_of n q.order) r.number (sym same) (sym number)) (can.2 (omega arith))
+        ]
+    | inr other ↦ a r old (subst (λ (m : ℕ). r.number < m) (count_of-push_other r.node q.order (next_of n q.order) (λ e. other (sym e))) lt)
+  ]
+  | inr new ↦
+      let is : r.node ≡ n = ap (λ (x : Request). x.node) new in
+      let number : r.number ≡ count_of n q.order + 1 = ap (λ (x : Request). x.number) new in
+      let more = count_of-push_same n q.order (next_of n q.order) refl in
+      let low = subst (λ (m : ℕ). r.number < count_of m (q.order ++ next_of n q.order ∷ [])) is lt in
+      absurd (omega arith)
+]
+
+earlier_made : (terms : Terms) (q : Queue) (m : Option Move) → MayMake terms q m → IsLegal terms.lease q.order q.ends → AreEarlierClear q → AreEarlierClear (made q m)
+earlier_made terms q None may l a = a
+earlier_made terms q (Some x) may l a = earlier_move terms q x may l a
+
+pub earlier_goes : (terms : Terms) (q : Queue) (m : Option Move) (g : Queue) → Goes terms q m g → IsLegal terms.lease q.order q.ends → AreEarlierClear q → AreEarlierClear g
+earlier_goes terms q m g k l a =
+    let b = earlier_made terms q m k.may l a in
+    subst (λ (y : Queue). AreEarlierClear y) (sym k.cleared.2) (λ r h lt. has_more (made q m).clear k.cleared.0 r (clears_begin k.cleared.1) (b r h lt))

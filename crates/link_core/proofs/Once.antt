@@ -9,7 +9,8 @@ use Rattle.link_core.specs.declared.told.Told.TheVariants as told
 use Rattle.link_core.specs.declared.event.Event.{Event}
 use Rattle.link_core.specs.declared.event.Event.TheVariants as event
 use Rattle.link_core.specs.State.{State, empty, entry, seat, point, is_clear, put_entry, put_seat, at_point}
-use Rattle.link_core.specs.Steps.{Step, Releases, holding, leaving, arrive, told_at_arrival, told_with, seat_with, seat_at_close, point_at_end, write_line, either}
+use Rattle.qolb_model.specs.Steps.{is_one}
+use Rattle.link_core.specs.Steps.{told_home, gone_home, closed_by, turns_after, Step, Releases, holding, leaving, arrive, told_at_arrival, told_with, seat_with, seat_at_close, point_at_end, write_line, either}
 use Rattle.link_core.specs.Steps as row
 
 abbrev arrival : ℕ → State → State → Answer × State
@@ -32,26 +33,26 @@ load_by c n Queued = cond (entry c n).granted (arrival n c c) (told.Waiting, c)
 load_by c n p = clear_by c n (is_clear p (entry c n))
 
 home_by : State → ℕ → ℕ → Answer × State
-home_by c n e = cond (c.home == e) (closing n (point_at_end (seat c n).reason) c (record c { home = 0; place = Home })) (told.Went, at_point n (Marking e) c)
+home_by c n e = cond (c.home == e) (told_home n c, gone_home n c) (told.Went, at_point n (Marking e) c)
 
 home_from : State → ℕ → Point → Answer × State
-home_from c n Holding = home_by c n n
+home_from c n Holding = cond (is_one c.left) (home_by (closed_by n c) n n) (home_by c n n)
 home_from c n (Leaving e) = home_by c n e
 home_from c n _ = (told.Went, c)
 
 done_by : State → ℕ → Point → Answer × State
 done_by c n (Marking e) =
     cond ((entry c e).link == 0)
-    (cond (e == n) (closing n Left c (put_entry e (record (entry c e) { done = true }) (record c { place = Mailbox e })))
-    (closing n (point_at_end (seat c n).reason) c (put_entry e (record (entry c e) { done = true }) (record c { place = Mailbox e }))))
+    (cond (e == n) (closing n Left c (put_entry e (record (entry c e) { done = true }) (record c { place = Mailbox e; left = turns_after n c })))
+    (closing n (point_at_end (seat c n).reason) c (put_entry e (record (entry c e) { done = true }) (record c { place = Mailbox e; left = turns_after n c }))))
     (told.Went, at_point n (Granting (entry c e).link) (put_entry e (record (entry c e) { done = true }) c))
 done_by c n _ = (told.Went, c)
 
 grant_by : State → ℕ → Point → Answer × State
 grant_by c n (Granting m) =
     cond (entry c m).rolled
-    (told.Went, put_seat n (record { point = Leaving m; passed = (seat c n).passed ++ m ∷ []; reason = (seat c n).reason }) (put_entry m (record (entry c m) { granted = true }) c))
-    (closing n (point_at_end (seat c n).reason) c (put_entry m (record (entry c m) { granted = true }) (record c { place = Mailbox m })))
+    (told.Went, put_seat n (record { point = Leaving m; passed = (seat c n).passed ++ m ∷ []; reason = (seat c n).reason }) (put_entry m (record (entry c m) { granted = true }) (record c { left = turns_after n c })))
+    (closing n (point_at_end (seat c n).reason) c (put_entry m (record (entry c m) { granted = true }) (record c { place = Mailbox m; left = turns_after n c })))
 grant_by c n _ = (told.Went, c)
 
 freed_by : State → ℕ → List ℕ → Answer × State
@@ -70,7 +71,7 @@ effect c (event.Grant n) = grant_by c n (point c n)
 effect c (event.Roll n) = cond (entry c n).granted (arrival n c (put_entry n (record (entry c n) { rolled = true }) c)) (told.Withdrawn, at_point n Rolled (put_entry n (record (entry c n) { rolled = true }) c))
 effect c (event.Freed n) = freed_by c n (seat c n).passed
 effect c (event.Write n mask bytes) = (told.Went, record c { bytes = write_line c.bytes mask bytes; mask = either c.mask mask })
-effect c (event.Close n) = (told.Went, put_seat n (record (seat c n) { point = Leaving n; reason = Closing }) (record c { closed = true }))
+effect c (event.Close n) = (told.Went, closed_by n c)
 
 -- the test of a case
 taken : {A : Type 0} (x y : A) (b : Bool) → b ≡ true → cond b x y ≡ x
@@ -92,10 +93,12 @@ effect_of c (row.load_free n a (inl at) fr) = ap (load_by c n) at ∙ ap (clear_
 effect_of c (row.load_free n a (inr at) fr) = ap (load_by c n) at ∙ ap (clear_by c n) (ap (λ (p : Point). is_clear p (entry c n)) (sym at) ∙ fr)
 effect_of c (row.load_busy n a (inl at) un) = ap (load_by c n) at ∙ ap (clear_by c n) (ap (λ (p : Point). is_clear p (entry c n)) (sym at) ∙ un)
 effect_of c (row.load_busy n a (inr at) un) = ap (load_by c n) at ∙ ap (clear_by c n) (ap (λ (p : Point). is_clear p (entry c n)) (sym at) ∙ un)
-effect_of c (row.home n e a (holding at f) g) = ap (home_from c n) at ∙ taken _ _ (c.home == n) (eq-eqb c.home n (g ∙ f))
+effect_of c (row.home n e a (holding at f l) g) = ap (home_from c n) at ∙ passed_by _ _ (is_one c.left) l ∙ taken _ _ (c.home == n) (eq-eqb c.home n (g ∙ f))
 effect_of c (row.home n e a (leaving at) g) = ap (home_from c n) at ∙ taken _ _ (c.home == e) (eq-eqb c.home e g)
-effect_of c (row.home_failed n e a (holding at f) ne) = ap (home_from c n) at ∙ passed_by _ _ (c.home == n) (ne_eqb c.home n (λ g. ne (g ∙ sym f))) ∙ ap (λ (x : ℕ). (told.Went, at_point n (Marking x) c)) (sym f)
+effect_of c (row.home_failed n e a (holding at f l) ne) = ap (home_from c n) at ∙ passed_by _ _ (is_one c.left) l ∙ passed_by _ _ (c.home == n) (ne_eqb c.home n (λ g. ne (g ∙ sym f))) ∙ ap (λ (x : ℕ). (told.Went, at_point n (Marking x) c)) (sym f)
 effect_of c (row.home_failed n e a (leaving at) ne) = ap (home_from c n) at ∙ passed_by _ _ (c.home == e) (ne_eqb c.home e ne)
+effect_of c (row.home_last n a at l g) = ap (home_from c n) at ∙ taken _ _ (is_one c.left) l ∙ taken _ _ (c.home == n) (eq-eqb c.home n g)
+effect_of c (row.home_last_failed n a at l ne) = ap (home_from c n) at ∙ taken _ _ (is_one c.left) l ∙ passed_by _ _ (c.home == n) (ne_eqb c.home n ne)
 effect_of c (row.done_left n e a at un f) = ap (done_by c n) at ∙ taken _ _ ((entry c e).link == 0) (eq-eqb (entry c e).link 0 un) ∙ taken _ _ (e == n) (eq-eqb e n f)
 effect_of c (row.done_rolled n e a at un ne) = ap (done_by c n) at ∙ taken _ _ ((entry c e).link == 0) (eq-eqb (entry c e).link 0 un) ∙ passed_by _ _ (e == n) (ne_eqb e n ne)
 effect_of c (row.done_linked n e a at ne) = ap (done_by c n) at ∙ passed_by _ _ ((entry c e).link == 0) (ne_eqb (entry c e).link 0 ne)

@@ -1,13 +1,18 @@
--- Laws of places, last requests and marks, as the lists grow.
-use Rattle.std.proofs.Common.{◌≡◌, ◌≢◌, ℕ, ◌+◌, ◌<◌, ◌≤◌, zero, suc, Bool, true, false, ◌||◌, ◌&&◌, Some, None, slice_get, ap₂, List, [], ◌∷◌, ◌++◌, ◌⊎◌, length, refl, sym, ◌∙◌, ap, inl, inr, arith, length-append, eqb, cond, eq-eqb}
-use Rattle.std.proofs.lemmas.List.Sums.{sum_by-append}
-use Rattle.std.proofs.lemmas.Bool.Decides.{nat_tests}
-use Rattle.std.proofs.lemmas.Bool.{cases_eq, ne_eqb}
+-- Laws of places and last requests, as the order grows.
+use Rattle.std.proofs.Common.{◌≡◌, ◌≢◌, ℕ, ◌+◌, ◌<◌, ◌≤◌, zero, suc, Some, None, slice_get, List, [], ◌∷◌, ◌++◌, ◌⊎◌, length, take, Option, refl, sym, ◌∙◌, ap, subst, inl, inr, arith, length-append}
+use Rattle.std.proofs.lemmas.Bool.{cases_order}
+use Rattle.std.proofs.lemmas.Option.{slice_get_within}
 use Rattle.std.proofs.Math.ListN.{get_or-append}
 use Rattle.std.proofs.Math.Seq.{get_or-append_seam}
+use Rattle.link_core.specs.declared.seat.Reason.{Reason}
 use Rattle.link_core.specs.Places.{nobody, request, asker, IsLast}
-use Rattle.qolb_model.specs.Requests.{count_of, has, is_same}
+use Rattle.link_core.specs.Shown.{EndedBy, HasEnded}
+use Rattle.qolb_model.specs.Requests.{count_of, last_of}
+use Rattle.qolb_model.specs.Histories.{IsLegal}
+use Rattle.qolb_model.specs.declared.end.End.{End}
 use Rattle.qolb_model.specs.declared.request.Request.{Request}
+use Rattle.qolb_model.proofs.Lists.{slice_get-take}
+use Rattle.qolb_model.proofs.Requests.{place_of_request, has_at, number_le_count, number_le_count_all, has_last_of_all}
 
 -- a request is appended
 abbrev pub pushed : List Request → Request → List Request
@@ -74,33 +79,6 @@ last_new o r = record {
 pub last_is_new : (o : List Request) (r : Request) (p : ℕ) → IsLast (pushed o r) r.node p → p ≡ length o
 last_is_new o r p a = last_once (pushed o r) r.node p (length o) a (last_new o r)
 
--- how many requests a node has made, with one more
-pub asked_push : (order : List Request) (r : Request) (n : ℕ) → count_of n (order ++ r ∷ []) ≡ count_of n order + count_of n (r ∷ [])
-asked_push order r n = sum_by-append (λ (s : Request). cond (eqb s.node n) 1 0) order (r ∷ [])
-
-pub asked_more : (order : List Request) (r : Request) (n : ℕ) → count_of n order ≤ count_of n (order ++ r ∷ [])
-asked_more order r n = let e = asked_push order r n in omega arith
-
-pub asked_own : (order : List Request) (r : Request) → count_of r.node (order ++ r ∷ []) ≡ count_of r.node order + 1
-asked_own order r = asked_push order r r.node ∙ ap (λ b. count_of r.node order + (0 + cond b 1 0)) (eq-eqb r.node r.node refl)
-
-or_assoc : (a b c : Bool) → (a || (b || c)) ≡ ((a || b) || c)
-or_assoc true b c = refl
-or_assoc false b c = refl
-
-or_false : (a : Bool) → (a || false) ≡ a
-or_false true = refl
-or_false false = refl
-
-same_back : (r s : Request) → is_same r s ≡ is_same s r
-same_back r s = ap₂ (λ a b. a && b) (eqb_back r.node s.node) (eqb_back r.number s.number)
-  where
-    eqb_back : (a b : ℕ) → eqb a b ≡ eqb b a
-    eqb_back a b = elim (cases_eq a b) [
-      | inl e ↦ eq-eqb a b e ∙ sym (eq-eqb b a (sym e))
-      | inr ne ↦ ne_eqb a b ne ∙ sym (ne_eqb b a (λ e. ne (sym e)))
-    ]
-
 -- the place of a request, and the request at a place
 pub get_request : (o : List Request) (p : ℕ) → p < length o → slice_get o p ≡ Some (request o p)
 get_request [] p l = absurd (omega arith)
@@ -112,20 +90,49 @@ request_got [] p r e = let z : None ≡ Some r = e in cc z
 request_got (x ∷ xs) zero r e = cc
 request_got (x ∷ xs) (suc p) r e = request_got xs p r e
 
-pub holds_push : (rs : List Request) (r s : Request) → has (rs ++ r ∷ []) s ≡ (has rs s || is_same r s)
-holds_push [] r s = or_false (is_same s r) ∙ same_back s r
-holds_push (t ∷ ts) r s = ap (λ b. is_same s t || b) (holds_push ts r s) ∙ or_assoc (is_same s t) (has ts s) (is_same r s)
+-- a request that has ended by a reason has ended
+pub ended_at : {o : List Request} {es : List End} {n : ℕ} {r : Reason} (e : EndedBy o es n r) → e.at < length es
+ended_at {es = es} e = slice_get_within es e.at e.end e.ended
 
--- requests of different nodes are different
-pub other_request : (r s : Request) → r.node ≢ s.node → is_same r s ≡ false
-other_request r s ne = grind (arith, nat_tests)
+pub has_ended : {o : List Request} {es : List End} {n : ℕ} {r : Reason} → EndedBy o es n r → HasEnded o es n
+has_ended {o} {es} {n} e p l = let k = last_once o n p e.at l e.last in let b = ended_at e in omega arith
 
-pub same_request : (r : Request) → is_same r r ≡ true
-same_request r = grind (arith, nat_tests)
+-- in a legal order, a node's last request is where its last place is
+pub last_is : (lease : Option ℕ) (o : List Request) (es : List End) (n p : ℕ) → IsLegal lease o es → IsLast o n p → request o p ≡ last_of n o
+last_is lease o es n p l a =
+    let r : Request = request o p in
+    let got : slice_get o p ≡ Some (request o p) = get_request o p a.known in
+    let number = l.numbered p (request o p) got in
+    let its : (request o p).node ≡ n = a.its in
+    let before : (request o p).number ≡ count_of n (take p o) + 1 = number ∙ ap (λ (m : ℕ). count_of m (take p o) + 1) its in
+    let least = subst (λ (m : ℕ). (request o p).number ≤ count_of m o) its (number_le_count_all o l.numbered (request o p) (has_at o p (request o p) got)) in
+    let some : 1 ≤ count_of n o = omega arith in
+    let (q, at) = place_of_request o (last_of n o) (has_last_of_all o l.numbered n some) in
+    elim (cases_order p q) [
+      | inl e ↦ request_got o p (last_of n o) (ap (slice_get o) e ∙ at)
+      | inr (inl lt) ↦ absurd (a.newest q lt (slice_get_within o q (last_of n o) at) (ap (λ (x : Request). x.node) (request_got o q (last_of n o) at)))
+      | inr (inr gt) ↦
+          let k = number_le_count o l.numbered p (let w = a.known in omega arith) (last_of n o) (has_at (take p o) q (last_of n o) (slice_get-take p o q gt ∙ at)) in
+          absurd (omega arith)
+    ]
 
--- a request that is held is of the node
-pub request_node : (r s : Request) → is_same r s ≡ true → r.node ≡ s.node
-request_node r s e = grind (arith, nat_tests)
-
-pub request_number : (r s : Request) → is_same r s ≡ true → r.number ≡ s.number
-request_number r s e = grind (arith, nat_tests)
+-- a node that has made requests has a last place
+pub last_place : (lease : Option ℕ) (o : List Request) (es : List End) (n : ℕ) → IsLegal lease o es → 1 ≤ count_of n o → (p : ℕ) × IsLast o n p × (request o p ≡ last_of n o)
+last_place lease o es n l some =
+    let (q, at) = place_of_request o (last_of n o) (has_last_of_all o l.numbered n some) in
+    let got : request o q ≡ last_of n o = request_got o q (last_of n o) at in
+    let lt = slice_get_within o q (last_of n o) at in (
+      q,
+      record {
+        known = lt;
+        its = ap (λ (x : Request). x.node) got;
+        newest = λ r gt le e.
+            let y = get_request o r le in
+            let j = l.numbered r (request o r) y in
+            let f : count_of (request o r).node (take r o) ≡ count_of n (take r o) = ap (λ (m : ℕ). count_of m (take r o)) e in
+            let k = number_le_count o l.numbered r (omega arith) (last_of n o) (has_at (take r o) q (last_of n o) (slice_get-take r o q gt ∙ at)) in
+            let i = subst (λ (m : ℕ). (request o r).number ≤ count_of m o) e (number_le_count_all o l.numbered (request o r) (has_at o r (request o r) y)) in
+            absurd (omega arith);
+      },
+      got,
+    )

@@ -1,24 +1,23 @@
 -- A step that ends no turn and adds no request: what all such steps have in common.
+use Rattle.qolb_model.specs.declared.terms.Terms.{Terms}
 use Rattle.std.proofs.Common.{◌≡◌, ◌≢◌, ℕ, ◌+◌, ◌<◌, ◌≤◌, Bool, true, false, ◌||◌, List, [], ◌⊎◌, length, refl, sym, ◌∙◌, ap, subst, inl, inr}
-use Rattle.std.specs.Prelude.{slice_index_or}
 use Rattle.line_lanes.specs.declared.line.Line64.{Line64}
 use Rattle.line_lanes.specs.declared.line.Mask.{Mask}
-use Rattle.link_core.specs.declared.point.Point.{Point}
 use Rattle.link_core.specs.declared.point.Point.TheVariants.{Ready, Linking, Granting, Rolled}
 use Rattle.link_core.specs.declared.place.Place.{Place}
-use Rattle.link_core.specs.declared.place.Place.TheVariants.{Hand}
+use Rattle.link_core.specs.declared.place.Place.TheVariants.{Mailbox, Hand}
 use Rattle.link_core.specs.declared.entry.Entry.{Entry}
 use Rattle.link_core.specs.Places.{request, asker, IsLast}
 use Rattle.qolb_model.specs.Queue.{Queue}
 use Rattle.qolb_model.specs.Requests.{count_of, has}
-use Rattle.qolb_model.specs.declared.end.End.TheVariants.{Gone, Told}
 use Rattle.qolb_model.specs.declared.request.Request.{Request}
 use Rattle.link_core.specs.State.{State, Seat, entry, seat, point, IsNode, current, is_clear}
-use Rattle.link_core.specs.Shown.{is_rolled, has_line, is_freeing, Lies, IsLinked, Sits, IsPassed, IsGranting, IsFresh, passed, Matches}
+use Rattle.link_core.specs.Shown.{is_rolled, has_line, is_freeing, Lies, IsLinked, Sits, HasCome, IsGranting, IsFresh, Rests, Matches}
 use Rattle.std.proofs.lemmas.Bool.{cases_eq}
-use Rattle.link_core.proofs.Changes.{Changed, seat_field, entry_field}
+use Rattle.qolb_model.proofs.Prefixes.{prefix_self}
+use Rattle.link_core.proofs.Changes.{Changed, point_other, point_own, field, passes_kept, once_kept, unpassed_kept}
 use Rattle.link_core.proofs.Follows.{in_its_hand}
-use Rattle.link_core.proofs.Kept.{Spares, sits_kept, passed_kept}
+use Rattle.link_core.proofs.Kept.{Spares, sits_kept, settled_by}
 
 -- what the step does to n, at its point before and at its seat after, and to the entry of k
 pub record IsQuiet (c d : State) (h : Queue) (marked : List Request) (n : ℕ) (st : Seat) (k : ℕ) (w : Entry) : Type 0 where
@@ -39,43 +38,38 @@ pub record IsQuiet (c d : State) (h : Queue) (marked : List Request) (n : ℕ) (
   pub not_linking : (q : ℕ) → point c n ≢ Linking q
   pub not_passed : point c n ≡ Rolled → (entry c n).freed ≡ true
   pub unpassed : has_line st.point || is_freeing st.point ≡ false → st.passed ≡ []
-  pub lies : (opening : List ℕ) → Matches opening c h → Lies opening d h.order h.ends
+  pub node : IsNode c k
+  pub boxes : (x : ℕ) → x ≢ k → c.place ≡ Mailbox x → d.place ≡ Mailbox x
+  pub box : w.done ≡ true → w.link ≡ 0 → d.place ≡ Mailbox k
+  pub rests : Rests d h.order h.ends h.clear
+  pub lies : (terms : Terms) → Matches terms c h → Lies terms d h.order h.ends
   pub own : Sits d h.order h.ends n st.point
 
-module _ (opening : List ℕ) (c : State) (h : Queue) (n : ℕ) (s : Matches opening c h) (is : IsNode c n)
+module _ (terms : Terms) (c : State) (h : Queue) (n : ℕ) (s : Matches terms c h) (is : IsNode c n)
     (pl : Place) (bs : Line64) (cl : Bool) (mk : Mask) (ents : List Entry) (sts : List Seat) (marked : List Request) (st : Seat) (k : ℕ) (w : Entry)
     (ch : Changed c (record c { place = pl; bytes = bs; closed = cl; mask = mk; entries = ents; seats = sts }) n st k w)
     (q : IsQuiet c (record c { place = pl; bytes = bs; closed = cl; mask = mk; entries = ents; seats = sts }) h marked n st k w) where
   abbrev d : State
   d = record c { place = pl; bytes = bs; closed = cl; mask = mk; entries = ents; seats = sts }
 
-  point_other : (m : ℕ) → m ≢ n → point d m ≡ point c m
-  point_other m ne = ap (λ (s : Seat). s.point) (ch.seat_other m ne)
-
-  point_own : point d n ≡ st.point
-  point_own = ap (λ (s : Seat). s.point) ch.seat_own
-
-  field : {A : Type 0} (f : Entry → A) → f w ≡ f (entry c k) → (m : ℕ) → f (entry d m) ≡ f (entry c m)
-  field f e m = entry_field c d n st k w ch f e m
-
   links : (p : ℕ) → length h.ends ≤ p → p + 1 < length h.order → IsLinked d (asker h.order p) (asker h.order (p + 1))
   links p a l = elim (s.links p a l) [
-    | inl f ↦ inl (field (λ w. w.link) q.link (asker h.order p) ∙ f)
-    | inr f ↦ inr (field (λ w. w.link) q.link (asker h.order p) ∙ f.0, point_other (asker h.order (p + 1)) (λ e. q.not_linking (asker h.order p) (ap (point c) (sym e) ∙ f.1)) ∙ f.1)
+    | inl f ↦ inl (field ch (λ w. w.link) q.link (asker h.order p) ∙ f)
+    | inr f ↦ inr (field ch (λ w. w.link) q.link (asker h.order p) ∙ f.0, point_other ch (asker h.order (p + 1)) (λ e. q.not_linking (asker h.order p) (ap (point c) (sym e) ∙ f.1)) ∙ f.1)
   ]
 
   marks : (p : ℕ) → length h.ends ≤ p → p < length h.order → has marked (request h.order p) ≡ is_rolled (point d (asker h.order p))
   marks p a l = elim (cases_eq (asker h.order p) n) [
-    | inl e ↦ q.marks p a l e ∙ ap is_rolled (sym point_own ∙ ap (point d) (sym e))
-    | inr ne ↦ q.marks_other p ne ∙ s.marks p a l ∙ ap is_rolled (sym (point_other (asker h.order p) ne))
+    | inl e ↦ q.marks p a l e ∙ ap is_rolled (sym (point_own ch) ∙ ap (point d) (sym e))
+    | inr ne ↦ q.marks_other p ne ∙ s.marks p a l ∙ ap is_rolled (sym (point_other ch (asker h.order p) ne))
   ]
 
   clears : (m p : ℕ) → IsNode d m → IsLast h.order m p → has h.clear (request h.order p) ≡ is_clear (point d m) (entry d m)
   clears m p a l = s.clears m p a l ∙ elim (cases_eq m n) [
-    | inl e ↦ rw (e, point_own) (sym q.clear_own)
+    | inl e ↦ rw (e, point_own ch) (sym q.clear_own)
     | inr ne ↦ elim (cases_eq m k) [
-      | inl f ↦ rw (point_other m ne, f, ch.entry_own) (sym (q.clear (λ g. ne (f ∙ g))))
-      | inr f ↦ rw (point_other m ne, ch.entry_other m f) refl
+      | inl f ↦ rw (point_other ch m ne, f, ch.entry_own) (sym (q.clear (λ g. ne (f ∙ g))))
+      | inr f ↦ rw (point_other ch m ne, ch.entry_other m f) refl
     ]
   ]
 
@@ -93,56 +87,42 @@ module _ (opening : List ℕ) (c : State) (h : Queue) (n : ℕ) (s : Matches ope
     ];
     fwd = λ p l. l;
     back = λ p l. l;
-    ended = λ p l. (l, refl);
+    ended = prefix_self h.ends;
     later = λ p _ _ l. l;
-    behind = λ y p e l j t. (l, field (λ w. w.link) q.link y);
-    line = λ e. (let y = in_its_hand opening c h s m a e in q.hands m y ∙ sym y, refl, (λ l. (l, refl)), λ x e. field (λ w. w.link) q.link (current c m));
+    behind = λ y p e l j t. (l, field ch (λ w. w.link) q.link y);
+    line = λ e. (let y = in_its_hand s m a e in q.hands m y ∙ sym y, refl, (λ l. (l, refl)), λ x e. field ch (λ w. w.link) q.link (current c m));
   }
 
   granting : IsGranting c → IsGranting d
-  granting g = record { by = g.by; to = g.to; node = g.node; place = q.hands g.by g.place; point = point_other g.by (λ e. q.not_granting g.to (ap (point c) (sym e) ∙ g.point)) ∙ g.point }
+  granting g = record { by = g.by; to = g.to; node = g.node; place = q.hands g.by g.place; point = point_other ch g.by (λ e. q.not_granting g.to (ap (point c) (sym e) ∙ g.point)) ∙ g.point }
 
   fresh : (p : ℕ) → length h.ends ≤ p → p < length h.order → IsFresh d (length h.ends) (asker h.order p) p
   fresh p a l =
       let old = s.fresh p a l in
       record {
-        freed = field (λ w. w.freed) q.freed (asker h.order p) ∙ old.freed;
-        granted = λ y. old.granted (sym (field (λ w. w.granted) q.granted (asker h.order p)) ∙ y);
+        freed = field ch (λ w. w.freed) q.freed (asker h.order p) ∙ old.freed;
+        granted = λ y. old.granted (sym (field ch (λ w. w.granted) q.granted (asker h.order p)) ∙ y);
         done = λ y. elim (cases_eq (asker h.order p) k) [
           | inl f ↦ elim q.done [
-            | inl same ↦ let z = old.done (sym (field (λ w. w.done) same (asker h.order p)) ∙ y) in (z.0, granting z.1)
+            | inl same ↦ let z = old.done (sym (field ch (λ w. w.done) same (asker h.order p)) ∙ y) in (z.0, granting z.1)
             | inr now ↦ now p a l f
           ]
           | inr f ↦ let z = old.done (sym (ap (λ (w : Entry). w.done) (ch.entry_other (asker h.order p) f)) ∙ y) in (z.0, granting z.1)
         ];
       }
 
-  passed_same : (m : ℕ) → (seat d m).passed ≡ (seat c m).passed
-  passed_same m = seat_field c d n st k w ch (λ (s : Seat). s.passed) q.passed m
+  not_passed : (x : ℕ) → point c x ≡ Rolled → (entry c x).freed ≡ false → x ≢ n
+  not_passed x at kept e = let y = q.not_passed (ap (point c) (sym e) ∙ at) in let z : false ≡ true = sym kept ∙ ap (λ (x : ℕ). (entry c x).freed) e ∙ y in cc
 
-  at_same : (m i : ℕ) → passed d m i ≡ passed c m i
-  at_same m i = ap (λ (ps : List ℕ). slice_index_or ps i 0) (passed_same m)
-
-  below_same : (m i : ℕ) → i < length (seat d m).passed → i < length (seat c m).passed
-  below_same m i l = subst (λ (ps : List ℕ). i < length ps) (passed_same m) l
-
-  come : (m p : ℕ) → ((p < length h.ends) × (slice_index_or h.ends p Told ≡ Gone)) ⊎ ((p ≡ length h.ends) × (c.place ≡ Hand m)) → ((p < length h.ends) × (slice_index_or h.ends p Told ≡ Gone)) ⊎ ((p ≡ length h.ends) × (d.place ≡ Hand m))
+  come : (m p : ℕ) → HasCome c h.ends m p → HasCome d h.ends m p
   come m p (inl e) = inl e
   come m p (inr e) = inr (e.0, q.hands m e.1)
 
-  passes : (m i : ℕ) → IsNode d m → i < length (seat d m).passed → IsPassed d h.order h.ends m (passed d m i)
-  passes m i a l =
-      let j = s.passes m i a (below_same m i l) in
-      let ne : passed c m i ≢ n = λ e. let y = q.not_passed (ap (point c) (sym e) ∙ j.point) in let z : false ≡ true = sym j.kept ∙ ap (λ (x : ℕ). (entry c x).freed) e ∙ y in cc in
-      subst (λ (x : ℕ). IsPassed d h.order h.ends m x) (sym (at_same m i))
-      (passed_kept c d h.order h.order h.ends h.ends m (passed c m i) refl (point_other (passed c m i) ne) (field (λ w. w.freed) q.freed (passed c m i)) (λ p l. l) (λ p _ w. come m p w) j)
-
-  once : (m x i j : ℕ) → IsNode d m → IsNode d x → i < length (seat d m).passed → j < length (seat d x).passed → passed d m i ≡ passed d x j → (m ≡ x) × (i ≡ j)
-  once m x i j a b l k e = s.once m x i j a b (below_same m i l) (below_same x j k) (sym (at_same m i) ∙ e ∙ at_same x j)
-
-  pub quiet_shows : Matches opening d (record h { marked = marked })
+  pub quiet_shows : Matches terms d (record h { marked = marked })
   quiet_shows = record {
     opened = s.opened;
+    size = s.size;
+    turns = s.turns;
     known = s.known;
     nodes = s.nodes;
     numbered = s.numbered;
@@ -152,19 +132,17 @@ module _ (opening : List ℕ) (c : State) (h : Queue) (n : ℕ) (s : Matches ope
     home_idle = s.home_idle;
     home_last = s.home_last;
     links = links;
-    last_link = λ p a e. field (λ w. w.link) q.link (asker h.order p) ∙ s.last_link p a e;
-    lies = q.lies opening s;
+    last_link = λ p a e. field ch (λ w. w.link) q.link (asker h.order p) ∙ s.last_link p a e;
+    lies = q.lies terms s;
     marks = marks;
     clears = clears;
     sits = λ m a. elim (cases_eq m n) [
-      | inl e ↦ rw (e, point_own) q.own
-      | inr ne ↦ sits_kept c d h.order h.order h.ends h.ends m (spares m a ne) (s.sits m a)
+      | inl e ↦ rw (e, point_own ch) q.own
+      | inr ne ↦ sits_kept (spares m a ne) (s.sits m a)
     ];
     fresh = fresh;
-    passes = passes;
-    once = once;
-    unpassed = λ m a e. elim (cases_eq m n) [
-      | inl f ↦ rw (f, ch.seat_own) (q.unpassed (ap (λ (p : Point). has_line p || is_freeing p) (sym point_own ∙ ap (point d) (sym f)) ∙ e))
-      | inr ne ↦ ap (λ (s : Seat). s.passed) (ch.seat_other m ne) ∙ s.unpassed m a (ap (λ (p : Point). has_line p || is_freeing p) (sym (point_other m ne)) ∙ e)
-    ];
+    passes = passes_kept ch q.passed h.order h.order h.ends h.ends (λ x p at kept l. (not_passed x at kept, field ch (λ w. w.freed) q.freed x, l)) (λ m i p l. come m p) s.passes;
+    once = once_kept ch q.passed s.once;
+    unpassed = unpassed_kept ch q.passed (λ e. sym q.passed ∙ q.unpassed e) s.unpassed;
+    settled = settled_by ch h.order h.order h.ends h.ends h.clear h.clear q.node s.settled q.boxes q.box (λ l. subst (λ (x : ℕ). x ≤ c.nodes) (sym q.link) l) q.rests;
   }

@@ -1,7 +1,6 @@
 -- Resetting an entry.
-use Rattle.link_core.proofs.Deeds.{Stays}
-use Rattle.std.proofs.Common.{◌≡◌, ◌≢◌, ℕ, ◌+◌, ◌<◌, ◌≤◌, true, false, ◌||◌, List, [], ◌⊎◌, length, refl, sym, ◌∙◌, ap, subst, inl, inr, arith}
-use Rattle.std.specs.Prelude.{slice_index_or}
+use Rattle.qolb_model.specs.declared.terms.Terms.{Terms}
+use Rattle.std.proofs.Common.{◌≡◌, ◌≢◌, ℕ, ◌+◌, ◌<◌, ◌≤◌, true, false, ◌||◌, List, [], ◌⊎◌, length, None, refl, sym, ◌∙◌, ap, subst, inl, inr, arith}
 use Rattle.link_core.specs.declared.point.Point.{Point}
 use Rattle.link_core.specs.declared.point.Point.TheVariants.{Idle, Ready, Linking, Queued, Granting, Left, Rolled, Shut}
 use Rattle.link_core.specs.declared.entry.Entry.{Entry}
@@ -9,21 +8,22 @@ use Rattle.link_core.specs.Places.{asker, IsLast}
 use Rattle.qolb_model.specs.Histories.{none}
 use Rattle.qolb_model.specs.Queue.{Queue}
 use Rattle.link_core.specs.State.{State, Seat, empty, entry, seat, point, IsNode, current, is_clear}
-use Rattle.link_core.specs.Shown.{is_rolled, has_line, is_freeing, HasEnded, IsPassed, IsGranting, IsFresh, passed, Matches}
+use Rattle.link_core.specs.Shown.{is_rolled, has_line, is_freeing, HasEnded, IsGranting, IsFresh, Matches}
 use Rattle.std.proofs.lemmas.Bool.{cases_eq}
 use Rattle.link_core.specs.declared.told.Told.TheVariants as told
 use Rattle.link_core.proofs.Deeds.{GoesOn}
-use Rattle.link_core.proofs.Changes.{Changed, seat_field}
+use Rattle.qolb_model.proofs.Prefixes.{prefix_self}
+use Rattle.link_core.proofs.Changes.{Changed, point_other, point_own, passes_kept, once_kept, unpassed_kept}
 use Rattle.link_core.proofs.Follows.{sits_at, behind_unclear, current_cases}
-use Rattle.link_core.proofs.Kept.{Spares, sits_kept, fresh_kept, passed_kept, Leaves, lies_kept}
+use Rattle.link_core.proofs.Kept.{Spares, sits_kept, fresh_kept, Leaves, lies_kept, rests_kept, settled_by}
 
-module _ (opening : List ℕ) (c : State) (h : Queue) (n : ℕ) (s : Matches opening c h) (is : IsNode c n) (at : (point c n ≡ Idle) ⊎ (point c n ≡ Shut))
+module _ (terms : Terms) (c : State) (h : Queue) (n : ℕ) (s : Matches terms c h) (is : IsNode c n) (at : (point c n ≡ Idle) ⊎ (point c n ≡ Shut))
     (ents : List Entry) (sts : List Seat) (ch : Changed c (record c { entries = ents; seats = sts }) n (record (seat c n) { point = Ready }) n empty) where
   abbrev d : State
   d = record c { entries = ents; seats = sts }
 
   over : HasEnded h.order h.ends n
-  over = elim at [ inl e ↦ sits_at opening c h s n Idle is e | inr e ↦ sits_at opening c h s n Shut is e ]
+  over = elim at [ inl e ↦ sits_at s n Idle is e | inr e ↦ sits_at s n Shut is e ]
 
   was_clear : is_clear (point c n) (entry c n) ≡ true
   was_clear = elim at [ inl e ↦ ap (λ (p : Point). is_clear p (entry c n)) e | inr e ↦ ap (λ (p : Point). is_clear p (entry c n)) e ]
@@ -41,23 +41,17 @@ module _ (opening : List ℕ) (c : State) (h : Queue) (n : ℕ) (s : Matches ope
     | inr g ↦ let z : has_line Shut ≡ true = ap has_line (sym g) ∙ ap (λ (x : ℕ). has_line (point c x)) (sym f) ∙ e in cc
   ]
 
-  point_other : (m : ℕ) → m ≢ n → point d m ≡ point c m
-  point_other m ne = ap (λ (s : Seat). s.point) (ch.seat_other m ne)
-
-  point_own : point d n ≡ Ready
-  point_own = ap (λ (s : Seat). s.point) ch.seat_own
-
   open_n : (p : ℕ) → length h.ends ≤ p → p < length h.order → asker h.order p ≢ n
   open_n p a l e = let k = over p (subst (λ (m : ℕ). IsLast h.order m p) e (s.distinct p a l)) in absurd (omega arith)
 
   -- nobody is to link to n
   unlinked : (m q : ℕ) → IsNode c m → point c m ≡ Linking q → q ≢ n
   unlinked m q a e f =
-      let k = behind_unclear opening c h s m q a e in
+      let k = behind_unclear s m q a e in
       let z : true ≡ false = sym was_clear ∙ ap (λ (x : ℕ). is_clear (point c x) (entry c x)) (sym f) ∙ k in cc
 
   current_other : (m : ℕ) → IsNode c m → m ≢ n → current c m ≢ n
-  current_other m a ne f = elim (current_cases opening c h s m a) [
+  current_other m a ne f = elim (current_cases s m a) [
     | inl j ↦ ne (sym j.1 ∙ f)
     | inr j ↦ not_n (current c m) Rolled j.point (λ e. cc) (λ e. cc) f
   ]
@@ -70,33 +64,14 @@ module _ (opening : List ℕ) (c : State) (h : Queue) (n : ℕ) (s : Matches ope
     ready = λ e. ch.entry_other m ne;
     fwd = λ p l. l;
     back = λ p l. l;
-    ended = λ p l. (l, refl);
+    ended = prefix_self h.ends;
     later = λ p _ _ l. l;
     behind = λ y p e l j t. (l, ap (λ (w : Entry). w.link) (ch.entry_other y (unlinked m y a e)));
     line = λ e. (refl, refl, (λ l. (l, refl)), λ x e. ap (λ (w : Entry). w.link) (ch.entry_other (current c m) (current_other m a ne)));
   }
 
   granting : IsGranting c → IsGranting d
-  granting g = record { by = g.by; to = g.to; node = g.node; place = g.place; point = point_other g.by (not_n g.by (Granting g.to) g.point (λ e. cc) (λ e. cc)) ∙ g.point }
-
-  passed_same : (m : ℕ) → (seat d m).passed ≡ (seat c m).passed
-  passed_same m = seat_field c d n (record (seat c n) { point = Ready }) n empty ch (λ (s : Seat). s.passed) refl m
-
-  at_same : (m i : ℕ) → passed d m i ≡ passed c m i
-  at_same m i = ap (λ (ps : List ℕ). slice_index_or ps i 0) (passed_same m)
-
-  below_same : (m i : ℕ) → i < length (seat d m).passed → i < length (seat c m).passed
-  below_same m i l = subst (λ (ps : List ℕ). i < length ps) (passed_same m) l
-
-  passes : (m i : ℕ) → IsNode d m → i < length (seat d m).passed → IsPassed d h.order h.ends m (passed d m i)
-  passes m i a l =
-      let j = s.passes m i a (below_same m i l) in
-      let ne : passed c m i ≢ n = not_n (passed c m i) Rolled j.point (λ e. cc) (λ e. cc) in
-      subst (λ (x : ℕ). IsPassed d h.order h.ends m x) (sym (at_same m i))
-      (passed_kept c d h.order h.order h.ends h.ends m (passed c m i) refl (point_other (passed c m i) ne) (ap (λ (w : Entry). w.freed) (ch.entry_other (passed c m i) ne)) (λ p l. l) (λ p _ w. w) j)
-
-  once : (m x i j : ℕ) → IsNode d m → IsNode d x → i < length (seat d m).passed → j < length (seat d x).passed → passed d m i ≡ passed d x j → (m ≡ x) × (i ≡ j)
-  once m x i j a b l k e = s.once m x i j a b (below_same m i l) (below_same x j k) (sym (at_same m i) ∙ e ∙ at_same x j)
+  granting g = record { by = g.by; to = g.to; node = g.node; place = g.place; point = point_other ch g.by (not_n g.by (Granting g.to) g.point (λ e. cc) (λ e. cc)) ∙ g.point }
 
   fresh : (p : ℕ) → length h.ends ≤ p → p < length h.order → IsFresh d (length h.ends) (asker h.order p) p
   fresh p a l = let e = ch.entry_other (asker h.order p) (open_n p a l) in
@@ -113,18 +88,22 @@ module _ (opening : List ℕ) (c : State) (h : Queue) (n : ℕ) (s : Matches ope
     turn = λ l. (l, refl);
     fwd = λ m q e l. l;
     hand = λ m f. ch.seat_other m (not_lined m f);
-    box = λ t l a q g. let ne = not_n t Queued q (λ e. cc) (λ e. cc) in (point_other t ne ∙ q, ap (λ (w : Entry). w.granted) (ch.entry_other t ne) ∙ g);
-    linking = λ t q l a f. point_other t (not_n t (Linking q) f (λ e. cc) (λ e. cc)) ∙ f;
+    box = λ t l a q g. let ne = not_n t Queued q (λ e. cc) (λ e. cc) in (point_other ch t ne ∙ q, ap (λ (w : Entry). w.granted) (ch.entry_other t ne) ∙ g);
+    linking = λ t q l a f. point_other ch t (not_n t (Linking q) f (λ e. cc) (λ e. cc)) ∙ f;
     tail = λ q a f g. let ne : q ≢ n = elim a [ inl i ↦ not_n q Left i (λ e. cc) (λ e. cc) | inr i ↦ not_n q Rolled i (λ e. cc) (λ e. cc) ] in
-        (elim a [ inl i ↦ inl (point_other q ne ∙ i) | inr i ↦ inr (point_other q ne ∙ i) ], ap (λ (w : Entry). w.link) (ch.entry_other q ne) ∙ f, ap (λ (w : Entry). w.done) (ch.entry_other q ne) ∙ g);
+        (point_other ch q ne, ap (λ (w : Entry). w.link) (ch.entry_other q ne), ap (λ (w : Entry). w.done) (ch.entry_other q ne));
   }
 
-  pub reset_keeps : GoesOn opening c d h n told.Went
+  pub reset_keeps : GoesOn terms d h n told.Went None false
   reset_keeps = record {
     after = h;
+    makes = refl;
     clears = none;
+    uncleared = λ _. refl;
     shows = record {
       opened = s.opened;
+      size = s.size;
+      turns = s.turns;
       known = s.known;
       nodes = s.nodes;
       numbered = s.numbered;
@@ -135,30 +114,24 @@ module _ (opening : List ℕ) (c : State) (h : Queue) (n : ℕ) (s : Matches ope
       home_last = s.home_last;
       links = λ p a l. elim (s.links p a l) [
         | inl f ↦ inl (ap (λ (w : Entry). w.link) (ch.entry_other (asker h.order p) (open_n p a (omega arith))) ∙ f)
-        | inr f ↦ inr (ap (λ (w : Entry). w.link) (ch.entry_other (asker h.order p) (open_n p a (omega arith))) ∙ f.0, point_other (asker h.order (p + 1)) (open_n (p + 1) (omega arith) l) ∙ f.1)
+        | inr f ↦ inr (ap (λ (w : Entry). w.link) (ch.entry_other (asker h.order p) (open_n p a (omega arith))) ∙ f.0, point_other ch (asker h.order (p + 1)) (open_n (p + 1) (omega arith) l) ∙ f.1)
       ];
       last_link = λ p a e. ap (λ (w : Entry). w.link) (ch.entry_other (asker h.order p) (open_n p a (omega arith))) ∙ s.last_link p a e;
-      lies = lies_kept opening c d h.order h.order h.ends leaves s.lies;
-      marks = λ p a l. s.marks p a l ∙ ap is_rolled (sym (point_other (asker h.order p) (open_n p a l)));
+      lies = lies_kept leaves terms s.lies;
+      marks = λ p a l. s.marks p a l ∙ ap is_rolled (sym (point_other ch (asker h.order p) (open_n p a l)));
       clears = λ m q a l. s.clears m q a l ∙ elim (cases_eq m n) [
-        | inl e ↦ rw (e, point_own) was_clear
-        | inr ne ↦ rw (point_other m ne, ch.entry_other m ne) refl
+        | inl e ↦ rw (e, point_own ch) was_clear
+        | inr ne ↦ rw (point_other ch m ne, ch.entry_other m ne) refl
       ];
       sits = λ m a. elim (cases_eq m n) [
-        | inl e ↦ rw (e, point_own) (over, ch.entry_own)
-        | inr ne ↦ sits_kept c d h.order h.order h.ends h.ends m (spares m a ne) (s.sits m a)
+        | inl e ↦ rw (e, point_own ch) (over, ch.entry_own)
+        | inr ne ↦ sits_kept (spares m a ne) (s.sits m a)
       ];
       fresh = fresh;
-      passes = passes;
-      once = once;
-      unpassed = λ m a e. elim (cases_eq m n) [
-        | inl f ↦ passed_same m ∙ rw f none_passed
-        | inr ne ↦ passed_same m ∙ s.unpassed m a (ap (λ (p : Point). has_line p || is_freeing p) (sym (point_other m ne)) ∙ e)
-      ];
+      passes = passes_kept ch refl h.order h.order h.ends h.ends (λ x p at kept l. let ne = not_n x Rolled at (λ e. cc) (λ e. cc) in (ne, ap (λ (w : Entry). w.freed) (ch.entry_other x ne), l)) (λ m i p l e. e) s.passes;
+      once = once_kept ch refl s.once;
+      unpassed = unpassed_kept ch refl (λ _. none_passed) s.unpassed;
+      settled = settled_by ch h.order h.order h.ends h.ends h.clear h.clear is s.settled (λ x ne e. e) (λ dn. cc) (λ _. omega arith) (rests_kept leaves h.clear h.clear s.known (prefix_self h.order) (prefix_self h.clear) s.settled.rests);
     };
     says = tt;
   }
-
-  pub reset_does : Stays h reset_keeps.after
-  unfolding reset_keeps
-  reset_does = refl

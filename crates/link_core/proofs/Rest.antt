@@ -1,6 +1,6 @@
 -- Writing, closing, and a node found free.
-use Rattle.link_core.proofs.Deeds.{Stays}
-use Rattle.std.proofs.Common.{◌≡◌, ◌≢◌, ℕ, ◌<◌, ◌≤◌, Bool, true, false, ◌||◌, ◌&&◌, List, [], ◌⊎◌, length, refl, sym, ◌∙◌, ap, subst, inl, inr, arith}
+use Rattle.qolb_model.specs.declared.terms.Terms.{Terms}
+use Rattle.std.proofs.Common.{◌≡◌, ◌≢◌, ℕ, ◌<◌, ◌≤◌, Bool, true, false, ◌||◌, ◌&&◌, List, [], ◌⊎◌, length, None, refl, sym, ◌∙◌, ap, subst, inl, inr, arith}
 use Rattle.link_core.specs.declared.point.Point.{Point}
 use Rattle.link_core.specs.declared.point.Point.TheVariants.{Idle, Linking, Queued, Holding, Leaving, Granting, Left, Rolled}
 use Rattle.link_core.specs.declared.seat.Reason.{Reason}
@@ -20,38 +20,41 @@ use Rattle.line_lanes.specs.declared.line.Line64.{Line64}
 use Rattle.line_lanes.specs.declared.line.Mask.{Mask}
 use Rattle.line_lanes.proofs.Masked.{merged-twice}
 use Rattle.link_core.proofs.Deeds.{GoesOn}
-use Rattle.link_core.proofs.Changes.{Changed}
+use Rattle.qolb_model.proofs.Prefixes.{prefix_self}
+use Rattle.link_core.proofs.Changes.{Changed, point_other, at_other}
 use Rattle.link_core.proofs.Follows.{sits_at, in_its_hand, hand_lies, clear_ended}
-use Rattle.link_core.proofs.Kept.{Leaves, lies_kept}
+use Rattle.link_core.proofs.Kept.{Leaves, lies_kept, rests_kept, rests_held}
 use Rattle.link_core.proofs.Quiet.{quiet_shows}
 
 -- the holder writes, or closes the line
-module _ (opening : List ℕ) (c : State) (h : Queue) (n : ℕ) (s : Matches opening c h) (is : IsNode c n) (at : point c n ≡ Holding) where
+module _ (terms : Terms) (c : State) (h : Queue) (n : ℕ) (s : Matches terms c h) (is : IsNode c n) (at : point c n ≡ Holding) where
   lined : has_line (point c n) ≡ true
   lined = ap has_line at
 
   place : c.place ≡ Hand n
-  place = in_its_hand opening c h s n is lined
+  place = in_its_hand s n is lined
 
   sat : IsReleasing c n n × ((seat c n).reason ≡ Own) × ((seat c n).passed ≡ [])
-  sat = sits_at opening c h s n Holding is at
+  sat = sits_at s n Holding is at
 
-  held : (opening : List ℕ) → Matches opening c h → (length h.ends < length h.order) × (asker h.order (length h.ends) ≡ n) × IsHeld opening c h.ends Own
-  held opening s =
-      let f = hand_lies opening c h s n place s.lies in
-      (f.0, f.3 ∙ sat.0.is, subst (λ (ps : List ℕ). IsCarried opening c h.order h.ends n Own ps) sat.2 (subst (λ (r : Reason). IsCarried opening c h.order h.ends n r (seat c n).passed) sat.1 f.4))
+  held : (terms : Terms) → Matches terms c h → (length h.ends < length h.order) × (asker h.order (length h.ends) ≡ n) × IsHeld terms c h.ends n Own
+  held terms s =
+      let f = hand_lies s n place s.lies in
+      (f.0, f.3 ∙ sat.0.is, subst (λ (ps : List ℕ). IsCarried terms c h.order h.ends n Own ps) sat.2 (subst (λ (r : Reason). IsCarried terms c h.order h.ends n r (seat c n).passed) sat.1 f.4))
 
   same_marks : (p : ℕ) → length h.ends ≤ p → p < length h.order → asker h.order p ≡ n → has h.marked (request h.order p) ≡ false
   same_marks p a l e = s.marks p a l ∙ ap (λ (m : ℕ). is_rolled (point c m)) e ∙ ap is_rolled at
 
-  pub write_keeps : (mask : Mask) (bytes : Line64) → GoesOn opening c (record c { bytes = write_line c.bytes mask bytes; mask = either c.mask mask }) h n told.Went
+  pub write_keeps : (mask : Mask) (bytes : Line64) → GoesOn terms (record c { bytes = write_line c.bytes mask bytes; mask = either c.mask mask }) h n told.Went None false
   write_keeps mask bytes =
       let d : State = record c { bytes = write_line c.bytes mask bytes; mask = either c.mask mask } in
       let ch : Changed c (record c { bytes = write_line c.bytes mask bytes; mask = either c.mask mask }) n (seat c n) n (entry c n) = record { nodes = refl; seat_own = refl; seat_other = λ _ _. refl; entry_own = refl; entry_other = λ _ _. refl } in
       record {
         after = h;
+        makes = refl;
         clears = none;
-        shows = quiet_shows opening c h n s is c.place (write_line c.bytes mask bytes) c.closed (either c.mask mask) c.entries c.seats h.marked (seat c n) n (entry c n) ch (record {
+        uncleared = λ _. refl;
+        shows = quiet_shows terms c h n s is c.place (write_line c.bytes mask bytes) c.closed (either c.mask mask) c.entries c.seats h.marked (seat c n) n (entry c n) ch (record {
           link = refl;
           freed = refl;
           granted = refl;
@@ -69,68 +72,63 @@ module _ (opening : List ℕ) (c : State) (h : Queue) (n : ℕ) (s : Matches ope
           not_linking = λ q g. let z : Holding ≡ Linking q = sym at ∙ g in cc;
           not_passed = λ g. let z : Holding ≡ Rolled = sym at ∙ g in cc;
           unpassed = λ _. sat.2;
-          lies = λ opening s. let f = held opening s in in_hand n f.0 is place lined (f.1 ∙ sym sat.0.is)
-              (subst (λ (ps : List ℕ). IsCarried opening (record c { bytes = write_line c.bytes mask bytes; mask = either c.mask mask }) h.order h.ends n (seat c n).reason ps) (sym sat.2)
-              (subst (λ (r : Reason). IsHeld opening (record c { bytes = write_line c.bytes mask bytes; mask = either c.mask mask }) h.ends r) (sym sat.1)
-              (f.2.0, f.2.1, merged-twice (bytes_after opening h.ends) c.bytes.bytes bytes.bytes c.mask.0 mask.0 f.2.2)));
+          node = is;
+          boxes = λ x ne e. e;
+          box = s.settled.boxed n is;
+          rests = rests_held _ n h.order h.ends h.clear place;
+          lies = λ terms s. let f = held terms s in in_hand n f.0 is place lined (f.1 ∙ sym sat.0.is)
+              (subst (λ (ps : List ℕ). IsCarried terms (record c { bytes = write_line c.bytes mask bytes; mask = either c.mask mask }) h.order h.ends n (seat c n).reason ps) (sym sat.2)
+              (subst (λ (r : Reason). IsHeld terms (record c { bytes = write_line c.bytes mask bytes; mask = either c.mask mask }) h.ends n r) (sym sat.1)
+              (f.2.0, f.2.1, merged-twice (bytes_after terms.opening.bytes h.ends) c.bytes.bytes bytes.bytes c.mask.0 mask.0 f.2.2, inl at)));
           own = subst (λ (p : Point). Sits (record c { bytes = write_line c.bytes mask bytes; mask = either c.mask mask }) h.order h.ends n p) (sym at) (record { place = place; is = sat.0.is }, sat.1, sat.2);
         });
         says = tt;
       }
 
-  pub write_does : (mask : Mask) (bytes : Line64) → Stays h (write_keeps mask bytes).after
-  unfolding write_keeps
-  write_does mask bytes = refl
+  module _ {sts : List Seat} (ch : Changed c (record c { closed = true; seats = sts }) n (record (seat c n) { point = Leaving n; reason = Closing }) n (entry c n)) where
+    pub closed_matches : Matches terms (record c { closed = true; seats = sts }) h
+    closed_matches = quiet_shows terms c h n s is c.place c.bytes true c.mask c.entries sts h.marked (record (seat c n) { point = Leaving n; reason = Closing }) n (entry c n) ch (record {
+      link = refl;
+      freed = refl;
+      granted = refl;
+      rolled = λ _. refl;
+      done = inl refl;
+      ready = λ ne. absurd (ne refl);
+      clear = λ ne. absurd (ne refl);
+      clear_own = ap (λ (p : Point). is_clear p (entry c n)) (sym at);
+      passed = refl;
+      hands = λ m e. e;
+      marks = λ p a l e. same_marks p a l e;
+      marks_other = λ p ne. refl;
+      marked_known = s.marked_known;
+      not_granting = λ m g. let z : Holding ≡ Granting m = sym at ∙ g in cc;
+      not_linking = λ q g. let z : Holding ≡ Linking q = sym at ∙ g in cc;
+      not_passed = λ g. let z : Holding ≡ Rolled = sym at ∙ g in cc;
+      unpassed = λ _. sat.2;
+      node = is;
+      boxes = λ x ne e. e;
+      box = s.settled.boxed n is;
+      rests = rests_held _ n h.order h.ends h.clear place;
+      lies = λ terms s. let f = held terms s in in_hand n f.0 is place (ap (λ (s : Seat). has_line s.point) ch.seat_own) (f.1 ∙ sym sat.0.is ∙ sym (ap (λ (s : Seat). last_or n s.passed) ch.seat_own))
+          (subst (λ (s : Seat). IsCarried terms (record c { closed = true; seats = sts }) h.order h.ends n s.reason s.passed) (sym ch.seat_own)
+          (subst (λ (ps : List ℕ). IsCarried terms (record c { closed = true; seats = sts }) h.order h.ends n Closing ps) (sym sat.2) (refl, f.2.1, f.2.2)));
+      own = record { place = place; is = ap (λ (s : Seat). last_or n s.passed) ch.seat_own ∙ sat.0.is };
+        })
 
-  pub close_line_keeps : (sts : List Seat) → Changed c (record c { closed = true; seats = sts }) n (record (seat c n) { point = Leaving n; reason = Closing }) n (entry c n) → GoesOn opening c (record c { closed = true; seats = sts }) h n told.Went
-  close_line_keeps sts ch =
-      record {
-        after = h;
-        clears = none;
-        shows = quiet_shows opening c h n s is c.place c.bytes true c.mask c.entries sts h.marked (record (seat c n) { point = Leaving n; reason = Closing }) n (entry c n) ch (record {
-          link = refl;
-          freed = refl;
-          granted = refl;
-          rolled = λ _. refl;
-          done = inl refl;
-          ready = λ ne. absurd (ne refl);
-          clear = λ ne. absurd (ne refl);
-          clear_own = ap (λ (p : Point). is_clear p (entry c n)) (sym at);
-          passed = refl;
-          hands = λ m e. e;
-          marks = λ p a l e. same_marks p a l e;
-          marks_other = λ p ne. refl;
-          marked_known = s.marked_known;
-          not_granting = λ m g. let z : Holding ≡ Granting m = sym at ∙ g in cc;
-          not_linking = λ q g. let z : Holding ≡ Linking q = sym at ∙ g in cc;
-          not_passed = λ g. let z : Holding ≡ Rolled = sym at ∙ g in cc;
-          unpassed = λ _. sat.2;
-          lies = λ opening s. let f = held opening s in in_hand n f.0 is place (ap (λ (s : Seat). has_line s.point) ch.seat_own) (f.1 ∙ sym sat.0.is ∙ sym (ap (λ (s : Seat). last_or n s.passed) ch.seat_own))
-              (subst (λ (s : Seat). IsCarried opening (record c { closed = true; seats = sts }) h.order h.ends n s.reason s.passed) (sym ch.seat_own)
-              (subst (λ (ps : List ℕ). IsCarried opening (record c { closed = true; seats = sts }) h.order h.ends n Closing ps) (sym sat.2) (refl, f.2.1, f.2.2)));
-          own = record { place = place; is = ap (λ (s : Seat). last_or n s.passed) ch.seat_own ∙ sat.0.is };
-        });
-        says = tt;
-      }
-
-  pub close_line_does : (sts : List Seat) (ch : Changed c (record c { closed = true; seats = sts }) n (record (seat c n) { point = Leaving n; reason = Closing }) n (entry c n)) → Stays h (close_line_keeps sts ch).after
-  unfolding close_line_keeps
-  close_line_does sts ch = refl
+    pub close_line_keeps : GoesOn terms (record c { closed = true; seats = sts }) h n told.Went None false
+    close_line_keeps = record { after = h; makes = refl; clears = none; uncleared = λ _. refl; shows = closed_matches; says = tt }
 
 -- a node that is found free
-module _ (opening : List ℕ) (c : State) (h : Queue) (n : ℕ) (s : Matches opening c h) (is : IsNode c n) (at : (point c n ≡ Left) ⊎ (point c n ≡ Rolled)) (free : is_clear (point c n) (entry c n) ≡ true)
+module _ (terms : Terms) (c : State) (h : Queue) (n : ℕ) (s : Matches terms c h) (is : IsNode c n) (at : (point c n ≡ Left) ⊎ (point c n ≡ Rolled)) (free : is_clear (point c n) (entry c n) ≡ true)
     (sts : List Seat) (ch : Changed c (record c { seats = sts }) n (record (seat c n) { point = Idle }) n (entry c n)) where
   abbrev e : State
   e = record c { seats = sts }
 
   over : HasEnded h.order h.ends n
-  over = clear_ended opening c h s n (entry c n) refl is free
+  over = clear_ended s n (entry c n) refl is free
 
   elsewhere : (m : ℕ) (q : Point) → point c m ≡ q → (Left ≡ q → ⊥) → (Rolled ≡ q → ⊥) → m ≢ n
-  elsewhere m q e a b f = elim at [ inl g ↦ a (sym g ∙ ap (point c) (sym f) ∙ e) | inr g ↦ b (sym g ∙ ap (point c) (sym f) ∙ e) ]
-
-  other : (m : ℕ) → m ≢ n → point e m ≡ point c m
-  other m ne = ap (λ (s : Seat). s.point) (ch.seat_other m ne)
+  elsewhere m q e a b = elim at [ inl g ↦ at_other ch m Left q g e a | inr g ↦ at_other ch m Rolled q g e b ]
 
   not_tail : (entry c n).link ≡ 0 → (entry c n).done ≡ true → ⊥
   not_tail a b = elim at [
@@ -169,17 +167,18 @@ module _ (opening : List ℕ) (c : State) (h : Queue) (n : ℕ) (s : Matches ope
       | inl i ↦ let x : has_line Left ≡ true = ap has_line (sym i) ∙ ap (λ (x : ℕ). has_line (point c x)) (sym g) ∙ f in cc
       | inr i ↦ let x : has_line Rolled ≡ true = ap has_line (sym i) ∙ ap (λ (x : ℕ). has_line (point c x)) (sym g) ∙ f in cc
     ]);
-    box = λ t l a q g. (other t (elsewhere t Queued q (λ e. cc) (λ e. cc)) ∙ q, g);
-    linking = λ t q l a f. other t (elsewhere t (Linking q) f (λ e. cc) (λ e. cc)) ∙ f;
-    tail = λ q a f g. let ne : q ≢ n = λ i. not_tail (ap (λ (m : ℕ). (entry c m).link) (sym i) ∙ f) (ap (λ (m : ℕ). (entry c m).done) (sym i) ∙ g) in
-        (elim a [ inl i ↦ inl (other q ne ∙ i) | inr i ↦ inr (other q ne ∙ i) ], f, g);
+    box = λ t l a q g. (point_other ch t (elsewhere t Queued q (λ e. cc) (λ e. cc)) ∙ q, g);
+    linking = λ t q l a f. point_other ch t (elsewhere t (Linking q) f (λ e. cc) (λ e. cc)) ∙ f;
+    tail = λ q a f g. (point_other ch q (λ i. not_tail (ap (λ (m : ℕ). (entry c m).link) (sym i) ∙ f) (ap (λ (m : ℕ). (entry c m).done) (sym i) ∙ g)), refl, refl);
   }
 
-  pub load_free_keeps : GoesOn opening c e h n told.Free
+  pub load_free_keeps : GoesOn terms e h n told.Free None false
   load_free_keeps = record {
     after = h;
+    makes = refl;
     clears = none;
-    shows = quiet_shows opening c h n s is c.place c.bytes c.closed c.mask c.entries sts h.marked (record (seat c n) { point = Idle }) n (entry c n) ch (record {
+    uncleared = λ _. refl;
+    shows = quiet_shows terms c h n s is c.place c.bytes c.closed c.mask c.entries sts h.marked (record (seat c n) { point = Idle }) n (entry c n) ch (record {
       link = refl;
       freed = refl;
       granted = refl;
@@ -197,12 +196,12 @@ module _ (opening : List ℕ) (c : State) (h : Queue) (n : ℕ) (s : Matches ope
       not_linking = λ q g. elsewhere n (Linking q) g (λ e. cc) (λ e. cc) refl;
       not_passed = λ g. freed_true (entry c n) (ap (λ (p : Point). is_clear p (entry c n)) (sym g) ∙ free);
       unpassed = λ _. s.unpassed n is (elim at [ inl g ↦ ap (λ (p : Point). has_line p || is_freeing p) g | inr g ↦ ap (λ (p : Point). has_line p || is_freeing p) g ]);
-      lies = λ opening s. lies_kept opening c e h.order h.order h.ends leaves s.lies;
+      lies = λ terms s. lies_kept leaves terms s.lies;
+      node = is;
+      boxes = λ x ne e. e;
+      box = s.settled.boxed n is;
+      rests = rests_kept leaves h.clear h.clear s.known (prefix_self h.order) (prefix_self h.clear) s.settled.rests;
       own = over;
     });
     says = λ p l. s.clears n p is l ∙ free;
   }
-
-  pub load_free_does : Stays h load_free_keeps.after
-  unfolding load_free_keeps
-  load_free_does = refl

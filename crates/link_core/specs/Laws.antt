@@ -1,7 +1,12 @@
 -- What a lock whose words are those of a core may rest on. (Of this project.)
-use Rattle.std.specs.Prelude.{◌≡◌, ◌≢◌, ℕ, ◌+◌, ◌<◌, ◌≤◌, true, false, List, ◌∷◌, length}
-use Rattle.line_lanes.specs.declared.line.Line64.{Line64}
+use Rattle.std.specs.Prelude.{◌≡◌, ◌≢◌, ◌↔◌, ℕ, ◌+◌, ◌<◌, ◌≤◌, true, false, Option, List, ◌∷◌, length}
+use Rattle.qolb_model.specs.declared.terms.Terms.{Terms}
+use Rattle.qolb_model.specs.declared.terms.TheConstants.{MOST_NODES}
 use Rattle.qolb_model.specs.Ends.{is_closed}
+use Rattle.qolb_model.specs.Histories.{IsLegal}
+use Rattle.qolb_model.specs.Requests.{count_of, last_of}
+use Rattle.qolb_model.specs.declared.end.End.{End}
+use Rattle.qolb_model.specs.declared.request.Request.{Request}
 use Rattle.qolb_model.specs.Queue.{Queue, empty_queue, Move, Runs}
 use Rattle.link_core.specs.declared.point.Point.TheVariants.{Linking, Queued, Marking, Granting, Rolled}
 use Rattle.link_core.specs.declared.place.Place.TheVariants.{Home, Mailbox, Hand}
@@ -9,19 +14,19 @@ use Rattle.link_core.specs.declared.seat.Reason.{Reason}
 use Rattle.link_core.specs.declared.seat.Reason.TheVariants.{Own}
 use Rattle.link_core.specs.declared.told.Told.{Told}
 use Rattle.link_core.specs.declared.event.Event.{Event}
-use Rattle.link_core.specs.Places.{asker, IsLast}
+use Rattle.link_core.specs.Places.{request, asker, IsLast}
 use Rattle.link_core.specs.State.{State, IsWide, entry, seat, point, IsNode, current, first}
 use Rattle.link_core.specs.Steps.{Step, Releases, Names, node_of, allows}
-use Rattle.link_core.specs.Shown.{has_line, EndedBy, IsBehind, Shows}
+use Rattle.link_core.specs.Shown.{has_line, is_active, EndedBy, IsWhole, IsCarried, IsBehind, Shows}
 use Rattle.link_core.specs.Promise.{Keeps, Run}
 
 -- A line that is opened shows the empty queue.
 abbrev pub OpenedShows : Type 0
-OpenedShows = (nodes : ℕ) (opening : Line64) → nodes ≤ 32 → length opening.bytes ≡ 64 → IsWide (first nodes opening) × Shows opening.bytes (first nodes opening) empty_queue
+OpenedShows = (terms : Terms) → terms.nodes ≤ MOST_NODES → length terms.opening.bytes ≡ 64 → IsWide (first terms) × Shows terms (first terms) empty_queue
 
 -- Each event goes on from a state that shows a queue to one that shows a queue after the event's move, and spares the other nodes.
 abbrev pub EachEventKeeps : Type 0
-EachEventKeeps = (opening : List ℕ) (c d : State) (q : Queue) (e : Event) (t : Told) → IsWide c → Shows opening c q → Step c e t d → Keeps opening c e t d q × IsWide d
+EachEventKeeps = (terms : Terms) (c d : State) (q : Queue) (e : Event) (t : Told) → IsWide c → Shows terms c q → (step : Step c e t d) → Keeps terms c e t d step q × IsWide d
 
 -- An event has an effect only where its node's point allows it, and then one.
 abbrev pub EventsAreEnabled : Type 0
@@ -39,18 +44,24 @@ pub record Unset (c : State) : Type 0 where
   pub freed : (n x : ℕ) (rest : List ℕ) → IsNode c n → (seat c n).passed ≡ x ∷ rest → (entry c x).freed ≡ false
 
 abbrev pub AddsFindUnset : Type 0
-AddsFindUnset = (opening : List ℕ) (c : State) (q : Queue) → Shows opening c q → Unset c
+AddsFindUnset = (terms : Terms) (c : State) (q : Queue) → Shows terms c q → Unset c
 
--- What the nodes find: a point names nodes alone; a release has the line in its hand, alone, and is at the entry that its list of
--- passed nodes says; the next node waits or is withdrawn, and its flag tells which; who is to link stands right behind the one that it
--- links to; and where a flag says that the line has come, it lies there.
-pub record Found (c : State) (q : Queue) : Type 0 where
+-- What the nodes find: a point names nodes alone; a release has the line in its hand, alone, carries it as it should be, and is at the
+-- entry that its list of passed nodes says; the next node waits or is withdrawn, and its flag tells which; who is to link stands right
+-- behind the one that it links to; home names the newest open request; where a flag says that the line has come, it lies there; and
+-- where no node waits or has the line, all requests have ended.
+pub record Found (terms : Terms) (c : State) (q : Queue) : Type 0 where
   pub names : (n : ℕ) → IsNode c n → Names c (point c n)
   pub hand : (n : ℕ) → IsNode c n → has_line (point c n) ≡ true → c.place ≡ Hand n
   pub one : (n m : ℕ) → IsNode c n → IsNode c m → has_line (point c n) ≡ true → has_line (point c m) ≡ true → n ≡ m
   pub turn : (n : ℕ) → IsNode c n → has_line (point c n) ≡ true → IsLast q.order (current c n) (length q.ends)
-  pub releases : (n e : ℕ) → IsNode c n → Releases c n e → current c n ≡ e
-  pub marks : (n e : ℕ) → IsNode c n → point c n ≡ Marking e → current c n ≡ e
+  pub carried : (n : ℕ) → IsNode c n → has_line (point c n) ≡ true → IsCarried terms c q.order q.ends n (seat c n).reason (seat c n).passed
+  pub whole : ((n : ℕ) → c.place ≢ Hand n) → IsWhole terms c q.ends
+  pub passed : (n x : ℕ) (rest : List ℕ) → IsNode c n → (seat c n).passed ≡ x ∷ rest → IsNode c x × (point c x ≡ Rolled)
+  pub releases : (n e : ℕ) → IsNode c n → Releases c n e → (has_line (point c n) ≡ true) × (current c n ≡ e)
+  pub marks : (n e : ℕ) → IsNode c n → point c n ≡ Marking e → (current c n ≡ e) × (length q.ends + 1 < length q.order)
+  pub late : (n e : ℕ) → IsNode c n → point c n ≡ Marking e → (entry c e).link ≡ 0 → point c (asker q.order (length q.ends + 1)) ≡ Linking e
+  pub home : (p : ℕ) → length q.ends ≤ p → p < length q.order → (c.home ≡ asker q.order p) ↔ (p + 1 ≡ length q.order)
   pub grant : (n m : ℕ) → IsNode c n → point c n ≡ Granting m → (length q.ends + 1 < length q.order) × (asker q.order (length q.ends + 1) ≡ m)
   pub grant_waits : (n m : ℕ) → IsNode c n → point c n ≡ Granting m → (entry c m).rolled ≡ false → point c m ≡ Queued
   pub grant_rolled : (n m : ℕ) → IsNode c n → point c n ≡ Granting m → (entry c m).rolled ≡ true → point c m ≡ Rolled
@@ -59,9 +70,22 @@ pub record Found (c : State) (q : Queue) : Type 0 where
   pub granted : (n : ℕ) → IsNode c n → point c n ≡ Queued → (entry c n).granted ≡ true → (c.place ≡ Mailbox n) × IsLast q.order n (length q.ends)
   pub waits : (n : ℕ) → IsNode c n → point c n ≡ Queued → (entry c n).granted ≡ false → (p : ℕ) × IsLast q.order n p × (length q.ends < p)
   pub idle : c.home ≡ 0 → c.place ≡ Home
+  pub over : ((n : ℕ) → IsNode c n → is_active (point c n) ≡ false) → (length q.ends ≡ length q.order) × (c.place ≡ Home)
 
 abbrev pub NodesFind : Type 0
-NodesFind = (opening : List ℕ) (c : State) (q : Queue) → Shows opening c q → Found c q
+NodesFind = (terms : Terms) (c : State) (q : Queue) → Shows terms c q → Found terms c q
+
+-- No event changes how many nodes there are, or the lengths of the lists.
+abbrev pub SizesStay : Type 0
+SizesStay = (c d : State) (e : Event) (t : Told) → Step c e t d → (d.nodes ≡ c.nodes) × (length d.entries ≡ length c.entries) × (length d.seats ≡ length c.seats)
+
+-- The request at a node's last place has its highest number; and a node that has made requests has a last place.
+pub record LastPlaces (order : List Request) (n : ℕ) : Type 0 where
+  pub number : (p : ℕ) → IsLast order n p → request order p ≡ last_of n order
+  pub place : 1 ≤ count_of n order → (p : ℕ) × IsLast order n p
+
+abbrev pub LastsHavePlaces : Type 0
+LastsHavePlaces = (lease : Option ℕ) (order : List Request) (ends : List End) (n : ℕ) → IsLegal lease order ends → LastPlaces order n
 
 -- A release passes fewer nodes than there are, and where it has passed all others it finds itself named at home.
 pub record Short (c : State) : Type 0 where
@@ -69,12 +93,12 @@ pub record Short (c : State) : Type 0 where
   pub home : (n : ℕ) → IsNode c n → has_line (point c n) ≡ true → length (seat c n).passed + 1 ≡ c.nodes → c.home ≡ current c n
 
 abbrev pub WalksAreShort : Type 0
-WalksAreShort = (opening : List ℕ) (c : State) (q : Queue) → Shows opening c q → Short c
+WalksAreShort = (terms : Terms) (c : State) (q : Queue) → Shows terms c q → Short c
 
 -- Where a node's last request has ended by closing the line, or by being told that it is closed, the line is closed.
 abbrev pub EndsClose : Type 0
-EndsClose = (opening : List ℕ) (c : State) (q : Queue) (n : ℕ) (r : Reason) → Shows opening c q → r ≢ Own → EndedBy q.order q.ends n r → is_closed q.ends ≡ true
+EndsClose = (terms : Terms) (c : State) (q : Queue) (n : ℕ) (r : Reason) → Shows terms c q → r ≢ Own → EndedBy q.order q.ends n r → is_closed q.ends ≡ true
 
 -- A run of events is a run of the queue.
 abbrev pub RunsMove : Type 0
-RunsMove = (nodes : ℕ) (opening : Line64) (es : List Event) (c : State) (q : Queue) → Run nodes opening es c q → (moves : List Move) × Runs nodes empty_queue moves q
+RunsMove = (terms : Terms) (es : List Event) (c : State) (q : Queue) → Run terms es c q → (moves : List Move) × Runs terms empty_queue moves q

@@ -1,10 +1,16 @@
 -- What a step promises: a state that shows a queue goes on to show one, after at most one move.
-use Rattle.std.specs.Prelude.{◌≡◌, ℕ, ◌<◌, ◌≤◌, false, List, [], ◌∷◌, ◌++◌, length, take, slice_get, Some}
-use Rattle.line_lanes.specs.declared.line.Line64.{Line64}
+use Rattle.std.specs.Prelude.{◌≡◌, ◌≢◌, ℕ, ◌+◌, ◌<◌, ◌≤◌, false, List, [], ◌∷◌, ◌++◌, length, take, slice_get, Some}
+use Rattle.qolb_model.specs.declared.terms.Terms.{Terms}
+use Rattle.qolb_model.specs.declared.terms.TheConstants.{MOST_NODES}
+use Rattle.link_core.specs.declared.state.TheConstants.{PLACES}
+use Rattle.qolb_model.specs.declared.request.Request.{Request}
+use Rattle.qolb_model.specs.declared.end.End.{End}
 use Rattle.qolb_model.specs.Requests.{Has, Lacks}
+use Rattle.qolb_model.specs.EndKinds.{is_gone}
 use Rattle.qolb_model.specs.Ends.{is_closed}
 use Rattle.qolb_model.specs.Queue.{Queue, empty_queue}
 use Rattle.link_core.specs.declared.seat.Reason.TheVariants.{Own, Closing, Refused}
+use Rattle.link_core.specs.declared.place.Place.TheVariants.{Hand}
 use Rattle.link_core.specs.declared.told.Told.{Told}
 use Rattle.link_core.specs.declared.told.Told.TheVariants as told
 use Rattle.link_core.specs.declared.told.NotEnabled.{NotEnabled}
@@ -40,33 +46,39 @@ Says q n told.Closed = EndedBy q.order q.ends n Refused
 Says q n told.Free = (p : ℕ) → IsLast q.order n p → Has q.clear (request q.order p)
 Says q n told.Busy = (p : ℕ) → IsLast q.order n p → Lacks q.clear (request q.order p)
 
--- the event leads from c, which shows q, to d, which shows a queue after the event's move
-pub record Keeps (opening : List ℕ) (c : State) (e : Event) (t : Told) (d : State) (q : Queue) : Type 0 where
+-- the request that ended last is clear, unless it is gone
+abbrev pub IsClearBefore : Queue → Type 0
+IsClearBefore q = (p : ℕ) (r : Request) (e : End) → p + 1 ≡ length q.ends → slice_get q.order p ≡ Some r → slice_get q.ends p ≡ Some e → is_gone e ≡ false → Has q.clear r
+
+-- The step, from a state that shows q, leads to one that shows a queue after the step's move. Where the line comes into a hand, the
+-- request before is clear.
+pub record Keeps (terms : Terms) (c : State) (e : Event) (t : Told) (d : State) (step : Step c e t d) (q : Queue) : Type 0 where
   pub after : Queue
-  pub goes : Goes c.nodes q (move_of c q.order e) after
-  pub shows : Shows opening d after
+  pub goes : Goes terms q (move_of step q.order) after
+  pub shows : Shows terms d after
   pub says : Says after (node_of e) t
-  pub uncleared : may_clear e ≡ false → after.clear ≡ q.clear
+  pub comes : (n : ℕ) → d.place ≡ Hand n → ((m : ℕ) → c.place ≢ Hand m) → IsClearBefore after
+  pub uncleared : may_clear e (move_of step q.order) ≡ false → after.clear ≡ q.clear
   pub spared : Spared c d q after (node_of e)
 
--- what holds of every state of a core: it shows some queue, and there is a place for each of at most 32 nodes
+-- what holds of every state of a core: it shows some queue, and there is a place for each of its nodes
 pub record IsSound (c : State) : Type 0 where
-  pub nodes : c.nodes ≤ 32
-  pub entries : length c.entries ≡ 33
-  pub seats : length c.seats ≡ 33
-  pub opening : List ℕ
+  pub nodes : c.nodes ≤ MOST_NODES
+  pub entries : length c.entries ≡ PLACES
+  pub seats : length c.seats ≡ PLACES
+  pub terms : Terms
   pub queue : Queue
-  pub shows : Shows opening c queue
+  pub shows : Shows terms c queue
 
 -- these events, each with its move and a queue that is shown after it, lead from the opening to a state and a queue
-pub data Run (nodes : ℕ) (opening : Line64) : List Event → State → Queue → Type 0 where
-  opened : Run nodes opening [] (first nodes opening) empty_queue
-  event : {es : List Event} {c : State} {q : Queue} → Run nodes opening es c q → (e : Event) (t : Told) (d : State) (r : Queue) → Step c e t d → Goes c.nodes q (move_of c q.order e) r → Shows opening.bytes d r → Run nodes opening (es ++ e ∷ []) d r
+pub data Run (terms : Terms) : List Event → State → Queue → Type 0 where
+  opened : Run terms [] (first terms) empty_queue
+  event : {es : List Event} {c : State} {q : Queue} → Run terms es c q → (e : Event) (t : Told) (d : State) (r : Queue) (step : Step c e t d) → Goes terms q (move_of step q.order) r → Shows terms d r → Run terms (es ++ e ∷ []) d r
 
 -- the events before i lead to a state, and the event at i is refused there
-pub record Stops (nodes : ℕ) (opening : Line64) (es : List Event) (i : ℕ) (r : NotEnabled) : Type 0 where
+pub record Stops (terms : Terms) (es : List Event) (i : ℕ) (r : NotEnabled) : Type 0 where
   pub state : State
   pub queue : Queue
-  pub before : Run nodes opening (take i es) state queue
+  pub before : Run terms (take i es) state queue
   pub here : i < length es
   pub refused : (e : Event) → slice_get es i ≡ Some e → IsRefused state e r

@@ -10,7 +10,10 @@ use Rattle.link_core.specs.declared.seat.Reason.TheVariants.{Own, Closing, Refus
 use Rattle.link_core.specs.declared.place.Place.TheVariants.{Home, Mailbox, Hand}
 use Rattle.line_lanes.specs.Line.{merged}
 use Rattle.link_core.specs.Places.{request, asker, IsLast}
+use Rattle.qolb_model.specs.declared.terms.Terms.{Terms}
 use Rattle.qolb_model.specs.Ends.{is_closed, bytes_after}
+use Rattle.qolb_model.specs.Leases.{is_last_turn, turns_left}
+use Rattle.qolb_model.specs.EndKinds.{is_gone}
 use Rattle.qolb_model.specs.Histories.{IsLegal}
 use Rattle.qolb_model.specs.Queue.{Queue}
 use Rattle.qolb_model.specs.Requests.{Has, count_of, has}
@@ -19,7 +22,7 @@ use Rattle.qolb_model.specs.declared.end.End.TheVariants.{Served, Gone, Told}
 use Rattle.qolb_model.specs.declared.request.Request.{Request}
 use Rattle.link_core.specs.State.{State, empty, entry, seat, point, IsNode, current, is_clear}
 
--- the points at which a node has withdrawn its request, has the line in its hand, and frees the nodes that it passed
+-- the points at which a node has withdrawn its request; has the line in its hand; waits, or has it; and frees the nodes that it passed
 abbrev pub is_rolled : Point → Bool
 is_rolled Rolled = true
 is_rolled _ = false
@@ -30,6 +33,11 @@ has_line (Leaving e) = true
 has_line (Marking e) = true
 has_line (Granting m) = true
 has_line _ = false
+
+abbrev pub is_active : Point → Bool
+is_active (Linking q) = true
+is_active Queued = true
+is_active p = has_line p
 
 abbrev pub is_freeing : Point → Bool
 is_freeing Freeing = true
@@ -45,38 +53,40 @@ ByReason _ _ = ⊥
 -- n's last request has ended, by this reason
 pub record EndedBy (order : List Request) (ends : List End) (n : ℕ) (r : Reason) : Type 0 where
   pub at : ℕ
+  pub end : End
   pub last : IsLast order n at
-  pub ended : at < length ends
-  pub how : ByReason r (slice_index_or ends at Gone)
+  pub ended : slice_get ends at ≡ Some end
+  pub how : ByReason r end
 
 -- n's last request, if any, has ended
 abbrev pub HasEnded : List Request → List End → ℕ → Type 0
 HasEnded order ends n = (p : ℕ) → IsLast order n p → p < length ends
 
 -- the line is as all ends left it
-pub record IsWhole (opening : List ℕ) (c : State) (ends : List End) : Type 0 where
-  pub bytes : c.bytes.bytes ≡ bytes_after opening ends
+pub record IsWhole (terms : Terms) (c : State) (ends : List End) : Type 0 where
+  pub bytes : c.bytes.bytes ≡ bytes_after terms.opening.bytes ends
   pub closed : c.closed ≡ is_closed ends
 
--- The line is in the hand of the node whose own request is at its turn: open and not yet closed, with the bytes of the ends but for
--- what was written in this turn; the same, closed by this turn; or closed before, and only passed on.
-abbrev pub IsHeld : List ℕ → State → List End → Reason → Type 0
-IsHeld opening c ends Own = (c.closed ≡ false) × (is_closed ends ≡ false) × (merged (bytes_after opening ends) c.bytes.bytes c.mask.0 ≡ c.bytes.bytes)
-IsHeld opening c ends Closing = (c.closed ≡ true) × (is_closed ends ≡ false) × (merged (bytes_after opening ends) c.bytes.bytes c.mask.0 ≡ c.bytes.bytes)
-IsHeld opening c ends Refused = (c.closed ≡ true) × (is_closed ends ≡ true) × (c.bytes.bytes ≡ bytes_after opening ends)
+-- The line is in the hand of n, whose own request is at its turn: open and not yet closed, with the bytes of the ends but for what was
+-- written in this turn, and at the last turn of a lease not yet released; the same, closed by this turn; or closed before, and only
+-- passed on.
+abbrev pub IsHeld : Terms → State → List End → ℕ → Reason → Type 0
+IsHeld terms c ends n Own = (c.closed ≡ false) × (is_closed ends ≡ false) × (merged (bytes_after terms.opening.bytes ends) c.bytes.bytes c.mask.0 ≡ c.bytes.bytes) × ((point c n ≡ Holding) ⊎ (is_last_turn terms.lease ends ≡ false))
+IsHeld terms c ends n Closing = (c.closed ≡ true) × (is_closed ends ≡ false) × (merged (bytes_after terms.opening.bytes ends) c.bytes.bytes c.mask.0 ≡ c.bytes.bytes)
+IsHeld terms c ends n Refused = (c.closed ≡ true) × (is_closed ends ≡ true) × (c.bytes.bytes ≡ bytes_after terms.opening.bytes ends)
 
 -- the line is in the hand of n, which has passed these nodes: with some passed, n's own request has ended and nothing is under way
-abbrev pub IsCarried : List ℕ → State → List Request → List End → ℕ → Reason → List ℕ → Type 0
-IsCarried opening c order ends n r [] = IsHeld opening c ends r
-IsCarried opening c order ends n r (m ∷ ms) = IsWhole opening c ends × EndedBy order ends n r × (r ≡ Refused → is_closed ends ≡ true)
+abbrev pub IsCarried : Terms → State → List Request → List End → ℕ → Reason → List ℕ → Type 0
+IsCarried terms c order ends n r [] = IsHeld terms c ends n r
+IsCarried terms c order ends n r (m ∷ ms) = IsWhole terms c ends × EndedBy order ends n r × (r ≡ Refused → is_closed ends ≡ true)
 
 -- Where the line lies. With no open request it is at home. Else it is in the hand of n, whose release has come to the request at its
 -- turn; or in the mailbox of t, whose turn it is, which waits; or in the mailbox of q, for t to find when it links.
-pub data Lies (opening : List ℕ) (c : State) (order : List Request) (ends : List End) : Type 0 where
-  at_home : length ends ≡ length order → c.place ≡ Home → IsWhole opening c ends → Lies opening c order ends
-  in_hand : (n : ℕ) → length ends < length order → IsNode c n → c.place ≡ Hand n → has_line (point c n) ≡ true → asker order (length ends) ≡ current c n → IsCarried opening c order ends n (seat c n).reason (seat c n).passed → Lies opening c order ends
-  granted : (t : ℕ) → length ends < length order → asker order (length ends) ≡ t → c.place ≡ Mailbox t → (entry c t).granted ≡ true → point c t ≡ Queued → IsWhole opening c ends → Lies opening c order ends
-  left : (t q : ℕ) → length ends < length order → asker order (length ends) ≡ t → c.place ≡ Mailbox q → (entry c q).done ≡ true → (entry c q).link ≡ 0 → (point c q ≡ Left) ⊎ (point c q ≡ Rolled) → point c t ≡ Linking q → IsWhole opening c ends → Lies opening c order ends
+pub data Lies (terms : Terms) (c : State) (order : List Request) (ends : List End) : Type 0 where
+  at_home : length ends ≡ length order → c.place ≡ Home → IsWhole terms c ends → Lies terms c order ends
+  in_hand : (n : ℕ) → length ends < length order → IsNode c n → c.place ≡ Hand n → has_line (point c n) ≡ true → asker order (length ends) ≡ current c n → IsCarried terms c order ends n (seat c n).reason (seat c n).passed → Lies terms c order ends
+  granted : (t : ℕ) → length ends < length order → asker order (length ends) ≡ t → c.place ≡ Mailbox t → (entry c t).granted ≡ true → point c t ≡ Queued → IsWhole terms c ends → Lies terms c order ends
+  left : (t q : ℕ) → length ends < length order → asker order (length ends) ≡ t → c.place ≡ Mailbox q → (entry c q).done ≡ true → (entry c q).link ≡ 0 → (point c q ≡ Left) ⊎ (point c q ≡ Rolled) → point c t ≡ Linking q → IsWhole terms c ends → Lies terms c order ends
 
 -- neighbours among the open requests: the older one's link names the younger, or the younger is about to link
 abbrev pub IsLinked : State → ℕ → ℕ → Type 0
@@ -119,14 +129,18 @@ Sits c order ends n (Leaving e) = IsReleasing c n e
 Sits c order ends n (Marking e) = IsReleasing c n e × (length ends + 1 < length order)
 Sits c order ends n (Granting m) = IsReleasing c n (current c n) × (length ends + 1 < length order) × (asker order (length ends + 1) ≡ m) × ((entry c (current c n)).link ≡ m)
 
--- n's release has passed x and not freed it: x's last request is gone, or is at its turn with the line in n's hand
+-- the request at this place is gone, or is at its turn with the line in n's hand
+abbrev pub HasCome : State → List End → ℕ → ℕ → Type 0
+HasCome c ends n at = (slice_get ends at ≡ Some Gone) ⊎ ((at ≡ length ends) × (c.place ≡ Hand n))
+
+-- n's release has passed x and not freed it
 pub record IsPassed (c : State) (order : List Request) (ends : List End) (n x : ℕ) : Type 0 where
   pub node : IsNode c x
   pub point : point c x ≡ Rolled
   pub kept : (entry c x).freed ≡ false
   pub at : ℕ
   pub last : IsLast order x at
-  pub come : ((at < length ends) × (slice_index_or ends at Told ≡ Gone)) ⊎ ((at ≡ length ends) × (c.place ≡ Hand n))
+  pub come : HasCome c ends n at
 
 -- some node has the line in its hand and is about to grant
 pub record IsGranting (c : State) : Type 0 where
@@ -147,10 +161,39 @@ pub record IsFresh (c : State) (turn n p : ℕ) : Type 0 where
 abbrev pub passed : State → ℕ → ℕ → ℕ
 passed c n i = slice_index_or (seat c n).passed i 0
 
+-- the nodes that the releases have passed; no node is passed twice; and only a release has passed any
+abbrev pub ArePassed : State → List Request → List End → Type 0
+ArePassed c order ends = (n i : ℕ) → IsNode c n → i < length (seat c n).passed → IsPassed c order ends n (passed c n i)
+
+abbrev pub IsOnce : State → Type 0
+IsOnce c = (n m i j : ℕ) → IsNode c n → IsNode c m → i < length (seat c n).passed → j < length (seat c m).passed → passed c n i ≡ passed c m j → (n ≡ m) × (i ≡ j)
+
+abbrev pub IsUnpassed : State → Type 0
+IsUnpassed c = (n : ℕ) → IsNode c n → has_line (point c n) || is_freeing (point c n) ≡ false → (seat c n).passed ≡ []
+
+-- n has left the line in its own mailbox, and nobody is linked to its entry
+pub record HasLeft (c : State) (n : ℕ) : Type 0 where
+  pub point : point c n ≡ Left
+  pub done : (entry c n).done ≡ true
+  pub unlinked : (entry c n).link ≡ 0
+
+-- While the line is in no hand, the request that ended last is clear, unless it is gone or its node has left the line.
+abbrev pub Rests : State → List Request → List End → List Request → Type 0
+Rests c order ends clear = ((n : ℕ) → c.place ≢ Hand n) → (p : ℕ) (r : Request) (e : End) → p + 1 ≡ length ends → slice_get order p ≡ Some r → slice_get ends p ≡ Some e → is_gone e ≡ false → Has clear r ⊎ HasLeft c r.node
+
+-- What is left behind: a done entry without a link has the line in its mailbox; and each link is to a node.
+pub record IsSettled (c : State) (order : List Request) (ends : List End) (clear : List Request) : Type 0 where
+  pub boxed : (n : ℕ) → IsNode c n → (entry c n).done ≡ true → (entry c n).link ≡ 0 → c.place ≡ Mailbox n
+  pub rests : Rests c order ends clear
+  pub bounded : (n : ℕ) → IsNode c n → (entry c n).link ≤ c.nodes
+
 -- the words, the line, the points and the lists of passed nodes fit the queue
-pub record Matches (opening : List ℕ) (c : State) (q : Queue) : Type 0 where
+pub record Matches (terms : Terms) (c : State) (q : Queue) : Type 0 where
+  -- the line is as it was opened, with the turns left that are not served
+  pub opened : length terms.opening.bytes ≡ 64
+  pub size : c.nodes ≡ terms.nodes
+  pub turns : c.left ≡ turns_left terms.lease q.ends
   -- the queue: some first requests have ended, and what is marked or clear was made
-  pub opened : length opening ≡ 64
   pub known : length q.ends ≤ length q.order
   pub nodes : (p : ℕ) → p < length q.order → IsNode c (asker q.order p)
   pub numbered : (p : ℕ) → p < length q.order → (request q.order p).number ≤ count_of (asker q.order p) q.order
@@ -164,7 +207,7 @@ pub record Matches (opening : List ℕ) (c : State) (q : Queue) : Type 0 where
   pub links : (p : ℕ) → length q.ends ≤ p → p + 1 < length q.order → IsLinked c (asker q.order p) (asker q.order (p + 1))
   pub last_link : (p : ℕ) → length q.ends ≤ p → p + 1 ≡ length q.order → (entry c (asker q.order p)).link ≡ 0
   -- the line
-  pub lies : Lies opening c q.order q.ends
+  pub lies : Lies terms c q.order q.ends
   -- an open request is marked exactly where its node is at Rolled; a node's last request is clear exactly where point and entry say
   pub marks : (p : ℕ) → length q.ends ≤ p → p < length q.order → has q.marked (request q.order p) ≡ is_rolled (point c (asker q.order p))
   pub clears : (n p : ℕ) → IsNode c n → IsLast q.order n p → has q.clear (request q.order p) ≡ is_clear (point c n) (entry c n)
@@ -172,10 +215,11 @@ pub record Matches (opening : List ℕ) (c : State) (q : Queue) : Type 0 where
   pub sits : (n : ℕ) → IsNode c n → Sits c q.order q.ends n (point c n)
   -- the entries of open requests
   pub fresh : (p : ℕ) → length q.ends ≤ p → p < length q.order → IsFresh c (length q.ends) (asker q.order p) p
-  -- the passed nodes: of all releases together, each stands once; and only a release has any
-  pub passes : (n i : ℕ) → IsNode c n → i < length (seat c n).passed → IsPassed c q.order q.ends n (passed c n i)
-  pub once : (n m i j : ℕ) → IsNode c n → IsNode c m → i < length (seat c n).passed → j < length (seat c m).passed → passed c n i ≡ passed c m j → (n ≡ m) × (i ≡ j)
-  pub unpassed : (n : ℕ) → IsNode c n → has_line (point c n) || is_freeing (point c n) ≡ false → (seat c n).passed ≡ []
+  -- the passed nodes, and what is left behind
+  pub passes : ArePassed c q.order q.ends
+  pub once : IsOnce c
+  pub unpassed : IsUnpassed c
+  pub settled : IsSettled c q.order q.ends q.clear
 
 -- A release leaves a chain of links behind it: that of the releasing node's own entry, and those of the nodes that it has passed
 -- and not freed, but for the last. Where it is about to grant, the entry that it has come to is done.
@@ -188,9 +232,14 @@ pub record AreMarked (q : Queue) : Type 0 where
   pub gone : (p : ℕ) (r : Request) → slice_get q.order p ≡ Some r → slice_get q.ends p ≡ Some Gone → Has q.marked r
   pub marked : (p : ℕ) (r : Request) → slice_get q.order p ≡ Some r → p < length q.ends → Has q.marked r → slice_get q.ends p ≡ Some Gone
 
+-- each request that is not its node's last is clear
+abbrev pub AreEarlierClear : Queue → Type 0
+AreEarlierClear q = (r : Request) → Has q.order r → r.number < count_of r.node q.order → Has q.clear r
+
 -- The state shows the queue: that is legal, and the state matches it.
-pub record Shows (opening : List ℕ) (c : State) (q : Queue) : Type 0 where
-  pub legal : IsLegal q.order q.ends
+pub record Shows (terms : Terms) (c : State) (q : Queue) : Type 0 where
+  pub legal : IsLegal terms.lease q.order q.ends
   pub gone : AreMarked q
-  pub matches : Matches opening c q
+  pub earlier : AreEarlierClear q
+  pub matches : Matches terms c q
   pub chained : IsChained c

@@ -6,7 +6,8 @@ use Rattle.link_core.specs.declared.point.Point.{Point}
 use Rattle.link_core.specs.declared.point.Point.TheVariants.{Idle, Ready, Linking, Queued, Holding, Leaving, Marking, Granting, Freeing, Left, Rolled, Shut}
 use Rattle.link_core.specs.declared.place.Place.TheVariants.{Home}
 use Rattle.link_core.specs.declared.seat.Reason.TheVariants.{Own}
-use Rattle.line_lanes.specs.declared.line.Line64.{Line64}
+use Rattle.qolb_model.specs.declared.terms.Terms.{Terms}
+use Rattle.link_core.specs.declared.state.TheConstants.{PLACES}
 use Rattle.line_lanes.specs.declared.line.Mask.{Mask}
 use Rattle.link_core.specs.declared.entry.Entry.{Entry}
 pub use Rattle.link_core.specs.declared.seat.Seat.{Seat}
@@ -76,6 +77,6 @@ at_point n p c = put_seat n (record (seat c n) { point = p }) c
 abbrev pub no_mask : Mask
 no_mask = record { 0 = 0 }
 
--- the state in which a line of so many nodes is opened; place 0 of both lists is not used
-abbrev pub first : ℕ → Line64 → State
-first nodes opening = record { nodes = nodes; home = 0; place = Home; bytes = opening; closed = false; mask = no_mask; entries = replicate 33 empty; seats = replicate 33 unused }
+-- the state in which a line is opened; place 0 of both lists is not used
+abbrev pub first : Terms → State
+first terms = record { nodes = terms.nodes; home = 0; place = Home; bytes = terms.opening; closed = false; mask = no_mask; left = terms.lease; entries = replicate PLACES empty; seats = replicate PLACES unused }

@@ -1,5 +1,5 @@
 -- What each event does: a relation by cases. (Of this project; the hand-over at the tail is that of Goodman, Vernon and Woest, 1989.)
-use Rattle.std.specs.Prelude.{◌≡◌, ◌≢◌, ℕ, ◌<◌, ◌≤◌, Bool, true, false, List, [], ◌∷◌, ◌++◌, ◌⊎◌, length, slice_index_or, bit_or}
+use Rattle.std.specs.Prelude.{◌≡◌, ◌≢◌, ℕ, ◌<◌, ◌≤◌, Bool, true, false, Option, List, [], ◌∷◌, ◌++◌, ◌⊎◌, length, slice_index_or, bit_or}
 use Rattle.link_core.specs.declared.point.Point.{Point}
 use Rattle.link_core.specs.declared.point.Point.TheVariants.{Idle, Ready, Linking, Queued, Holding, Leaving, Marking, Granting, Freeing, Left, Rolled, Shut}
 use Rattle.link_core.specs.declared.seat.Reason.{Reason}
@@ -14,6 +14,9 @@ use Rattle.link_core.specs.declared.told.NotEnabled.TheVariants as refusal
 use Rattle.line_lanes.specs.declared.line.Line64.{Line64}
 use Rattle.line_lanes.specs.declared.line.Mask.{Mask}
 use Rattle.line_lanes.specs.Line.{merged}
+use Rattle.qolb_model.specs.declared.terms.TheConstants.{MOST_NODES}
+use Rattle.qolb_model.specs.Steps.{is_one, one_fewer}
+use Rattle.link_core.specs.declared.seat.TheConstants.{MOST_PASSED}
 use Rattle.link_core.specs.State.{State, no_mask, Seat, empty, entry, seat, point, IsNode, is_clear, put_entry, put_seat, at_point}
 
 -- a masked write of the line, and the places of two masks
@@ -61,9 +64,30 @@ abbrev pub told_with : List ℕ → Reason → Told
 told_with [] r = told_at_end r
 told_with (m ∷ ms) r = told.Went
 
--- where n's release is at e, with the line in n's hand
+-- the turns that are left of a lease when the request at its turn has ended: one fewer, where that was the releasing node's own, served
+abbrev pub left_after : Option ℕ → Reason → List ℕ → Option ℕ
+left_after left Own [] = one_fewer left
+left_after left Closing [] = one_fewer left
+left_after left Refused [] = left
+left_after left _ (m ∷ ms) = left
+
+abbrev pub turns_after : ℕ → State → Option ℕ
+turns_after n c = left_after c.left (seat c n).reason (seat c n).passed
+
+-- the line goes home from n's release
+abbrev pub gone_home : ℕ → State → State
+gone_home n c = put_seat n (seat_at_close (point_at_end (seat c n).reason) (seat c n)) (record c { home = 0; place = Home; left = turns_after n c })
+
+abbrev pub told_home : ℕ → State → Told
+told_home n c = told_with (seat c n).passed (seat c n).reason
+
+-- the holder n closes the line, and its release starts
+abbrev pub closed_by : ℕ → State → State
+closed_by n c = put_seat n (record (seat c n) { point = Leaving n; reason = Closing }) (record c { closed = true })
+
+-- where n's release is at e, with the line in n's hand; a holder's is at its own entry, and not of the last turn
 pub data Releases (c : State) (n e : ℕ) : Type 0 where
-  holding : point c n ≡ Holding → e ≡ n → Releases c n e
+  holding : point c n ≡ Holding → e ≡ n → is_one c.left ≡ false → Releases c n e
   leaving : point c n ≡ Leaving e → Releases c n e
 
 -- From c the event tells this and leads to that state.
@@ -92,27 +116,27 @@ pub data Step (c : State) : Event → Told → State → Type 0 where
   load_busy : (n : ℕ) → IsNode c n → (point c n ≡ Left) ⊎ (point c n ≡ Rolled) → is_clear (point c n) (entry c n) ≡ false →
       Step c (event.Load n) told.Busy c
   -- a release at the entry e: where home names e, nobody follows, and the line goes home; else e is to be marked as done
-  home : (n e : ℕ) → IsNode c n → Releases c n e → c.home ≡ e →
-      Step c (event.Home n) (told_with (seat c n).passed (seat c n).reason)
-      (put_seat n (seat_at_close (point_at_end (seat c n).reason) (seat c n)) (record c { home = 0; place = Home }))
-  home_failed : (n e : ℕ) → IsNode c n → Releases c n e → c.home ≢ e →
-      Step c (event.Home n) told.Went (at_point n (Marking e) c)
+  home : (n e : ℕ) → IsNode c n → Releases c n e → c.home ≡ e → Step c (event.Home n) (told_home n c) (gone_home n c)
+  home_failed : (n e : ℕ) → IsNode c n → Releases c n e → c.home ≢ e → Step c (event.Home n) told.Went (at_point n (Marking e) c)
+  -- a holder at the last turn of a lease first closes the line
+  home_last : (n : ℕ) → IsNode c n → point c n ≡ Holding → is_one c.left ≡ true → c.home ≡ n → Step c (event.Home n) (told_home n (closed_by n c)) (gone_home n (closed_by n c))
+  home_last_failed : (n : ℕ) → IsNode c n → point c n ≡ Holding → is_one c.left ≡ true → c.home ≢ n → Step c (event.Home n) told.Went (at_point n (Marking n) (closed_by n c))
   -- e is marked as done: without a link the line stays in e's mailbox, which is n's own or that of a passed node; else the next is known
   done_left : (n e : ℕ) → IsNode c n → point c n ≡ Marking e → (entry c e).link ≡ 0 → e ≡ n →
       Step c (event.Done n) (told_with (seat c n).passed (seat c n).reason)
-      (put_seat n (seat_at_close Left (seat c n)) (put_entry e (record (entry c e) { done = true }) (record c { place = Mailbox e })))
+      (put_seat n (seat_at_close Left (seat c n)) (put_entry e (record (entry c e) { done = true }) (record c { place = Mailbox e; left = turns_after n c })))
   done_rolled : (n e : ℕ) → IsNode c n → point c n ≡ Marking e → (entry c e).link ≡ 0 → e ≢ n →
       Step c (event.Done n) (told_with (seat c n).passed (seat c n).reason)
-      (put_seat n (seat_at_close (point_at_end (seat c n).reason) (seat c n)) (put_entry e (record (entry c e) { done = true }) (record c { place = Mailbox e })))
+      (put_seat n (seat_at_close (point_at_end (seat c n).reason) (seat c n)) (put_entry e (record (entry c e) { done = true }) (record c { place = Mailbox e; left = turns_after n c })))
   done_linked : (n e : ℕ) → IsNode c n → point c n ≡ Marking e → (entry c e).link ≢ 0 →
       Step c (event.Done n) told.Went (at_point n (Granting (entry c e).link) (put_entry e (record (entry c e) { done = true }) c))
   -- the next node is granted: the line is laid into its mailbox; but where it has withdrawn it is passed, and the release goes on at its entry
   grant : (n m : ℕ) → IsNode c n → point c n ≡ Granting m → (entry c m).rolled ≡ false →
       Step c (event.Grant n) (told_with (seat c n).passed (seat c n).reason)
-      (put_seat n (seat_at_close (point_at_end (seat c n).reason) (seat c n)) (put_entry m (record (entry c m) { granted = true }) (record c { place = Mailbox m })))
+      (put_seat n (seat_at_close (point_at_end (seat c n).reason) (seat c n)) (put_entry m (record (entry c m) { granted = true }) (record c { place = Mailbox m; left = turns_after n c })))
   grant_rolled : (n m : ℕ) → IsNode c n → point c n ≡ Granting m → (entry c m).rolled ≡ true →
       Step c (event.Grant n) told.Went
-      (put_seat n (record { point = Leaving m; passed = (seat c n).passed ++ m ∷ []; reason = (seat c n).reason }) (put_entry m (record (entry c m) { granted = true }) c))
+      (put_seat n (record { point = Leaving m; passed = (seat c n).passed ++ m ∷ []; reason = (seat c n).reason }) (put_entry m (record (entry c m) { granted = true }) (record c { left = turns_after n c })))
   -- a waiting node withdraws: where it was granted before, the line comes
   roll_granted : (n : ℕ) → IsNode c n → point c n ≡ Queued → (entry c n).granted ≡ true →
       Step c (event.Roll n) (told_at_arrival c.closed) (arrive n (put_entry n (record (entry c n) { rolled = true }) c))
@@ -126,7 +150,7 @@ pub data Step (c : State) : Event → Told → State → Type 0 where
   write : (n : ℕ) (mask : Mask) (bytes : Line64) → IsNode c n → point c n ≡ Holding →
       Step c (event.Write n mask bytes) told.Went (record c { bytes = write_line c.bytes mask bytes; mask = either c.mask mask })
   close : (n : ℕ) → IsNode c n → point c n ≡ Holding →
-      Step c (event.Close n) told.Went (put_seat n (record (seat c n) { point = Leaving n; reason = Closing }) (record c { closed = true }))
+      Step c (event.Close n) told.Went (closed_by n c)
 
 -- the node that acts
 abbrev pub node_of : Event → ℕ
@@ -176,8 +200,8 @@ Names c _ = Unit {0}
 
 -- what the arrays have room for
 pub record Fits (c : State) : Type 0 where
-  pub nodes : c.nodes ≤ 32
+  pub nodes : c.nodes ≤ MOST_NODES
   pub points : (n : ℕ) → IsNode c n → Names c (point c n)
   pub passed : (n i : ℕ) → IsNode c n → i < length (seat c n).passed → IsNode c (slice_index_or (seat c n).passed i 0)
-  pub room : (n m : ℕ) → IsNode c n → point c n ≡ Granting m → length (seat c n).passed < 32
+  pub room : (n m : ℕ) → IsNode c n → point c n ≡ Granting m → length (seat c n).passed < MOST_PASSED
   pub freeing : (n : ℕ) → IsNode c n → point c n ≡ Freeing → (seat c n).passed ≢ []

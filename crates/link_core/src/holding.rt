@@ -1,6 +1,7 @@
 ghost use Rattle.std.specs.Prelude.{◌≡◌, ◌<◌, IfOk, IfErr, OnErr};
-ghost use Rattle.link_core.specs.State.{IsNode, seat, put_seat};
-ghost use Rattle.link_core.specs.Steps.{Step, Fits, IsRefused};
+ghost use Rattle.link_core.specs.declared.state.TheConstants.{PLACES};
+ghost use Rattle.link_core.specs.State.{IsNode};
+ghost use Rattle.link_core.specs.Steps.{Step, Fits, IsRefused, closed_by};
 
 use crate::event::Event;
 use crate::point::Point;
@@ -38,19 +39,19 @@ impl State {
     {
         match self.point(n) {
             Point::Holding => {
-                self.closed = true;
-                self.leave_closing(n);
+                self.shut_by(n);
                 Ok(Told::Went)
             }
             _ => Err(NotEnabled::Point),
         }
     }
 
-    /// n's release starts, as that of a node that has closed the line.
-    pub fn leave_closing(&mut self, n: u64)
-        requires { n < 33 }
-        ensures { self.new ≡ put_seat n (record (seat self.old n) { point = Point.Leaving n; reason = Reason.Closing }) self.old }
+    /// n closes the line, and its release starts.
+    pub fn shut_by(&mut self, n: u64)
+        requires { n < PLACES }
+        ensures { self.new ≡ closed_by n self.old }
     {
+        self.closed = true;
         let seat = &mut self.seats[n as usize];
         seat.point = Point::Leaving(n);
         seat.reason = Reason::Closing;

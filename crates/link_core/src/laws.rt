@@ -1,6 +1,6 @@
 //! What a lock whose words are those of a core may rest on, as laws of its events. Each law is the contract of a function that does nothing.
 
-ghost use Rattle.link_core.specs.Laws.{OpenedShows, EachEventKeeps, EventsAreEnabled, EventsHaveOneEffect, AddsFindUnset, NodesFind, WalksAreShort, EndsClose, RunsMove};
+ghost use Rattle.link_core.specs.Laws.{OpenedShows, EachEventKeeps, EventsAreEnabled, EventsHaveOneEffect, AddsFindUnset, NodesFind, SizesStay, LastsHavePlaces, WalksAreShort, EndsClose, RunsMove};
 
 /// A line that is opened shows the empty queue.
 pub fn opened_shows()
@@ -30,6 +30,16 @@ pub fn adds_find_unset()
 /// What a node finds at each point of its call.
 pub fn nodes_find()
     ensures { NodesFind }
+{}
+
+/// How many nodes there are stays.
+pub fn sizes_stay()
+    ensures { SizesStay }
+{}
+
+/// A node's last request is the one with its highest number.
+pub fn lasts_have_places()
+    ensures { LastsHavePlaces }
 {}
 
 /// A release passes each other node at most once, and then the line goes home.

@@ -23,6 +23,7 @@ pub use machine::Core;
 pub use place::Place;
 pub use point::Point;
 pub use replaying::replay;
+pub use seat::{Passed, Reason, Seat};
 pub use told::{NotEnabled, Told};
 
 #[cfg(test)]

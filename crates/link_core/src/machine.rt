@@ -1,5 +1,6 @@
-ghost use Rattle.std.specs.Prelude.{◌≡◌, ◌↔◌, ◌<◌, ◌≤◌, ℕ, List, IfOk, IfErr, OnErr, IfSome, IsSome};
+ghost use Rattle.std.specs.Prelude.{◌≡◌, ◌↔◌, ◌≤◌, IfOk, IfErr, OnErr, IfSome, IsSome};
 ghost use Rattle.qolb_model.specs.Queue.{Queue, empty_queue};
+ghost use Rattle.qolb_model.specs.Opening.{AreNodes, MayOpen};
 ghost use Rattle.link_core.specs.State.{IsNode, first, entry, point};
 ghost use Rattle.link_core.specs.Steps.{Step, Fits, IsRefused};
 ghost use Rattle.link_core.specs.Shown.{Shows};
@@ -12,10 +13,8 @@ use crate::point::Point;
 use crate::state::State;
 use crate::told::{NotEnabled, Told};
 use line_lanes::Line64;
+use qolb_model::Terms;
 use std::marker::Model;
-
-/// How many nodes a line may have.
-const MOST_NODES: u64 = 32;
 
 /// The core of a line with reversed links, in a state that shows a queue.
 #[derive(Drop)]
@@ -36,17 +35,44 @@ impl Model for Core {
 }
 
 impl Core {
-    /// A line of so many nodes with these bytes, open and at home; None where the nodes are not 1 to 32.
+    /// A line of so many nodes with these bytes, open and at home; None where the nodes are not 1 to `MOST_NODES`.
     pub fn start(nodes: u64, opening: Line64) -> Option<Core>
-        ensures state { IfSome result (λ c. c ≡ first nodes opening) }
-        ensures shows { IfSome result (λ c. Shows opening.bytes c empty_queue) }
-        ensures some { IsSome result ↔ ((1 ≤ nodes) × (nodes ≤ 32)) }
+        ensures state { let terms : Terms = record { nodes = nodes; opening = opening; lease = None } in IfSome result (λ c. c ≡ first terms) }
+        ensures shows { let terms : Terms = record { nodes = nodes; opening = opening; lease = None } in IfSome result (λ c. Shows terms c empty_queue) }
+        ensures some { IsSome result ↔ AreNodes nodes }
     {
-        if nodes == 0 || nodes > MOST_NODES {
-            return None;
+        Core::open(Terms {
+            nodes,
+            opening,
+            lease: None,
+        })
+    }
+
+    /// The same with a lease: the line closes at the `lease`-th turn that is served. None too where that is 0.
+    pub fn start_leased(nodes: u64, opening: Line64, lease: u64) -> Option<Core>
+        ensures state { let terms : Terms = record { nodes = nodes; opening = opening; lease = Some lease } in IfSome result (λ c. c ≡ first terms) }
+        ensures shows { let terms : Terms = record { nodes = nodes; opening = opening; lease = Some lease } in IfSome result (λ c. Shows terms c empty_queue) }
+        ensures some { IsSome result ↔ (AreNodes nodes × (1 ≤ lease)) }
+    {
+        Core::open(Terms {
+            nodes,
+            opening,
+            lease: Some(lease),
+        })
+    }
+
+    fn open(terms: Terms) -> Option<Core>
+        ensures state { IfSome result (λ c. c ≡ first terms) }
+        ensures shows { IfSome result (λ c. Shows terms c empty_queue) }
+        ensures some { IsSome result ↔ MayOpen terms }
+    {
+        match terms.check() {
+            Ok(()) => {
+                let state = State::opened(terms);
+                Some(Core { state })
+            }
+            Err(_) => None,
         }
-        let state = State::opened(nodes, opening);
-        Some(Core { state })
     }
 
     /// Makes one event. A refused one changes nothing.
@@ -54,7 +80,7 @@ impl Core {
         ensures step { IfOk result (λ t. Step self.old event t self.new) }
         ensures refused { IfErr result (λ e. IsRefused self.old event e) }
         ensures unchanged { OnErr result (self.new ≡ self.old) }
-        ensures shows { (opening : List ℕ) (q : Queue) → Shows opening self.old q → IfOk result (λ t. Keeps opening self.old event t self.new q) }
+        ensures shows { (terms : Terms) (q : Queue) → Shows terms self.old q → IfOk result (λ t. (step : Step self.old event t self.new) × Keeps terms self.old event t self.new step q) }
     {
         self.state.apply(event)
     }

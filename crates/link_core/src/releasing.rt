@@ -1,6 +1,9 @@
 ghost use Rattle.std.specs.Prelude.{◌≡◌, ◌≢◌, ◌<◌, ◌≤◌, ℕ, List, [], ◌∷◌, ◌++◌, length, IfOk, IfErr, OnErr};
-ghost use Rattle.link_core.specs.State.{IsNode, seat, put_seat};
-ghost use Rattle.link_core.specs.Steps.{Step, Fits, IsRefused, Releases, seat_with, told_with, point_at_end};
+ghost use Rattle.qolb_model.specs.declared.terms.TheConstants.{MOST_NODES};
+ghost use Rattle.link_core.specs.declared.seat.TheConstants.{MOST_PASSED};
+ghost use Rattle.link_core.specs.declared.state.TheConstants.{PLACES};
+ghost use Rattle.link_core.specs.State.{IsNode, seat, put_seat, at_point};
+ghost use Rattle.link_core.specs.Steps.{Step, Fits, IsRefused, gone_home, told_home, seat_with, told_with, point_at_end};
 
 use crate::entry::Entry;
 use crate::event::Event;
@@ -10,7 +13,7 @@ use crate::state::{State, point_at_end, told_at_end};
 use crate::told::{NotEnabled, Told};
 
 impl State {
-    /// n releases the line: home, where no younger request is known to home.
+    /// n releases the line: home, where no younger request is known to home. At the last turn of a lease its holder first closes it.
     pub fn go_home(&mut self, n: u64) -> Result<Told, NotEnabled>
         requires fits { Fits self.old }
         requires node { IsNode self.old n }
@@ -19,7 +22,12 @@ impl State {
         ensures unchanged { OnErr result (self.new ≡ self.old) }
     {
         match self.point(n) {
-            Point::Holding => Ok(self.go_home_from(n, n)),
+            Point::Holding => {
+                if self.is_last_turn() {
+                    self.shut_by(n);
+                }
+                Ok(self.go_home_from(n, n))
+            }
             Point::Leaving(e) => Ok(self.go_home_from(n, e)),
             _ => Err(NotEnabled::Point),
         }
@@ -27,12 +35,12 @@ impl State {
 
     /// n's release tries to take the line home from e.
     pub fn go_home_from(&mut self, n: u64, e: u64) -> Told
-        requires node { IsNode self.old n }
-        requires nodes { self.old.nodes ≤ 32 }
-        requires at { Releases self.old n e }
-        ensures { Step self.old (Event.Home n) result self.new }
+        requires { n < PLACES }
+        ensures home { self.old.home ≡ e → (result ≡ told_home n self.old) × (self.new ≡ gone_home n self.old) }
+        ensures failed { self.old.home ≢ e → (result ≡ Told.Went) × (self.new ≡ at_point n (Point.Marking e) self.old) }
     {
         if self.home == e {
+            self.use_turn(n);
             self.home = 0;
             self.place = Place::Home;
             let point = point_at_end(self.reason(n));
@@ -56,6 +64,7 @@ impl State {
                 let word = self.entry(e);
                 self.put_entry(e, Entry { done: true, ..word });
                 if word.link == 0 {
+                    self.use_turn(n);
                     self.place = Place::Mailbox(e);
                     if e == n {
                         Ok(self.close_call(n, Point::Left))
@@ -90,6 +99,7 @@ impl State {
                         ..word
                     },
                 );
+                self.use_turn(n);
                 if word.rolled {
                     self.pass(n, m);
                     Ok(Told::Went)
@@ -105,8 +115,9 @@ impl State {
 
     /// n's release goes on at m.
     pub fn pass(&mut self, n: u64, m: u64)
-        requires node { n < 33 }
-        requires room { length (seat self.old n).passed < 32 }
+        requires node { n < PLACES }
+        requires room { length (seat self.old n).passed < MOST_PASSED }
+        requires other { m ≤ MOST_NODES }
         ensures { self.new ≡ put_seat n (record { point = Point.Leaving m; passed = (seat self.old n).passed ++ m ∷ []; reason = (seat self.old n).reason }) self.old }
     {
         let seat = &mut self.seats[n as usize];
@@ -116,7 +127,7 @@ impl State {
 
     /// The first passed node of n's release, taken off its list, and what is told when it is freed.
     pub fn next_freed(&mut self, n: u64) -> (u64, Told)
-        requires node { n < 33 }
+        requires node { n < PLACES }
         requires some { (seat self.old n).passed ≢ [] }
         ensures { (rest : List ℕ) × ((seat self.old n).passed ≡ result.0 ∷ rest)
             × (self.new ≡ put_seat n (seat_with rest (point_at_end (seat self.old n).reason) (seat self.old n).reason) self.old)

@@ -1,6 +1,7 @@
-ghost use Rattle.std.specs.Prelude.{◌≡◌, ◌<◌, ◌≤◌, ◌⊎◌, IfOk, IfErr};
+ghost use Rattle.std.specs.Prelude.{◌≡◌, ◌⊎◌, IfOk, IfErr};
 ghost use Rattle.qolb_model.specs.Queue.{Queue};
 ghost use Rattle.qolb_model.specs.Histories.{IsLegal};
+ghost use Rattle.qolb_model.specs.Opening.{AreNodes};
 ghost use Rattle.link_core.specs.Shown.{Shows};
 ghost use Rattle.link_core.specs.Promise.{Run, Stops};
 
@@ -8,11 +9,12 @@ use crate::event::Event;
 use crate::machine::Core;
 use crate::told::NotEnabled;
 use line_lanes::Line64;
+use qolb_model::Terms;
 
-/// The core after these events; or the first that is refused, by its index. A bad number of nodes is (0, Node).
+/// The core after these events; or the first that is refused, by its index. A bad number of nodes is (0, Node), whatever the events.
 pub fn replay(nodes: u64, opening: Line64, events: &[Event]) -> Result<Core, (usize, NotEnabled)>
-    ensures ok { IfOk result (λ c. (q : Queue) × Run nodes opening events.now c q × IsLegal q.order q.ends × Shows opening.bytes c q) }
-    ensures err { IfErr result (λ e. ((((1 ≤ nodes) × (nodes ≤ 32)) → ⊥) × (e.0 ≡ 0) × (e.1 ≡ NotEnabled.Node)) ⊎ Stops nodes opening events.now e.0 e.1) }
+    ensures ok { let terms : Terms = record { nodes = nodes; opening = opening; lease = None } in IfOk result (λ c. AreNodes nodes × (q : Queue) × Run terms events.now c q × IsLegal None q.order q.ends × Shows terms c q) }
+    ensures err { let terms : Terms = record { nodes = nodes; opening = opening; lease = None } in IfErr result (λ e. ((AreNodes nodes → ⊥) × (e.0 ≡ 0) × (e.1 ≡ NotEnabled.Node)) ⊎ (AreNodes nodes × Stops terms events.now e.0 e.1)) }
 {
     let Some(mut core) = Core::start(nodes, opening) else {
         return Err((0, NotEnabled::Node));

@@ -1,8 +1,11 @@
-ghost use Rattle.std.specs.Prelude.{◌≡◌, ◌↔◌, ◌<◌, List, [], ◌∷◌, ◌++◌, length, IsTrue, MatchOption};
+ghost use Rattle.std.specs.Prelude.{◌≡◌, ◌↔◌, ◌<◌, ◌≤◌, List, [], ◌∷◌, ◌++◌, length, IsTrue, MatchOption};
+ghost use Rattle.qolb_model.specs.declared.terms.TheConstants.{MOST_NODES};
+ghost use Rattle.link_core.specs.declared.seat.TheConstants.{MOST_PASSED};
 ghost use Rattle.link_core.specs.State.{unused};
 
 use crate::point::Point;
 use arrayvec::ArrayVec;
+use qolb_model::MOST_NODES;
 use std::marker::Model;
 
 /// Why a node releases the line.
@@ -16,10 +19,14 @@ pub enum Reason {
     Refused,
 }
 
+/// A release passes each other node at most once.
+pub const MOST_PASSED: usize = MOST_NODES as usize - 1;
+
 /// The nodes that a release has passed and not freed, oldest first.
 #[derive(Drop)]
 pub struct Passed {
-    nodes: ArrayVec<u64, 32>,
+    /// In bytes, as there is such a list for each node.
+    nodes: ArrayVec<u8, MOST_PASSED>,
 }
 
 impl Model for Passed {
@@ -42,10 +49,11 @@ impl Passed {
 
     /// One more is passed.
     pub fn push(&mut self, node: u64)
-        requires { length self.old < 32 }
+        requires room { length self.old < MOST_PASSED }
+        requires node { node ≤ MOST_NODES }
         ensures { self.new ≡ self.old ++ node ∷ [] }
     {
-        self.nodes.push(node);
+        self.nodes.push(node as u8);
     }
 
     /// Whether there is none.
@@ -63,7 +71,7 @@ impl Passed {
         if self.nodes.is_empty() {
             None
         } else {
-            Some(self.nodes.remove(0))
+            Some(u64::from(self.nodes.remove(0)))
         }
     }
 }

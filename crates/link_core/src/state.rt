@@ -1,6 +1,8 @@
 ghost use Rattle.std.specs.Prelude.{◌≡◌, ◌↔◌, ◌<◌, IsTrue};
 ghost use Rattle.link_core.specs.State.{IsNode, is_clear, entry, point, seat, put_entry, put_seat, at_point, first};
-ghost use Rattle.link_core.specs.Steps.{arrive, told_at_arrival, seat_at_close, told_with, told_at_end, point_at_end};
+ghost use Rattle.qolb_model.specs.Steps.{is_one};
+ghost use Rattle.link_core.specs.declared.state.TheConstants.{PLACES};
+ghost use Rattle.link_core.specs.Steps.{turns_after, arrive, told_at_arrival, seat_at_close, told_with, told_at_end, point_at_end};
 
 use crate::entry::{EMPTY, Entry};
 use crate::place::Place;
@@ -8,8 +10,12 @@ use crate::point::Point;
 use crate::seat::{Passed, Reason, Seat};
 use crate::told::Told;
 use line_lanes::{Line64, Mask};
+use qolb_model::{MOST_NODES, Terms};
 
-/// The whole state: the words, the line and the seats. Number 0 is no node, so the first place of both arrays is not used.
+/// A place for each node. Number 0 is no node, so the first place is not used.
+pub const PLACES: usize = MOST_NODES as usize + 1;
+
+/// The whole state: the words, the line and the seats.
 #[derive(Drop)]
 pub struct State {
     pub nodes: u64,
@@ -19,24 +25,27 @@ pub struct State {
     pub closed: bool,
     /// The places that were written in this turn.
     pub mask: Mask,
-    pub entries: [Entry; 33],
-    pub seats: [Seat; 33],
+    /// The turns that are left of the lease, if there is one.
+    pub left: Option<u64>,
+    pub entries: [Entry; PLACES],
+    pub seats: [Seat; PLACES],
 }
 
 impl State {
-    /// A line of so many nodes with these bytes, open and at home.
-    pub fn opened(nodes: u64, opening: Line64) -> State
-        ensures { result ≡ first nodes opening }
+    /// A line that is opened so, at home.
+    pub fn opened(terms: Terms) -> State
+        ensures { result ≡ first terms }
     {
         let seats = Default::default();
         State {
-            nodes,
+            nodes: terms.nodes,
             home: 0,
             place: Place::Home,
-            bytes: opening,
+            bytes: terms.opening,
             closed: false,
             mask: Mask(0),
-            entries: [EMPTY; 33],
+            left: terms.lease,
+            entries: [EMPTY; PLACES],
             seats,
         }
     }
@@ -50,14 +59,14 @@ impl State {
 
     /// The entry of n.
     pub fn entry(&self, n: u64) -> Entry
-        requires { n < 33 }
+        requires { n < PLACES }
         ensures { result ≡ entry self.now n }
     {
         self.entries[n as usize]
     }
 
     pub fn put_entry(&mut self, n: u64, word: Entry)
-        requires { n < 33 }
+        requires { n < PLACES }
         ensures { self.new ≡ put_entry n word self.old }
     {
         self.entries[n as usize] = word;
@@ -65,7 +74,7 @@ impl State {
 
     /// Where n is in its call.
     pub fn point(&self, n: u64) -> Point
-        requires { n < 33 }
+        requires { n < PLACES }
         ensures { result ≡ point self.now n }
     {
         self.seats[n as usize].point
@@ -73,14 +82,14 @@ impl State {
 
     /// Why n releases the line.
     pub fn reason(&self, n: u64) -> Reason
-        requires { n < 33 }
+        requires { n < PLACES }
         ensures { result ≡ (seat self.now n).reason }
     {
         self.seats[n as usize].reason
     }
 
     pub fn put_seat(&mut self, n: u64, seat: Seat)
-        requires { n < 33 }
+        requires { n < PLACES }
         ensures { self.new ≡ put_seat n seat self.old }
     {
         self.seats[n as usize] = seat;
@@ -88,7 +97,7 @@ impl State {
 
     /// n goes on to this point.
     pub fn go_to(&mut self, n: u64, point: Point)
-        requires { n < 33 }
+        requires { n < PLACES }
         ensures { self.new ≡ at_point n point self.old }
     {
         self.seats[n as usize].point = point;
@@ -96,7 +105,7 @@ impl State {
 
     /// Whether n's last request is clear.
     pub fn is_clear(&self, n: u64) -> bool
-        requires { n < 33 }
+        requires { n < PLACES }
         ensures { result ≡ is_clear (point self.now n) (entry self.now n) }
     {
         let word = self.entry(n);
@@ -110,7 +119,7 @@ impl State {
 
     /// The line comes into n's hand: open, to be held; closed, to be released at once.
     pub fn arrive(&mut self, n: u64) -> Told
-        requires { n < 33 }
+        requires { n < PLACES }
         ensures state { self.new ≡ arrive n self.old }
         ensures told { result ≡ told_at_arrival self.old.closed }
     {
@@ -139,9 +148,35 @@ impl State {
         }
     }
 
+    /// Whether a lease has one turn left.
+    pub fn is_last_turn(&self) -> bool
+        ensures { result ≡ is_one self.now.left }
+    {
+        match self.left {
+            Some(turns) => turns == 1,
+            None => false,
+        }
+    }
+
+    /// The request at its turn has ended by n's release: where it was n's own, and served, it has used a turn of the lease.
+    pub fn use_turn(&mut self, n: u64)
+        requires { n < PLACES }
+        ensures { self.new ≡ record self.old { left = turns_after n self.old } }
+    {
+        let served = match self.reason(n) {
+            Reason::Own | Reason::Closing => true,
+            Reason::Refused => false,
+        };
+        if served && self.seats[n as usize].passed.is_empty() {
+            if let Some(turns) = self.left {
+                self.left = Some(turns.saturating_sub(1));
+            }
+        }
+    }
+
     /// The line has left n's hand: n has nodes to free, or its call ends at this point.
     pub fn close_call(&mut self, n: u64, point: Point) -> Told
-        requires { n < 33 }
+        requires { n < PLACES }
         ensures state { self.new ≡ put_seat n (seat_at_close point (seat self.old n)) self.old }
         ensures told { result ≡ told_with (seat self.old n).passed (seat self.old n).reason }
     {

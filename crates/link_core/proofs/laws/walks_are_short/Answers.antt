@@ -2,4 +2,4 @@ use Rattle.link_core.proofs.Short.{short}
 use Rattle.link_core.proofs.laws.walks_are_short.Goals as goal
 
 pub returns : goal.returns
-returns k opening c q s = short opening c q s.matches
+returns k opening c q s = short s.matches

@@ -1,10 +1,11 @@
 use Rattle.std.proofs.Common.{◌≡◌, ℕ, ◌<◌, List, ◌∷◌, length, sym, ◌∙◌, ap, arith, subst}
 use Rattle.std.specs.Prelude.{slice_index_or}
+use Rattle.link_core.specs.declared.state.TheConstants.{PLACES}
 use Rattle.link_core.specs.State.{State, IsNode, seat}
 use Rattle.link_core.specs.Steps as row
 use Rattle.link_core.proofs.state.State.free_next.Goals as goal
 
-first_node : (c : State) (n x : ℕ) (rest : List ℕ) → row.Fits c → IsNode c n → (seat c n).passed ≡ x ∷ rest → x < 33
+first_node : (c : State) (n x : ℕ) (rest : List ℕ) → row.Fits c → IsNode c n → (seat c n).passed ≡ x ∷ rest → x < PLACES
 first_node c n x rest f a e =
     let k = f.passed n 0 a (subst (λ (ps : List ℕ). 0 < length ps) (sym e) (omega arith)) in
     let y : slice_index_or (seat c n).passed 0 0 ≡ x = ap (λ (ps : List ℕ). slice_index_or ps 0 0) e in
