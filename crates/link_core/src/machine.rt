@@ -41,7 +41,7 @@ impl Core {
         ensures shows { let terms : Terms = record { nodes = nodes; opening = opening; lease = None } in IfSome result (λ c. Shows terms c empty_queue) }
         ensures some { IsSome result ↔ AreNodes nodes }
     {
-        Core::open(Terms {
+        Core::with_terms(Terms {
             nodes,
             opening,
             lease: None,
@@ -54,14 +54,15 @@ impl Core {
         ensures shows { let terms : Terms = record { nodes = nodes; opening = opening; lease = Some lease } in IfSome result (λ c. Shows terms c empty_queue) }
         ensures some { IsSome result ↔ (AreNodes nodes × (1 ≤ lease)) }
     {
-        Core::open(Terms {
+        Core::with_terms(Terms {
             nodes,
             opening,
             lease: Some(lease),
         })
     }
 
-    fn open(terms: Terms) -> Option<Core>
+    /// The same, for these terms.
+    pub fn with_terms(terms: Terms) -> Option<Core>
         ensures state { IfSome result (λ c. c ≡ first terms) }
         ensures shows { IfSome result (λ c. Shows terms c empty_queue) }
         ensures some { IsSome result ↔ MayOpen terms }

@@ -4,7 +4,6 @@ use Rattle.std.specs.Result.{result_ok}
 use Rattle.std.specs.List.{count_by, range_with_len}
 use Rattle.std.proofs.lemmas.List.{length-append, length-map, take_all, map-append, take_more}
 use Rattle.std.proofs.lemmas.List.Sums.{count_by-le-length}
-use Rattle.line_lanes.specs.Line.{zeros}
 use Rattle.link_core.specs.declared.event.Event.{Event}
 use Rattle.link_core.specs.declared.told.Told.{Told}
 use Rattle.link_core.specs.declared.told.NotEnabled.{NotEnabled}
@@ -20,12 +19,12 @@ use Rattle.qolb_script.specs.Reply.{is_served, is_withdrawn, is_told}
 use Rattle.qolb_script.specs.StepReply.{step_said, step_summary}
 use Rattle.qolb.specs.declared.tally.Counts.{Counts}
 use Rattle.qolb.specs.Tallies.{one_if, no_counts, AreWithin, Counted}
-use Rattle.qolb.specs.StepRuns.{Tells, nothing, told, refused, IsStepReply, nodes_busy, is_busy}
+use Rattle.qolb.specs.StepRuns.{line_of, Tells, nothing, told, refused, IsStepReply, nodes_busy, is_busy}
 use Rattle.qolb.proofs.Tallying.{count_by_one_more, range_more}
 use Rattle.qolb.proofs.Replayed.{text_one_more}
 
 abbrev pub start_of : StepScript → State
-start_of script = first script.nodes (record { bytes = zeros })
+start_of script = first (line_of script)
 
 -- the core, the counts and the text after the first i events
 pub record Reaches (script : StepScript) (i : ℕ) (core : State) (counts : Counts) (text : List ℕ) : Type 0 where

@@ -2,6 +2,7 @@
 use Rattle.std.specs.Prelude.{◌≡◌, ◌≤◌, ℕ, Bool, true, false, List, [], ◌∷◌, ◌++◌, length, map, count_by, Option, Some, None, Ok}
 use Rattle.std.specs.List.{range_with_len}
 use Rattle.line_lanes.specs.Line.{zeros}
+use Rattle.qolb_model.specs.declared.terms.Terms.{Terms}
 use Rattle.link_core.specs.declared.event.Event.{Event}
 use Rattle.link_core.specs.declared.told.Told.{Told}
 use Rattle.link_core.specs.declared.told.NotEnabled.{NotEnabled}
@@ -41,11 +42,15 @@ nodes_busy nodes c = count_by (λ n. is_busy (state.point c n)) (range_with_len 
 abbrev pub step_text : List (Option Told) → State → List ℕ
 step_text all last = text_of (map step_said all) ++ said_text (step_summary (map step_said all) (nodes_busy last.nodes last))
 
--- the text is the reply of a run of the script, on a line of zeros
+-- a step script has one line, which is opened with zeros, for the script's nodes and with its lease
+abbrev pub line_of : StepScript → Terms
+line_of script = record { nodes = script.nodes; opening = record { bytes = zeros }; lease = script.lease }
+
+-- the text is the reply of a run of the script
 pub record IsStepReply (script : StepScript) (text : List ℕ) : Type 0 where
   pub all : List (Option Told)
   pub last : State
-  pub runs : Tells (first script.nodes (record { bytes = zeros })) script.events all last
+  pub runs : Tells (first (line_of script)) script.events all last
   pub text_is : text ≡ step_text all last
 
 -- the bytes are a step script, and this is its reply

@@ -12,6 +12,7 @@ use crate::replay::ReplayError;
 use crate::tally::Counts;
 use line_lanes::Line64;
 use link_core::{Core, Point, Told};
+use qolb_model::Terms;
 use qolb_script::{Said, ScriptError, Steps, Watched, push_said, read_steps};
 use std::alloc::{AllocError, Allocator};
 use std::io::{Read, Write};
@@ -44,10 +45,15 @@ pub fn run_steps<A: Allocator, R: Read, W: Write>(
 fn reply<A: Allocator + Clone>(alloc: A, steps: &Steps<A>) -> Result<Vec<u8, A>, AllocError>
     ensures { IfOk result (λ text. IsStepReply steps.now text.items) }
 {
-    let Some(mut core) = Core::start(steps.nodes(), Line64::zero()) else {
+    let terms = Terms {
+        nodes: steps.nodes(),
+        opening: Line64::zero(),
+        lease: steps.lease(),
+    };
+    let Some(mut core) = Core::with_terms(terms) else {
         unreachable!();
     };
-    let mut counts = Counts::default();
+    let mut counts = Counts::none();
     let mut text = Vec::new(alloc);
     for event in steps.events() {
         let said = said_of(core.step(*event).ok());

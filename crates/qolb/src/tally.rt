@@ -9,7 +9,7 @@ use qolb_model::{Enq, MOST_NODES, Out, Poll, PortState};
 use qolb_script::{Command, Said};
 
 /// How often it was said that a request was served, was withdrawn, or was told that the line is closed.
-#[derive(Clone, Copy, Default)]
+#[derive(Clone, Copy)]
 pub struct Counts {
     pub served: u64,
     pub withdrawn: u64,
@@ -18,7 +18,18 @@ pub struct Counts {
 
 impl Counts {
     ghost use Rattle.std.specs.Prelude.{◌^◌, ◌-◌};
-    ghost use Rattle.qolb.specs.Tallies.{AreWithin, Counted};
+    ghost use Rattle.qolb.specs.Tallies.{AreWithin, Counted, no_counts};
+
+    /// Nothing was said.
+    pub fn none() -> Counts
+        ensures { result ≡ no_counts }
+    {
+        Counts {
+            served: 0,
+            withdrawn: 0,
+            told: 0,
+        }
+    }
 
     /// One more thing was said, of a call or of an event.
     pub fn add(&mut self, said: &Said)
@@ -71,11 +82,7 @@ impl<R: ReplayLine> TalliedLine<R> {
     {
         TalliedLine {
             line,
-            counts: Counts {
-                served: 0,
-                withdrawn: 0,
-                told: 0,
-            },
+            counts: Counts::none(),
         }
     }
 

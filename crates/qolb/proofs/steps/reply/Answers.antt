@@ -1,17 +1,21 @@
-use Rattle.std.proofs.Common.{◌≡◌, ℕ, List, subst, sym, ap, ◌∙◌}
+use Rattle.std.proofs.Common.{◌≡◌, subst, sym, ap, ◌∙◌, rules}
 use Rattle.line_lanes.specs.Line.{zeros}
 use Rattle.link_core.specs.declared.event.Event.TheVariants.{Reset}
+use Rattle.qolb_model.specs.declared.terms.Terms.{Terms}
 use Rattle.link_core.specs.State.{first}
+use Rattle.qolb.specs.StepRuns.{line_of}
 use Rattle.qolb.specs.Tallies.{no_counts}
 use Rattle.qolb.proofs.StepsRun.{Reaches, start_of, reaches_start, step_done}
 use Rattle.qolb.proofs.steps.reply.Goals as goal
 
 pub loop-event-init : goal.loop-event-init
 loop-event-init g c =
-    let nodes : c.nodes.result ≡ c.args.steps.now.nodes = c.nodes.ensures.nodes in
-    let line = ap (λ (b : List ℕ). first c.nodes.result (record { bytes = b })) c.zero.ensures in
-    let same : c.in-Some.core ≡ start_of c.args.steps.now = c.in-Some.ensures.state ∙ (line ∙ ap (λ (n : ℕ). first n (record { bytes = zeros })) nodes) in
-    subst (Reaches c.args.steps.now 0 c.in-Some.core no_counts) (sym c.new-text.ensures.items) (reaches_start c.args.steps.now c.in-Some.core same)
+    let terms : Terms = record { nodes = c.nodes.result; opening = c.zero.result; lease = c.lease.result } in
+    let opening : c.zero.result ≡ record { bytes = zeros } = search rules in
+    let is : terms ≡ line_of c.args.steps.now = λ i. record { nodes = c.nodes.ensures.nodes i; opening = opening i; lease = c.lease.ensures.lease i } in
+    let same : c.in-Some.core ≡ start_of c.args.steps.now = c.in-Some.ensures.state ∙ ap first is in
+    subst (λ counts. Reaches c.args.steps.now 0 c.in-Some.core counts c.new-text.result.items) (sym c.none-counts.ensures)
+    (subst (Reaches c.args.steps.now 0 c.in-Some.core no_counts) (sym c.new-text.ensures.items) (reaches_start c.args.steps.now c.in-Some.core same))
 
 pub loop-event-preserved : goal.loop-event-preserved
 loop-event-preserved g c =
