@@ -279,7 +279,6 @@ fn one_release_passes_all_other_nodes(rt: HostRuntime) -> Result<(), Fail> {
         assert_eq!(rt; core.step(Event::Grant(1)), Ok(Told::Went));
     }
     assert_eq!(rt; core.step(Event::Home(1)), Ok(Told::Went));
-    assert_eq!(rt; core.point(1), Point::Freeing);
     for _ in 1..199 {
         assert_eq!(rt; core.step(Event::Freed(1)), Ok(Told::Went));
     }
