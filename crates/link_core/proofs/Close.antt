@@ -20,24 +20,24 @@ use Rattle.link_core.proofs.Changes.{Changed, field, passed_same, passes_kept, o
 use Rattle.link_core.proofs.Ending.{fs, ended, gone}
 use Rattle.link_core.proofs.Over.{IsOver, after_end, end_clears, end_shows}
 
-close_passed : (ps : List ℕ) (p : Point) (r : Reason) → (seat_with ps p r).passed ≡ ps
+pub close_passed : (ps : List ℕ) (p : Point) (r : Reason) → (seat_with ps p r).passed ≡ ps
 close_passed [] p r = refl
 close_passed (m ∷ ms) p r = refl
 
-close_reason : (ps : List ℕ) (p : Point) (r : Reason) → (seat_with ps p r).reason ≡ r
+pub close_reason : (ps : List ℕ) (p : Point) (r : Reason) → (seat_with ps p r).reason ≡ r
 close_reason [] p r = refl
 close_reason (m ∷ ms) p r = refl
 
-close_unpassed : (ps : List ℕ) (p : Point) (r : Reason) → has_line (seat_with ps p r).point || is_freeing (seat_with ps p r).point ≡ false → (seat_with ps p r).passed ≡ []
+pub close_unpassed : (ps : List ℕ) (p : Point) (r : Reason) → has_line (seat_with ps p r).point || is_freeing (seat_with ps p r).point ≡ false → (seat_with ps p r).passed ≡ []
 close_unpassed [] p r e = refl
 close_unpassed (m ∷ ms) p r e = cc
 
-pub end_says : (h : Queue) (n : ℕ) (r : Reason) → EndedBy h.order h.ends n r → Says h n (told_at_end r)
+end_says : (h : Queue) (n : ℕ) (r : Reason) → EndedBy h.order h.ends n r → Says h n (told_at_end r)
 end_says h n Own e = e
 end_says h n Closing e = e
 end_says h n Refused e = e
 
-close_says : (h : Queue) (n : ℕ) (ps : List ℕ) (r : Reason) → EndedBy h.order h.ends n r → Says h n (told_with ps r)
+pub close_says : (h : Queue) (n : ℕ) (ps : List ℕ) (r : Reason) → EndedBy h.order h.ends n r → Says h n (told_with ps r)
 close_says h n [] r e = end_says h n r e
 close_says h n (m ∷ ms) r e = tt
 

@@ -25,7 +25,7 @@ use Rattle.qolb_model.specs.Steps.{one_fewer}
 use Rattle.qolb_model.proofs.Leases.{turns_left-served, turns_left-same}
 use Rattle.link_core.specs.Steps.{left_after, turns_after}
 use Rattle.link_core.specs.Moves.{end_by}
-use Rattle.link_core.proofs.Follows.{in_its_hand, hand_lies, current_cases}
+use Rattle.link_core.proofs.Follows.{lined_unrolled, in_its_hand, hand_lies, current_cases}
 
 or_false : (a : Bool) → (a || false) ≡ a
 or_false true = refl
@@ -47,10 +47,6 @@ module _ {terms : Terms} {c : State} {h : Queue} {n : ℕ} (s : Matches terms c 
   -- the current node's last request is the one at its turn
   pub its : IsLast h.order (current c n) (length h.ends)
   its = subst (λ (m : ℕ). IsLast h.order m (length h.ends)) facts.3 (s.distinct (length h.ends) (omega arith) facts.0)
-
-  lined_unrolled : (p : Point) → has_line p ≡ true → is_rolled p ≡ false
-  lined_unrolled Rolled e = cc
-  lined_unrolled _ e = refl
 
   mark : has h.marked (request h.order (length h.ends)) ≡ is_rolled (point c (current c n))
   mark = s.marks (length h.ends) (omega arith) facts.0 ∙ ap (λ (m : ℕ). is_rolled (point c m)) facts.3

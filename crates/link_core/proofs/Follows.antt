@@ -9,7 +9,7 @@ use Rattle.link_core.specs.declared.entry.Entry.{Entry}
 use Rattle.link_core.specs.Places.{asker, IsLast}
 use Rattle.qolb_model.specs.Queue.{Queue}
 use Rattle.link_core.specs.State.{State, entry, seat, point, IsNode, last_or, current, is_clear}
-use Rattle.link_core.specs.Shown.{has_line, IsWhole, IsCarried, Lies, at_home, in_hand, granted, left, IsBehind, IsWaiting, Sits, IsPassed, Matches}
+use Rattle.link_core.specs.Shown.{is_rolled, has_line, IsWhole, IsCarried, Lies, at_home, in_hand, granted, left, IsBehind, IsWaiting, Sits, IsPassed, Matches}
 use Rattle.std.proofs.lemmas.Bool.{cases_lt, cases_Bool}
 use Rattle.std.specs.Prelude.{not}
 
@@ -28,6 +28,28 @@ and_left false b e = e
 and_false : (a : Bool) → (a && false) ≡ false
 and_false true = refl
 and_false false = refl
+
+-- a withdrawn request that is not freed isn't clear; nor is that of a node with the line in its hand, which isn't withdrawn
+pub rolled_unfreed : (w : Entry) → w.freed ≡ false → is_clear Rolled w ≡ false
+rolled_unfreed w e = rw e refl
+
+pub lined_unclear : (p : Point) (w : Entry) → has_line p ≡ true → is_clear p w ≡ false
+lined_unclear Holding w e = refl
+lined_unclear (Leaving x) w e = refl
+lined_unclear (Marking x) w e = refl
+lined_unclear (Granting x) w e = refl
+lined_unclear Idle w e = cc
+lined_unclear Ready w e = cc
+lined_unclear Shut w e = cc
+lined_unclear Left w e = cc
+lined_unclear Freeing w e = cc
+lined_unclear Rolled w e = cc
+lined_unclear Queued w e = cc
+lined_unclear (Linking x) w e = cc
+
+pub lined_unrolled : (p : Point) → has_line p ≡ true → is_rolled p ≡ false
+lined_unrolled Rolled e = cc
+lined_unrolled _ e = refl
 
 rolled_unclear : (w : Entry) → w.done ≡ true → w.link ≡ 0 → is_clear Rolled w ≡ false
 rolled_unclear w a b = rw (a, b) (and_false w.freed)

@@ -25,32 +25,10 @@ use Rattle.link_core.proofs.Changes.{Changed, point_other, point_own, at_other, 
 use Rattle.link_core.proofs.Clearing.{Cleared, may_push_cleared}
 use Rattle.link_core.proofs.Follows.{sits_at, hand_lies}
 use Rattle.link_core.proofs.Kept.{Spares, sits_kept, fresh_kept, passed_kept, Leaves, lies_kept, rests_kept, settled_by}
-use Rattle.link_core.proofs.Close.{end_says}
+use Rattle.link_core.proofs.Close.{close_passed, close_reason, close_unpassed, close_says}
 
 abbrev pub frees : Entry → Entry
 frees w = record w { freed = true }
-
-with_passed : (ps : List ℕ) (p : Point) (r : Reason) → (seat_with ps p r).passed ≡ ps
-with_passed [] p r = refl
-with_passed (m ∷ ms) p r = refl
-
-with_reason : (ps : List ℕ) (p : Point) (r : Reason) → (seat_with ps p r).reason ≡ r
-with_reason [] p r = refl
-with_reason (m ∷ ms) p r = refl
-
-with_unpassed : (ps : List ℕ) (p : Point) (r : Reason) → has_line (seat_with ps p r).point || is_freeing (seat_with ps p r).point ≡ false → (seat_with ps p r).passed ≡ []
-with_unpassed [] p r e = refl
-with_unpassed (m ∷ ms) p r e = cc
-
-with_unrolled : (ps : List ℕ) (r s : Reason) → is_rolled (seat_with ps (point_at_end r) s).point ≡ false
-with_unrolled [] Own s = refl
-with_unrolled [] Closing s = refl
-with_unrolled [] Refused s = refl
-with_unrolled (m ∷ ms) r s = refl
-
-freed_says : (h : Queue) (n : ℕ) (ps : List ℕ) (r : Reason) → EndedBy h.order h.ends n r → Says h n (told_with ps r)
-freed_says h n [] r e = end_says h n r e
-freed_says h n (m ∷ ms) r e = tt
 
 module _ (terms : Terms) (c : State) (h : Queue) (n x : ℕ) (rest : List ℕ) (s : Matches terms c h) (is : IsNode c n) (at : point c n ≡ Freeing) (ps : (seat c n).passed ≡ x ∷ rest)
     (ents : List Entry) (sts : List Seat) (ch : Changed c (record c { entries = ents; seats = sts }) n (seat_with rest (point_at_end (seat c n).reason) (seat c n).reason) x (frees (entry c x))) where
@@ -125,7 +103,7 @@ module _ (terms : Terms) (c : State) (h : Queue) (n x : ℕ) (rest : List ℕ) (
   fresh p a l = fresh_kept c d (length h.ends) (length h.ends) (asker h.order p) p (ap (λ (w : Entry). w.freed) (ch.entry_other (asker h.order p) (open_x p a l))) (field ch (λ w. w.granted) refl (asker h.order p)) (field ch (λ w. w.done) refl (asker h.order p)) (λ e. e) granting (s.fresh p a l)
 
   own_passed : (seat d n).passed ≡ rest
-  own_passed = ap (λ (s : Seat). s.passed) ch.seat_own ∙ with_passed rest (point_at_end (seat c n).reason) (seat c n).reason
+  own_passed = ap (λ (s : Seat). s.passed) ch.seat_own ∙ close_passed rest (point_at_end (seat c n).reason) (seat c n).reason
 
   -- what is still passed stood one place later, at n, or where it stood
   passed_cases : (m i : ℕ) → i < length (seat d m).passed → (j : ℕ) × (j < length (seat c m).passed) × (passed d m i ≡ passed c m j) × (((m ≡ n) × (j ≡ i + 1)) ⊎ ((m ≢ n) × (j ≡ i)))
@@ -219,17 +197,17 @@ module _ (terms : Terms) (c : State) (h : Queue) (n x : ℕ) (rest : List ℕ) (
       marks = λ p a l. s.marks p a l ∙ ap is_rolled (sym (point_other ch (asker h.order p) (open_n p a l)));
       clears = λ m q a l. cleared.says m q a l;
       sits = λ m a. elim (cases_eq m n) [
-        | inl e ↦ rw (e, point_own ch) (own rest (seat c n).reason own_passed (sym (with_reason rest (point_at_end (seat c n).reason) (seat c n).reason) ∙ ap (λ (s : Seat). s.reason) (sym ch.seat_own)) ended)
+        | inl e ↦ rw (e, point_own ch) (own rest (seat c n).reason own_passed (sym (close_reason rest (point_at_end (seat c n).reason) (seat c n).reason) ∙ ap (λ (s : Seat). s.reason) (sym ch.seat_own)) ended)
         | inr ne ↦ sits_kept (spares m a ne) (s.sits m a)
       ];
       fresh = fresh;
       passes = passes;
       once = once;
       unpassed = λ m a e. elim (cases_eq m n) [
-        | inl f ↦ rw (f, ch.seat_own) (with_unpassed rest (point_at_end (seat c n).reason) (seat c n).reason (ap (λ (p : Point). has_line p || is_freeing p) (sym (point_own ch) ∙ ap (point d) (sym f)) ∙ e))
+        | inl f ↦ rw (f, ch.seat_own) (close_unpassed rest (point_at_end (seat c n).reason) (seat c n).reason (ap (λ (p : Point). has_line p || is_freeing p) (sym (point_own ch) ∙ ap (point d) (sym f)) ∙ e))
         | inr ne ↦ ap (λ (s : Seat). s.passed) (ch.seat_other m ne) ∙ s.unpassed m a (ap (λ (p : Point). has_line p || is_freeing p) (sym (point_other ch m ne)) ∙ e)
       ];
       settled = settled_by ch h.order h.order h.ends h.ends h.clear cleared.clear first.node s.settled (λ x ne e. e) (s.settled.boxed x first.node) (λ l. l) (rests_kept leaves h.clear cleared.clear s.known (prefix_self h.order) (clears_begin cleared.grows) s.settled.rests);
     };
-    says = freed_says _ n rest (seat c n).reason ended;
+    says = close_says _ n rest (seat c n).reason ended;
   }

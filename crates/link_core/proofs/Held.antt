@@ -18,7 +18,7 @@ use Rattle.link_core.specs.Steps.{Releases, holding, leaving}
 use Rattle.link_core.proofs.Deeds.{GoesOn}
 use Rattle.link_core.proofs.Orders.{last_once}
 use Rattle.link_core.proofs.Changes.{Changed}
-use Rattle.link_core.proofs.Follows.{sits_at, in_its_hand, hand_lies, current_cases}
+use Rattle.link_core.proofs.Follows.{lined_unclear, lined_unrolled, rolled_unfreed, sits_at, in_its_hand, hand_lies, current_cases}
 use Rattle.link_core.proofs.Ending.{facts, its}
 use Rattle.qolb_model.specs.Leases.{is_last_turn}
 use Rattle.qolb_model.specs.Steps.{is_one}
@@ -39,24 +39,6 @@ carried_again terms c o es n ents sts early r (m ∷ ms) h = (record { bytes = h
 
 lined_points : (p q : Point) → has_line p ≡ true → has_line q ≡ false → p ≢ q
 lined_points p q a b e = let z : true ≡ false = sym a ∙ ap has_line e ∙ b in cc
-
-lined_unclear : (p : Point) (w : Entry) → has_line p ≡ true → is_clear p w ≡ false
-lined_unclear Holding w e = refl
-lined_unclear (Leaving x) w e = refl
-lined_unclear (Marking x) w e = refl
-lined_unclear (Granting x) w e = refl
-lined_unclear Idle w e = cc
-lined_unclear Ready w e = cc
-lined_unclear Shut w e = cc
-lined_unclear Left w e = cc
-lined_unclear Freeing w e = cc
-lined_unclear Rolled w e = cc
-lined_unclear Queued w e = cc
-lined_unclear (Linking x) w e = cc
-
-lined_unrolled : (p : Point) → has_line p ≡ true → is_rolled p ≡ false
-lined_unrolled Rolled e = cc
-lined_unrolled _ e = refl
 
 -- from one point with the line in hand to another
 module _ (terms : Terms) (c : State) (h : Queue) (n : ℕ) (s : Matches terms c h) (is : IsNode c n) (lined : has_line (point c n) ≡ true) (pt : Point) (has2 : has_line pt ≡ true)
@@ -174,8 +156,5 @@ module _ (terms : Terms) (c : State) (h : Queue) (n e : ℕ) (s : Matches terms 
       unready : point c n ≡ Marking e → e ≢ n → point c e ≢ Ready
       unready at ne f = elim (e_cases at) [ inl j ↦ ne (sym j) | inr j ↦ let z : Rolled ≡ Ready = sym j.point ∙ f in cc ]
 
-      rolled_kept : (v : Entry) → v.freed ≡ false → is_clear Rolled v ≡ false
-      rolled_kept v e = rw e refl
-
       unclear : point c n ≡ Marking e → e ≢ n → is_clear (point c e) (done (entry c e)) ≡ is_clear (point c e) (entry c e)
-      unclear at ne = elim (e_cases at) [ inl j ↦ absurd (ne (sym j)) | inr j ↦ rw j.point (rolled_kept (done (entry c e)) j.kept ∙ sym (rolled_kept (entry c e) j.kept)) ]
+      unclear at ne = elim (e_cases at) [ inl j ↦ absurd (ne (sym j)) | inr j ↦ rw j.point (rolled_unfreed (done (entry c e)) j.kept ∙ sym (rolled_unfreed (entry c e) j.kept)) ]

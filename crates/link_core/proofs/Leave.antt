@@ -18,7 +18,7 @@ use Rattle.link_core.proofs.Deeds.{GoesOn}
 use Rattle.link_core.proofs.Orders.{last_once}
 use Rattle.link_core.proofs.Changes.{Changed, point_other, point_own}
 use Rattle.link_core.proofs.Ending.{longer, facts, its, whole, later_other, unboxed}
-use Rattle.link_core.proofs.Follows.{sits_at, current_cases}
+use Rattle.link_core.proofs.Follows.{rolled_unfreed, sits_at, current_cases}
 use Rattle.link_core.proofs.Close.{close_keeps}
 
 module _ {terms : Terms} {c : State} {h : Queue} {n : ℕ} (s : Matches terms c h) (is : IsNode c n) where
@@ -96,9 +96,6 @@ clear_same (Marking x) v w a b e = refl
 clear_same (Granting x) v w a b e = refl
 clear_same Freeing v w a b e = refl
 
-rolled_kept : (v : Entry) → v.freed ≡ false → is_clear Rolled v ≡ false
-rolled_kept v e = rw e refl
-
 abbrev pub done : Entry → Entry
 done w = record w { done = true }
 
@@ -160,7 +157,7 @@ module _ {terms : Terms} {c : State} {h : Queue} {n e : ℕ} (s : Matches terms 
           rolled = refl;
           freed = refl;
           ready = λ ne f. elim e_cases [ inl j ↦ ne (sym j.1) | inr j ↦ let z : Rolled ≡ Ready = sym j.point ∙ f in cc ];
-          clear = λ ne. elim e_cases [ inl j ↦ absurd (ne (sym j.1)) | inr j ↦ rw j.point (rolled_kept (done (entry c e)) j.kept ∙ sym (rolled_kept (entry c e) j.kept)) ];
+          clear = λ ne. elim e_cases [ inl j ↦ absurd (ne (sym j.1)) | inr j ↦ rw j.point (rolled_unfreed (done (entry c e)) j.kept ∙ sym (rolled_unfreed (entry c e) j.kept)) ];
           fresh = λ p a b f. let k = last_once h.order e p (length h.ends) (subst (λ (m : ℕ). IsLast h.order m p) f (s.distinct p (omega arith) b)) at_e in absurd (omega arith);
           home_idle = λ f. absurd (omega arith);
           home_last = λ _. refl;

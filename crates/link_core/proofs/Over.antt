@@ -23,7 +23,7 @@ use Rattle.qolb_model.proofs.Lists.{same_some, slice_get-push}
 use Rattle.link_core.proofs.Orders.{request_got, ended_at}
 use Rattle.link_core.proofs.Changes.{Changed, point_other, point_own, field}
 use Rattle.link_core.proofs.Clearing.{Cleared, may_push_cleared}
-use Rattle.link_core.proofs.Follows.{in_its_hand, current_cases}
+use Rattle.link_core.proofs.Follows.{lined_unclear, in_its_hand, current_cases}
 use Rattle.link_core.proofs.Kept.{Spares, sits_kept, settled_by}
 use Rattle.link_core.proofs.Ending.{fs, longer, facts, its, grows, ended, turns, later_other, unboxed}
 use Rattle.link_core.specs.Steps.{turns_after}
@@ -100,26 +100,12 @@ module _ {terms : Terms} {c : State} {h : Queue} {n : ℕ} (s : Matches terms c 
   pub cleared : Cleared c h.order (length es) h.clear (λ m. is_clear (point d m) (entry d m))
   cleared = may_push_cleared c h.order (length es) h.clear s.numbered (λ m. is_clear (point c m) (entry c m)) (λ m. is_clear (point d m) (entry d m)) n (ended s is lined).at
       (record { clear = h.clear; grows = none; says = s.clears; known = s.clear_known })
-      (ended s is lined).last is (lined_unclear (point c n) lined)
+      (ended s is lined).last is (lined_unclear (point c n) (entry c n) lined)
       (λ e. ended_at (ended s is lined))
       (λ m p ne a l. elim (cases_eq m k) [
         | inl f ↦ rw (point_other ch m ne, f, ch.entry_own) (q.clear (λ g. ne (f ∙ g)))
         | inr f ↦ rw (point_other ch m ne, ch.entry_other m f) refl
       ])
-    where
-      lined_unclear : (p : Point) → has_line p ≡ true → is_clear p (entry c n) ≡ false
-      lined_unclear Holding e = refl
-      lined_unclear (Leaving x) e = refl
-      lined_unclear (Marking x) e = refl
-      lined_unclear (Granting x) e = refl
-      lined_unclear Idle e = cc
-      lined_unclear Ready e = cc
-      lined_unclear Shut e = cc
-      lined_unclear Left e = cc
-      lined_unclear Freeing e = cc
-      lined_unclear Rolled e = cc
-      lined_unclear Queued e = cc
-      lined_unclear (Linking x) e = cc
 
   fresh : (p : ℕ) → length es ≤ p → p < length h.order → IsFresh d (length es) (asker h.order p) p
   fresh p a l =

@@ -113,7 +113,7 @@ module _ (terms : Terms) (c : State) (h : Queue) (n : ℕ) (s : Matches terms c 
           (subst (λ (s : Seat). IsCarried terms (record c { closed = true; seats = sts }) h.order h.ends n s.reason s.passed) (sym ch.seat_own)
           (subst (λ (ps : List ℕ). IsCarried terms (record c { closed = true; seats = sts }) h.order h.ends n Closing ps) (sym sat.2) (refl, f.2.1, f.2.2)));
       own = record { place = place; is = ap (λ (s : Seat). last_or n s.passed) ch.seat_own ∙ sat.0.is };
-        })
+    })
 
     pub close_line_keeps : GoesOn terms (record c { closed = true; seats = sts }) h n told.Went None false
     close_line_keeps = record { after = h; makes = refl; clears = none; uncleared = λ _. refl; shows = closed_matches; says = tt }

@@ -9,7 +9,16 @@ fn expect_run(
     nodes: u64,
     script: &[(Event, Result<Told, NotEnabled>)],
 ) -> Result<Core, Fail> {
-    let mut core = Core::start(nodes, Line64::zero()).ok_or("1 to 32 nodes")?;
+    let core = Core::start(nodes, Line64::zero()).ok_or("1 to 200 nodes")?;
+    expect_told(rt, core, script)
+}
+
+/// A run of events from this core on.
+fn expect_told(
+    rt: &impl Abort,
+    mut core: Core,
+    script: &[(Event, Result<Told, NotEnabled>)],
+) -> Result<Core, Fail> {
     for (event, want) in script {
         assert_eq!(rt; core.step(*event), *want, "at {event:?}");
     }
@@ -194,16 +203,88 @@ fn a_told_node_leaves_a_closed_line_to_a_late_linker(rt: HostRuntime) -> Result<
 }
 
 #[test]
-fn lines_have_one_to_32_nodes(rt: HostRuntime) {
-    for (nodes, starts) in [(0, false), (1, true), (32, true), (33, false)] {
+fn lines_have_one_to_200_nodes(rt: HostRuntime) {
+    for (nodes, starts) in [(0, false), (1, true), (200, true), (201, false)] {
         assert_eq!(rt;
             Core::start(nodes, Line64::zero()).is_some(),
             starts,
             "{nodes} nodes"
         );
+        assert_eq!(rt;
+            Core::start_leased(nodes, Line64::zero(), 1).is_some(),
+            starts,
+            "{nodes} nodes with a lease"
+        );
     }
-    let refused = replay(33, Line64::zero(), [].as_slice()).err();
-    assert_eq!(rt; refused, Some((0, NotEnabled::Node)));
+    assert_eq!(rt; Core::start_leased(1, Line64::zero(), 0).is_some(), false);
+    for nodes in [0, 201] {
+        let refused = replay(nodes, Line64::zero(), [Event::Prepend(1)].as_slice()).err();
+        assert_eq!(rt; refused, Some((0, NotEnabled::Node)));
+    }
+}
+
+#[test]
+fn the_last_turn_of_a_lease_closes_the_line(rt: HostRuntime) -> Result<(), Fail> {
+    let script = [
+        (Event::Reset(1), Ok(Told::Went)),
+        (Event::Prepend(1), Ok(Told::Granted)),
+        (Event::Home(1), Ok(Told::Shut)),
+        (Event::Reset(1), Ok(Told::Went)),
+        (Event::Prepend(1), Ok(Told::Went)),
+        (Event::Home(1), Ok(Told::Closed)),
+    ];
+    let core = Core::start_leased(1, Line64::zero(), 1).ok_or("1 node")?;
+    let _ = expect_told(&rt, core, script.as_slice())?;
+    Ok(())
+}
+
+#[test]
+fn a_withdrawn_node_uses_no_turn_of_a_lease(rt: HostRuntime) -> Result<(), Fail> {
+    let script = [
+        (Event::Reset(1), Ok(Told::Went)),
+        (Event::Prepend(1), Ok(Told::Granted)),
+        (Event::Reset(2), Ok(Told::Went)),
+        (Event::Prepend(2), Ok(Told::Went)),
+        (Event::Link(2), Ok(Told::Queued)),
+        (Event::Roll(2), Ok(Told::Withdrawn)),
+        (Event::Home(1), Ok(Told::Went)),
+        (Event::Done(1), Ok(Told::Went)),
+        (Event::Grant(1), Ok(Told::Went)),
+        (Event::Home(1), Ok(Told::Went)),
+        (Event::Freed(1), Ok(Told::Released)),
+        (Event::Reset(1), Ok(Told::Went)),
+        (Event::Prepend(1), Ok(Told::Granted)),
+        (Event::Home(1), Ok(Told::Shut)),
+    ];
+    let core = Core::start_leased(2, Line64::zero(), 2).ok_or("2 nodes")?;
+    let _ = expect_told(&rt, core, script.as_slice())?;
+    Ok(())
+}
+
+#[test]
+fn one_release_passes_all_other_nodes(rt: HostRuntime) -> Result<(), Fail> {
+    let mut core = Core::start(200, Line64::zero()).ok_or("200 nodes")?;
+    for n in 1..201 {
+        assert_eq!(rt; core.step(Event::Reset(n)), Ok(Told::Went));
+        let told = if n == 1 { Told::Granted } else { Told::Went };
+        assert_eq!(rt; core.step(Event::Prepend(n)), Ok(told));
+        if n != 1 {
+            assert_eq!(rt; core.step(Event::Link(n)), Ok(Told::Queued));
+            assert_eq!(rt; core.step(Event::Roll(n)), Ok(Told::Withdrawn));
+        }
+    }
+    for _ in 1..200 {
+        assert_eq!(rt; core.step(Event::Home(1)), Ok(Told::Went));
+        assert_eq!(rt; core.step(Event::Done(1)), Ok(Told::Went));
+        assert_eq!(rt; core.step(Event::Grant(1)), Ok(Told::Went));
+    }
+    assert_eq!(rt; core.step(Event::Home(1)), Ok(Told::Went));
+    for _ in 1..199 {
+        assert_eq!(rt; core.step(Event::Freed(1)), Ok(Told::Went));
+    }
+    assert_eq!(rt; core.step(Event::Freed(1)), Ok(Told::Released));
+    assert_eq!(rt; core.step(Event::Load(200)), Ok(Told::Free));
+    Ok(())
 }
 
 #[test]

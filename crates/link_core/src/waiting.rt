@@ -19,8 +19,7 @@ impl State {
     {
         match self.point(n) {
             Point::Queued => {
-                let word = self.entry(n);
-                if word.granted {
+                if self.entry(n).granted {
                     Ok(self.arrive(n))
                 } else {
                     Ok(Told::Waiting)
