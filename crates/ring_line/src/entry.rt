@@ -10,9 +10,9 @@ pub enum Point {
     /// It has the line, its request is at its turn, and the cell there is granted.
     Holding,
     /// It lets the line go: the cell at its turn is granted, and the request there is withdrawn.
-    Lit,
+    Passing,
     /// It lets the line go: the cell at its turn is cleared.
-    Dark,
+    Cleared,
     /// It has let the line go, and has yet to free nodes that it passed.
     Freeing,
     /// Its request is withdrawn.
@@ -29,4 +29,6 @@ pub struct Entry {
     pub place: u64,
     /// The places of the withdrawn requests that the node has passed, and whose nodes it has not freed yet.
     pub passed: LinkedList<u64>,
+    /// How many word steps it has taken in its calls: each kind of them counts itself.
+    pub steps: u64,
 }

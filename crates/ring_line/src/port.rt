@@ -1,15 +1,19 @@
 //! The port of a node.
-use crate::rule::{Parcel, Place};
+ghost use Rattle.std.specs.Prelude.{◌≡◌, ◌↔◌, IsTrue};
+ghost use Rattle.qolb_model.specs.PortStates.{may_ask};
+
+use crate::rule::{Parcel, RingSeat};
 use qolb_model::PortState;
 use std::marker::Model;
 
 /// A node's end of the line.
 ///
-/// `parcel` is the line where the port holds it, and else what it last was.
+/// `parcel` is the line where the port holds it, and else what it last was. It stands first, so that its bytes are copied from an even
+/// place, and the state last.
 #[derive(Drop)]
 pub struct Port {
     pub(crate) parcel: Parcel,
-    pub(crate) place: Place,
+    pub(crate) seat: RingSeat,
     /// The cell of the last request.
     pub(crate) cell: u64,
     pub(crate) label: u64,
@@ -24,7 +28,37 @@ impl Model for Port {
 
     ghost Value = { Standing };
 
-    ghost view = { λ p. standing p.place p.parcel p.steps };
+    ghost view = { λ p. standing p.seat p.parcel p.steps };
 
-    ghost invariant = { λ p. IsPort p.label p.node p.place p.parcel p.cell p.state };
+    ghost invariant = { λ p. IsPort p.label p.node p.seat p.parcel p.cell p.state };
+}
+
+impl Port {
+    /// The label of the port's line.
+    pub(crate) fn label(&self) -> u64
+        ensures { result ≡ self.now.view.label }
+    {
+        self.label
+    }
+
+    /// The port's node.
+    pub(crate) fn node(&self) -> u64
+        ensures { result ≡ self.now.view.node }
+    {
+        self.node
+    }
+
+    /// Whether the port has no request that waits or holds, so that its node may ask.
+    pub(crate) fn may_ask(&self) -> bool
+        ensures { result ≡ may_ask self.now.view.state }
+    {
+        self.state.may_ask()
+    }
+
+    /// Whether the port holds the line.
+    pub(crate) fn holds(&self) -> bool
+        ensures { IsTrue result ↔ (self.now.view.state ≡ PortState.Holding) }
+    {
+        self.state == PortState::Holding
+    }
 }

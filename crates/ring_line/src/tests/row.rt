@@ -1,6 +1,5 @@
 //! A line with ports, which a test calls by node.
 ghost use Rattle.std.specs.Prelude.{◌≡◌, IfSome};
-ghost use Rattle.qolb_model.specs.Plain as spec;
 ghost use Rattle.ring_line.specs.Trial.{IsTheirs, AreTheirs};
 
 use super::super::*;
@@ -48,6 +47,18 @@ impl Row {
         Ok(Row { line, ports })
     }
 
+    /// A new leased line and all its ports.
+    pub(super) fn open_leased(
+        alloc: Global,
+        label: u64,
+        nodes: u64,
+        opening: Line64,
+        lease: u64,
+    ) -> Result<Row, OpenError> {
+        let (line, ports) = RingLine::<Free>::open_leased(alloc, label, nodes, opening, lease)?;
+        Ok(Row { line, ports })
+    }
+
     /// Takes the node's port out.
     pub(super) fn take(&mut self, node: u64) -> Option<Port>
         ensures same { self.new ≡ self.old }
@@ -78,7 +89,7 @@ impl Row {
     /// Asks for the node, if its port may ask.
     pub(super) fn ask(&mut self, node: u64) -> Option<Enq> {
         let mut port = self.take(node)?;
-        let answer = if self.owns(&port) && may_ask(RingLine::<Free>::state(&port)) {
+        let answer = if self.owns(&port) && RingLine::<Free>::state(&port).may_ask() {
             Some(self.line.enqolb(&mut port))
         } else {
             None
@@ -118,6 +129,27 @@ impl Row {
             .iter()
             .find(|port| RingLine::<Free>::node(port) == node)?;
         Some(self.line.steps(port))
+    }
+
+    /// How many turns are left of the lease, if the node's port holds the line.
+    pub(super) fn turns_left(&mut self, node: u64) -> Option<Option<u64>> {
+        let port = self.take(node)?;
+        let answer = if self.owns(&port) && RingLine::<Free>::state(&port) == PortState::Holding {
+            Some(self.line.turns_left(&port))
+        } else {
+            None
+        };
+        self.put(port);
+        answer
+    }
+
+    /// What the node's last call left.
+    pub(super) fn state(&self, node: u64) -> Option<PortState> {
+        let port = self
+            .ports
+            .iter()
+            .find(|port| RingLine::<Free>::node(port) == node)?;
+        Some(RingLine::<Free>::state(port))
     }
 
     /// Releases for the node, and says whether its port held the line.
@@ -211,16 +243,6 @@ impl Row {
         self.put(two);
         handed
     }
-}
-
-/// Whether a port in this state may ask.
-fn may_ask(state: PortState) -> bool
-    ensures { result ≡ spec.may_ask state }
-{
-    !matches!(
-        state,
-        PortState::Linking | PortState::Queued | PortState::Holding
-    )
 }
 
 /// Calls `raise_often` for each port, in a thread of its own.
