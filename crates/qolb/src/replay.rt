@@ -200,7 +200,7 @@ fn open_rings<A: Allocator>(
 {
     let mut all = Vec::with_capacity(alloc, lines as usize)?;
     for number in 0..lines {
-        let Ok((ring, ports)) = RingLine::with_terms(rings, number, terms) else {
+        let Ok((ring, ports)) = RingLine::with_terms(rings, number, *terms) else {
             return Err(AllocError);
         };
         all.push(TalliedLine::new(PortedLine::new(ring, ports)))?;

@@ -35,7 +35,7 @@ impl<K: Keep> RingLine<K> {
             opening,
             lease: None,
         };
-        RingLine::<K>::open_with(alloc, label, terms)
+        RingLine::<K>::with_terms(alloc, label, terms)
     }
 
     /// As `open`, for so many served turns: the last of them closes the line.
@@ -57,11 +57,11 @@ impl<K: Keep> RingLine<K> {
             opening,
             lease: Some(lease),
         };
-        RingLine::<K>::open_with(alloc, label, terms)
+        RingLine::<K>::with_terms(alloc, label, terms)
     }
 
-    /// A line on these terms, and a port for each node.
-    fn open_with(
+    /// The same, for these terms.
+    pub fn with_terms(
         alloc: Global,
         label: u64,
         terms: Terms,

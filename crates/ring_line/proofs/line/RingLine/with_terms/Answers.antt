@@ -2,7 +2,7 @@ use Rattle.std.proofs.Common.{rules, sym, subst}
 use Rattle.ring_line.specs.declared.rule.Setup.{Setup}
 use Rattle.ring_line.specs.Ports.{IsOpened}
 use Rattle.ring_line.proofs.Splitting.{split_opens}
-use Rattle.ring_line.proofs.line.RingLine.open_with.Goals as goal
+use Rattle.ring_line.proofs.line.RingLine.with_terms.Goals as goal
 
 pub returns-clause-opens : goal.returns-clause-opens
 returns-clause-opens g c = let key : Setup = record { label = c.args.label; terms = c.args.terms } in
