@@ -27,12 +27,12 @@ new-requires-clause-belong g c = c.in-Ok.ensures.opens.belong
 pub loop-number-preserved : goal.loop-number-preserved
 loop-number-preserved g c =
     let terms : Terms = c.args.terms.now in
-    let line : TalliedLine (List Stance) = c.new-2.result in
+    let line : TalliedLine (List Stance) = c.new-in-loop-number.result in
     let new : IsNew shows nodes_of c.args.terms.now line = record {
-      nodes_are = ap (λ (t : TalliedLine (List Stance)). length t.line) c.new-2.ensures ∙ (c.new.ensures.nodes ∙ ap (λ (t : Terms). t.nodes) c.in-Ok.ensures.opens.terms_are);
-      agrees = subst (λ (t : TalliedLine (List Stance)). AreWhole (opened c.args.terms.now) t.line) (sym c.new-2.ensures)
+      nodes_are = ap (λ (t : TalliedLine (List Stance)). length t.line) c.new-in-loop-number.ensures ∙ (c.new.ensures.nodes ∙ ap (λ (t : Terms). t.nodes) c.in-Ok.ensures.opens.terms_are);
+      agrees = subst (λ (t : TalliedLine (List Stance)). AreWhole (opened c.args.terms.now) t.line) (sym c.new-in-loop-number.ensures)
           (subst (λ (t : Terms). AreWhole (opened t) c.new.result) c.in-Ok.ensures.opens.terms_are c.new.ensures.shows);
-      nothing_said = ap (λ (t : TalliedLine (List Stance)). t.counts) c.new-2.ensures;
+      nothing_said = ap (λ (t : TalliedLine (List Stance)). t.counts) c.new-in-loop-number.ensures;
     } in
     record {
       opened = subst (AreLinesOf shows nodes_of c.args.terms.now.nodes (replay_start c.args.terms.now (c.loop-number.number + 1))) (sym c.in_ok-push.ensures.items)
