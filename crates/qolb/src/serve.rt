@@ -30,13 +30,15 @@ const STATUSES: &str = "Exit statuses:
   4  a failed read or write";
 
 const SCRIPT: &str = "The script, on standard input:
-  nodes N lines L             its first line: 1 to 32 nodes and 1 to 8 lines
+  nodes N lines L             its first line: 1 to 200 nodes and 1 to 8 lines
+  nodes N lines L lease C     the same; each line closes at its C-th served turn
   COMMAND n l                 a call of node n on line l: enq, poll, deq, show,
                               out (withdraw) or shut (release and close)
   write n l OFFSET HEX        the holder writes these bytes into the line";
 
 const STEPS: &str = "The script, on standard input:
-  nodes N                     its first line: 1 to 32 nodes
+  nodes N                     its first line: 1 to 200 nodes
+  nodes N lease C             the same; the line closes at its C-th served turn
   EVENT n                     a word step of node n: reset, prepend, link, load, home,
                               done, grant, roll or freed; or close, in a holder's hand
   write n OFFSET HEX          the holder writes these bytes into the line

@@ -78,6 +78,21 @@ fn answers_scripts(rt: HostRuntime) -> Result<(), Fail> {
             "nodes 4 lines 1\nenq 1 0\nenq 2 0\nenq 3 0\nenq 4 0\nout 3 0\nshut 1 0\nenq 3 0\npoll 2 0\nenq 3 0\npoll 4 0\n",
             "granted\nqueued\nqueued\nqueued\nwithdrawn\nshut\nbusy\nclosed\nqueued\nclosed\nline 0 served 1 withdrawn 1 told 2 left 1\n",
         ),
+        // the second of two turns closes the line
+        (
+            "nodes 2 lines 1 lease 2\nenq 1 0\nwrite 1 0 0 07\nenq 2 0\ndeq 1 0\npoll 2 0\nenq 1 0\ndeq 2 0\npoll 1 0\nenq 2 0\n",
+            "granted\nok\nqueued\nreleased\ngranted\nqueued\nreleased\nclosed\nclosed\nline 0 served 2 withdrawn 0 told 2 left 0\n",
+        ),
+        // each line has its own lease, of which a withdrawn request uses no turn
+        (
+            "nodes 3 lines 2 lease 1\nenq 1 0\nenq 2 1\nenq 1 1\nout 1 1\ndeq 2 1\nenq 1 1\ndeq 1 0\nenq 3 0\n",
+            "granted\ngranted\nqueued\nwithdrawn\nreleased\nclosed\nreleased\nclosed\nline 0 served 1 withdrawn 0 told 1 left 0\nline 1 served 1 withdrawn 1 told 1 left 0\n",
+        ),
+        // more nodes than 32
+        (
+            "nodes 33 lines 1",
+            "line 0 served 0 withdrawn 0 told 0 left 0\n",
+        ),
         // the last newline may be missing, and blanks do not count as words
         (
             "\n  nodes  1 lines 1  \n\n enq 1 0",
@@ -92,6 +107,45 @@ fn answers_scripts(rt: HostRuntime) -> Result<(), Fail> {
                 "of {script}"
             );
         }
+    }
+    Ok(())
+}
+
+/// A line for each of these nodes, of a word, the node and the rest.
+fn push_each(
+    alloc: Global,
+    text: &mut String,
+    first: u64,
+    last: u64,
+    word: &str,
+    rest: &str,
+) -> Result<(), Fail> {
+    for node in first..last + 1 {
+        text.push_str(word)?;
+        text.push(' ')?;
+        text.push_str(node.to_string(alloc)?.as_str())?;
+        text.push_str(rest)?;
+    }
+    Ok(())
+}
+
+#[test]
+fn a_release_passes_199_withdrawn_nodes(rt: HostRuntime) -> Result<(), Fail> {
+    let alloc = rt.alloc();
+    let mut script = "nodes 200 lines 1\n".to_string(alloc)?;
+    push_each(alloc, &mut script, 1, 200, "enq", " 0\n")?;
+    push_each(alloc, &mut script, 2, 200, "out", " 0\n")?;
+    script.push_str("deq 1 0\n")?;
+    let mut reply = "granted\n".to_string(alloc)?;
+    for _ in 2..201 {
+        reply.push_str("queued\n")?;
+    }
+    for _ in 2..201 {
+        reply.push_str("withdrawn\n")?;
+    }
+    reply.push_str("released\nline 0 served 1 withdrawn 199 told 0 left 0\n")?;
+    for kind in KINDS {
+        assert_eq!(rt; reply_to(alloc, script.as_str(), kind)?, reply);
     }
     Ok(())
 }
@@ -147,7 +201,9 @@ fn shows_what_holders_wrote(rt: HostRuntime) -> Result<(), Fail> {
 fn names_the_first_fault(rt: HostRuntime) -> Result<(), Fail> {
     let rows = [
         ("", ScriptError::BadLine(1)),
-        ("nodes 33 lines 1", ScriptError::Number(1)),
+        ("nodes 201 lines 1", ScriptError::Number(1)),
+        ("nodes 1 lines 1 lease 0", ScriptError::Number(1)),
+        ("nodes 1 lines 1 lease", ScriptError::BadLine(1)),
         ("nodes 2 lines 1\nenq 3 0", ScriptError::Number(2)),
         ("nodes 2 lines 1\nenq 1", ScriptError::BadLine(2)),
         (

@@ -32,7 +32,15 @@ fn replays_and_refuses_scripts(rt: HostRuntime) -> Result<(), Fail> {
             "bad line 3\n",
         ),
         ("", 1, "", "bad line 1\n"),
-        ("nodes 33 lines 1", 1, "", "bad line 1\n"),
+        (
+            "nodes 33 lines 1",
+            0,
+            "line 0 served 0 withdrawn 0 told 0 left 0\n",
+            "",
+        ),
+        ("nodes 201 lines 1", 1, "", "bad line 1\n"),
+        ("nodes 1 lines 1 lease 0", 1, "", "bad line 1\n"),
+        ("nodes 1 lines 1 lease", 1, "", "bad line 1\n"),
         ("nodes 2 lines 1\nenq 3 0", 1, "", "bad line 2\n"),
         ("nodes 2 lines 1\nenq 1", 1, "", "bad line 2\n"),
     ];
@@ -183,6 +191,12 @@ fn runs_step_scripts(rt: HostRuntime) -> Result<(), Fail> {
             "nodes 2, reset 1, prepend 1, close 1, home 1, reset 2, prepend 2, reset 1, prepend 1, home 2, done 2, load 2, link 1, home 1, load 2",
             "went, granted, went, shut, went, went, went, went, went, closed, busy, went, closed, free",
             "line 0 served 1 withdrawn 0 told 2 left 0",
+        ),
+        // the last turn of a lease closes the line
+        (
+            "nodes 1 lease 1, reset 1, prepend 1, home 1, reset 1, prepend 1, home 1",
+            "went, granted, shut, went, went, closed",
+            "line 0 served 1 withdrawn 0 told 1 left 0",
         ),
         // a node in the middle of a release is left
         (
