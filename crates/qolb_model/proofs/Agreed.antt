@@ -12,6 +12,7 @@ use Rattle.qolb_model.specs.declared.answer.PortState.TheVariants as port
 use Rattle.qolb_model.specs.Requests.{is_same, has, count_of, last_of}
 use Rattle.qolb_model.specs.Ends.{is_closed, written, bytes_after}
 use Rattle.qolb_model.specs.Histories.{turn_of, open_of}
+use Rattle.qolb_model.specs.Queue.{Queue}
 use Rattle.qolb_model.specs.OneOwner.{LineState, is_first, is_open, state_of}
 use Rattle.qolb_model.specs.PortStates.{may_ask}
 use Rattle.qolb_model.specs.Plain.{PlainView, is_at, is_oldest, waiter_state, node_state, waiter_of, Agrees}
@@ -67,11 +68,11 @@ find-open marked order (x ∷ xs) node last =
     by false e same later = ap (λ c. cond c (Some (waiter_of marked x)) (find (is_at node) (map (waiter_of marked) xs))) (same ∙ e) ∙ later
 
 -- what each state of a node says of its last request
-abbrev pub state_by : Bool → Bool → Bool → Bool → PortState
-state_by stands marked holds closed = if stands then (if marked then port.Rolled else (if holds then port.Holding else port.Queued)) else (if closed then port.Shut else port.Idle)
+abbrev pub state_from : Bool → Bool → Bool → Bool → PortState
+state_from stands marked holds closed = if stands then (if marked then port.Rolled else (if holds then port.Holding else port.Queued)) else (if closed then port.Shut else port.Idle)
 
 -- a queued one is open, not withdrawn and not granted
-queued_parts : (b m h c : Bool) → state_by b m h c ≡ port.Queued → (b ≡ true) × (m ≡ false) × (h ≡ false)
+queued_parts : (b m h c : Bool) → state_from b m h c ≡ port.Queued → (b ≡ true) × (m ≡ false) × (h ≡ false)
 queued_parts true true h c e = absurd (let no : port.Rolled ≡ port.Queued = e in cc no)
 queued_parts true false true c e = absurd (let no : port.Holding ≡ port.Queued = e in cc no)
 queued_parts true false false c e = (refl, refl, refl)
@@ -79,7 +80,7 @@ queued_parts false m h true e = absurd (let no : port.Shut ≡ port.Queued = e i
 queued_parts false m h false e = absurd (let no : port.Idle ≡ port.Queued = e in cc no)
 
 -- a holding one is granted besides
-holding_parts : (b m h c : Bool) → state_by b m h c ≡ port.Holding → (b ≡ true) × (m ≡ false) × (h ≡ true)
+holding_parts : (b m h c : Bool) → state_from b m h c ≡ port.Holding → (b ≡ true) × (m ≡ false) × (h ≡ true)
 holding_parts true true h c e = absurd (let no : port.Rolled ≡ port.Holding = e in cc no)
 holding_parts true false true c e = (refl, refl, refl)
 holding_parts true false false c e = absurd (let no : port.Queued ≡ port.Holding = e in cc no)
@@ -87,7 +88,7 @@ holding_parts false m h true e = absurd (let no : port.Shut ≡ port.Holding = e
 holding_parts false m h false e = absurd (let no : port.Idle ≡ port.Holding = e in cc no)
 
 -- a node may ask though its request is open: then that was withdrawn
-asking_parts : (b m h c : Bool) → may_ask (state_by b m h c) ≡ true → b ≡ true → m ≡ true
+pub asking_parts : (b m h c : Bool) → may_ask (state_from b m h c) ≡ true → b ≡ true → m ≡ true
 asking_parts true true h c e stands = refl
 asking_parts true false true c e stands = absurd (let no : false ≡ true = e in cc no)
 asking_parts true false false c e stands = absurd (let no : false ≡ true = e in cc no)
@@ -101,6 +102,14 @@ both_true false b h = absurd (let no : false ≡ true = h in cc no)
 pub not_both : (a b : Bool) → (a && b) ≡ false → b ≡ true → a ≡ false
 not_both true b h k = absurd (never k h)
 not_both false b h k = refl
+
+-- which request is at its turn
+pub first_turn : (q : Queue) (node : ℕ) → is_first q node ≡ true → turn_of q.order q.ends ≡ Some (last_of node q.order)
+first_turn q node h = by (turn_of q.order q.ends) h
+  where
+    by : (o : Option Request) → option_map_or (is_same (last_of node q.order)) o false ≡ true → o ≡ Some (last_of node q.order)
+    by None h = absurd (let no : false ≡ true = h in cc no)
+    by (Some r) h = ap Some (sym (is_same-true (last_of node q.order) r h))
 
 -- what agrees with a state
 module _ (line : PlainView) (s : LineState) (a : Agrees line s) where
@@ -135,7 +144,7 @@ module _ (line : PlainView) (s : LineState) (a : Agrees line s) where
       ∙ by (is_open s.queue node)
     where
       by : (b : Bool) → waiter_state line node (if b then Some (waiter_of s.queue.marked (last_of node s.queue.order)) else None)
-          ≡ state_by b (has s.queue.marked (last_of node s.queue.order)) (s.granted && is_first s.queue node) (is_closed s.queue.ends)
+          ≡ state_from b (has s.queue.marked (last_of node s.queue.order)) (s.granted && is_first s.queue node) (is_closed s.queue.ends)
       by true =
           ap (λ g. if has s.queue.marked (last_of node s.queue.order) then port.Rolled else (if g && is_oldest line node then port.Holding else port.Queued)) a.granted
           ∙ ap (λ f. if has s.queue.marked (last_of node s.queue.order) then port.Rolled else (if s.granted && f then port.Holding else port.Queued)) (oldest-is_first node)
@@ -153,14 +162,6 @@ module _ (line : PlainView) (s : LineState) (a : Agrees line s) where
 
   pub when_rolled : (node : ℕ) → may_ask (node_state line node) ≡ true → is_open s.queue node ≡ true → has s.queue.marked (last_of node s.queue.order) ≡ true
   when_rolled node e stands = asking_parts (is_open s.queue node) (has s.queue.marked (last_of node s.queue.order)) (s.granted && is_first s.queue node) (is_closed s.queue.ends) (sym (ap may_ask (node_state-state_of node)) ∙ e) stands
-
-  -- the node's last request is at its turn
-  pub turn_is : (node : ℕ) → is_first s.queue node ≡ true → turn_of s.queue.order s.queue.ends ≡ Some (last_of node s.queue.order)
-  turn_is node h = by (turn_of s.queue.order s.queue.ends) h
-    where
-      by : (o : Option Request) → option_map_or (is_same (last_of node s.queue.order)) o false ≡ true → o ≡ Some (last_of node s.queue.order)
-      by None h = absurd (let no : false ≡ true = h in cc no)
-      by (Some r) h = ap Some (sym (is_same-true (last_of node s.queue.order) r h))
 
   -- all that has ended is clear
   pub is_tidy : IsTidy s.terms.lease s.queue

@@ -9,14 +9,15 @@ use Rattle.qolb_model.specs.declared.end.End.{End}
 use Rattle.qolb_model.specs.declared.view.View.{View}
 use Rattle.qolb_model.specs.EndKinds.{is_gone}
 use Rattle.qolb_model.specs.Requests.{Has, count_of}
-use Rattle.qolb_model.specs.Histories.{Clears, none, more, turn_of, ended_of, open_of}
+use Rattle.qolb_model.specs.Histories.{turn_of, ended_of, open_of}
 use Rattle.qolb_model.specs.Views.{IsSubset}
 use Rattle.qolb_model.specs.OneHistory.{Knows, OneHistory}
 use Rattle.qolb_model.specs.OneOwner.{LineState}
 use Rattle.qolb_model.specs.Plain.{IsReached}
 use Rattle.qolb_model.specs.Whole.{Stance, KnowsWhole}
 use Rattle.qolb_model.proofs.Lists.{never, element_at, slice_get-append_left, slice_get-take, slice_get-drop, take_with}
-use Rattle.qolb_model.proofs.Requests.{has_at, has_left, has_push, place_of_request, count_of-push_same, count_of-append}
+use Rattle.qolb_model.proofs.Requests.{has_prefix, has_at, place_of_request, count_of-push_same, count_of-append}
+use Rattle.qolb_model.proofs.Clearing.{clears_ended}
 use Rattle.qolb_model.proofs.Prefixes.{prefix_length, prefix_get, prefix_trans}
 use Rattle.qolb_model.proofs.Agreeing.{among_first, among_second}
 
@@ -69,14 +70,6 @@ take_get (suc n) (y ∷ xs) (suc p) x at = let h = take_get n xs p x at in (omeg
 pub place_ended : (order : List Request) (ends : List End) (r : Request) → Has (ended_of order ends) r → (p : ℕ) × (p < length ends) × (slice_get order p ≡ Some r)
 place_ended order ends r h = let (p, at) = place_of_request (ended_of order ends) r h in let both = take_get (length ends) order p r at in (p, both.0, both.1)
 
--- a clear request has ended
-pub clears_ended : {order : List Request} {ended : ℕ} {clear : List Request} → Clears order ended [] clear → (x : Request) → Has clear x → (p : ℕ) × (p < ended) × (slice_get order p ≡ Some x)
-clears_ended none x h = absurd (let no : false ≡ true = h in cc no)
-clears_ended {order} {ended} (more {old} {clear} p r before lt at lacks) x h = elim (has_push clear r x h) [
-  | inl was ↦ clears_ended before x was
-  | inr is ↦ (p, lt, subst (λ y. slice_get order p ≡ Some y) (sym is) at)
-]
-
 -- what is known of a view by which a port of the node m, that knew the state's whole history, has been met: the view has no more
 -- requests of that node; an end of an open one is that of a marked one that was passed; where one is at its turn, nothing has ended,
 -- and only what had ended is clear; and it has no more marks
@@ -93,9 +86,6 @@ pub record IsAfter (a b : View) : Type 0 where
   pub ends : b.ends ≡ a.ends
   pub clear : IsPrefix a.clear b.clear
   pub marked : IsSubset a.marked b.marked
-
-has_in : (xs ys : List Request) (r : Request) → IsPrefix xs ys → Has xs r → Has ys r
-has_in xs ys r begins h = subst (λ zs. Has zs r) begins.1 (has_left xs begins.0 r h)
 
 module _ (s : LineState) (reached : IsReached s) (a b : View) (w : Stance) (h : OneHistory (b ∷ w.view ∷ [])) (after : IsAfter a b) (knows : KnowsWhole s w) (begins : IsPrefix s.queue.order a.order) where
   of_b : Knows h.terms h.order h.ends h.clear b
@@ -144,7 +134,7 @@ module _ (s : LineState) (reached : IsReached s) (a b : View) (w : Stance) (h : 
         ] in (
           (let le = prefix_length a.ends h.ends a_ends in omega arith),
           λ x clear.
-              let (p, lt, at) = clears_ended h.cleared x (has_in a.clear h.clear x (prefix_trans a.clear b.clear h.clear after.clear of_b.clear_begins) clear) in
+              let (p, lt, at) = clears_ended h.cleared x (has_prefix a.clear h.clear x (prefix_trans a.clear b.clear h.clear after.clear of_b.clear_begins) clear) in
               let within : p < length s.queue.order = let le = reached.legal.ended in omega arith in
               ended_at s.queue.order s.queue.ends p x (omega arith) (prefix_get_back s.queue.order h.order p x (prefix_trans s.queue.order a.order h.order begins a_order) within at),
         );

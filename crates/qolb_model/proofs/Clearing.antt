@@ -1,13 +1,10 @@
--- Clear lists as they grow, and sets that are put together.
-use Rattle.std.proofs.Common.{ℕ, ◌≤◌, ◌||◌, List, [], ◌∷◌, ◌++◌, ◌∙◌, ap, arith}
-use Rattle.std.proofs.lemmas.List.Folds.{list_any-append}
-use Rattle.std.proofs.lemmas.Bool.{or_right}
+-- Clear lists as they grow.
+use Rattle.std.proofs.Common.{◌≡◌, ℕ, ◌<◌, ◌≤◌, inl, inr, false, true, List, [], ◌∷◌, ◌++◌, Some, slice_get, subst, sym, arith}
 use mathlib.Core.List.{IsPrefix}
 use Rattle.qolb_model.specs.declared.request.Request.{Request}
-use Rattle.qolb_model.specs.Requests.{is_same, has}
+use Rattle.qolb_model.specs.Requests.{Has}
 use Rattle.qolb_model.specs.Histories.{Clears, none, more}
-use Rattle.qolb_model.specs.Views.{IsSubset}
-use Rattle.qolb_model.specs.Meeting.{IsUnion}
+use Rattle.qolb_model.proofs.Requests.{has_push}
 use Rattle.qolb_model.proofs.Prefixes.{prefix_self, prefix_append, prefix_trans, prefix_get}
 
 -- a clear list begins with what it was
@@ -21,12 +18,10 @@ clears_later p le none = none
 clears_later {order} {later} p le (more k r before lt at lacks) =
     more k r (clears_later p le before) (omega (arith, lt, le)) (prefix_get order later k r p at) lacks
 
--- two sets, one after the other, are their union; and each is a part of it
-pub union_append : (xs ys : List Request) → IsUnion xs ys (xs ++ ys)
-union_append xs ys r = list_any-append (is_same r) xs ys
-
-pub subset_left : (xs ys : List Request) → IsSubset xs (xs ++ ys)
-subset_left xs ys r h = list_any-append (is_same r) xs ys ∙ ap (λ b. b || has ys r) h
-
-pub subset_right : (xs ys : List Request) → IsSubset ys (xs ++ ys)
-subset_right xs ys r h = list_any-append (is_same r) xs ys ∙ or_right (has xs r) (has ys r) h
+-- a clear request has ended
+pub clears_ended : {order : List Request} {ended : ℕ} {clear : List Request} → Clears order ended [] clear → (x : Request) → Has clear x → (p : ℕ) × (p < ended) × (slice_get order p ≡ Some x)
+clears_ended none x h = absurd (let no : false ≡ true = h in cc no)
+clears_ended {order} {ended} (more {old} {clear} p r before lt at lacks) x h = elim (has_push clear r x h) [
+  | inl was ↦ clears_ended before x was
+  | inr is ↦ (p, lt, subst (λ y. slice_get order p ≡ Some y) (sym is) at)
+]

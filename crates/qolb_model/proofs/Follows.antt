@@ -2,7 +2,8 @@
 -- the port then knows is the state that this leaves.
 use Rattle.std.proofs.Common.{◌≡◌, ◌≢◌, ℕ, ◌≤◌, ◌==◌, ◌⊎◌, inl, inr, Bool, true, false, ◌&&◌, ◌||◌, if◌then◌else◌, List, [], ◌∷◌, ◌++◌, length, Some, slice_get, refl, ap, sym, ◌∙◌, subst, arith}
 use Rattle.std.specs.Option.{option_map_or}
-use Rattle.std.proofs.lemmas.Bool.{cases_eq, ne_eqb, or_cases}
+use Rattle.std.proofs.Math.Bool.{or-false}
+use Rattle.std.proofs.lemmas.Bool.{cases_eq, ne_eqb, or_cases, false_from_ne_true}
 use Rattle.std.proofs.lemmas.List.Folds.{list_any-append}
 use Rattle.std.proofs.lemmas.List.{take-append-drop}
 use Rattle.std.proofs.lemmas.Option.{slice_get_within}
@@ -22,31 +23,17 @@ use Rattle.qolb_model.specs.OneOwner.{LineState, new_turn, is_first, is_open, is
 use Rattle.qolb_model.specs.Plain.{IsReached}
 use Rattle.qolb_model.specs.PortStates.{may_ask}
 use Rattle.qolb_model.specs.Whole.{KnowsWhole, seen}
-use Rattle.qolb_model.proofs.Lists.{never, element_at}
+use Rattle.qolb_model.proofs.Lists.{never, same_test, element_at}
 use Rattle.qolb_model.proofs.Requests.{same_request, is_same-true, is_same-self, has_last, has_last_of_all}
 use Rattle.qolb_model.proofs.Histories.{same_place_legal}
 use Rattle.qolb_model.proofs.Prefixes.{prefix_length, prefix_whole}
+use Rattle.qolb_model.proofs.Agreed.{state_from, asking_parts}
 use Rattle.qolb_model.proofs.Bounds.{Bounds, count_at, open_at, place_open}
-
--- two tests are one where each passes with the other
-pub same_test : (a b : Bool) → (a ≡ true → b ≡ true) → (b ≡ true → a ≡ true) → a ≡ b
-same_test true true f g = refl
-same_test true false f g = absurd (let no : false ≡ true = f refl in cc no)
-same_test false true f g = absurd (let no : false ≡ true = g refl in cc no)
-same_test false false f g = refl
-
-pub false_from : (b : Bool) → (b ≡ true → ⊥) → b ≡ false
-false_from true h = absurd (h refl)
-false_from false h = refl
 
 -- one more mark is none on a request of another node
 pub has_push_other : (xs : List Request) (x r : Request) → r.node ≢ x.node → has (xs ++ x ∷ []) r ≡ has xs r
 has_push_other xs x r ne =
-    list_any-append (is_same r) xs (x ∷ []) ∙ (ap (λ b. has xs r || ((b && (r.number == x.number)) || false)) (ne_eqb r.node x.node ne) ∙ plain (has xs r))
-  where
-    plain : (b : Bool) → (b || (false || false)) ≡ b
-    plain true = refl
-    plain false = refl
+    list_any-append (is_same r) xs (x ∷ []) ∙ (ap (λ b. has xs r || ((b && (r.number == x.number)) || false)) (ne_eqb r.node x.node ne) ∙ or-false (has xs r))
 
 -- the port of the node n made a call that put no request which the state does not have; it forgot nothing, and then met all others
 pub record Follows (s : LineState) (n : ℕ) (a : View) : Type 0 where
@@ -60,11 +47,8 @@ pub record Follows (s : LineState) (n : ℕ) (a : View) : Type 0 where
   pub count : a.count ≡ count_of n s.queue.order
   pub others : (m : ℕ) → 1 ≤ m → m ≤ s.terms.nodes → m ≢ n → Bounds s a m
 
--- states of a node, by what they say of its last request
-abbrev pub state_from : Bool → Bool → Bool → Bool → PortState
-state_from stands marked holds closed = if stands then (if marked then port.Rolled else (if holds then port.Holding else port.Queued)) else (if closed then port.Shut else port.Idle)
-
-quiet_seen : (closed : Bool) → port.Idle ≡ seen (if closed then port.Shut else port.Idle)
+-- a node without an open request is as an idle one
+pub quiet_seen : (closed : Bool) → port.Idle ≡ seen (if closed then port.Shut else port.Idle)
 quiet_seen true = refl
 quiet_seen false = refl
 
@@ -81,12 +65,6 @@ same_write : (a b : Write) → a.mask.0 ≡ b.mask.0 → a.bytes.bytes ≡ b.byt
 same_write a b m e = λ i. record { mask = record { 0 = m i }; bytes = record { bytes = e i } }
 
 -- an open request of a node that may ask was withdrawn, and waits behind another node's
-asking_parts : (b m h c : Bool) → may_ask (state_from b m h c) ≡ true → b ≡ true → m ≡ true
-asking_parts true true h c e stands = refl
-asking_parts true false true c e stands = absurd (let no : false ≡ true = e in cc no)
-asking_parts true false false c e stands = absurd (let no : false ≡ true = e in cc no)
-asking_parts false m h c e stands = absurd (let no : false ≡ true = stands in cc no)
-
 pub rolled_behind : (s : LineState) (n : ℕ) → IsReached s → is_open s.queue n ≡ true → may_ask (state_of s n) ≡ true → (has s.queue.marked (last_of n s.queue.order) ≡ true)
     × (r : Request) × (turn_of s.queue.order s.queue.ends ≡ Some r) × (r.node ≢ n)
 rolled_behind s n reached stands may =
@@ -155,7 +133,7 @@ module _ (s : LineState) (n : ℕ) (a : View) (reached : IsReached s) (f : Follo
       let ne : r.node ≢ n = λ e. absurd (let is = last_mine (length s.queue.ends) r (omega arith) turn e in
       let same : length s.queue.ends ≡ p = one_place (length s.queue.ends) p r turn (subst (λ x. slice_get s.queue.order p ≡ Some x) (sym is) at) in omega arith) in (
         still r turn ne,
-        first_is r turn ∙ false_from _ (λ h. ne (sym (ap (λ x. x.node) (is_same-true (last_of n s.queue.order) r h)))),
+        first_is r turn ∙ false_from_ne_true _ (λ h. ne (sym (ap (λ x. x.node) (is_same-true (last_of n s.queue.order) r h)))),
         open_at s.queue.order s.queue.ends p (last_of n s.queue.order) (omega arith) at,
       )
 
@@ -171,7 +149,7 @@ module _ (s : LineState) (n : ℕ) (a : View) (reached : IsReached s) (f : Follo
       let (ends, first, stands) = behind is.waits in
       let (p, le, at) = place_open s.queue.order s.queue.ends (last_of n s.queue.order) stands in
       let lacks : has a.marked (last_of n s.queue.order) ≡ false = ap (has a.marked) (sym mine) ∙ is.unmarked in
-      let none : has s.queue.marked (last_of n s.queue.order) ≡ false = false_from _ (λ h. never (f.marked (last_of n s.queue.order) stands h) lacks) in (
+      let none : has s.queue.marked (last_of n s.queue.order) ≡ false = false_from_ne_true _ (λ h. never (f.marked (last_of n s.queue.order) stands h) lacks) in (
         first,
         record {
           terms = f.terms;
@@ -206,7 +184,7 @@ module _ (s : LineState) (n : ℕ) (a : View) (reached : IsReached s) (f : Follo
       let turn_is : turn_of s.queue.order s.queue.ends ≡ Some (last_of n s.queue.order) = ap (λ es. slice_get s.queue.order (length es)) (sym ends) ∙ at in
       let stands : Has (open_of s.queue.order s.queue.ends) (last_of n s.queue.order) = open_at s.queue.order s.queue.ends (length s.queue.ends) (last_of n s.queue.order) (omega arith) turn_is in
       let lacks : has a.marked (last_of n s.queue.order) ≡ false = ap (has a.marked) (sym mine) ∙ is.unmarked in
-      let none : has s.queue.marked (last_of n s.queue.order) ≡ false = false_from _ (λ h. never (f.marked (last_of n s.queue.order) stands h) lacks) in
+      let none : has s.queue.marked (last_of n s.queue.order) ≡ false = false_from_ne_true _ (λ h. never (f.marked (last_of n s.queue.order) stands h) lacks) in
       let is_turn : is_first s.queue n ≡ true = first_is (last_of n s.queue.order) turn_is ∙ is_same-self (last_of n s.queue.order) in (
         is_turn,
         ap is_closed (sym ends) ∙ is.is_open,

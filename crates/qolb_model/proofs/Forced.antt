@@ -1,5 +1,5 @@
 -- The answers of a line whose ports all meet after each call: each is that of the state of one owner, whose history they know.
-use Rattle.std.proofs.Common.{◌≡◌, ◌≢◌, ℕ, ◌+◌, ◌≤◌, inl, inr, Bool, true, false, ◌&&◌, if◌then◌else◌, List, [], ◌∷◌, ◌++◌, length, map, set, replicate, option_map, Some, slice_get, refl, ap, sym, ◌∙◌, subst, arith, length-append}
+use Rattle.std.proofs.Common.{◌≡◌, ◌≢◌, ℕ, ◌+◌, ◌≤◌, inl, inr, Bool, true, false, ◌&&◌, if◌then◌else◌, List, [], ◌∷◌, ◌++◌, length, map, set, replicate, option_map, Some, slice_get, refl, ap, sym, ◌∙◌, subst, arith, append_assoc, length-append}
 use Rattle.std.specs.Option.{option_map_or}
 use Rattle.std.proofs.lemmas.Bool.{cases_lt, cases_eq}
 use Rattle.std.proofs.lemmas.List.{length-map}
@@ -11,7 +11,6 @@ use Rattle.qolb_model.specs.declared.answer.Poll.{Poll}
 use Rattle.qolb_model.specs.declared.answer.Poll.TheVariants as poll
 use Rattle.qolb_model.specs.declared.answer.Out.{Out}
 use Rattle.qolb_model.specs.declared.answer.Out.TheVariants as out
-use Rattle.qolb_model.specs.declared.answer.PortState.{PortState}
 use Rattle.qolb_model.specs.declared.answer.PortState.TheVariants as port
 use Rattle.qolb_model.specs.declared.request.Request.{Request}
 use Rattle.qolb_model.specs.declared.write.Write.{Write}
@@ -34,8 +33,8 @@ use Rattle.qolb_model.specs.PortStates.{may_ask, left_by}
 use Rattle.qolb_model.specs.Leases.{closes}
 use Rattle.qolb_model.specs.Whole.{Stance, KnowsWhole, AreWhole, seen}
 use Rattle.qolb_model.specs.Rounds.{MeetsOthers}
-use Rattle.qolb_model.proofs.Lists.{element_at, same_some, push_cases, slice_get-push}
-use Rattle.qolb_model.proofs.Requests.{same_request, is_same-self, has_left, has_push, count_of-push_same, count_of-push_le}
+use Rattle.qolb_model.proofs.Lists.{element_at, same_some, push_cases, slice_get-push, slice_get-middle}
+use Rattle.qolb_model.proofs.Requests.{same_request, is_same-self, has_prefix, has_push, count_of-push_same, count_of-push_le}
 use Rattle.qolb_model.proofs.Histories.{same_place_legal}
 use Rattle.qolb_model.proofs.Prefixes.{prefix_whole, prefix_get, prefix_append}
 use Rattle.qolb_model.proofs.Agreeing.{among_first}
@@ -43,20 +42,10 @@ use Rattle.qolb_model.proofs.Steps.{agrees_opened}
 use Rattle.qolb_model.proofs.Bounds.{Bounds, count_at, count_of-prefix, count_of-behind, prefix_get_back, open_at, ended_at, place_open, place_ended}
 use Rattle.qolb_model.proofs.Follows.{Follows, rolled_behind, waits_whole, granted_whole, withdrawn_whole, busy_whole}
 use Rattle.qolb_model.proofs.Passing.{goes_whole, told_whole}
-use Rattle.qolb_model.proofs.Leaving.{Leaves, leaves_so, leaves_through, leaves_ask, leaves_grant, leaves_mark, leaves_end, leaves_write, first_turn}
+use Rattle.qolb_model.proofs.Agreed.{first_turn}
+use Rattle.qolb_model.proofs.Leaving.{Leaves, leaves_so, leaves_through, leaves_ask, leaves_grant, leaves_mark, leaves_end, leaves_write}
 use Rattle.qolb_model.proofs.Reached.{queued_is, holding_is, reached_write, reached_poll, reached_release, reached_mark, reached_asked}
 use Rattle.qolb_model.proofs.Whole.{Called, called, tells, spreads}
-
-has_in : (xs ys : List Request) (r : Request) → IsPrefix xs ys → Has xs r → Has ys r
-has_in xs ys r begins h = subst (λ zs. Has zs r) begins.1 (has_left xs begins.0 r h)
-
-append_one : {X : Type 0} (xs : List X) (x : X) (ys : List X) → (xs ++ x ∷ []) ++ ys ≡ xs ++ x ∷ ys
-append_one [] x ys = refl
-append_one (z ∷ xs) x ys = ap (λ zs. z ∷ zs) (append_one xs x ys)
-
-get_mid : {X : Type 0} (xs : List X) (x : X) (ys : List X) → slice_get (xs ++ x ∷ ys) (length xs) ≡ Some x
-get_mid [] x ys = refl
-get_mid (z ∷ xs) x ys = get_mid xs x ys
 
 -- what is known of the others bounds the view after an ask too
 bounds_ask : (s : LineState) (n m : ℕ) (a : View) → m ≢ n → Bounds s a m → Bounds (after_ask s n) a m
@@ -152,7 +141,7 @@ module _ (allows : List ℕ → List ℕ → Type 0) (s : LineState) (ports : Li
   ]))
 
   clear_then : (r : Request) → Has (ended_of s.queue.order s.queue.ends) r → Has a.view.clear r
-  clear_then r h = has_in u.view.clear a.view.clear r extends.clear (knew.clear r h)
+  clear_then r h = has_prefix u.view.clear a.view.clear r extends.clear (knew.clear r h)
 
   pub follows : a.view.count ≡ u.view.count → Follows s (place + 1) a.view
   follows same = record {
@@ -191,10 +180,10 @@ module _ (allows : List ℕ → List ℕ → Type 0) (s : LineState) (ports : Li
             let is : Some x ≡ Some (own a.view) = sym (slice_get-push s.queue.order x) ∙ (ap (λ xs. slice_get xs (length s.queue.order)) e ∙ (ap (slice_get a.view.order) (sym here) ∙ asks.behind.2)) in
             sym e ∙ ap (λ r. s.queue.order ++ r ∷ []) (same_some is ∙ own_is)
         by (x ∷ y ∷ zs) e = absurd (
-            let whole_ : (s.queue.order ++ x ∷ []) ++ y ∷ zs ≡ a.view.order = append_one s.queue.order x (y ∷ zs) ∙ e in
-            let at_x : slice_get a.view.order (length s.queue.order) ≡ Some x = ap (λ xs. slice_get xs (length s.queue.order)) (sym e) ∙ get_mid s.queue.order x (y ∷ zs) in
+            let whole_ : (s.queue.order ++ x ∷ []) ++ y ∷ zs ≡ a.view.order = append_assoc s.queue.order (x ∷ []) (y ∷ zs) ∙ e in
+            let at_x : slice_get a.view.order (length s.queue.order) ≡ Some x = ap (λ xs. slice_get xs (length s.queue.order)) (sym e) ∙ slice_get-middle s.queue.order x (y ∷ zs) in
             let long : length (s.queue.order ++ x ∷ []) ≡ length s.queue.order + 1 = length-append s.queue.order (x ∷ []) in
-            let at_y : slice_get a.view.order (length (s.queue.order ++ x ∷ [])) ≡ Some y = ap (λ xs. slice_get xs (length (s.queue.order ++ x ∷ []))) (sym whole_) ∙ get_mid (s.queue.order ++ x ∷ []) y zs in
+            let at_y : slice_get a.view.order (length (s.queue.order ++ x ∷ [])) ≡ Some y = ap (λ xs. slice_get xs (length (s.queue.order ++ x ∷ []))) (sym whole_) ∙ slice_get-middle (s.queue.order ++ x ∷ []) y zs in
             let x_mine = new_mine (length s.queue.order) x (omega arith) at_x in
             let y_mine = new_mine (length (s.queue.order ++ x ∷ [])) y (omega arith) at_y in
             let one : count_of (place + 1) (s.queue.order ++ x ∷ []) ≡ count_of (place + 1) s.queue.order + 1 = count_of-push_same (place + 1) s.queue.order x x_mine in

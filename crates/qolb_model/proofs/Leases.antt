@@ -1,6 +1,7 @@
 -- Laws of leases.
-use Rattle.std.proofs.Common.{◌≡◌, ℕ, zero, suc, ◌+◌, ◌-◌, ◌<◌, ◌≤◌, ◌==◌, inl, inr, Bool, true, false, ◌||◌, cond, List, [], ◌∷◌, ◌++◌, length, take, replicate, Option, Some, None, slice_get, refl, ap, sym, ◌∙◌, subst, arith}
-use Rattle.std.proofs.lemmas.Bool.{eqb-true, eq-eqb, ne_eqb, cases_eq, cases_lt}
+use Rattle.std.proofs.Common.{◌≡◌, ℕ, zero, suc, ◌+◌, ◌-◌, ◌<◌, ◌≤◌, inl, inr, Bool, true, false, ◌||◌, cond, List, [], ◌∷◌, ◌++◌, length, take, Option, Some, None, refl, ap, sym, ◌∙◌, subst, arith}
+use Rattle.std.proofs.Math.Bool.{or-true}
+use Rattle.std.proofs.lemmas.Bool.{eq-eqb, ne_eqb, cases_eq, cases_lt}
 use Rattle.std.proofs.lemmas.List.Sums.{sum_by-append}
 use Rattle.std.proofs.lemmas.List.{take_all}
 use Rattle.qolb_model.specs.declared.request.Request.{Request}
@@ -66,12 +67,8 @@ within_push turns ends (Served write shut) within may =
       | inr ge ↦ absurd (let all : served ends ≡ turns = omega (arith, ge, within.0) in let no : true ≡ false = sym (within.1 all) ∙ may.0 in cc no)
     ] in (
       omega (arith, more, few),
-      λ all. is_closed-append ends (Served write shut ∷ []) ∙ ap (λ b. is_closed ends || (b || false)) (may.1 (eq-eqb (served ends + 1) turns (sym more ∙ all))) ∙ any (is_closed ends),
+      λ all. is_closed-append ends (Served write shut ∷ []) ∙ ap (λ b. is_closed ends || (b || false)) (may.1 (eq-eqb (served ends + 1) turns (sym more ∙ all))) ∙ or-true (is_closed ends),
     )
-  where
-    any : (b : Bool) → (b || true) ≡ true
-    any true = refl
-    any false = refl
 within_push turns ends Gone within may =
     let same : served (ends ++ Gone ∷ []) ≡ served ends = served-append ends (Gone ∷ []) ∙ omega arith in
     (omega (arith, same, within.0), λ all. is_closed-append ends (Gone ∷ []) ∙ ap (λ b. b || false) (within.1 (sym same ∙ all)))

@@ -1,6 +1,7 @@
 -- What a node's call leaves of the other nodes' standing.
-use Rattle.std.proofs.Common.{◌≡◌, ◌≢◌, ℕ, zero, suc, ◌+◌, ◌-◌, ◌<◌, inl, inr, Bool, true, false, ◌&&◌, if◌then◌else◌, List, [], ◌∷◌, ◌++◌, length, drop, Option, Some, None, slice_get, refl, ap, sym, ◌∙◌, subst, arith, length-append}
+use Rattle.std.proofs.Common.{◌≡◌, ◌≢◌, ℕ, zero, suc, ◌+◌, ◌-◌, ◌<◌, inl, inr, Bool, true, false, ◌&&◌, if◌then◌else◌, List, [], ◌∷◌, ◌++◌, length, drop, Some, None, slice_get, refl, ap, sym, ◌∙◌, subst, arith, length-append}
 use Rattle.std.specs.Option.{option_map_or}
+use Rattle.std.proofs.Math.Bool.{and-false}
 use Rattle.std.proofs.lemmas.Bool.{cases_lt, cases_eq}
 use Rattle.std.proofs.lemmas.List.{length-map}
 use mathlib.Core.List.{IsPrefix}
@@ -14,13 +15,14 @@ use Rattle.qolb_model.specs.Histories.{turn_of, open_of}
 use Rattle.qolb_model.specs.Queue.{Queue, moved, finish}
 use Rattle.qolb_model.specs.OneOwner.{LineState, new_turn, is_first, is_open, state_of, ends_with, after_moves, after_grant, after_end, after_ask, mark_last, after_write}
 use Rattle.qolb_model.specs.Whole.{seen}
-use Rattle.qolb_model.proofs.Lists.{never, push_cases, same_some, slice_get-drop}
-use Rattle.qolb_model.proofs.Requests.{is_same-true, is_same-self, has_left, count_of-push_other}
+use Rattle.qolb_model.proofs.Lists.{never, same_test, push_cases, same_some, slice_get-drop}
+use Rattle.qolb_model.proofs.Requests.{is_same-self, has_left, count_of-push_other}
 use Rattle.qolb_model.proofs.Prefixes.{prefix_self, prefix_append, prefix_get, prefix_trans}
 use Rattle.qolb_model.proofs.Histories.{gone_each}
 use Rattle.qolb_model.proofs.Runs.{passed, passed_by}
 use Rattle.qolb_model.proofs.Bounds.{open_at, place_open}
-use Rattle.qolb_model.proofs.Follows.{state_from, same_test, seen_holding, has_push_other}
+use Rattle.qolb_model.proofs.Agreed.{state_from, first_turn}
+use Rattle.qolb_model.proofs.Follows.{seen_holding, has_push_other}
 use Rattle.qolb_model.proofs.Passing.{goes_queue}
 
 -- the state goes on from s to t by a call of the node n: nothing is forgotten, no other node makes a request or loses a mark, and each
@@ -62,13 +64,6 @@ leaves_through n s t u a b = record {
 }
 
 -- which request is at its turn
-pub first_turn : (q : Queue) (m : ℕ) → is_first q m ≡ true → turn_of q.order q.ends ≡ Some (last_of m q.order)
-first_turn q m h = by (turn_of q.order q.ends) h
-  where
-    by : (o : Option Request) → option_map_or (is_same (last_of m q.order)) o false ≡ true → o ≡ Some (last_of m q.order)
-    by None h = absurd (let no : false ≡ true = h in cc no)
-    by (Some r) h = ap Some (sym (is_same-true (last_of m q.order) r h))
-
 turn_first : (q : Queue) (m : ℕ) → turn_of q.order q.ends ≡ Some (last_of m q.order) → is_first q m ≡ true
 turn_first q m e = ap (λ o. option_map_or (is_same (last_of m q.order)) o false) e ∙ is_same-self (last_of m q.order)
 
@@ -89,10 +84,6 @@ holds_first s m e = by (is_open s.queue m) (has s.queue.marked (last_of m s.queu
     by true false false f c e = absurd (let no : port.Queued ≡ port.Holding = e in cc no)
     by false k g f true e = absurd (let no : port.Shut ≡ port.Holding = e in cc no)
     by false k g f false e = absurd (let no : port.Idle ≡ port.Holding = e in cc no)
-
-no_and : (g : Bool) → (g && false) ≡ false
-no_and true = refl
-no_and false = refl
 
 -- the node asks
 pub leaves_ask : (n : ℕ) (s : LineState) → Leaves n s (after_ask s n)
@@ -153,7 +144,7 @@ leaves_grant n s first = record {
   opens = λ r h ne. h;
   marks = λ r h. h;
   states = λ m ne. ap (λ h. seen (state_from (is_open s.queue m) (has s.queue.marked (last_of m s.queue.order)) h (is_closed s.queue.ends)))
-      (not_first s.queue n m first ne ∙ sym (ap (λ f. s.granted && f) (not_first s.queue n m first ne) ∙ no_and s.granted));
+      (not_first s.queue n m first ne ∙ sym (ap (λ f. s.granted && f) (not_first s.queue n m first ne) ∙ and-false s.granted));
   turns = λ m ne h. absurd (never (holds_first s m h) (not_first s.queue n m first ne));
 }
 
@@ -259,7 +250,7 @@ module _ (n : ℕ) (s : LineState) (e : End) (first : is_first s.queue n ≡ tru
           ∙ sym (ap (λ b. seen (state_from (is_open s.queue m) b (s.granted && is_first s.queue m) (is_closed s.queue.ends))) k ∙ marked_idle (is_open s.queue m) (s.granted && is_first s.queue m) (is_closed s.queue.ends)))
       by m ne false k =
           let same : has (open_of s.queue.order ends_then) (last_of m s.queue.order) ≡ is_open s.queue m = same_test _ _ (opens (last_of m s.queue.order)) (stays m ne k) in
-          let later : (s.granted && is_first s.queue m) ≡ false = ap (λ f. s.granted && f) (not_first s.queue n m first ne) ∙ no_and s.granted in
+          let later : (s.granted && is_first s.queue m) ≡ false = ap (λ f. s.granted && f) (not_first s.queue n m first ne) ∙ and-false s.granted in
           (λ i. seen (state_from (same i) (k i) false (is_closed ends_then)))
           ∙ (unmarked_same (is_open s.queue m) (is_closed ends_then) (is_closed s.queue.ends) ∙ sym (λ i. seen (state_from (is_open s.queue m) (k i) (later i) (is_closed s.queue.ends))))
 

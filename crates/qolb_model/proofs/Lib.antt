@@ -11,6 +11,7 @@ pub mod Prefixes
 pub mod Clearing
 pub mod Writes
 pub mod Agreeing
+pub mod Finishing
 pub mod Longer
 pub mod Bounds
 pub mod Follows

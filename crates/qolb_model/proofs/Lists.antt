@@ -7,6 +7,12 @@ use Rattle.std.proofs.lemmas.Bool.{or_right}
 pub never : {b : Bool} → b ≡ true → b ≡ false → ⊥
 never h k = cc
 
+-- two tests are one where each passes with the other
+pub same_test : (a b : Bool) → (a ≡ true → b ≡ true) → (b ≡ true → a ≡ true) → a ≡ b
+same_test true b f g = sym (f refl)
+same_test false true f g = g refl
+same_test false false f g = refl
+
 -- what two equal options hold is equal
 pub same_some : {X : Type 0} {a b : X} → Some a ≡ Some b → a ≡ b
 same_some e = cc e
@@ -23,9 +29,12 @@ slice_get-append_left [] ys p h = absurd (omega arith)
 slice_get-append_left (x ∷ xs) ys zero h = refl
 slice_get-append_left (x ∷ xs) ys (suc p) h = slice_get-append_left xs ys p (omega (arith, h))
 
+pub slice_get-middle : {X : Type 0} (xs : List X) (x : X) (ys : List X) → slice_get (xs ++ x ∷ ys) (length xs) ≡ Some x
+slice_get-middle [] x ys = refl
+slice_get-middle (y ∷ xs) x ys = slice_get-middle xs x ys
+
 pub slice_get-push : {X : Type 0} (xs : List X) (x : X) → slice_get (xs ++ x ∷ []) (length xs) ≡ Some x
-slice_get-push [] x = refl
-slice_get-push (y ∷ xs) x = slice_get-push xs x
+slice_get-push xs x = slice_get-middle xs x []
 
 -- an element of a list with one more is an old one, or that one
 pub push_cases : {X : Type 0} (xs : List X) (x : X) (p : ℕ) (y : X) → slice_get (xs ++ x ∷ []) p ≡ Some y → ((p < length xs) × (slice_get xs p ≡ Some y)) ⊎ ((p ≡ length xs) × (y ≡ x))

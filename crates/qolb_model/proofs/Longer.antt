@@ -5,7 +5,7 @@ use mathlib.Core.List.{IsPrefix}
 use Rattle.qolb_model.specs.declared.view.View.{View}
 use Rattle.qolb_model.specs.OneHistory.{OneHistory}
 use Rattle.qolb_model.specs.Meeting.{longer, Meets}
-use Rattle.qolb_model.proofs.Prefixes.{prefix_self, prefix_shorter, prefix_same}
+use Rattle.qolb_model.proofs.Prefixes.{prefix_self, prefix_length, prefix_shorter, prefix_same}
 use Rattle.qolb_model.proofs.Agreeing.{among_first, among_second}
 
 pub longer_second : {X : Type 0} (xs ys : List X) → length xs < length ys → longer xs ys ≡ ys
@@ -41,6 +41,14 @@ longer_swap xs ys zs p q = elim (cases_order (length xs) (length ys)) [
   | inr (inl lt) ↦ longer_second xs ys lt ∙ sym (longer_first ys xs (omega (arith, lt)))
   | inr (inr gt) ↦ longer_first xs ys (omega (arith, gt)) ∙ sym (longer_second ys xs gt)
 ]
+
+-- so the second begins it too
+pub begins_longer_too : {X : Type 0} (xs ys zs : List X) → IsPrefix xs zs → IsPrefix ys zs → IsPrefix ys (longer xs ys)
+begins_longer_too xs ys zs p q = subst (λ ws. IsPrefix ys ws) (longer_swap ys xs zs q p) (begins_longer ys xs zs q p)
+
+-- and the whole list is the longer
+pub longer_whole : {X : Type 0} (xs ys zs : List X) → xs ≡ zs → IsPrefix ys zs → longer xs ys ≡ zs
+longer_whole xs ys zs e q = longer_first xs ys (subst (λ ws. length ys ≤ length ws) (sym e) (prefix_length ys zs q)) ∙ e
 
 -- ports that have met know the same lists
 pub met_know_the_same : (v w v' w' : View) → OneHistory (v ∷ w ∷ []) → Meets v w v' → Meets w v w' → (v'.order ≡ w'.order) × (v'.ends ≡ w'.ends) × (v'.clear ≡ w'.clear)

@@ -15,16 +15,13 @@ use Rattle.qolb_model.specs.Plain.{IsReached}
 use Rattle.qolb_model.specs.Whole.{Stance, KnowsWhole, seen}
 use Rattle.qolb_model.specs.Rounds.{Meet, MeetsEach, nobody, another}
 use Rattle.qolb_model.proofs.Lists.{push_cases, slice_get-append_left, slice_get-push}
-use Rattle.qolb_model.proofs.Requests.{has_left}
+use Rattle.qolb_model.proofs.Requests.{has_prefix}
 use Rattle.qolb_model.proofs.Prefixes.{prefix_length, prefix_trans}
 use Rattle.qolb_model.proofs.Longer.{longer_first, longer_swap, begins_longer}
 use Rattle.qolb_model.proofs.Agreeing.{among_first, among_second}
 use Rattle.qolb_model.proofs.Bounds.{Bounds, IsAfter, bounds}
 use Rattle.qolb_model.proofs.Follows.{seen_holding}
 use Rattle.qolb_model.proofs.Leaving.{Leaves}
-
-has_in : (xs ys : List Request) (r : Request) → IsPrefix xs ys → Has xs r → Has ys r
-has_in xs ys r begins h = subst (λ zs. Has zs r) begins.1 (has_left xs begins.0 r h)
 
 or_first : (x y z : Bool) → x ≡ z → (y ≡ true → z ≡ true) → (x || y) ≡ z
 or_first true y z e f = e
@@ -59,7 +56,7 @@ module _ (allows : List ℕ → List ℕ → Type 0) (n : ℕ) (s t : LineState)
   shorter_ends = let x = prefix_length s.queue.ends t.queue.ends leaves.ends in let y = ap length of_a.ends in let z = ap length of_w.ends in omega arith
 
   clear_then : (r : Request) → Has a.view.clear r → Has (longer a.view.clear w.view.clear) r
-  clear_then r h = has_in a.view.clear (longer a.view.clear w.view.clear) r (begins_longer a.view.clear w.view.clear meet.tell.before.clear known_a.clear_begins known_w.clear_begins) h
+  clear_then r h = has_prefix a.view.clear (longer a.view.clear w.view.clear) r (begins_longer a.view.clear w.view.clear meet.tell.before.clear known_a.clear_begins known_w.clear_begins) h
 
   w_marks : (r : Request) → Has (open_of t.queue.order t.queue.ends) r → Has w.view.marked r → Has t.queue.marked r
   w_marks r stands h = elim (cases_eq r.node n) [

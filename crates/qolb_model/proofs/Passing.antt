@@ -1,7 +1,7 @@
 -- A port's release, or its being told, on a line whose other ports know its whole history: the requests that it passed are those
 -- that the state of one owner passes, and what it then knows is the state that this leaves.
-use Rattle.std.proofs.Common.{◌≡◌, ◌≢◌, ℕ, zero, suc, ◌+◌, ◌<◌, ◌≤◌, inl, inr, Bool, true, false, if◌then◌else◌, List, [], ◌∷◌, ◌++◌, length, drop, replicate, Some, slice_get, refl, ap, sym, ◌∙◌, subst, arith, length-append}
-use Rattle.std.proofs.lemmas.Bool.{cases_eq, cases_order}
+use Rattle.std.proofs.Common.{◌≡◌, ◌≢◌, ℕ, zero, suc, ◌+◌, ◌<◌, ◌≤◌, inl, inr, true, false, if◌then◌else◌, List, [], ◌∷◌, ◌++◌, length, drop, replicate, Some, slice_get, refl, ap, sym, ◌∙◌, subst, arith, append_assoc, length-append}
+use Rattle.std.proofs.lemmas.Bool.{cases_eq, cases_order, false_from_ne_true}
 use Rattle.std.proofs.lemmas.List.{length-replicate, length-drop}
 use Rattle.std.proofs.lemmas.Option.{slice_get_within}
 use Rattle.qolb_model.specs.declared.answer.PortState.{PortState}
@@ -25,7 +25,7 @@ use Rattle.qolb_model.proofs.Prefixes.{prefix_same}
 use Rattle.qolb_model.proofs.Histories.{gone_each}
 use Rattle.qolb_model.proofs.Runs.{passed, take_while-passed, passes_each, passed_by, moved_by-passes}
 use Rattle.qolb_model.proofs.Bounds.{open_at, ended_at, place_open, place_ended}
-use Rattle.qolb_model.proofs.Follows.{Follows, false_from, mine, one_place, last_mine, own_at, still, others_marks, counted}
+use Rattle.qolb_model.proofs.Follows.{Follows, quiet_seen, mine, one_place, last_mine, own_at, still, others_marks, counted}
 
 -- as many are passed as stand marked before the first that is not
 passed_count : (marked xs : List Request) (k : ℕ) → k ≤ length xs → ((i : ℕ) (r : Request) → i < k → slice_get xs i ≡ Some r → Has marked r) → ((r : Request) → slice_get xs k ≡ Some r → Lacks marked r)
@@ -40,14 +40,6 @@ passed_count marked (x ∷ xs) (suc k) le all next =
 gone_each_is : (xs : List Request) → gone_each xs ≡ replicate (length xs) Gone
 gone_each_is [] = refl
 gone_each_is (x ∷ xs) = ap (λ es. Gone ∷ es) (gone_each_is xs)
-
-quiet_state : (closed : Bool) → port.Idle ≡ seen (if closed then port.Shut else port.Idle)
-quiet_state true = refl
-quiet_state false = refl
-
-append_two : (xs ys : List End) (e : End) → xs ++ e ∷ ys ≡ (xs ++ e ∷ []) ++ ys
-append_two [] ys e = refl
-append_two (x ∷ xs) ys e = ap (λ zs. x ∷ zs) (append_two xs ys e)
 
 -- the queue when the request at its turn has ended, and the withdrawn ones behind it
 pub goes_queue : (s : LineState) (e : End) → moved_by s.queue (ends_with e s.queue) ≡ passed_by (moved s.queue (finish e)) (passed s.queue.marked (drop (length s.queue.ends + 1) s.queue.order))
@@ -98,10 +90,10 @@ module _ (s : LineState) (n : ℕ) (a : View) (reached : IsReached s) (f : Follo
       let there = behind_at k r at in
       let l = long in
       let next : turn_of a.order a.ends ≡ Some r = (λ i. slice_get (f.order i) (l i)) ∙ there in
-      false_from _ (λ h. never (f.marked r (open_at s.queue.order s.queue.ends (length s.queue.ends + 1 + k) r (omega arith) there) h) (go.unmarked r next)))
+      false_from_ne_true _ (λ h. never (f.marked r (open_at s.queue.order s.queue.ends (length s.queue.ends + 1 + k) r (omega arith) there) h) (go.unmarked r next)))
 
   ends_are : a.ends ≡ (s.queue.ends ++ e ∷ []) ++ gone_each (passed s.queue.marked (drop (length s.queue.ends + 1) s.queue.order))
-  ends_are = ends ∙ (append_two s.queue.ends (replicate k Gone) e ∙ ap (λ es. (s.queue.ends ++ e ∷ []) ++ es) (ap (λ m. replicate m Gone) (sym many) ∙ sym (gone_each_is gone)))
+  ends_are = ends ∙ (sym (append_assoc s.queue.ends (e ∷ []) (replicate k Gone)) ∙ ap (λ es. (s.queue.ends ++ e ∷ []) ++ es) (ap (λ m. replicate m Gone) (sym many) ∙ sym (gone_each_is gone)))
 
   -- the next is joined, so the release is not short
   not_short : IsShort a → ⊥
@@ -127,7 +119,7 @@ module _ (s : LineState) (n : ℕ) (a : View) (reached : IsReached s) (f : Follo
   ended_state = record s { queue = passed_by (moved s.queue (finish e)) gone; granted = false; turn = new_turn s.terms.opening.bytes ends_then }
 
   closed_own : has (open_of s.queue.order ((s.queue.ends ++ e ∷ []) ++ gone_each (passed s.queue.marked (drop (length s.queue.ends + 1) s.queue.order)))) (last_of n s.queue.order) ≡ false
-  closed_own = false_from _ (λ h.
+  closed_own = false_from_ne_true _ (λ h.
       let (p, le, at) = place_open s.queue.order ends_then (last_of n s.queue.order) h in
       let same : length s.queue.ends ≡ p = one_place s n a reached f (length s.queue.ends) p (last_of n s.queue.order) turn at in
       let l = long in let z = ap length ends_are in omega arith)
@@ -145,7 +137,7 @@ module _ (s : LineState) (n : ℕ) (a : View) (reached : IsReached s) (f : Follo
         let z = ap length ends_are in
         others_marks s n a reached f r (open_at s.queue.order s.queue.ends p r (omega arith) at) (other_node p r (omega arith) at);
     count = f.count ∙ ap (λ m. count_of m s.queue.order) (sym f.node);
-    state = ap seen own_clear.0 ∙ (quiet ∙ (quiet_state (is_closed ends_then) ∙ sym (ap (λ m. seen (state_of ended_state m)) f.node
+    state = ap seen own_clear.0 ∙ (quiet ∙ (quiet_seen (is_closed ends_then) ∙ sym (ap (λ m. seen (state_of ended_state m)) f.node
         ∙ ap (λ b. seen (if b then (if has s.queue.marked (last_of n s.queue.order) then port.Rolled else port.Queued) else (if is_closed ends_then then port.Shut else port.Idle))) closed_own)));
     asked = λ _. counted s n a reached f (length s.queue.ends) turn;
     turn = λ h. absurd (let no : port.Holding ≡ port.Idle = ap seen (sym h ∙ own_clear.0) ∙ quiet in cc no);

@@ -1,10 +1,12 @@
 -- Laws of requests and of orders of them.
 use Rattle.std.proofs.Common.{◌≡◌, ℕ, zero, suc, ◌+◌, ◌<◌, ◌≤◌, ◌==◌, ◌⊎◌, inl, inr, Bool, true, false, ◌||◌, ◌&&◌, cond, List, [], ◌∷◌, ◌++◌, length, take, Some, slice_get, refl, ap, sym, ◌∙◌, subst, arith}
+use Rattle.std.proofs.Math.Bool.{or-true}
 use Rattle.std.proofs.lemmas.List.Folds.{list_any-append}
 use Rattle.std.proofs.lemmas.List.Sums.{sum_by_push, sum_by-append}
 use Rattle.std.proofs.lemmas.List.{take_all}
 use Rattle.std.proofs.lemmas.Bool.{eqb-true, eq-eqb, ne_eqb, false_from_ne_true, cases_order, cases_eq}
 use Rattle.std.proofs.lemmas.Option.{slice_get_within}
+use mathlib.Core.List.{IsPrefix}
 use Rattle.qolb_model.specs.declared.request.Request.{Request}
 use Rattle.qolb_model.specs.Requests.{is_same, has, Has, Lacks, count_of, last_of}
 use Rattle.qolb_model.proofs.Lists.{never, element_at, push_cases, slice_get-take, take_with, place_of, passes_at}
@@ -51,12 +53,11 @@ has_push xs x r h =
 pub has_left : (xs ys : List Request) (r : Request) → Has xs r → Has (xs ++ ys) r
 has_left xs ys r h = list_any-append (is_same r) xs ys ∙ ap (λ b. b || has ys r) h
 
+pub has_prefix : (xs ys : List Request) (r : Request) → IsPrefix xs ys → Has xs r → Has ys r
+has_prefix xs ys r begins h = subst (λ zs. Has zs r) begins.1 (has_left xs begins.0 r h)
+
 pub has_last : (xs : List Request) (r : Request) → Has (xs ++ r ∷ []) r
-has_last xs r = list_any-append (is_same r) xs (r ∷ []) ∙ (ap (λ b. has xs r || (b || false)) (is_same-self r) ∙ by (has xs r))
-  where
-    by : (b : Bool) → (b || true) ≡ true
-    by true = refl
-    by false = refl
+has_last xs r = list_any-append (is_same r) xs (r ∷ []) ∙ (ap (λ b. has xs r || (b || false)) (is_same-self r) ∙ or-true (has xs r))
 
 -- orders that grow by one request
 pub count_of-push_same : (n : ℕ) (xs : List Request) (r : Request) → r.node ≡ n → count_of n (xs ++ r ∷ []) ≡ count_of n xs + 1

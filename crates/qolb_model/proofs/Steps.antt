@@ -3,6 +3,7 @@ use Rattle.std.proofs.Common.{◌≡◌, ℕ, zero, suc, ◌+◌, ◌-◌, ◌<�
 use Rattle.std.specs.Option.{option_map_or}
 use Rattle.std.proofs.lemmas.List.Folds.{list_any-append}
 use Rattle.std.proofs.lemmas.List.{take-append-le, drop-append-le, take-append-drop, map-append, length-map, length-drop, drop-drop}
+use Rattle.std.proofs.Math.Bool.{or-false}
 use Rattle.std.proofs.Math.Seq.{drop-append_seam}
 use Rattle.std.proofs.lemmas.Bool.{eq-eqb, ne_eqb, or_cases, cases_eq}
 use Rattle.std.proofs.lemmas.Option.{slice_get_within}
@@ -29,7 +30,7 @@ use Rattle.qolb_model.proofs.Histories.{bytes_after-append, bytes_after-gone, go
 use Rattle.qolb_model.proofs.Leases.{turns_left-none, turns_left-same, turns_left-served, served-gone, last-is_one, last_closes}
 use Rattle.line_lanes.proofs.Masked.{merged-self, merged-twice}
 use Rattle.qolb_model.proofs.Runs.{IsTidy, tidy_end, clears_all, has_cleared_none, runs_cleared, passed, unpassed, take_while-passed, passed-unpassed, are_marked-passed, lacks_unpassed, passes_each, passed_by, moved_by-passes, rest_from, runs_passes}
-use Rattle.qolb_model.proofs.Agreed.{AreLast, length-bytes_after, oldest-is_first, is_tidy, last_each, turn_is}
+use Rattle.qolb_model.proofs.Agreed.{AreLast, length-bytes_after, oldest-is_first, is_tidy, last_each, first_turn}
 
 -- a test that fails does not pass
 nothing : {P : Type 0} → false ≡ true → P
@@ -188,7 +189,7 @@ module _ (line : PlainView) (s : LineState) (node : ℕ) (a : Agrees line s) (lo
       by false e = refl
       by true e =
           let lt = (a.reached.held e).0 in
-          let turn : turn_of order_then s.queue.ends ≡ Some (last_of node order_then) = turn_is (joined_by line node) (after_ask s node) agrees_ask node first in
+          let turn : turn_of order_then s.queue.ends ≡ Some (last_of node order_then) = first_turn (after_ask s node).queue node first in
           absurd (other_node (length s.queue.ends) (last_of node order_then) (omega arith) (sym (slice_get-append_left s.queue.order (next_of node s.queue.order ∷ []) (length s.queue.ends) lt) ∙ turn) refl)
 
 -- the entries that are left stand for the requests that are
@@ -249,11 +250,7 @@ module _ (line : PlainView) (s : LineState) (r : Request) (e : End) (a : Agrees 
 
   -- the passed ones do not close the line, and change no byte
   closed_then : is_closed ends_then ≡ is_closed (s.queue.ends ++ e ∷ [])
-  closed_then = is_closed-append (s.queue.ends ++ e ∷ []) (gone_each gone) ∙ (ap (λ b. is_closed (s.queue.ends ++ e ∷ []) || b) (is_closed-gone gone) ∙ plain (is_closed (s.queue.ends ++ e ∷ [])))
-    where
-      plain : (b : Bool) → (b || false) ≡ b
-      plain true = refl
-      plain false = refl
+  closed_then = is_closed-append (s.queue.ends ++ e ∷ []) (gone_each gone) ∙ (ap (λ b. is_closed (s.queue.ends ++ e ∷ []) || b) (is_closed-gone gone) ∙ or-false (is_closed (s.queue.ends ++ e ∷ [])))
 
   bytes_then : bytes_after s.terms.opening.bytes ends_then ≡ bytes_after s.terms.opening.bytes (s.queue.ends ++ e ∷ [])
   bytes_then = bytes_after-append s.terms.opening.bytes (s.queue.ends ++ e ∷ []) (gone_each gone) ∙ bytes_after-gone (bytes_after s.terms.opening.bytes (s.queue.ends ++ e ∷ [])) gone
@@ -348,7 +345,7 @@ looks line s node p a is rest = by p (subst (λ x. Answered (is_first s.queue no
           last_open = a.reached.last_open;
           marks_known = a.reached.marks_known;
           passed = a.reached.passed;
-          held = λ _. (slice_get_within s.queue.order (length s.queue.ends) (last_of node s.queue.order) (turn_is line s a node h.0), h.1);
+          held = λ _. (slice_get_within s.queue.order (length s.queue.ends) (last_of node s.queue.order) (first_turn s.queue node h.0), h.1);
           resting = λ _. refl;
           turn = merged-self (bytes_after s.terms.opening.bytes s.queue.ends) 0 (length-bytes_after s.terms.opening.bytes s.queue.ends a.reached.line);
         };
@@ -356,24 +353,20 @@ looks line s node p a is rest = by p (subst (λ x. Answered (is_first s.queue no
     )
     by poll.Waiting h = (has_cleared_none s.queue, a)
     by poll.Closed h =
-        let turn = turn_is line s a node h.0 in
+        let turn = first_turn s.queue node h.0 in
         let so : EndsAs s.terms.lease s.queue (last_of node s.queue.order) Told = (a.reached.passed (last_of node s.queue.order) turn, h.1) in (
           runs_end line s (last_of node s.queue.order) Told a turn so,
           agrees_end line s (last_of node s.queue.order) Told a turn so line.closed line.left
-              (a.closed ∙ sym (is_closed-append s.queue.ends (Told ∷ []) ∙ plain (is_closed s.queue.ends)))
+              (a.closed ∙ sym (is_closed-append s.queue.ends (Told ∷ []) ∙ or-false (is_closed s.queue.ends)))
               (a.left ∙ sym (turns_left-same s.terms.lease s.queue.ends (Told ∷ []) refl))
               (bytes_after-append s.terms.opening.bytes s.queue.ends (Told ∷ []) ∙ sym (ap (λ t. t.bytes.bytes) (a.reached.resting (rest h.0)))),
         )
-      where
-        plain : (b : Bool) → (b || false) ≡ b
-        plain true = refl
-        plain false = refl
 
 -- the holder releases
 pub releases : (line : PlainView) (s : LineState) (node : ℕ) (shut : Bool) → Agrees line s → s.granted ≡ true → is_first s.queue node ≡ true
     → Runs s.terms s.queue (release_moves s shut) (after_release s shut).queue × Agrees (turn_served shut line) (after_release s shut)
 releases line s node shut a holds first =
-    let turn = turn_is line s a node first in
+    let turn = first_turn s.queue node first in
     let open_line = (a.reached.held holds).1 in
     let closing : Bool = closes s.terms.lease s.queue.ends shut in
     let e : End = Served s.turn closing in
@@ -382,14 +375,10 @@ releases line s node shut a holds first =
     let last : is_one line.left ≡ is_last_turn s.terms.lease s.queue.ends = ap is_one a.left ∙ last-is_one s.terms.lease s.queue.ends in (
       runs_end line s (last_of node s.queue.order) e a turn so,
       agrees_end line s (last_of node s.queue.order) e a turn so (line.closed || (shut || is_one line.left)) (one_fewer line.left)
-          ((λ i. a.closed i || (shut || last i)) ∙ sym (is_closed-append s.queue.ends (e ∷ []) ∙ ap (λ b. is_closed s.queue.ends || b) (plain closing)))
+          ((λ i. a.closed i || (shut || last i)) ∙ sym (is_closed-append s.queue.ends (e ∷ []) ∙ ap (λ b. is_closed s.queue.ends || b) (or-false closing)))
           (ap one_fewer a.left ∙ sym (turns_left-served s.terms.lease s.queue.ends s.turn closing))
           (bytes_after-append s.terms.opening.bytes s.queue.ends (e ∷ []) ∙ a.reached.turn),
     )
-  where
-    plain : (b : Bool) → (b || false) ≡ b
-    plain true = refl
-    plain false = refl
 
 -- a node that waits behind another withdraws
 module _ (line : PlainView) (s : LineState) (node : ℕ) (a : Agrees line s) (stands : is_open s.queue node ≡ true) (unmarked : has s.queue.marked (last_of node s.queue.order) ≡ false) (behind_one : is_first s.queue node ≡ false) where
@@ -436,13 +425,9 @@ module _ (line : PlainView) (s : LineState) (node : ℕ) (a : Agrees line s) (st
       by (inr ne) =
           let apart : is_same x last ≡ false = ap (λ b. b && (x.number == last.number)) (ne_eqb x.node node ne) in
           let kept : has marked_then x ≡ has s.queue.marked x =
-          list_any-append (is_same x) s.queue.marked (last ∷ []) ∙ (ap (λ b. has s.queue.marked x || (b || false)) apart ∙ plain (has s.queue.marked x)) in
+          list_any-append (is_same x) s.queue.marked (last ∷ []) ∙ (ap (λ b. has s.queue.marked x || (b || false)) apart ∙ or-false (has s.queue.marked x)) in
           ap (λ b. if b then record (waiter_of s.queue.marked x) { withdrawn = true } else waiter_of s.queue.marked x) (ne_eqb x.node node ne)
           ∙ ap (λ b. let w : Waiter = record { node = x.node; withdrawn = b } in w) (sym kept)
-        where
-          plain : (b : Bool) → (b || (false || false)) ≡ b
-          plain true = refl
-          plain false = refl
 
   -- so all entries do
   entries_then : (xs : List Request) → AreLast s.queue.order xs → map (withdrawn_at node) (map (waiter_of s.queue.marked) xs) ≡ map (waiter_of marked_then) xs

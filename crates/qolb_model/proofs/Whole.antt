@@ -8,7 +8,7 @@ use Rattle.qolb_model.specs.OneOwner.{LineState}
 use Rattle.qolb_model.specs.Plain.{IsReached}
 use Rattle.qolb_model.specs.Whole.{Stance, KnowsWhole, AreWhole}
 use Rattle.qolb_model.specs.Rounds.{MeetsOthers}
-use Rattle.qolb_model.proofs.Lists.{element_at, same_some, slice_get-append_left}
+use Rattle.qolb_model.proofs.Lists.{element_at, same_some, slice_get-append_left, slice_get-middle}
 use Rattle.qolb_model.proofs.Prefixes.{prefix_self}
 use Rattle.qolb_model.proofs.Bounds.{Bounds, IsAfter}
 use Rattle.qolb_model.proofs.Leaving.{Leaves}
@@ -30,10 +30,6 @@ get_set_other (y ∷ xs) (suc i) (suc k) x ne = get_set_other xs i k x (λ e. ne
 -- elements of a list before an element, at it, and behind it
 get_before : {X : Type 0} (xs : List X) (x : X) (ys : List X) (i : ℕ) (y : X) → slice_get xs i ≡ Some y → slice_get (xs ++ x ∷ ys) i ≡ Some y
 get_before xs x ys i y at = slice_get-append_left xs (x ∷ ys) i (slice_get_within xs i y at) ∙ at
-
-get_at : {X : Type 0} (xs : List X) (x : X) (ys : List X) → slice_get (xs ++ x ∷ ys) (length xs) ≡ Some x
-get_at [] x ys = refl
-get_at (z ∷ xs) x ys = get_at xs x ys
 
 get_behind : {X : Type 0} (xs : List X) (x : X) (ys : List X) (i : ℕ) → slice_get (xs ++ x ∷ ys) (length xs + 1 + i) ≡ slice_get ys i
 get_behind [] x ys i = let e : 0 + 1 + i ≡ suc i = omega arith in ap (slice_get (x ∷ ys)) e
@@ -66,7 +62,7 @@ module _ (allows : List ℕ → List ℕ → Type 0) (s : LineState) (place : �
   second_at i w at = ap (λ xs. slice_get xs (place + 1 + i)) m.was ∙ (ap (λ k. slice_get (m.before ++ m.port ∷ m.behind) (k + 1 + i)) (sym m.at) ∙ (get_behind m.before m.port m.behind i ∙ at))
 
   acting_is : m.port ≡ a
-  acting_is = same_some (sym (get_at m.before m.port m.behind) ∙ (ap (λ k. slice_get (m.before ++ m.port ∷ m.behind) k) m.at ∙ (ap (λ xs. slice_get xs place) (sym m.was) ∙ c.acting)))
+  acting_is = same_some (sym (slice_get-middle m.before m.port m.behind) ∙ (ap (λ k. slice_get (m.before ++ m.port ∷ m.behind) k) m.at ∙ (ap (λ xs. slice_get xs place) (sym m.was) ∙ c.acting)))
 
   long : length ports ≡ place + 1 + length m.behind
   long = let x = ap length m.was in let y = length-append m.before (m.port ∷ m.behind) in let z = m.at in omega arith
@@ -115,7 +111,7 @@ module _ (allows : List ℕ → List ℕ → Type 0) (s : LineState) (place : �
       let each : (i : ℕ) (w : Stance) → slice_get new i ≡ Some w → (w.view.node ≡ i + 1) × KnowsWhole t w = λ i w at.
       elim (cases_order i place) [
         | inl same ↦ (
-            let is : Some m.port_then ≡ Some w = sym (get_at m.before_then m.port_then m.behind_then) ∙ (ap (λ k. slice_get (m.before_then ++ m.port_then ∷ m.behind_then) k) (at_then ∙ sym same) ∙ (ap (λ xs. slice_get xs i) (sym m.is) ∙ at)) in
+            let is : Some m.port_then ≡ Some w = sym (slice_get-middle m.before_then m.port_then m.behind_then) ∙ (ap (λ k. slice_get (m.before_then ++ m.port_then ∷ m.behind_then) k) (at_then ∙ sym same) ∙ (ap (λ xs. slice_get xs i) (sym m.is) ∙ at)) in
             (sym (ap (λ x. x.view.node) (same_some is)) ∙ (last_node ∙ ap (λ k. k + 1) (sym same)), subst (λ x. KnowsWhole t x) (same_some is) last))
         | inr (inl less) ↦ (
             let there : slice_get m.before_then i ≡ Some w = sym (slice_get-append_left m.before_then (m.port_then ∷ m.behind_then) i (omega (arith, less, at_then))) ∙ (ap (λ xs. slice_get xs i) (sym m.is) ∙ at) in

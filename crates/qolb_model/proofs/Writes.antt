@@ -25,10 +25,6 @@ pub bytes_after-release : (bytes : List ℕ) (ends : List End) (write : Write) (
 bytes_after-release bytes ends write shut passed =
     bytes_after-append bytes ends (Served write shut ∷ replicate passed Gone) ∙ bytes_after-passed (written (bytes_after bytes ends) write) passed
 
--- and one that is told leaves the bytes as they were
-pub bytes_after-told : (bytes : List ℕ) (ends : List End) (passed : ℕ) → bytes_after bytes (ends ++ Told ∷ replicate passed Gone) ≡ bytes_after bytes ends
-bytes_after-told bytes ends passed = bytes_after-append bytes ends (Told ∷ replicate passed Gone) ∙ bytes_after-passed (bytes_after bytes ends) passed
-
 -- what is good at the opening stays good under turns that keep the law
 pub good_after :
     (good : List ℕ → Type 0) (allows : List ℕ → List ℕ → Type 0)

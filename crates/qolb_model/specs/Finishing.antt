@@ -8,6 +8,7 @@ use Rattle.qolb_model.specs.PortStates.{may_ask}
 use Rattle.qolb_model.specs.Ends.{bytes_after}
 use Rattle.qolb_model.specs.OneHistory.{IsAmong, OneHistory}
 use Rattle.qolb_model.specs.Kept.{AreAllowed}
+use Rattle.qolb_model.specs.Opening.{MayOpen}
 
 -- all ports have this label; and some port has another
 abbrev pub AreOfLine : ℕ → List View → Type 0
@@ -45,18 +46,23 @@ pub record IsLeast (nodes : ℕ) (Fails IsFine : ℕ → Type 0) (node : ℕ) : 
   pub fails : Fails node
   pub before : (m : ℕ) → 1 ≤ m → m < node → IsFine m
 
+-- with these ports nothing but want of memory is in the way: they are of the line, each node has one, and none waits or holds
+abbrev pub MayFinish : ℕ → ℕ → List View → Type 0
+MayFinish label nodes views = AreOfLine label views × EachNode nodes (IsThere views) × EachNode nodes (IsQuiet views)
+
 -- why a line may be refused, the first cause that stands: a port of another line; a node without a port; a node that is not
 -- quiet; and only where nothing else stands, want of memory
 abbrev pub MayRefuse : ℕ → ℕ → List View → FinishError → Type 0
 MayRefuse label nodes views (Missing zero) = HasOther label views
 MayRefuse label nodes views (Missing (suc n)) = AreOfLine label views × IsLeast nodes (IsMissing views) (IsThere views) (suc n)
 MayRefuse label nodes views (Unquiet n) = AreOfLine label views × EachNode nodes (IsThere views) × IsLeast nodes (IsUnquiet views) (IsQuiet views) n
-MayRefuse label nodes views Memory = AreOfLine label views × EachNode nodes (IsThere views) × EachNode nodes (IsQuiet views)
+MayRefuse label nodes views Memory = MayFinish label nodes views
 
 -- finished: no cause of refusal stands, and each node has one port; all ports are of one history of the line, in which every request has
 -- ended and every turn kept the law; and the bytes are the opening ones changed by all its served writes in order, and good
 pub record IsFinished (good : List ℕ → Type 0) (allows : List ℕ → List ℕ → Type 0) (label : ℕ) (terms : Terms) (views : List View) (bytes : List ℕ) : Type 0 where
   pub of_line : AreOfLine label views
+  pub may_open : MayOpen terms
   pub there : EachNode terms.nodes (IsThere views)
   pub once : EachNodeOnce views
   pub quiet : EachNode terms.nodes (IsQuiet views)

@@ -1,7 +1,7 @@
 //! The reference line: one owner, no threads, no memory.
 ghost use Rattle.std.specs.Prelude.{◌≡◌, ◌≢◌, ℕ, ◌≤◌, Bool, true, false, IsTrue, IfOk, IfErr, MatchResult, ◌<◌, length, map, find, Option, Some, None};
 ghost use Rattle.qolb_model.specs.Queue.{Runs};
-ghost use Rattle.qolb_model.specs.OneOwner.{LineState, opened, state_of, shown, enq_answer, enq_moves, after_enq, poll_answer, poll_moves, after_poll, out_answer, out_moves, after_out, release_moves, after_release, after_write};
+ghost use Rattle.qolb_model.specs.OneOwner.{LineState, opened, state_of, shown, enq_answer, enq_moves, after_enq, poll_answer, poll_moves, after_poll, as_enq, out_answer, out_moves, after_out, release_moves, after_release, after_write};
 ghost use Rattle.qolb_model.specs.declared.terms.Terms.{Terms};
 ghost use Rattle.qolb_model.specs.PortStates.{may_ask};
 ghost use Rattle.qolb_model.specs.Leases.{turns_left};
@@ -23,7 +23,8 @@ const ROOM: usize = MOST_NODES as usize;
 /// A line that is called by one owner, on behalf of nodes 1 to `nodes`.
 ///
 /// Every call's contract is the run of the queue machine that the table of answers gives for it: from each state that agrees
-/// with the line, to one that agrees again. Calls take no memory.
+/// with the line, to one that agrees again. Calls take no memory: the line has room for all nodes to wait, 16 bytes for each, and so
+/// is some 3,300 bytes large.
 #[derive(Drop)]
 pub struct PlainLine {
     turn: Write,
@@ -70,7 +71,8 @@ impl PlainLine {
         })
     }
 
-    fn with_terms(terms: Terms) -> Result<PlainLine, OpenError>
+    /// The same, for these terms.
+    pub fn with_terms(terms: Terms) -> Result<PlainLine, OpenError>
         ensures { MatchResult result (λ line. Agrees line (opened terms)) (λ error. (error ≢ OpenError.Memory) × MayNotOpen terms error) }
     {
         terms.check()?;
@@ -145,11 +147,7 @@ impl PlainLine {
             node,
             withdrawn: false,
         });
-        match self.look(node) {
-            Poll::Granted => Enq::Granted,
-            Poll::Waiting => Enq::Queued,
-            Poll::Closed => Enq::Closed,
-        }
+        as_enq(self.look(node))
     }
 
     /// The node that waits looks whether it has come to its turn.
@@ -257,6 +255,17 @@ impl PlainLine {
     }
 }
 
+/// What one that asks is answered, by what it then finds.
+fn as_enq(found: Poll) -> Enq
+    ensures { result ≡ as_enq found }
+{
+    match found {
+        Poll::Granted => Enq::Granted,
+        Poll::Waiting => Enq::Queued,
+        Poll::Closed => Enq::Closed,
+    }
+}
+
 /// Passes the withdrawn ones at the front.
 fn pass(waiting: &mut ArrayVec<Waiter, ROOM>)
     ensures { waiting.new.items ≡ after_withdrawn waiting.old.items }
@@ -357,11 +366,88 @@ mod tests {
     }
 
     #[test]
+    fn last_turn_of_a_lease_closes_the_line(rt: HostRuntime) -> Result<(), Fail> {
+        let mut line = PlainLine::open_leased(2, Line64::zero(), 2)?;
+        expect_state(&rt, &line, 1, PortState::Idle);
+        assert_eq!(rt; line.enqolb(1), Enq::Granted);
+        expect_state(&rt, &line, 1, PortState::Holding);
+        let mut bytes = [0; 64];
+        bytes[0] = 0x07;
+        line.write(1, Mask(0b1), &Line64::from_bytes(bytes));
+        expect_state(&rt, &line, 2, PortState::Idle);
+        assert_eq!(rt; line.enqolb(2), Enq::Queued);
+        expect_state(&rt, &line, 1, PortState::Holding);
+        assert_eq!(rt; line.turns_left(1), Some(2));
+        line.deqolb(1);
+
+        expect_state(&rt, &line, 2, PortState::Queued);
+        assert_eq!(rt; line.poll(2), Poll::Granted);
+        expect_state(&rt, &line, 2, PortState::Holding);
+        assert_eq!(rt; line.turns_left(2), Some(1));
+        assert_eq!(rt; line.bytes(2).to_bytes()[0], 0x07);
+        expect_state(&rt, &line, 1, PortState::Idle);
+        assert_eq!(rt; line.enqolb(1), Enq::Queued);
+        expect_state(&rt, &line, 2, PortState::Holding);
+        line.deqolb(2);
+
+        expect_state(&rt, &line, 1, PortState::Queued);
+        assert_eq!(rt; line.poll(1), Poll::Closed);
+        expect_state(&rt, &line, 2, PortState::Shut);
+        assert_eq!(rt; line.enqolb(2), Enq::Closed);
+        Ok(())
+    }
+
+    #[test]
+    fn withdrawn_request_uses_no_turn(rt: HostRuntime) -> Result<(), Fail> {
+        let mut line = PlainLine::open_leased(3, Line64::zero(), 2)?;
+        expect_state(&rt, &line, 1, PortState::Idle);
+        assert_eq!(rt; line.enqolb(1), Enq::Granted);
+        expect_state(&rt, &line, 2, PortState::Idle);
+        assert_eq!(rt; line.enqolb(2), Enq::Queued);
+        expect_state(&rt, &line, 3, PortState::Idle);
+        assert_eq!(rt; line.enqolb(3), Enq::Queued);
+        expect_state(&rt, &line, 2, PortState::Queued);
+        assert_eq!(rt; line.withdraw(2), Out::Withdrawn);
+        expect_state(&rt, &line, 1, PortState::Holding);
+        line.deqolb(1);
+
+        expect_state(&rt, &line, 3, PortState::Queued);
+        assert_eq!(rt; line.poll(3), Poll::Granted);
+        expect_state(&rt, &line, 3, PortState::Holding);
+        assert_eq!(rt; line.turns_left(3), Some(1));
+        Ok(())
+    }
+
+    #[test]
+    fn line_without_a_lease_counts_no_turns(rt: HostRuntime) -> Result<(), Fail> {
+        let mut line = PlainLine::open(33, Line64::zero())?;
+        expect_state(&rt, &line, 33, PortState::Idle);
+        assert_eq!(rt; line.enqolb(33), Enq::Granted);
+        expect_state(&rt, &line, 33, PortState::Holding);
+        assert_eq!(rt; line.turns_left(33), None);
+        Ok(())
+    }
+
+    #[test]
     fn lines_have_one_to_200_nodes(rt: HostRuntime) {
-        for (nodes, opens) in [(0, false), (1, true), (200, true), (201, false)] {
+        for (nodes, opens) in [(0, false), (1, true), (33, true), (200, true), (201, false)] {
             let refused = PlainLine::open(nodes, Line64::zero()).err();
             let want = if opens { None } else { Some(OpenError::Nodes) };
             assert_eq!(rt; refused, want, "{nodes} nodes");
+        }
+    }
+
+    #[test]
+    fn nodes_are_refused_before_the_lease(rt: HostRuntime) {
+        for (nodes, lease, want) in [
+            (0, 0, Some(OpenError::Nodes)),
+            (1, 0, Some(OpenError::Lease)),
+            (201, 1, Some(OpenError::Nodes)),
+            (1, 1, None),
+            (200, u64::MAX, None),
+        ] {
+            let refused = PlainLine::open_leased(nodes, Line64::zero(), lease).err();
+            assert_eq!(rt; refused, want, "{nodes} nodes, a lease of {lease}");
         }
     }
 }
