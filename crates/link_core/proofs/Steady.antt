@@ -6,7 +6,8 @@ use Rattle.qolb_model.specs.declared.terms.Terms.{Terms}
 use Rattle.qolb_model.specs.declared.terms.TheConstants.{MOST_NODES}
 use Rattle.link_core.specs.declared.state.TheConstants.{PLACES}
 use Rattle.qolb_model.specs.Histories.{IsLegal}
-use Rattle.qolb_model.specs.Queue.{Queue, Move, empty_queue}
+use Rattle.qolb_model.specs.Queue.{Queue, Move, ask, mark, finish, empty_queue}
+use Rattle.qolb_model.specs.declared.request.Request.{Request}
 use Rattle.qolb_model.proofs.Histories.{legal_moved}
 use Rattle.link_core.specs.declared.told.NotEnabled.{NotEnabled}
 use Rattle.link_core.specs.declared.told.Told.{Told as Answer}
@@ -14,7 +15,7 @@ use Rattle.link_core.specs.declared.event.Event.{Event}
 use Rattle.link_core.specs.State.{State, IsWide, Seat, empty, unused, seat, point, first}
 use Rattle.link_core.specs.declared.point.Point.TheVariants.{Idle, Granting}
 use Rattle.link_core.specs.Steps.{Step, IsRefused}
-use Rattle.link_core.specs.Moves.{move_of, MayMake, made, Goes}
+use Rattle.link_core.specs.Moves.{move_of, may_clear, MayMake, made, Goes}
 use Rattle.link_core.specs.Shown.{Shows}
 use Rattle.link_core.specs.Promise.{Keeps, IsSound, Run, Stops, opened, event}
 use Rattle.link_core.proofs.Open.{seat_first, first_matches}
@@ -54,6 +55,22 @@ step_shows terms c q w s {e} {t} {d} k =
       uncleared = on.uncleared;
       spared = spared terms c q w s.matches k _ on;
     }
+
+-- a move changes no clear list
+made_clear : (q : Queue) (m : Option Move) → (made q m).clear ≡ q.clear
+made_clear q None = refl
+made_clear q (Some (ask n)) = refl
+made_clear q (Some (mark r)) = refl
+made_clear q (Some (finish x)) = refl
+
+-- what is kept is the queue after the move, but for the clear list; and all of it where nothing is cleared
+pub after_is : {terms : Terms} {c : State} {e : Event} {t : Answer} {d : State} {k : Step c e t d} {q : Queue} (on : Keeps terms c e t d k q) → on.after ≡ record (made q (move_of k q.order)) { clear = on.after.clear }
+after_is {k = k} {q = q} on =
+    let e : on.after.clear ≡ on.goes.cleared.0 = ap (λ (g : Queue). g.clear) on.goes.cleared.2 in
+    on.goes.cleared.2 ∙ ap (λ (clear : List Request). record (made q (move_of k q.order)) { clear = clear }) (sym e)
+
+pub after_made : {terms : Terms} {c : State} {e : Event} {t : Answer} {d : State} {k : Step c e t d} {q : Queue} (on : Keeps terms c e t d k q) → may_clear e (move_of k q.order) ≡ false → on.after ≡ made q (move_of k q.order)
+after_made {k = k} {q = q} on f = after_is on ∙ ap (λ (clear : List Request). record (made q (move_of k q.order)) { clear = clear }) (on.uncleared f ∙ sym (made_clear q (move_of k q.order)))
 
 pub first_shows : (terms : Terms) → length terms.opening.bytes ≡ 64 → Shows terms (first terms) empty_queue
 first_shows terms long = record {
