@@ -107,6 +107,16 @@ module _ {c d : State} {n : ℕ} {s : Seat} {k : ℕ} {w : Entry} (ch : Changed 
       by (x ∷ xs) z = own_same f (ap (λ (t : Seat). t.passed) e ∙ ap (λ (ps : List ℕ). (seat_with ps p (seat c n).reason).passed) z ∙ sym z)
           (λ m y. let q : Freeing ≡ Granting m = sym (ap (λ (t : Seat). t.point) e ∙ ap (λ (ps : List ℕ). (seat_with ps p (seat c n).reason).point) z) ∙ y in cc)
 
+  -- so the chains are kept where the seat keeps its passed nodes, has none, or goes on to its end
+  pub chained_same : Grows (entry c k) w → s.passed ≡ (seat c n).passed → ((m : ℕ) → s.point ≢ Granting m) → IsChained d
+  chained_same f e ne = chained_grows f (own_same f e (λ m z. absurd (ne m z)))
+
+  pub chained_none : Grows (entry c k) w → s.passed ≡ [] → ((m : ℕ) → s.point ≢ Granting m) → IsChained d
+  chained_none f e ne = chained_grows f (own_none e ne)
+
+  pub chained_close : Grows (entry c k) w → (p : Point) → ((m : ℕ) → p ≢ Granting m) → s ≡ seat_at_close p (seat c n) → IsChained d
+  chained_close f p ne e = chained_grows f (own_close f p ne e)
+
 grows_done : (v : Entry) → Grows v (done v)
 grows_done v = record { link = λ f. f; done = λ f. refl }
 
@@ -166,9 +176,7 @@ module _ (terms : Terms) (c : State) (h : Queue) (w : IsWide c) (s : Matches ter
       rolled (inr f) g = let z : Shut ≡ Rolled = sym f ∙ g in cc
 
   close_chained : (n : ℕ) → IsNode c n → IsChained (closed_by n c)
-  close_chained n b =
-      let ch = moved_seat c c.home c.place true c.mask c.left n (record (seat c n) { point = Leaving n; reason = Closing }) w b in
-      chained_grows ch b a (grows_same (entry c n)) (own_same ch b a (grows_same (entry c n)) refl (λ m e. let z : Leaving n ≡ Granting m = e in cc))
+  close_chained n b = chained_same (moved_seat c c.home c.place true c.mask c.left n _ w b) b a (grows_same (entry c n)) refl (λ m e. let z : Leaving n ≡ Granting m = e in cc)
 
   pub step_chained : {e : Event} {t : Answer} {d : State} → Step c e t d → IsChained d
   step_chained (row.reset n b at) =
@@ -179,55 +187,25 @@ module _ (terms : Terms) (c : State) (h : Queue) (w : IsWide c) (s : Matches ter
         | inl f ↦ ap (λ (p : Point). has_line p || is_freeing p) f
         | inr f ↦ ap (λ (p : Point). has_line p || is_freeing p) f
       ])) (λ m e. let z : Ready ≡ Granting m = e in cc))
-  step_chained (row.prepend_first n b at e) =
-      let ch = moved_seat c n (Hand n) c.closed no_mask c.left n (seat_at_arrival n c.closed) w b in
-      chained_grows ch b a (grows_same (entry c n)) (own_none ch b a (arrival_passed n c.closed) (arrival_point n c.closed))
-  step_chained (row.prepend n b at ne) =
-      let ch = moved_seat c n c.place c.closed c.mask c.left n (record (seat c n) { point = Linking c.home }) w b in
-      chained_grows ch b a (grows_same (entry c n)) (own_same ch b a (grows_same (entry c n)) refl (λ m e. let z : Linking c.home ≡ Granting m = e in cc))
-  step_chained (row.link_done n p b at dn) =
-      let ch = moved_both c c.home (Hand n) c.closed no_mask c.left n (seat_at_arrival n c.closed) p (linked (entry c p) n) w b (sits_at s n (Linking p) b at).node in
-      chained_grows ch b a (grows_linked (entry c p) n b.0) (own_none ch b a (arrival_passed n c.closed) (arrival_point n c.closed))
-  step_chained (row.link n p b at dn) =
-      let ch = changed_both c n (record (seat c n) { point = Queued }) p (linked (entry c p) n) w b (sits_at s n (Linking p) b at).node in
-      chained_grows ch b a (grows_linked (entry c p) n b.0) (own_same ch b a (grows_linked (entry c p) n b.0) refl (λ m e. let z : Queued ≡ Granting m = e in cc))
-  step_chained (row.load_granted n b at gr) =
-      let ch = moved_seat c c.home (Hand n) c.closed no_mask c.left n (seat_at_arrival n c.closed) w b in
-      chained_grows ch b a (grows_same (entry c n)) (own_none ch b a (arrival_passed n c.closed) (arrival_point n c.closed))
+  step_chained (row.prepend_first n b at e) = chained_none (moved_seat c n (Hand n) c.closed no_mask c.left n _ w b) b a (grows_same (entry c n)) (arrival_passed n c.closed) (arrival_point n c.closed)
+  step_chained (row.prepend n b at ne) = chained_same (moved_seat c n c.place c.closed c.mask c.left n _ w b) b a (grows_same (entry c n)) refl (λ m e. let z : Linking c.home ≡ Granting m = e in cc)
+  step_chained (row.link_done n p b at dn) = chained_none (moved_both c c.home (Hand n) c.closed no_mask c.left n _ p _ w b (sits_at s n (Linking p) b at).node) b a (grows_linked (entry c p) n b.0) (arrival_passed n c.closed) (arrival_point n c.closed)
+  step_chained (row.link n p b at dn) = chained_same (changed_both c n _ p _ w b (sits_at s n (Linking p) b at).node) b a (grows_linked (entry c p) n b.0) refl (λ m e. let z : Queued ≡ Granting m = e in cc)
+  step_chained (row.load_granted n b at gr) = chained_none (moved_seat c c.home (Hand n) c.closed no_mask c.left n _ w b) b a (grows_same (entry c n)) (arrival_passed n c.closed) (arrival_point n c.closed)
   step_chained (row.load_waiting n b at un) = a
-  step_chained (row.load_free n b at fr) =
-      let ch = changed_seat c n (record (seat c n) { point = Idle }) w b in
-      chained_grows ch b a (grows_same (entry c n)) (own_same ch b a (grows_same (entry c n)) refl (λ m e. let z : Idle ≡ Granting m = e in cc))
+  step_chained (row.load_free n b at fr) = chained_same (changed_seat c n _ w b) b a (grows_same (entry c n)) refl (λ m e. let z : Idle ≡ Granting m = e in cc)
   step_chained (row.load_busy n b at un) = a
-  step_chained (row.home n x b r f) =
-      let ch = moved_seat c 0 Home c.closed c.mask (turns_after n c) n (seat_at_close (point_at_end (seat c n).reason) (seat c n)) w b in
-      chained_grows ch b a (grows_same (entry c n)) (own_close ch b a (grows_same (entry c n)) (point_at_end (seat c n).reason) (end_point (seat c n).reason) refl)
-  step_chained (row.home_failed n x b r ne) =
-      let ch = changed_seat c n (record (seat c n) { point = Marking x }) w b in
-      chained_grows ch b a (grows_same (entry c n)) (own_same ch b a (grows_same (entry c n)) refl (λ m e. let z : Marking x ≡ Granting m = e in cc))
-  step_chained (row.home_last n b at l f) =
-      let c1 : State = closed_by n c in
-      let ch = moved_seat c1 0 Home c1.closed c1.mask (turns_after n c1) n (seat_at_close (point_at_end (seat c1 n).reason) (seat c1 n)) (closed_wide c n w) b in
-      let a1 = close_chained n b in
-      chained_grows ch b a1 (grows_same (entry c n)) (own_close ch b a1 (grows_same (entry c n)) (point_at_end (seat c1 n).reason) (end_point (seat c1 n).reason) refl)
-  step_chained (row.home_last_failed n b at l ne) =
-      let c1 : State = closed_by n c in
-      let ch = changed_seat c1 n (record (seat c1 n) { point = Marking n }) (closed_wide c n w) b in
-      let a1 = close_chained n b in
-      chained_grows ch b a1 (grows_same (entry c n)) (own_same ch b a1 (grows_same (entry c n)) refl (λ m e. let z : Marking n ≡ Granting m = e in cc))
-  step_chained (row.done_left n x b at un f) =
-      let ch = moved_both c c.home (Mailbox x) c.closed c.mask (turns_after n c) n (seat_at_close Left (seat c n)) x (done (entry c x)) w b (marked_node s b at) in
-      chained_grows ch b a (grows_done (entry c x)) (own_close ch b a (grows_done (entry c x)) Left (λ m e. let z : Left ≡ Granting m = e in cc) refl)
-  step_chained (row.done_rolled n x b at un ne) =
-      let ch = moved_both c c.home (Mailbox x) c.closed c.mask (turns_after n c) n (seat_at_close (point_at_end (seat c n).reason) (seat c n)) x (done (entry c x)) w b (marked_node s b at) in
-      chained_grows ch b a (grows_done (entry c x)) (own_close ch b a (grows_done (entry c x)) (point_at_end (seat c n).reason) (end_point (seat c n).reason) refl)
+  step_chained (row.home n x b r f) = chained_close (moved_seat c 0 Home c.closed c.mask (turns_after n c) n _ w b) b a (grows_same (entry c n)) (point_at_end (seat c n).reason) (end_point (seat c n).reason) refl
+  step_chained (row.home_failed n x b r ne) = chained_same (changed_seat c n _ w b) b a (grows_same (entry c n)) refl (λ m e. let z : Marking x ≡ Granting m = e in cc)
+  step_chained (row.home_last n b at l f) = chained_close (moved_seat (closed_by n c) 0 Home (closed_by n c).closed (closed_by n c).mask (turns_after n (closed_by n c)) n _ (closed_wide c n w) b) b (close_chained n b) (grows_same (entry c n)) (point_at_end (seat (closed_by n c) n).reason) (end_point (seat (closed_by n c) n).reason) refl
+  step_chained (row.home_last_failed n b at l ne) = chained_same (changed_seat (closed_by n c) n _ (closed_wide c n w) b) b (close_chained n b) (grows_same (entry c n)) refl (λ m e. let z : Marking n ≡ Granting m = e in cc)
+  step_chained (row.done_left n x b at un f) = chained_close (moved_both c c.home (Mailbox x) c.closed c.mask (turns_after n c) n _ x _ w b (marked_node s b at)) b a (grows_done (entry c x)) Left (λ m e. let z : Left ≡ Granting m = e in cc) refl
+  step_chained (row.done_rolled n x b at un ne) = chained_close (moved_both c c.home (Mailbox x) c.closed c.mask (turns_after n c) n _ x _ w b (marked_node s b at)) b a (grows_done (entry c x)) (point_at_end (seat c n).reason) (end_point (seat c n).reason) refl
   step_chained {d = d} (row.done_linked n x b at ne) =
       let ch = changed_both c n (record (seat c n) { point = Granting (entry c x).link }) x (done (entry c x)) w b (marked_node s b at) in
       let cur : current c n ≡ x = (sits_at s n (Marking x) b at).0.is in
       chained_grows ch b a (grows_done (entry c x)) (own_same ch b a (grows_done (entry c x)) refl (λ m e. ap (λ (y : ℕ). (entry d y).done) cur ∙ ap (λ (v : Entry). v.done) ch.entry_own))
-  step_chained (row.grant n m b at un) =
-      let ch = moved_both c c.home (Mailbox m) c.closed c.mask (turns_after n c) n (seat_at_close (point_at_end (seat c n).reason) (seat c n)) m (grants (entry c m)) w b (node_m s b at) in
-      chained_grows ch b a (grows_granted (entry c m)) (own_close ch b a (grows_granted (entry c m)) (point_at_end (seat c n).reason) (end_point (seat c n).reason) refl)
+  step_chained (row.grant n m b at un) = chained_close (moved_both c c.home (Mailbox m) c.closed c.mask (turns_after n c) n _ m _ w b (node_m s b at)) b a (grows_granted (entry c m)) (point_at_end (seat c n).reason) (end_point (seat c n).reason) refl
   step_chained (row.grant_rolled n m b at ro) =
       let ch = moved_both c c.home c.place c.closed c.mask (turns_after n c) n (seat_passing c n m) m (grants (entry c m)) w b (node_m s b at) in
       let ps : List ℕ = (seat c n).passed in
@@ -242,12 +220,8 @@ module _ (terms : Terms) (c : State) (h : Queue) (w : IsWide c) (s : Matches ter
             ]);
         done = λ x e. let z : Leaving m ≡ Granting x = e in cc;
       })
-  step_chained (row.roll_granted n b at gr) =
-      let ch = moved_both c c.home (Hand n) c.closed no_mask c.left n (seat_at_arrival n c.closed) n (rolls (entry c n)) w b b in
-      chained_grows ch b a (grows_rolled (entry c n)) (own_none ch b a (arrival_passed n c.closed) (arrival_point n c.closed))
-  step_chained (row.roll n b at un) =
-      let ch = changed_both c n (record (seat c n) { point = Rolled }) n (rolls (entry c n)) w b b in
-      chained_grows ch b a (grows_rolled (entry c n)) (own_same ch b a (grows_rolled (entry c n)) refl (λ m e. let z : Rolled ≡ Granting m = e in cc))
+  step_chained (row.roll_granted n b at gr) = chained_none (moved_both c c.home (Hand n) c.closed no_mask c.left n _ n _ w b b) b a (grows_rolled (entry c n)) (arrival_passed n c.closed) (arrival_point n c.closed)
+  step_chained (row.roll n b at un) = chained_same (changed_both c n _ n _ w b b) b a (grows_rolled (entry c n)) refl (λ m e. let z : Rolled ≡ Granting m = e in cc)
   step_chained (row.freed n x rest b at ps) =
       let ch = changed_both c n (seat_with rest (point_at_end (seat c n).reason) (seat c n).reason) x (frees (entry c x)) w b (freed_node n x rest s b ps) in
       chained_grows ch b a (grows_freed (entry c x)) (record {

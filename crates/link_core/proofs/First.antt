@@ -19,7 +19,8 @@ use Rattle.link_core.proofs.Deeds.{GoesOn}
 use Rattle.link_core.proofs.Orders.{pushed, length_pushed, request_old, request_new, asker_old, asker_new, place_cases, last_kept, last_back, last_new, last_is_new}
 use Rattle.qolb_model.proofs.Requests.{count_of-push_le, count_of-push_same}
 use Rattle.qolb_model.proofs.Prefixes.{prefix_self}
-use Rattle.link_core.proofs.Changes.{Changed, point_other, point_own, at_other, passes_kept, once_kept, unpassed_kept}
+use Rattle.link_core.proofs.Changes.{Changed}
+use Rattle.link_core.proofs.Asks.{asks_shows}
 use Rattle.link_core.proofs.Arrival.{arrival_lies, arrival_sits, arrival_says, arrival_unrolled, arrival_unclear, arrival_unpassed}
 use Rattle.link_core.proofs.Follows.{sits_at, in_its_hand, hand_lies}
 use Rattle.link_core.proofs.Kept.{Spares, sits_kept, rests_held, settled_by}
@@ -37,9 +38,6 @@ module _ (terms : Terms) (c : State) (h : Queue) (n : ℕ) (sts : List Seat) (s 
 
   abbrev after : Queue
   after = record h { order = o2 }
-
-  at_ready : HasEnded h.order h.ends n × (entry c n ≡ empty)
-  at_ready = sits_at s n Ready is ready
 
   all_ended : length h.ends ≡ length h.order
   all_ended = elim (cases_lt (length h.ends) (length h.order)) [
@@ -64,44 +62,11 @@ module _ (terms : Terms) (c : State) (h : Queue) (n : ℕ) (sts : List Seat) (s 
   unlined : (m : ℕ) → IsNode c m → has_line (point c m) ≡ true → ⊥
   unlined m a e = no_hand m (in_its_hand s m a e)
 
-  only : (p : ℕ) → length h.ends ≤ p → p < length o2 → p ≡ length h.order
-  only p a l = let k = length_pushed h.order new in let j = all_ended in omega arith
-
-  unheld : (rs : List Request) → ((r : Request) → has rs r ≡ true → r.number ≤ count_of r.node h.order) → has rs new ≡ false
-  unheld rs f = elim (cases_Bool (has rs new)) [ inl t ↦ let k = f new t in absurd (omega arith) | inr e ↦ e ]
-
-  asked_grows : (m : ℕ) → count_of m h.order ≤ count_of m o2
-  asked_grows m = count_of-push_le m h.order new
-
   last : IsLast o2 n (length h.ends)
   last = rw all_ended (last_new h.order new)
 
   its : asker o2 (length h.ends) ≡ n
   its = ap (asker o2) all_ended ∙ asker_new h.order new
-
-  -- a claim on the open requests is one on the new
-  at_new : (P : ℕ → Type 0) → P (length h.order) → (p : ℕ) → length h.ends ≤ p → p < length o2 → P p
-  at_new P y p a l = subst P (sym (only p a l)) y
-
-  numbered : (p : ℕ) → p < length o2 → (request o2 p).number ≤ count_of (asker o2 p) o2
-  numbered p l = elim (place_cases h.order new p l) [
-    | inl old ↦ rw (request_old h.order new p old, asker_old h.order new p old) (let a = s.numbered p old in let b = asked_grows (asker h.order p) in omega arith)
-    | inr e ↦ subst (λ (q : ℕ). (request o2 q).number ≤ count_of (asker o2 q) o2) (sym e) (rw (request_new h.order new, asker_new h.order new) (let a = count_of-push_same n h.order new refl in omega arith))
-  ]
-
-  nodes : (p : ℕ) → p < length o2 → IsNode d (asker o2 p)
-  nodes p l = elim (place_cases h.order new p l) [
-    | inl old ↦ rw (asker_old h.order new p old) (s.nodes p old)
-    | inr e ↦ subst (λ (q : ℕ). IsNode d (asker o2 q)) (sym e) (rw (asker_new h.order new) is)
-  ]
-
-  clears : (m p : ℕ) → IsNode d m → IsLast o2 m p → has h.clear (request o2 p) ≡ is_clear (point d m) (entry d m)
-  clears m p a l = elim (cases_eq m n) [
-    | inl e ↦ let q = last_is_new h.order new p (subst (λ (m : ℕ). IsLast o2 m p) e l) in
-        rw (e, q, request_new h.order new, point_own ch) (unheld h.clear s.clear_known ∙ sym (arrival_unclear n c.closed (entry c n)))
-    | inr ne ↦ let b = last_back h.order new m p ne l in
-        rw (request_old h.order new p b.known, point_other ch m ne) (s.clears m p a b)
-  ]
 
   spares : (m : ℕ) → IsNode c m → m ≢ n → Spares c d h.order o2 h.ends h.ends m
   spares m im ne = record {
@@ -116,12 +81,6 @@ module _ (terms : Terms) (c : State) (h : Queue) (n : ℕ) (sts : List Seat) (s 
     behind = λ q p e a b w. let k = b.known in let j = all_ended in absurd (omega arith);
     line = λ e. absurd (unlined m im e);
   }
-
-  none_passed : (seat c n).passed ≡ []
-  none_passed = s.unpassed n is (ap (λ (p : Point). has_line p || is_freeing p) ready)
-
-  same_passed : (seat_at_arrival n c.closed).passed ≡ (seat c n).passed
-  same_passed = arrival_unpassed n c.closed ∙ sym none_passed
 
   come : (m p : ℕ) → HasCome c h.ends m p → HasCome d h.ends m p
   come m p (inl e) = inl e
@@ -145,36 +104,10 @@ module _ (terms : Terms) (c : State) (h : Queue) (n : ℕ) (sts : List Seat) (s 
     makes = refl;
     clears = none;
     uncleared = λ _. refl;
-    shows = record {
-      opened = s.opened;
-      size = s.size;
-      turns = s.turns;
-      known = let k = turn_known in omega arith;
-      nodes = nodes;
-      numbered = numbered;
-      marked_known = λ r e. let k = s.marked_known r e in let l = asked_grows r.node in omega arith;
-      clear_known = λ r e. let k = s.clear_known r e in let l = asked_grows r.node in omega arith;
-      distinct = at_new (λ (p : ℕ). IsLast o2 (asker o2 p) p) (rw (asker_new h.order new) (last_new h.order new));
-      home_idle = λ e. let k = turn_known in absurd (omega arith);
-      home_last = λ p a e. sym (ap (asker o2) (only p a (omega arith)) ∙ asker_new h.order new);
-      links = λ p a l. let k = only p a (omega arith) in let j = only (p + 1) (omega arith) l in absurd (omega arith);
-      last_link = λ p a e. rw (only p a (omega arith), asker_new h.order new) (ap (λ (w : Entry). w.link) at_ready.1);
-      lies = arrival_lies terms c d o2 h.ends n turn_known its (whole s.lies) s.opened is refl refl refl refl ch.seat_own;
-      marks = at_new (λ (p : ℕ). has h.marked (request o2 p) ≡ is_rolled (point d (asker o2 p))) (rw (request_new h.order new, asker_new h.order new, point_own ch) (unheld h.marked s.marked_known ∙ sym (arrival_unrolled n c.closed)));
-      clears = clears;
-      sits = λ m a. elim (cases_eq m n) [
-        | inl e ↦ rw (e, point_own ch) (arrival_sits terms c d o2 h.ends n turn_known its (whole s.lies) s.opened is refl refl refl refl ch.seat_own)
-        | inr ne ↦ sits_kept (spares m a ne) (s.sits m a)
-      ];
-      fresh = at_new (λ (p : ℕ). IsFresh d (length h.ends) (asker o2 p) p) (rw (asker_new h.order new) (record {
-        freed = ap (λ (w : Entry). w.freed) at_ready.1;
-        granted = λ y. let x : false ≡ true = sym (ap (λ (w : Entry). w.granted) at_ready.1) ∙ y in cc;
-        done = λ y. let x : false ≡ true = sym (ap (λ (w : Entry). w.done) at_ready.1) ∙ y in cc;
-      }));
-      passes = passes_kept ch same_passed h.order o2 h.ends h.ends (λ x p at kept l. let ne : x ≢ n = at_other ch x Ready Rolled ready at (λ e. cc) in (ne, refl, last_kept h.order new x p ne l)) (λ m i p l. come m p) s.passes;
-      once = once_kept ch same_passed s.once;
-      unpassed = unpassed_kept ch same_passed (λ _. none_passed) s.unpassed;
-      settled = settled_by ch h.order o2 h.ends h.ends h.clear h.clear is s.settled (λ x ne e. let z : Home ≡ Mailbox x = sym at_home' ∙ e in cc) (λ dn un. let z : Home ≡ Mailbox n = sym at_home' ∙ s.settled.boxed n is dn un in cc) (λ l. l) (rests_held d n o2 h.ends h.clear refl);
-    };
+    shows = asks_shows s is ready ch (arrival_unrolled n c.closed) (arrival_unclear n c.closed (entry c n)) (arrival_unpassed n c.closed)
+        (arrival_lies terms c d o2 h.ends n turn_known its (whole s.lies) s.opened is refl refl refl refl ch.seat_own)
+        (arrival_sits terms c d o2 h.ends n turn_known its (whole s.lies) s.opened is refl refl refl refl ch.seat_own)
+        spares come (λ g. absurd (no_hand g.by g.place)) (λ p a e. let k = all_ended in absurd (omega arith))
+        (λ x e. let z : Home ≡ Mailbox x = sym at_home' ∙ e in cc) (rests_held d n o2 h.ends h.clear refl);
     says = arrival_says after n c.closed (whole s.lies).closed last;
   }

@@ -93,6 +93,7 @@ module _ {terms : Terms} {c : State} {q : Queue} (s : Shows terms c q) where
     turn = λ n a f. its s.matches a f;
     carried = λ n a f. (facts s.matches a f).4;
     whole = λ nowhere. whole nowhere s.matches.lies;
+    holds = λ n a at. let k = sits_at s.matches n Holding a at in (k.1, k.2);
     passed = λ n x rest a ps. (freed_node n x rest s.matches a ps, freed_rolled n x rest s.matches a ps);
     releases = λ n e a r. (releases_line s.matches a e r, releases_at s.matches a e r);
     marks = λ n e a at. let k = sits_at s.matches n (Marking e) a at in (k.0.is, k.1);

@@ -24,7 +24,7 @@ use Rattle.link_core.proofs.Orders.{last_once, has_ended, ended_at}
 use Rattle.link_core.proofs.Changes.{Changed, point_other, point_own, at_other, field}
 use Rattle.link_core.proofs.Clearing.{Cleared, may_push_cleared}
 use Rattle.link_core.proofs.Follows.{sits_at, hand_lies}
-use Rattle.link_core.proofs.Kept.{Spares, sits_kept, fresh_kept, passed_kept, Leaves, lies_kept, rests_kept, settled_by}
+use Rattle.link_core.proofs.Kept.{Spares, spares_by, sits_kept, fresh_kept, passed_kept, Leaves, lies_kept, rests_kept, settled_by}
 use Rattle.link_core.proofs.Close.{close_passed, close_reason, close_unpassed, close_says}
 
 abbrev pub frees : Entry → Entry
@@ -83,18 +83,8 @@ module _ (terms : Terms) (c : State) (h : Queue) (n x : ℕ) (rest : List ℕ) (
       kept v e = rw e refl
 
   spares : (m : ℕ) → IsNode c m → m ≢ n → Spares c d h.order h.order h.ends h.ends m
-  spares m a ne = record {
-    nodes = refl;
-    seat = ch.seat_other m ne;
-    rolled = field ch (λ w. w.rolled) refl m;
-    ready = λ e. ch.entry_other m (λ f. let z : Rolled ≡ Ready = sym first.point ∙ ap (point c) (sym f) ∙ e in cc);
-    fwd = λ p l. l;
-    back = λ p l. l;
-    ended = prefix_self h.ends;
-    later = λ p _ _ l. l;
-    behind = λ y p e l j t. (l, field ch (λ w. w.link) refl y);
-    line = λ e. (refl, refl, (λ l. (l, refl)), λ x e. field ch (λ w. w.link) refl (current c m));
-  }
+  spares m a ne = spares_by ch h.order h.ends h.ends m ne (λ _. refl) (λ _ e. let z : Rolled ≡ Ready = sym first.point ∙ e in cc) (prefix_self h.ends) (λ p _ _ l. l)
+      (λ y p e l j. field ch (λ w. w.link) refl y) (λ e. (refl, refl, λ x e. field ch (λ w. w.link) refl (current c m)))
 
   granting : IsGranting c → IsGranting d
   granting g = record { by = g.by; to = g.to; node = g.node; place = g.place; point = point_other ch g.by (at_other ch g.by Freeing (Granting g.to) at g.point (λ e. cc)) ∙ g.point }

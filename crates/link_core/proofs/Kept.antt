@@ -95,6 +95,31 @@ module _ {c d : State} {o o2 : List Request} {es fs : List End} {x : ℕ} (k : S
   pub sits_kept : Sits c o es x (point c x) → Sits d o2 fs x (point d x)
   sits_kept h = subst (λ (p : Point). Sits d o2 fs x p) (sym point_kept) (at_point_kept (point c x) refl h)
 
+-- what an act that makes no request leaves alone: of the seats only n's is changed, and of the entries only k's
+pub spares_by : {c d : State} {n : ℕ} {s : Seat} {k : ℕ} {w : Entry} (ch : Changed c d n s k w) (o : List Request) (es fs : List End) (x : ℕ) → x ≢ n → (k ≢ n → w.rolled ≡ (entry c k).rolled) → (k ≢ n → point c k ≢ Ready) → IsPrefix es fs
+    → ((p : ℕ) → is_rolled (point c x) ≡ false → IsLast o x p → length es ≤ p → length fs ≤ p)
+    → ((q p : ℕ) → point c x ≡ Linking q → IsLast o q p → IsLast o x (p + 1) → (entry d q).link ≡ (entry c q).link)
+    → (has_line (point c x) ≡ true → (d.place ≡ c.place) × (length fs ≡ length es) × ((m : ℕ) → point c x ≡ Granting m → (entry d (current c x)).link ≡ (entry c (current c x)).link))
+    → Spares c d o o es fs x
+spares_by {c} {d} {n} {s} {k} {w} ch o es fs x ne rolled ready ended later behind line = record {
+  nodes = ch.nodes;
+  seat = ch.seat_other x ne;
+  rolled = elim (cases_eq x k) [
+    | inl f ↦ ap (λ (y : ℕ). (entry d y).rolled) f ∙ ap (λ (v : Entry). v.rolled) ch.entry_own ∙ rolled (λ g. ne (f ∙ g)) ∙ ap (λ (y : ℕ). (entry c y).rolled) (sym f)
+    | inr f ↦ ap (λ (v : Entry). v.rolled) (ch.entry_other x f)
+  ];
+  ready = λ e. elim (cases_eq x k) [
+    | inl f ↦ absurd (ready (λ g. ne (f ∙ g)) (ap (point c) (sym f) ∙ e))
+    | inr f ↦ ch.entry_other x f
+  ];
+  fwd = λ p l. l;
+  back = λ p l. l;
+  ended = ended;
+  later = later;
+  behind = λ q p e l j _. (l, behind q p e l j);
+  line = λ e. let y = line e in (y.0, y.1, (λ l. (l, refl)), y.2);
+}
+
 -- what is fresh stays so
 pub fresh_kept : (c d : State) (t t2 x p : ℕ) → (entry d x).freed ≡ (entry c x).freed → (entry d x).granted ≡ (entry c x).granted → (entry d x).done ≡ (entry c x).done → (p ≡ t → p ≡ t2) → (IsGranting c → IsGranting d) → IsFresh c t x p → IsFresh d t2 x p
 fresh_kept c d t t2 x p a b e f g h = record {

@@ -10,6 +10,7 @@ pub mod Over
 pub mod Close
 pub mod Leave
 pub mod Grant
+pub mod Asks
 pub mod Prepend
 pub mod Link
 pub mod Quiet

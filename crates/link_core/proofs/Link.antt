@@ -25,7 +25,7 @@ use Rattle.link_core.proofs.Changes.{Changed, point_other, point_own, at_other, 
 use Rattle.link_core.proofs.Clearing.{Cleared, may_push_cleared}
 use Rattle.link_core.proofs.Follows.{left_for, sits_at, clear_ended, behind_unclear, in_its_hand, granting_link, done_turn}
 use Rattle.link_core.proofs.Arrival.{arrival_lies, arrival_sits, arrival_says, arrival_unrolled, arrival_unclear, arrival_unpassed}
-use Rattle.link_core.proofs.Kept.{Spares, sits_kept, fresh_kept, Leaves, lies_kept, rests_kept, rests_held, settled_by}
+use Rattle.link_core.proofs.Kept.{Spares, spares_by, sits_kept, fresh_kept, Leaves, lies_kept, rests_kept, rests_held, settled_by}
 
 abbrev pub linked : Entry → ℕ → Entry
 linked w n = record w { link = n }
@@ -89,29 +89,11 @@ module _ (terms : Terms) (c : State) (h : Queue) (n p : ℕ) (pl : Place) (mk : 
       ])
 
   spares : (m : ℕ) → IsNode c m → m ≢ n → Spares c d h.order h.order h.ends h.ends m
-  spares m a ne = record {
-    nodes = refl;
-    seat = ch.seat_other m ne;
-    rolled = field ch (λ w. w.rolled) refl m;
-    ready = λ e. ch.entry_other m (λ f. absurd (ready_p (ap (point c) (sym f) ∙ e)));
-    fwd = λ q l. l;
-    back = λ q l. l;
-    ended = prefix_self h.ends;
-    later = λ q _ _ l. l;
-    behind = λ q x e l k _. (
-      l,
-      link_other q (λ f.
+  spares m a ne = spares_by ch h.order h.ends h.ends m ne (λ _. refl) (λ _. ready_p) (prefix_self h.ends) (λ q _ _ l. l)
+      (λ q x e l k. link_other q (λ f.
           let i = last_once h.order p x behind.at (subst (λ (q : ℕ). IsLast h.order q x) f l) behind.before in
-          ne (sym k.its ∙ ap (λ (x : ℕ). asker h.order (x + 1)) i ∙ behind.own.its)),
-    );
-    line = λ e. (
-      let k = in_its_hand s m a e in hands m k ∙ sym k,
-      refl,
-      (λ l. (l, refl)),
-      λ x k. link_other (current c m) (λ f.
-          granting_link s m x a k (ap (λ (x : ℕ). (entry c x).link) f ∙ behind.unlinked)),
-    );
-  }
+          ne (sym k.its ∙ ap (λ (x : ℕ). asker h.order (x + 1)) i ∙ behind.own.its)))
+      (λ e. let k = in_its_hand s m a e in (hands m k ∙ sym k, refl, λ x k. link_other (current c m) (λ f. granting_link s m x a k (ap (λ (x : ℕ). (entry c x).link) f ∙ behind.unlinked))))
     where
       ready_p : point c p ≡ Ready → ⊥
       ready_p e = let k = behind_unclear s n p is at in let j : is_clear (point c p) (entry c p) ≡ true = ap (λ (q : Point). is_clear q (entry c p)) e in cc

@@ -24,7 +24,7 @@ use Rattle.link_core.proofs.Orders.{request_got, ended_at}
 use Rattle.link_core.proofs.Changes.{Changed, point_other, point_own, field}
 use Rattle.link_core.proofs.Clearing.{Cleared, may_push_cleared}
 use Rattle.link_core.proofs.Follows.{lined_unclear, in_its_hand, current_cases}
-use Rattle.link_core.proofs.Kept.{Spares, sits_kept, settled_by}
+use Rattle.link_core.proofs.Kept.{Spares, spares_by, sits_kept, settled_by}
 use Rattle.link_core.proofs.Ending.{fs, longer, facts, its, grows, ended, turns, later_other, unboxed}
 use Rattle.link_core.specs.Steps.{turns_after}
 
@@ -69,27 +69,15 @@ module _ {terms : Terms} {c : State} {h : Queue} {n : ℕ} (s : Matches terms c 
   alone m a ne e = let f : Hand n ≡ Hand m = sym (in_its_hand s n is lined) ∙ in_its_hand s m a e in let g : n ≡ m = cc in ne (sym g)
 
   spares : (m : ℕ) → IsNode c m → m ≢ n → Spares c d h.order h.order h.ends es m
-  spares m a ne = record {
-    nodes = refl;
-    seat = ch.seat_other m ne;
-    rolled = field ch (λ w. w.rolled) q.rolled m;
-    ready = λ e. elim (cases_eq m k) [
-      | inl f ↦ absurd (q.ready (λ g. ne (f ∙ g)) (ap (point c) (sym f) ∙ e))
-      | inr f ↦ ch.entry_other m f
-    ];
-    fwd = λ p l. l;
-    back = λ p l. l;
-    ended = grows s is lined;
-    later = λ p r l t. let e = long in elim (cases_eq (length h.ends) p) [
-      | inl f ↦
-          let i = its s is lined in
-          let y : current c n ≡ m = sym i.its ∙ ap (asker h.order) f ∙ l.its in
-          absurd (unrolled m y ne r)
-      | inr f ↦ grind arith
-    ];
-    behind = λ y p e l j t. (l, field ch (λ w. w.link) q.link y);
-    line = λ e. absurd (alone m a ne e);
-  }
+  spares m a ne = spares_by ch h.order h.ends es m ne (λ _. q.rolled) q.ready (grows s is lined)
+      (λ p r l t. let e = long in elim (cases_eq (length h.ends) p) [
+        | inl f ↦
+            let i = its s is lined in
+            let y : current c n ≡ m = sym i.its ∙ ap (asker h.order) f ∙ l.its in
+            absurd (unrolled m y ne r)
+        | inr f ↦ grind arith
+      ])
+      (λ y p e l j. field ch (λ w. w.link) q.link y) (λ e. absurd (alone m a ne e))
     where
       unrolled : (m : ℕ) → current c n ≡ m → m ≢ n → is_rolled (point c m) ≡ false → ⊥
       unrolled m y ne r = elim (current_cases s n is) [

@@ -17,7 +17,7 @@ use Rattle.std.proofs.lemmas.Bool.{cases_eq}
 use Rattle.qolb_model.proofs.Prefixes.{prefix_self}
 use Rattle.link_core.proofs.Changes.{Changed, point_other, point_own, field, passes_kept, once_kept, unpassed_kept}
 use Rattle.link_core.proofs.Follows.{in_its_hand}
-use Rattle.link_core.proofs.Kept.{Spares, sits_kept, settled_by}
+use Rattle.link_core.proofs.Kept.{Spares, spares_by, sits_kept, settled_by}
 
 -- what the step does to n, at its point before and at its seat after, and to the entry of k
 pub record IsQuiet (c d : State) (h : Queue) (marked : List Request) (n : ℕ) (st : Seat) (k : ℕ) (w : Entry) : Type 0 where
@@ -74,24 +74,8 @@ module _ (terms : Terms) (c : State) (h : Queue) (n : ℕ) (s : Matches terms c 
   ]
 
   spares : (m : ℕ) → IsNode c m → m ≢ n → Spares c d h.order h.order h.ends h.ends m
-  spares m a ne = record {
-    nodes = refl;
-    seat = ch.seat_other m ne;
-    rolled = elim (cases_eq m k) [
-      | inl f ↦ ap (λ (x : ℕ). (entry d x).rolled) f ∙ ap (λ (w : Entry). w.rolled) ch.entry_own ∙ q.rolled (λ g. ne (f ∙ g)) ∙ ap (λ (x : ℕ). (entry c x).rolled) (sym f)
-      | inr f ↦ ap (λ (w : Entry). w.rolled) (ch.entry_other m f)
-    ];
-    ready = λ e. elim (cases_eq m k) [
-      | inl f ↦ absurd (q.ready (λ g. ne (f ∙ g)) (ap (point c) (sym f) ∙ e))
-      | inr f ↦ ch.entry_other m f
-    ];
-    fwd = λ p l. l;
-    back = λ p l. l;
-    ended = prefix_self h.ends;
-    later = λ p _ _ l. l;
-    behind = λ y p e l j t. (l, field ch (λ w. w.link) q.link y);
-    line = λ e. (let y = in_its_hand s m a e in q.hands m y ∙ sym y, refl, (λ l. (l, refl)), λ x e. field ch (λ w. w.link) q.link (current c m));
-  }
+  spares m a ne = spares_by ch h.order h.ends h.ends m ne q.rolled q.ready (prefix_self h.ends) (λ p _ _ l. l) (λ y p e l j. field ch (λ w. w.link) q.link y)
+      (λ e. let y = in_its_hand s m a e in (q.hands m y ∙ sym y, refl, λ x e. field ch (λ w. w.link) q.link (current c m)))
 
   granting : IsGranting c → IsGranting d
   granting g = record { by = g.by; to = g.to; node = g.node; place = q.hands g.by g.place; point = point_other ch g.by (λ e. q.not_granting g.to (ap (point c) (sym e) ∙ g.point)) ∙ g.point }

@@ -15,7 +15,7 @@ use Rattle.link_core.proofs.Deeds.{GoesOn}
 use Rattle.qolb_model.proofs.Prefixes.{prefix_self}
 use Rattle.link_core.proofs.Changes.{Changed, point_other, point_own, passes_kept, once_kept, unpassed_kept}
 use Rattle.link_core.proofs.Follows.{sits_at, behind_unclear, current_cases}
-use Rattle.link_core.proofs.Kept.{Spares, sits_kept, fresh_kept, Leaves, lies_kept, rests_kept, settled_by}
+use Rattle.link_core.proofs.Kept.{Spares, spares_by, sits_kept, fresh_kept, Leaves, lies_kept, rests_kept, settled_by}
 
 module _ (terms : Terms) (c : State) (h : Queue) (n : ℕ) (s : Matches terms c h) (is : IsNode c n) (at : (point c n ≡ Idle) ⊎ (point c n ≡ Shut))
     (ents : List Entry) (sts : List Seat) (ch : Changed c (record c { entries = ents; seats = sts }) n (record (seat c n) { point = Ready }) n empty) where
@@ -57,18 +57,9 @@ module _ (terms : Terms) (c : State) (h : Queue) (n : ℕ) (s : Matches terms c 
   ]
 
   spares : (m : ℕ) → IsNode c m → m ≢ n → Spares c d h.order h.order h.ends h.ends m
-  spares m a ne = record {
-    nodes = refl;
-    seat = ch.seat_other m ne;
-    rolled = ap (λ (w : Entry). w.rolled) (ch.entry_other m ne);
-    ready = λ e. ch.entry_other m ne;
-    fwd = λ p l. l;
-    back = λ p l. l;
-    ended = prefix_self h.ends;
-    later = λ p _ _ l. l;
-    behind = λ y p e l j t. (l, ap (λ (w : Entry). w.link) (ch.entry_other y (unlinked m y a e)));
-    line = λ e. (refl, refl, (λ l. (l, refl)), λ x e. ap (λ (w : Entry). w.link) (ch.entry_other (current c m) (current_other m a ne)));
-  }
+  spares m a ne = spares_by ch h.order h.ends h.ends m ne (λ ne. absurd (ne refl)) (λ ne. absurd (ne refl)) (prefix_self h.ends) (λ p _ _ l. l)
+      (λ y p e l j. ap (λ (w : Entry). w.link) (ch.entry_other y (unlinked m y a e)))
+      (λ e. (refl, refl, λ x e. ap (λ (w : Entry). w.link) (ch.entry_other (current c m) (current_other m a ne))))
 
   granting : IsGranting c → IsGranting d
   granting g = record { by = g.by; to = g.to; node = g.node; place = g.place; point = point_other ch g.by (not_n g.by (Granting g.to) g.point (λ e. cc) (λ e. cc)) ∙ g.point }

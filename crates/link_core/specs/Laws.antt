@@ -1,5 +1,5 @@
 -- What a lock whose words are those of a core may rest on. (Of this project.)
-use Rattle.std.specs.Prelude.{◌≡◌, ◌≢◌, ◌↔◌, ℕ, ◌+◌, ◌<◌, ◌≤◌, true, false, Option, List, ◌∷◌, length}
+use Rattle.std.specs.Prelude.{◌≡◌, ◌≢◌, ◌↔◌, ℕ, ◌+◌, ◌<◌, ◌≤◌, true, false, Option, List, [], ◌∷◌, length}
 use Rattle.qolb_model.specs.declared.terms.Terms.{Terms}
 use Rattle.qolb_model.specs.declared.terms.TheConstants.{MOST_NODES}
 use Rattle.qolb_model.specs.Ends.{is_closed}
@@ -8,7 +8,7 @@ use Rattle.qolb_model.specs.Requests.{count_of, last_of}
 use Rattle.qolb_model.specs.declared.end.End.{End}
 use Rattle.qolb_model.specs.declared.request.Request.{Request}
 use Rattle.qolb_model.specs.Queue.{Queue, empty_queue, Move, Runs}
-use Rattle.link_core.specs.declared.point.Point.TheVariants.{Linking, Queued, Marking, Granting, Rolled}
+use Rattle.link_core.specs.declared.point.Point.TheVariants.{Linking, Queued, Holding, Marking, Granting, Rolled}
 use Rattle.link_core.specs.declared.place.Place.TheVariants.{Home, Mailbox, Hand}
 use Rattle.link_core.specs.declared.seat.Reason.{Reason}
 use Rattle.link_core.specs.declared.seat.Reason.TheVariants.{Own}
@@ -18,6 +18,7 @@ use Rattle.link_core.specs.Places.{request, asker, IsLast}
 use Rattle.link_core.specs.State.{State, IsWide, entry, seat, point, IsNode, current, first}
 use Rattle.link_core.specs.Steps.{Step, Releases, Names, node_of, allows}
 use Rattle.link_core.specs.Shown.{has_line, is_active, EndedBy, IsWhole, IsCarried, IsBehind, Shows}
+use Rattle.link_core.specs.Moves.{move_of, may_clear, made}
 use Rattle.link_core.specs.Promise.{Keeps, Run}
 
 -- A line that is opened shows the empty queue.
@@ -27,6 +28,10 @@ OpenedShows = (terms : Terms) → terms.nodes ≤ MOST_NODES → length terms.op
 -- Each event goes on from a state that shows a queue to one that shows a queue after the event's move, and spares the other nodes.
 abbrev pub EachEventKeeps : Type 0
 EachEventKeeps = (terms : Terms) (c d : State) (q : Queue) (e : Event) (t : Told) → IsWide c → Shows terms c q → (step : Step c e t d) → Keeps terms c e t d step q × IsWide d
+
+-- So the queue is after it as the step's move makes it, but for the clear list; and that too, where the step clears nothing.
+abbrev pub MovesAreMade : Type 0
+MovesAreMade = (terms : Terms) (c d : State) (q : Queue) (e : Event) (t : Told) (step : Step c e t d) (on : Keeps terms c e t d step q) → (on.after ≡ record (made q (move_of step q.order)) { clear = on.after.clear }) × (may_clear e (move_of step q.order) ≡ false → on.after ≡ made q (move_of step q.order))
 
 -- An event has an effect only where its node's point allows it, and then one.
 abbrev pub EventsAreEnabled : Type 0
@@ -57,6 +62,7 @@ pub record Found (terms : Terms) (c : State) (q : Queue) : Type 0 where
   pub turn : (n : ℕ) → IsNode c n → has_line (point c n) ≡ true → IsLast q.order (current c n) (length q.ends)
   pub carried : (n : ℕ) → IsNode c n → has_line (point c n) ≡ true → IsCarried terms c q.order q.ends n (seat c n).reason (seat c n).passed
   pub whole : ((n : ℕ) → c.place ≢ Hand n) → IsWhole terms c q.ends
+  pub holds : (n : ℕ) → IsNode c n → point c n ≡ Holding → ((seat c n).reason ≡ Own) × ((seat c n).passed ≡ [])
   pub passed : (n x : ℕ) (rest : List ℕ) → IsNode c n → (seat c n).passed ≡ x ∷ rest → IsNode c x × (point c x ≡ Rolled)
   pub releases : (n e : ℕ) → IsNode c n → Releases c n e → (has_line (point c n) ≡ true) × (current c n ≡ e)
   pub marks : (n e : ℕ) → IsNode c n → point c n ≡ Marking e → (current c n ≡ e) × (length q.ends + 1 < length q.order)

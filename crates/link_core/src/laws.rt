@@ -1,6 +1,6 @@
 //! What a lock whose words are those of a core may rest on, as laws of its events. Each law is the contract of a function that does nothing.
 
-ghost use Rattle.link_core.specs.Laws.{OpenedShows, EachEventKeeps, EventsAreEnabled, EventsHaveOneEffect, AddsFindUnset, NodesFind, SizesStay, LastsHavePlaces, WalksAreShort, EndsClose, RunsMove};
+ghost use Rattle.link_core.specs.Laws.{OpenedShows, EachEventKeeps, MovesAreMade, EventsAreEnabled, EventsHaveOneEffect, AddsFindUnset, NodesFind, SizesStay, LastsHavePlaces, WalksAreShort, EndsClose, RunsMove};
 
 /// A line that is opened shows the empty queue.
 pub fn opened_shows()
@@ -10,6 +10,11 @@ pub fn opened_shows()
 /// Each event keeps that a queue is shown: by its move, and sparing the other nodes.
 pub fn each_event_keeps()
     ensures { EachEventKeeps }
+{}
+
+/// What the queue is after an event.
+pub fn moves_are_made()
+    ensures { MovesAreMade }
 {}
 
 /// An event has an effect only where its node's point allows it.
