@@ -22,7 +22,7 @@ use Rattle.ring_line.specs.declared.entry.Entry.{Entry}
 use Rattle.ring_line.specs.declared.rule.Setup.{Setup}
 use Rattle.ring_line.specs.Words.{ticket_at, cell_at, node_at}
 use Rattle.ring_line.specs.Ring.{At, Past, NodeOk, PastOk, Shown, RingRule, has_line, lets_go}
-use Rattle.ring_line.specs.Steps.{sole, Sat, Asked, asked}
+use Rattle.ring_line.specs.Steps.{sole, Contents, Asked, asked}
 use Rattle.ring_line.proofs.Lists.{at_longer, prefix_more, has_prefix, cleared_ended, clears_wider}
 use Rattle.ring_line.proofs.Nodes.{clash_at, others_ask}
 use Rattle.ring_line.proofs.Histories.{continues}
@@ -112,14 +112,14 @@ module _ (good : List ℕ → Type 0) (allows : List ℕ → List ℕ → Type 0
     wide = length-set words ticket_at next ∙ h.wide;
     deep = h.deep;
     ticket = get_or-set_same words ticket_at next 0 (let w = h.wide in omega arith) ∙ ap (λ k. (k + 1) % 2 ^ 64) h.ticket ∙ mod-add-mod (length x.order) (2 ^ 64) 1 ∙ ap (λ k. k % 2 ^ 64) (sym (length-append x.order (new x ∷ [])));
-    dark = λ d. get_or-set_other words ticket_at (cell_at (length x.ends % 128)) next 0 (λ e. omega arith) ∙ h.dark d;
-    lit = λ d. get_or-set_other words ticket_at (cell_at (length x.ends % 128)) next 0 (λ e. omega arith) ∙ h.lit d;
+    cleared = λ d. get_or-set_other words ticket_at (cell_at (length x.ends % 128)) next 0 (λ e. omega arith) ∙ h.cleared d;
+    granted = λ d. get_or-set_other words ticket_at (cell_at (length x.ends % 128)) next 0 (λ e. omega arith) ∙ h.granted d;
     later = λ k a b. get_or-set_other words ticket_at (cell_at ((length x.ends + k) % 128)) next 0 (λ e. omega arith) ∙ h.later k a b;
     flags = λ n a b. get_or-set_other words ticket_at (node_at n) next 0 (λ e. omega arith) ∙ h.flags n a b;
     home = h.home;
   }
 
-  pub asks_next : (me slots : ℕ) (m : Sat) → m.0 ≡ v ∷ [] → Allows (RingRule good allows about) slots me m ticket_at (λ n. (n + 1) % 2 ^ 64) (asked allows (step slots ticket_at 1 0 none) m)
+  pub asks_next : (me slots : ℕ) (m : Contents) → m.0 ≡ v ∷ [] → Allows (RingRule good allows about) slots me m ticket_at (λ n. (n + 1) % 2 ^ 64) (asked allows (step slots ticket_at 1 0 none) m)
   asks_next me slots m is s r deep at small = (
     ask_entry r.past ∷ [],
     keeps,

@@ -44,7 +44,7 @@ module _ (good : List ℕ → Type 0) (allows : List ℕ → List ℕ → Type 0
   -- the request at its turn ends, while a node has the line
   pub fine_end : ((a b : List ℕ) → good a → allows a b → good b) → (x : Past) (e : End) (passer : ℕ → ℕ) → PastOk good allows about x → x.hand ≢ 0 → length x.ends < length x.order → MayEnd (is_closed x.ends) e
       → AreAllowed allows (bytes_after about.opening.bytes x.ends) (e ∷ []) → (is_gone e ≡ true → 0 < x.marks (length x.ends)) → (0 < x.marks (length x.ends) → is_gone e ≡ true)
-      → PastOk good allows about (record x { ends = x.ends ++ e ∷ []; dark = false; passer = passer })
+      → PastOk good allows about (record x { ends = x.ends ++ e ∷ []; cleared = false; passer = passer })
   fine_end goes x e passer f held more follows allowed gone marked = record {
     legal = legal_end x.order x.ends e f.legal more follows;
     nodes = f.nodes;
@@ -61,7 +61,7 @@ module _ (good : List ℕ → Type 0) (allows : List ℕ → List ℕ → Type 0
 
   -- the line comes home
   pub fine_home : (x : Past) → PastOk good allows about x → x.marks (length x.ends) ≡ 0 → ((p : ℕ) (r : Request) (end : End) → p + 1 ≡ length x.ends → At x.order p r → At x.ends p end → is_gone end ≡ false → Has x.clear r)
-      → PastOk good allows about (record x { hand = 0; dark = false })
+      → PastOk good allows about (record x { hand = 0; cleared = false })
   fine_home x f free settled = record {
     legal = f.legal;
     nodes = f.nodes;

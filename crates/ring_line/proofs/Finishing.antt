@@ -20,8 +20,8 @@ use Rattle.ring_line.specs.declared.rule.Parcel.{Parcel}
 use Rattle.ring_line.specs.declared.entry.Entry.{Entry}
 use Rattle.ring_line.specs.declared.rule.Setup.{Setup}
 use Rattle.ring_line.specs.Ring.{At}
-use Rattle.ring_line.specs.Steps.{entry_of}
-use Rattle.ring_line.specs.Ports.{Spot, Standing, standing, IsPort, BelongsTo, AllAtRest, is_at_rest, IsLast}
+use Rattle.ring_line.specs.Steps.{RingSeat, entry_of}
+use Rattle.ring_line.specs.Ports.{Standing, standing, IsPort, BelongsTo, AllAtRest, is_at_rest, IsLast}
 use Rattle.ring_line.specs.Finish.{MayFinish, IsGathered, Gathers}
 use Rattle.ring_line.proofs.Lists.{at_either, at_one}
 
@@ -56,7 +56,7 @@ room_left laid new left rest i p room wide at is fits grows =
     omega arith
 
 -- a quiet port is at rest, and has nothing in its hand
-pub quiet_point : (label node : ℕ) (s : Spot) (y : Parcel) (cell : ℕ) (state : PortState) → IsPort label node s y cell state → is_quiet (entry_of s).view.state ≡ true → (is_at_rest (entry_of s).point ≡ true) × (s.me.1 ≡ [])
+pub quiet_point : (label node : ℕ) (s : RingSeat) (y : Parcel) (cell : ℕ) (state : PortState) → IsPort label node s y cell state → is_quiet (entry_of s).view.state ≡ true → (is_at_rest (entry_of s).point ≡ true) × (s.me.1 ≡ [])
 quiet_point label node s y cell shows.Idle p h = (ap is_at_rest p.stands.0, p.stands.1)
 quiet_point label node s y cell shows.Linking p h = absurd p.stands
 quiet_point label node s y cell shows.Queued p h = absurd (let e : is_quiet (entry_of s).view.state ≡ false = ap is_quiet p.shows_state in cc (h, e))
@@ -66,7 +66,7 @@ quiet_point label node s y cell shows.Rolled p h = (ap is_at_rest p.stands.0, p.
 quiet_point label node s y cell shows.Shut p h = (ap is_at_rest p.stands.0, p.stands.1)
 
 -- the first of the ports to come is quiet
-pub head_quiet : (table_id : TableId) (ports left rest : List Standing) (whole : Spot) (p : Standing) → left ≡ p ∷ rest → Gathers table_id ports left whole → is_quiet p.view.state ≡ true
+pub head_quiet : (table_id : TableId) (ports left rest : List Standing) (whole : RingSeat) (p : Standing) → left ≡ p ∷ rest → Gathers table_id ports left whole → is_quiet p.view.state ≡ true
 head_quiet table_id ports left rest whole p e h = subst (All (λ (q : Standing). is_quiet q.view.state ≡ true)) e h.quiet 0 p (omega arith)
 
 -- what holds of each holds of the first, and of the others
@@ -77,7 +77,7 @@ pub all_rest : {A : Type 0} (P : A → Type 0) (x : A) (xs : List A) → All P (
 all_rest P x xs h = λ k d l. h (suc k) d (omega arith)
 
 -- the entries of one seat
-module _ (label node : ℕ) (s : Spot) (y : Parcel) (cell steps : ℕ) (state : PortState) (p : Standing) (is : standing s y steps ≡ p) (ok : IsPort label node s y cell state) (quiet : is_quiet p.view.state ≡ true) where
+module _ (label node : ℕ) (s : RingSeat) (y : Parcel) (cell steps : ℕ) (state : PortState) (p : Standing) (is : standing s y steps ≡ p) (ok : IsPort label node s y cell state) (quiet : is_quiet p.view.state ≡ true) where
   same_view : (entry_of s).view ≡ p.view
   same_view = ap (λ (q : Standing). q.view) is
 
@@ -104,11 +104,11 @@ module _ (label node : ℕ) (s : Spot) (y : Parcel) (cell steps : ℕ) (state : 
       (gathers_first table_id rest (subst (All (λ (q : Standing). q.table ≡ table_id)) e tables) (subst (All (λ (q : Standing). is_quiet q.view.state ≡ true)) e quiets))
 
   -- the seat is of the same table
-  pub head_table : (table_id : TableId) (ports rest : List Standing) (whole : Spot) (left : List Standing) → left ≡ p ∷ rest → Gathers table_id ports left whole → s.table_id ≡ table_id
+  pub head_table : (table_id : TableId) (ports rest : List Standing) (whole : RingSeat) (left : List Standing) → left ≡ p ∷ rest → Gathers table_id ports left whole → s.table_id ≡ table_id
   head_table table_id ports rest whole left e h = ap (λ (q : Standing). q.table) is ∙ all_first (λ (q : Standing). q.table ≡ table_id) p rest (subst (All (λ (q : Standing). q.table ≡ table_id)) e h.tables)
 
   -- a seat more
-  pub gathers_more : (table_id : TableId) (ports rest : List Standing) (old new : Spot) → Gathers table_id ports (p ∷ rest) old → new.table_id ≡ old.table_id → new.me ≡ (old.me.0 ++ s.me.0, old.me.1) → Gathers table_id ports rest new
+  pub gathers_more : (table_id : TableId) (ports rest : List Standing) (old new : RingSeat) → Gathers table_id ports (p ∷ rest) old → new.table_id ≡ old.table_id → new.me ≡ (old.me.0 ++ s.me.0, old.me.1) → Gathers table_id ports rest new
   gathers_more table_id ports rest old new h t m = record {
     table = t ∙ h.table;
     views =
@@ -123,7 +123,7 @@ module _ (label node : ℕ) (s : Spot) (y : Parcel) (cell steps : ℕ) (state : 
   }
 
 -- the first seat, as the iterator over the ports gives it
-pub gathers_start : (label node : ℕ) (s : Spot) (y : Parcel) (cell steps : ℕ) (state : PortState) (p : Standing) → standing s y steps ≡ p → IsPort label node s y cell state → (table_id : TableId) (ports items rest left : List Standing) → items ≡ ports → items ≡ p ∷ rest → left ≡ rest
+pub gathers_start : (label node : ℕ) (s : RingSeat) (y : Parcel) (cell steps : ℕ) (state : PortState) (p : Standing) → standing s y steps ≡ p → IsPort label node s y cell state → (table_id : TableId) (ports items rest left : List Standing) → items ≡ ports → items ≡ p ∷ rest → left ≡ rest
     → All (λ (q : Standing). q.table ≡ table_id) ports → All (λ (q : Standing). is_quiet q.view.state ≡ true) ports → Gathers table_id ports left s
 gathers_start label node s y cell steps state p is ok table_id ports items rest left a b c tables quiets =
     let e : ports ≡ p ∷ rest = sym a ∙ b in
@@ -131,7 +131,7 @@ gathers_start label node s y cell steps state p is ok table_id ports items rest 
     (gathers_head label node s y cell steps state p is ok (all_first (λ (q : Standing). is_quiet q.view.state ≡ true) p rest (subst (All (λ (q : Standing). is_quiet q.view.state ≡ true)) e quiets)) table_id ports rest e tables quiets)
 
 -- all seats are joined
-pub gathers_all : (table_id : TableId) (ports : List Standing) (whole : Spot) → Gathers table_id ports [] whole → IsGathered table_id ports whole
+pub gathers_all : (table_id : TableId) (ports : List Standing) (whole : RingSeat) → Gathers table_id ports [] whole → IsGathered table_id ports whole
 gathers_all table_id ports whole h = record { table = h.table; views = sym (append-nil (map (λ (e : Entry). e.view) whole.me.0)) ∙ h.views; at_rest = h.at_rest }
 
 -- what one list of ports knows, another one does that has them in another order
@@ -140,7 +140,7 @@ among_other ports laid h v (i, e) =
     let c = Contains-permutation (views ports) (views laid) v (IsPermutation-map (λ (p : Standing). p.view) ports laid h) (i, slice_get_within (views ports) i v e, get_or_from_slice_get (views ports) i v v e) in
     (c.0, slice_get-get_or (views laid) c.0 v c.1 ∙ ap Some c.2)
 
-module _ (label nodes : ℕ) (opening : List ℕ) (ports laid : List Standing) (table_id : TableId) (whole : Spot) (other : IsPermutation ports laid) (all : IsGathered table_id laid whole) (may : MayFinish label nodes (views ports)) where
+module _ (label nodes : ℕ) (opening : List ℕ) (ports laid : List Standing) (table_id : TableId) (whole : RingSeat) (other : IsPermutation ports laid) (all : IsGathered table_id laid whole) (may : MayFinish label nodes (views ports)) where
   among_entries : (v : View) → IsAmong (views ports) v → IsAmong (map (λ (e : Entry). e.view) whole.me.0) v
   among_entries v i = subst (λ vs. IsAmong vs v) (sym all.views) (among_other ports laid other v i)
 

@@ -18,7 +18,7 @@ use Rattle.ring_line.specs.declared.entry.Entry.{Entry}
 use Rattle.ring_line.specs.declared.rule.Setup.{Setup}
 use Rattle.ring_line.specs.Words.{ticket_at, cell_at, node_at}
 use Rattle.ring_line.specs.Ring.{At, Past, HasPassed, NodeOk, PastOk, Shown, RingRule, has_line, is_kept}
-use Rattle.ring_line.specs.Steps.{sole, Sat, after_walk, Frees, freed}
+use Rattle.ring_line.specs.Steps.{sole, Contents, after_walk, Frees, freed}
 use Rattle.ring_line.proofs.Lists.{at_same, prefix_more, has_prefix, lacks_push}
 use Rattle.ring_line.proofs.Nodes.{clash_at, passed_goes, put, put_here, put_else, placed_at, others_clear, others_free}
 use Rattle.ring_line.proofs.Histories.{continues}
@@ -152,8 +152,8 @@ module _ (good : List ℕ → Type 0) (allows : List ℕ → List ℕ → Type 0
       wide = length-set words i 1 ∙ h.wide;
       deep = h.deep;
       ticket = get_or-set_other words i ticket_at 1 0 (λ e. let l = low in omega arith) ∙ h.ticket;
-      dark = λ e. get_or-set_other words i (cell_at (length x.ends % 128)) 1 0 (λ z. omega arith) ∙ h.dark e;
-      lit = λ e. get_or-set_other words i (cell_at (length x.ends % 128)) 1 0 (λ z. omega arith) ∙ h.lit e;
+      cleared = λ e. get_or-set_other words i (cell_at (length x.ends % 128)) 1 0 (λ z. omega arith) ∙ h.cleared e;
+      granted = λ e. get_or-set_other words i (cell_at (length x.ends % 128)) 1 0 (λ z. omega arith) ∙ h.granted e;
       later = λ k a b. get_or-set_other words i (cell_at ((length x.ends + k) % 128)) 1 0 (λ z. omega arith) ∙ h.later k a b;
       flags = λ n a b. dite (ℕ_discrete n r.node)
           (λ e. ap (λ k. get_or (set words i 1) k 0) (ap node_at e ∙ sym is) ∙ get_or-set_same words i 1 0 (let w = h.wide in omega arith) ∙ sym (ap (put x.flags r.node 1) e ∙ put_here x.flags r.node 1))
@@ -186,7 +186,7 @@ module _ (good : List ℕ → Type 0) (allows : List ℕ → List ℕ → Type 0
       own_clear = λ e. own_clear ps (ap after_walk e);
     }
 
-  pub frees_next : (me slots i : ℕ) (m : Sat) → m.0 ≡ v ∷ [] → i ≡ node_at r.node → r.node ≤ 32 → Allows Rule slots me m i (λ _. 1) (λ _. freed allows (step slots i 1 0 none) m 0)
+  pub frees_next : (me slots i : ℕ) (m : Contents) → m.0 ≡ v ∷ [] → i ≡ node_at r.node → r.node ≤ 32 → Allows Rule slots me m i (λ _. 1) (λ _. freed allows (step slots i 1 0 none) m 0)
   frees_next me slots i m is word high s t deep at small = (
     free_entry t.past ∷ [],
     keeps,

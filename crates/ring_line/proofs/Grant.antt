@@ -20,13 +20,13 @@ use Rattle.qolb_model.specs.Sound.{Continues}
 use Rattle.qolb_model.proofs.Lists.{push_cases, never}
 use Rattle.qolb_model.proofs.Prefixes.{prefix_self}
 use Rattle.qolb_model.proofs.Requests.{has_last, lacks_from, same_place}
-use Rattle.ring_line.specs.declared.entry.Point.TheVariants.{Idle, Queued, Holding, Lit, Dark, Rolled}
+use Rattle.ring_line.specs.declared.entry.Point.TheVariants.{Idle, Queued, Holding, Passing, Cleared, Rolled}
 use Rattle.ring_line.specs.declared.entry.Entry.{Entry}
 use Rattle.ring_line.specs.declared.rule.Setup.{Setup}
 use Rattle.ring_line.specs.declared.rule.Parcel.{Parcel}
 use Rattle.ring_line.specs.Words.{ticket_at, cell_at, node_at}
-use Rattle.ring_line.specs.Ring.{At, Past, HasPassed, Walks, NodeOk, PastOk, Shown, RingRule, has_line, lets_go, is_kept, is_dark}
-use Rattle.ring_line.specs.Steps.{Sat, next_end, left_by, after_walk, Carries, Ended, GoesHome, Passes, granted}
+use Rattle.ring_line.specs.Ring.{At, Past, HasPassed, Walks, NodeOk, PastOk, Shown, RingRule, has_line, lets_go, is_kept, is_cleared}
+use Rattle.ring_line.specs.Steps.{Contents, next_end, left_by, after_walk, Carries, Ended, GoesHome, Passes, granted}
 use Rattle.ring_line.proofs.Lists.{elem_within, at_same, prefix_more, has_prefix, cleared_ended}
 use Rattle.ring_line.proofs.Nodes.{passed_goes, put, put_here, put_else, placed_at, others_end, others_clear, others_hand}
 use Rattle.ring_line.proofs.Histories.{marked_at, continues}
@@ -44,7 +44,7 @@ some_list : (l : List ℕ) (q : ℕ) → l ++ q ∷ [] ≢ []
 some_list [] q e = cc
 some_list (p ∷ ps) q e = cc
 
-module _ (good : List ℕ → Type 0) (allows : List ℕ → List ℕ → Type 0) (about : Setup) (goes : (a b : List ℕ) → good a → allows a b → good b) (v : Entry) (dark : v.point ≡ Dark) (y : Parcel) (carries : Carries allows v y) where
+module _ (good : List ℕ → Type 0) (allows : List ℕ → List ℕ → Type 0) (about : Setup) (goes : (a b : List ℕ) → good a → allows a b → good b) (v : Entry) (cleared : v.point ≡ Cleared) (y : Parcel) (carries : Carries allows v y) where
   abbrev Rule : St → Type 0
   Rule = RingRule good allows about
 
@@ -52,44 +52,44 @@ module _ (good : List ℕ → Type 0) (allows : List ℕ → List ℕ → Type 0
   e = next_end v y
 
   abbrev walk_past : Past → Past
-  walk_past x = record x { ends = x.ends ++ e ∷ []; dark = false; passer = put x.passer (length (x.ends ++ e ∷ [])) v.view.node }
+  walk_past x = record x { ends = x.ends ++ e ∷ []; cleared = false; passer = put x.passer (length (x.ends ++ e ∷ [])) v.view.node }
 
   abbrev walk_entry : Past → Entry
-  walk_entry x = record v { view = record v.view { state = left_by y.closed; order = x.order; ends = x.ends ++ e ∷ []; clear = x.clear }; point = Lit; passed = v.passed ++ length (x.ends ++ e ∷ []) ∷ [] }
+  walk_entry x = record v { view = record v.view { state = left_by y.closed; order = x.order; ends = x.ends ++ e ∷ []; clear = x.clear }; point = Passing; passed = v.passed ++ length (x.ends ++ e ∷ []) ∷ [] }
 
   abbrev home_past : Past → Past
-  home_past x = record x { ends = x.ends ++ e ∷ []; clear = clear_with (own v.view) v.passed x.clear; hand = 0; dark = false }
+  home_past x = record x { ends = x.ends ++ e ∷ []; clear = clear_with (own v.view) v.passed x.clear; hand = 0; cleared = false }
 
   abbrev home_entry : Past → Entry
   home_entry x = record v { view = record v.view { state = left_by y.closed; order = x.order; ends = x.ends ++ e ∷ []; clear = clear_with (own v.view) v.passed x.clear }; point = after_walk v.passed }
 
   not_idle : v.point ≢ Idle
-  not_idle i = let d = dark in cc
+  not_idle i = let d = cleared in cc
 
   not_rolled : v.point ≢ Rolled
-  not_rolled i = let d = dark in cc
+  not_rolled i = let d = cleared in cc
 
   module _ (x : Past) (f : PastOk good allows about x) (ok : NodeOk about x v.view.node v) where
     longer : length (x.ends ++ e ∷ []) ≡ length x.ends + 1
     longer = length-append x.ends (e ∷ [])
 
     ends : v.view.ends ≡ x.ends
-    ends = (ok.holds (ap has_line dark)).0
+    ends = (ok.holds (ap has_line cleared)).0
 
     hand : x.hand ≡ v.view.node
-    hand = (ok.holds (ap has_line dark)).1
+    hand = (ok.holds (ap has_line cleared)).1
 
-    was_dark : x.dark ≡ true
-    was_dark = (ok.holds (ap has_line dark)).2 ∙ ap is_dark dark
+    was_cleared : x.cleared ≡ true
+    was_cleared = (ok.holds (ap has_line cleared)).2 ∙ ap is_cleared cleared
 
     walks : Walks x v
-    walks = ok.walking (ap lets_go dark) (ap has_line dark)
+    walks = ok.walking (ap lets_go cleared) (ap has_line cleared)
 
     unmarked : x.marks v.place ≡ 0
-    unmarked = ok.unmarked (ap is_kept dark)
+    unmarked = ok.unmarked (ap is_kept cleared)
 
     unclear : Lacks x.clear (own v.view)
-    unclear = ok.unclear (ap is_kept dark)
+    unclear = ok.unclear (ap is_kept cleared)
 
     placed : At x.order v.place (own v.view)
     placed = placed_at about x v.view.node v ok (ok.asked not_idle)
@@ -118,11 +118,11 @@ module _ (good : List ℕ → Type 0) (allows : List ℕ → List ℕ → Type 0
     shut = sym carries.closed ∙ (λ j. is_closed (ends j ++ e ∷ []))
 
     module _ (low : 0 < v.view.node) where
-      ended_fine : (passer : ℕ → ℕ) → PastOk good allows about (record x { ends = x.ends ++ e ∷ []; dark = false; passer = passer })
+      ended_fine : (passer : ℕ → ℕ) → PastOk good allows about (record x { ends = x.ends ++ e ∷ []; cleared = false; passer = passer })
       ended_fine passer = fine_end good allows about goes x e passer f (λ z. let h = hand in omega arith) (slice_get_within x.order (length x.ends) turn.0 turn.1)
           (subst (λ (b : List End). MayEnd (is_closed b) e) ends (may_follow v.passed (is_closed v.view.ends) y)) allowed gone marked
 
-      ended_others : (passer : ℕ → ℕ) → ((p : ℕ) → p ≤ length x.ends → passer p ≡ x.passer p) → (n : ℕ) (u : Entry) → n ≢ v.view.node → NodeOk about x n u → NodeOk about (record x { ends = x.ends ++ e ∷ []; dark = false; passer = passer }) n u
+      ended_others : (passer : ℕ → ℕ) → ((p : ℕ) → p ≤ length x.ends → passer p ≡ x.passer p) → (n : ℕ) (u : Entry) → n ≢ v.view.node → NodeOk about x n u → NodeOk about (record x { ends = x.ends ++ e ∷ []; cleared = false; passer = passer }) n u
       ended_others passer passes n u ne k = others_end about x n u k v.view.node turn.0 e passer turn.1 turn.2 marked ne hand passes
 
       -- the cell behind the granted one
@@ -140,7 +140,7 @@ module _ (good : List ℕ → Type 0) (allows : List ℕ → List ℕ → Type 0
             old : Dec (k ≡ 127) → slice_index words (cell_at ((length x.ends + 1 + k) % 128)) ≡ 256 * x.marks (length x.ends + 1 + k)
             old (yes last) = let n : length x.ends + 1 + k ≡ length x.ends + 128 = omega arith in let w : (length x.ends + 1 + k) % 128 ≡ length x.ends % 128 = omega arith in
                 let m : x.marks (length x.ends + 1 + k) ≡ 0 = ap x.marks n ∙ far in
-                ap (λ q. slice_index words (cell_at q)) w ∙ h.dark was_dark ∙ (let z : 0 ≡ 256 * x.marks (length x.ends + 1 + k) = omega arith in z)
+                ap (λ q. slice_index words (cell_at q)) w ∙ h.cleared was_cleared ∙ (let z : 0 ≡ 256 * x.marks (length x.ends + 1 + k) = omega arith in z)
             old (no ne) = let n : length x.ends + (k + 1) ≡ length x.ends + 1 + k = omega arith in
                 subst (λ q. slice_index words (cell_at (q % 128)) ≡ 256 * x.marks q) n (h.later (k + 1) (omega arith) (omega arith))
 
@@ -149,8 +149,8 @@ module _ (good : List ℕ → Type 0) (allows : List ℕ → List ℕ → Type 0
           wide = length-set words i z ∙ h.wide;
           deep = h.deep;
           ticket = get_or-set_other words i ticket_at z 0 (λ q. omega arith) ∙ h.ticket;
-          dark = λ q. absurd (cc q);
-          lit = λ q. absurd (let k = hand in omega arith);
+          cleared = λ q. absurd (cc q);
+          granted = λ q. absurd (let k = hand in omega arith);
           later = λ k a b. later_cells z k a b;
           flags = λ n a b. get_or-set_other words i (node_at n) z 0 (λ q. omega arith) ∙ h.flags n a b;
           home = λ q. absurd (let k = hand in omega arith);
@@ -161,8 +161,8 @@ module _ (good : List ℕ → Type 0) (allows : List ℕ → List ℕ → Type 0
           wide = length-set words i new ∙ h.wide;
           deep = length-set homes 0 (some y) ∙ h.deep;
           ticket = get_or-set_other words i ticket_at new 0 (λ q. omega arith) ∙ h.ticket;
-          dark = λ q. absurd (cc q);
-          lit = λ _. ap (λ k. get_or (set words i new) k 0) (ap (λ k. cell_at (k % 128)) longer ∙ sym is) ∙ get_or-set_same words i new 0 (let w = h.wide in let b = small in omega arith)
+          cleared = λ q. absurd (cc q);
+          granted = λ _. ap (λ k. get_or (set words i new) k 0) (ap (λ k. cell_at (k % 128)) longer ∙ sym is) ∙ get_or-set_same words i new 0 (let w = h.wide in let b = small in omega arith)
               ∙ ap (λ k. (k + 1) % 2 ^ 64) (found ∙ ap (λ k. 256 * k) free);
           later = λ k a b. later_cells new k a b;
           flags = λ n a b. get_or-set_other words i (node_at n) new 0 (λ q. omega arith) ∙ h.flags n a b;
@@ -292,27 +292,27 @@ module _ (good : List ℕ → Type 0) (allows : List ℕ → List ℕ → Type 0
         }
 
         home_others : (n : ℕ) (u : Entry) → 0 < n → n ≢ v.view.node → NodeOk about x n u → NodeOk about (home_past x) n u
-        home_others n u above ne k = others_hand about (record x { ends = x.ends ++ e ∷ []; dark = false; clear = clear_with (own v.view) v.passed x.clear }) n u (go v.passed) 0 false (λ q. ne (sym q ∙ hand)) (λ q. absurd (some_node q))
+        home_others n u above ne k = others_hand about (record x { ends = x.ends ++ e ∷ []; cleared = false; clear = clear_with (own v.view) v.passed x.clear }) n u (go v.passed) 0 false (λ q. ne (sym q ∙ hand)) (λ q. absurd (some_node q))
           where
-            one : NodeOk about (record x { ends = x.ends ++ e ∷ []; dark = false }) n u
+            one : NodeOk about (record x { ends = x.ends ++ e ∷ []; cleared = false }) n u
             one = ended_others x.passer (λ p le. refl) n u ne k
 
             -- each node has a number above 0
             some_node : 0 ≡ n → ⊥
             some_node q = omega arith
 
-            go : (l : List ℕ) → NodeOk about (record x { ends = x.ends ++ e ∷ []; dark = false; clear = clear_with (own v.view) l x.clear }) n u
-            go [] = others_clear about (record x { ends = x.ends ++ e ∷ []; dark = false }) n u one (own v.view) v.place (λ q. ne (sym q)) placed unmarked (ended_fine x.passer).legal
+            go : (l : List ℕ) → NodeOk about (record x { ends = x.ends ++ e ∷ []; cleared = false; clear = clear_with (own v.view) l x.clear }) n u
+            go [] = others_clear about (record x { ends = x.ends ++ e ∷ []; cleared = false }) n u one (own v.view) v.place (λ q. ne (sym q)) placed unmarked (ended_fine x.passer).legal
             go (p ∷ l) = one
 
         home_fine : PastOk good allows about (home_past x)
-        home_fine = fine_home good allows about (record x { ends = x.ends ++ e ∷ []; dark = false; clear = clear_with (own v.view) v.passed x.clear }) (go v.passed) free settled
+        home_fine = fine_home good allows about (record x { ends = x.ends ++ e ∷ []; cleared = false; clear = clear_with (own v.view) v.passed x.clear }) (go v.passed) free settled
           where
-            one : PastOk good allows about (record x { ends = x.ends ++ e ∷ []; dark = false })
+            one : PastOk good allows about (record x { ends = x.ends ++ e ∷ []; cleared = false })
             one = ended_fine x.passer
 
-            go : (l : List ℕ) → PastOk good allows about (record x { ends = x.ends ++ e ∷ []; dark = false; clear = clear_with (own v.view) l x.clear })
-            go [] = fine_clear good allows about (record x { ends = x.ends ++ e ∷ []; dark = false }) v.place (own v.view) one below placed unclear
+            go : (l : List ℕ) → PastOk good allows about (record x { ends = x.ends ++ e ∷ []; cleared = false; clear = clear_with (own v.view) l x.clear })
+            go [] = fine_clear good allows about (record x { ends = x.ends ++ e ∷ []; cleared = false }) v.place (own v.view) one below placed unclear
             go (p ∷ l) = one
 
             -- what ended just now is the own request, or a withdrawn one
@@ -338,8 +338,8 @@ module _ (good : List ℕ → Type 0) (allows : List ℕ → List ℕ → Type 0
         }
 
   own_turn_of : (x : Past) (ok : NodeOk about x v.view.node v) → v.passed ≡ [] → At x.order (length v.view.ends) (own v.view)
-  own_turn_of x ok empty = ⊎_elim (λ z. subst (λ q. At x.order q (own v.view)) (z.0 ∙ ap length (sym (ok.holds (ap has_line dark)).0)) (placed_at about x v.view.node v ok (ok.asked not_idle)))
-      (λ z. absurd (z.2 empty)) (ok.walking (ap lets_go dark) (ap has_line dark))
+  own_turn_of x ok empty = ⊎_elim (λ z. subst (λ q. At x.order q (own v.view)) (z.0 ∙ ap length (sym (ok.holds (ap has_line cleared)).0)) (placed_at about x v.view.node v ok (ok.asked not_idle)))
+      (λ z. absurd (z.2 empty)) (ok.walking (ap lets_go cleared) (ap has_line cleared))
 
   module _ (s : St) (r : Rule s) (me i : ℕ) (at : get_elem? s.views me ≡ some (v ∷ [])) (word : i ≡ cell_at ((length v.view.ends + 1) % 128)) where
     ok : NodeOk about r.past v.view.node v
@@ -386,8 +386,8 @@ module _ (good : List ℕ → Type 0) (allows : List ℕ → List ℕ → Type 0
     ended_walk : Ended v (walk_entry r.past) y
     ended_walk = record { known = (ended_fine r.past r.fine ok above r.past.passer).legal.ended; ends = ap (λ l. l ++ e ∷ []) (sym same_ends); state = refl; count = refl; own_turn = own_turn_of r.past ok }
 
-  pub grants_next : (me slots i : ℕ) (m : Sat) → m ≡ (v ∷ [], (0, y) ∷ []) → i ≡ cell_at ((length v.view.ends + 1) % 128) → Allows Rule slots me m i (λ n. (n + 1) % 2 ^ 64) (granted allows (step slots i 1 0 none) m)
-  grants_next me slots i m is word = subst (λ (z : Sat). Allows Rule slots me z i (λ n. (n + 1) % 2 ^ 64) (granted allows (step slots i 1 0 none) z)) (sym is) (λ s r deep at small.
+  pub grants_next : (me slots i : ℕ) (m : Contents) → m ≡ (v ∷ [], (0, y) ∷ []) → i ≡ cell_at ((length v.view.ends + 1) % 128) → Allows Rule slots me m i (λ n. (n + 1) % 2 ^ 64) (granted allows (step slots i 1 0 none) m)
+  grants_next me slots i m is word = subst (λ (z : Contents). Allows Rule slots me z i (λ n. (n + 1) % 2 ^ 64) (granted allows (step slots i 1 0 none) z)) (sym is) (λ s r deep at small.
       let w = seen s r me i at word in
       dite (ℕ_discrete (r.past.marks (length (r.past.ends ++ e ∷ []))) 0)
       (λ free. (

@@ -11,7 +11,7 @@ use Rattle.qolb_model.specs.OneHistory.{IsAmong}
 use Rattle.qolb_model.proofs.Lists.{element_at}
 use Rattle.qolb_model.proofs.Agreeing.{among_map_port}
 use Rattle.ring_line.specs.declared.entry.Point.{Point}
-use Rattle.ring_line.specs.declared.entry.Point.TheVariants.{Idle, Queued, Holding, Lit, Dark, Freeing, Rolled}
+use Rattle.ring_line.specs.declared.entry.Point.TheVariants.{Idle, Queued, Holding, Passing, Cleared, Freeing, Rolled}
 use Rattle.ring_line.specs.declared.entry.Entry.{Entry}
 use Rattle.ring_line.specs.declared.rule.Setup.{Setup}
 use Rattle.ring_line.specs.declared.rule.Parcel.{Parcel}
@@ -25,8 +25,8 @@ rests_without : (p : Point) → is_at_rest p ≡ true → has_line p ≡ false
 rests_without Idle e = refl
 rests_without Queued e = refl
 rests_without Holding e = absurd (cc e)
-rests_without Lit e = absurd (cc e)
-rests_without Dark e = absurd (cc e)
+rests_without Passing e = absurd (cc e)
+rests_without Cleared e = absurd (cc e)
 rests_without Freeing e = refl
 rests_without Rolled e = refl
 
@@ -54,8 +54,8 @@ module _ (good : List ℕ → Type 0) (allows : List ℕ → List ℕ → Type 0
             case_of Idle i = let h = (ok.idle i (ok.last_open (length r.past.ends) q e refl (omega arith)).0).0 in let o = (ok.last_open (length r.past.ends) q e refl (omega arith)).1 in omega arith
             case_of Queued i = clash_at is_at_rest Queued rests i refl
             case_of Holding i = clash_at is_at_rest Holding rests i refl
-            case_of Lit i = clash_at is_at_rest Lit rests i refl
-            case_of Dark i = clash_at is_at_rest Dark rests i refl
+            case_of Passing i = clash_at is_at_rest Passing rests i refl
+            case_of Cleared i = clash_at is_at_rest Cleared rests i refl
             case_of Freeing i = clash_at is_at_rest Freeing rests i refl
             case_of Rolled i = let m : r.past.marks (length r.past.ends) ≡ q.node = ap r.past.marks (ok.last_open (length r.past.ends) q e refl (omega arith)).1 ∙ ok.rolled i in let z = (r.fine.nobody nobody).1 in
                 let low = (r.fine.nodes (length r.past.ends) q e).0 in omega arith

@@ -8,9 +8,9 @@ pub mod Histories
 pub mod Keeping
 pub mod Ask
 pub mod Taking
-pub mod Look
+pub mod Load
 pub mod Roll
-pub mod Darken
+pub mod Clear
 pub mod Reset
 pub mod Clearing
 pub mod Free
@@ -21,6 +21,6 @@ pub mod Passed
 pub mod Ending
 pub mod Grant
 pub mod Seats
-pub mod Dealing
+pub mod Splitting
 pub mod Meets
 pub mod Lasting

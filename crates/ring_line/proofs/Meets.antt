@@ -24,7 +24,7 @@ use Rattle.ring_line.specs.declared.entry.Entry.{Entry}
 use Rattle.ring_line.specs.declared.rule.Setup.{Setup}
 use Rattle.ring_line.specs.declared.rule.Parcel.{Parcel}
 use Rattle.ring_line.specs.Ring.{At, Past, NodeOk, Member, PastOk, RingRule, has_line}
-use Rattle.ring_line.specs.Steps.{Sat, informed, informed_view, met, parked}
+use Rattle.ring_line.specs.Steps.{Contents, informed, informed_view, met, parked}
 use Rattle.ring_line.proofs.Lists.{at_one, at_none, at_either, has_prefix}
 use Rattle.ring_line.proofs.Nodes.{passed_goes, put, put_here, put_else}
 use Rattle.ring_line.proofs.Histories.{one_history, continues}
@@ -177,7 +177,7 @@ module _ (good : List ℕ → Type 0) (allows : List ℕ → List ℕ → Type 0
       pair_rule : Rule record { words = s.words; homes = s.homes; views = set s.views me (v' ∷ u' ∷ []) }
       pair_rule = record { past = r.past; who = who'; owner = r.owner; few = r.few; line = r.line; fine = r.fine; shown = r.shown; each = each'; members = all }
 
-  pub meets_next : (me slots i : ℕ) (m : Sat) (v u : Entry) → m.0 ≡ v ∷ u ∷ [] → Allows Rule slots me m i (λ n. n) (met allows (step slots i 0 0 none) m)
+  pub meets_next : (me slots i : ℕ) (m : Contents) (v u : Entry) → m.0 ≡ v ∷ u ∷ [] → Allows Rule slots me m i (λ n. n) (met allows (step slots i 0 0 none) m)
   meets_next me slots i m v u is s r deep at small =
       let at' : get_elem? s.views me ≡ some (v ∷ u ∷ []) = at ∙ ap some is in
       let a = first_ok s r me v u at' in let b = second_ok s r me v u at' in
@@ -200,7 +200,7 @@ module _ (good : List ℕ → Type 0) (allows : List ℕ → List ℕ → Type 0
       )
 
   -- the holder's slot goes home, for a moment
-  pub parks_next : (me slots i : ℕ) (m : Sat) (v : Entry) (y : Parcel) → m.0 ≡ v ∷ [] → v.point ≡ Holding → m.1 ≡ (0, y) ∷ [] → Allows Rule slots me m i (λ n. n) (parked (step slots i 0 0 none) m)
+  pub parks_next : (me slots i : ℕ) (m : Contents) (v : Entry) (y : Parcel) → m.0 ≡ v ∷ [] → v.point ≡ Holding → m.1 ≡ (0, y) ∷ [] → Allows Rule slots me m i (λ n. n) (parked (step slots i 0 0 none) m)
   parks_next me slots i m v y is holding carried s r deep at small =
       let at' : get_elem? s.views me ≡ some (v ∷ []) = at ∙ ap some is in
       let mb = r.members me 0 (v ∷ []) v at' refl in
@@ -219,7 +219,7 @@ module _ (good : List ℕ → Type 0) (allows : List ℕ → List ℕ → Type 0
               few = r.few;
               line = r.line;
               fine = r.fine;
-              shown = record { wide = r.shown.wide; deep = length-set s.homes 0 (some y) ∙ r.shown.deep; ticket = r.shown.ticket; dark = r.shown.dark; lit = r.shown.lit; later = r.shown.later; flags = r.shown.flags; home = λ e. let l = mine in absurd (omega arith) };
+              shown = record { wide = r.shown.wide; deep = length-set s.homes 0 (some y) ∙ r.shown.deep; ticket = r.shown.ticket; cleared = r.shown.cleared; granted = r.shown.granted; later = r.shown.later; flags = r.shown.flags; home = λ e. let l = mine in absurd (omega arith) };
               each = r.each;
               members = r.members;
             },

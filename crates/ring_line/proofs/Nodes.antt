@@ -124,8 +124,8 @@ module _ (about : Setup) (x : Past) (n : ℕ) (v : Entry) (ok : NodeOk about x n
       old p r at mine = ⊎_elim (λ t. t.1) (λ t. absurd (other (sym (ap (λ (z : Request). z.node) t.1) ∙ mine))) (push_cases x.order q p r at)
 
   -- the line comes into another hand, or the cell at its turn is cleared
-  pub others_hand : (hand : ℕ) (dark : Bool) → x.hand ≢ n → hand ≢ n → NodeOk about (record x { hand = hand; dark = dark }) n v
-  others_hand hand dark was is = record {
+  pub others_hand : (hand : ℕ) (cleared : Bool) → x.hand ≢ n → hand ≢ n → NodeOk about (record x { hand = hand; cleared = cleared }) n v
+  others_hand hand cleared was is = record {
     node = ok.node;
     label = ok.label;
     nodes = ok.nodes;
@@ -148,7 +148,7 @@ module _ (about : Setup) (x : Past) (n : ℕ) (v : Entry) (ok : NodeOk about x n
     holds = λ e. absurd (was (ok.holds e).1);
     lacks = λ _. is;
     holder = ok.holder;
-    passed = λ i p at. let h = ok.passed i p at in passed_goes x (record x { hand = hand; dark = dark }) n v v p h h.in_release refl (omega arith) h.marked (prefix_self v.view.order) h.unclear;
+    passed = λ i p at. let h = ok.passed i p at in passed_goes x (record x { hand = hand; cleared = cleared }) n v v p h h.in_release refl (omega arith) h.marked (prefix_self v.view.order) h.unclear;
     passed_once = ok.passed_once;
     own_ends = ok.own_ends;
     own_marks = ok.own_marks;
@@ -163,7 +163,7 @@ module _ (about : Setup) (x : Past) (n : ℕ) (v : Entry) (ok : NodeOk about x n
 
   -- the request t at its turn ends, by a step of m, which has the line: it is m's own, or it is withdrawn and ends so
   pub others_end : (m : ℕ) (t : Request) (e : End) (passer : ℕ → ℕ) → At x.order (length x.ends) t → (t.node ≡ m) ⊎ (0 < x.marks (length x.ends)) → (0 < x.marks (length x.ends) → is_gone e ≡ true) → n ≢ m → x.hand ≡ m
-      → ((p : ℕ) → p ≤ length x.ends → passer p ≡ x.passer p) → NodeOk about (record x { ends = x.ends ++ e ∷ []; dark = false; passer = passer }) n v
+      → ((p : ℕ) → p ≤ length x.ends → passer p ≡ x.passer p) → NodeOk about (record x { ends = x.ends ++ e ∷ []; cleared = false; passer = passer }) n v
   others_end m t e passer turn whose gone other had passes = record {
     node = ok.node;
     label = ok.label;
@@ -187,7 +187,7 @@ module _ (about : Setup) (x : Past) (n : ℕ) (v : Entry) (ok : NodeOk about x n
     holds = λ l. absurd (no_line l);
     lacks = ok.lacks;
     holder = λ h. absurd (no_line (ok.holder h).0);
-    passed = λ i p at. let h = ok.passed i p at in passed_goes x (record x { ends = x.ends ++ e ∷ []; dark = false; passer = passer }) n v v p h h.in_release (passes p h.within) (let l = longer in omega arith) h.marked (prefix_self v.view.order) h.unclear;
+    passed = λ i p at. let h = ok.passed i p at in passed_goes x (record x { ends = x.ends ++ e ∷ []; cleared = false; passer = passer }) n v v p h h.in_release (passes p h.within) (let l = longer in omega arith) h.marked (prefix_self v.view.order) h.unclear;
     passed_once = ok.passed_once;
     own_ends = λ p r end at mine en kind. ⊎_elim (λ z. ok.own_ends p r end at mine z.1 kind)
         (λ z. absurd (never (ap is_gone z.1 ∙ gone (marked_turn r (subst (λ q. At x.order q r) z.0 at) mine)) kind)) (push_cases x.ends e p end en);

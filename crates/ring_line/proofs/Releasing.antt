@@ -16,12 +16,12 @@ use Rattle.qolb_model.specs.LettingGo.{LetsGo}
 use Rattle.qolb_model.proofs.Lists.{element_at, same_some}
 use Rattle.qolb_model.proofs.Prefixes.{prefix_get}
 use Rattle.qolb_model.proofs.Histories.{bytes_after-append, is_closed-append}
-use Rattle.ring_line.specs.declared.entry.Point.TheVariants.{Dark}
+use Rattle.ring_line.specs.declared.entry.Point.TheVariants.{Cleared}
 use Rattle.ring_line.specs.declared.entry.Entry.{Entry}
 use Rattle.ring_line.specs.declared.rule.Parcel.{Parcel}
-use Rattle.ring_line.specs.Steps.{entry_of, sole, write_of, own_end, end_of, next_end, left_by, Carries, Comes, Ended}
+use Rattle.ring_line.specs.Steps.{RingSeat, entry_of, sole, write_of, own_end, end_of, next_end, left_by, Carries, Comes, Ended}
 use Rattle.ring_line.specs.Releases.{LetsLineGo, WalksOn, IsPassedOn}
-use Rattle.ring_line.specs.Ports.{Spot, IsMerged, Holds}
+use Rattle.ring_line.specs.Ports.{IsMerged, Holds}
 use Rattle.ring_line.proofs.Lists.{has_prefix}
 use Rattle.ring_line.proofs.Turning.{same_own}
 
@@ -30,9 +30,9 @@ ends_own : (w : Entry) (y : Parcel) (closed : Bool) → w.passed ≡ [] → is_c
 ends_own w y closed none is = (λ i. end_of (none i) (is i) y)
 
 -- a release that walked on is a release
-pub lets_on : (v u t : Entry) (y : Parcel) → v.passed ≡ [] → Ended (record v { point = Dark }) u y → Extends u.view t.view → WalksOn u t → LetsLineGo v y t
+pub lets_on : (v u t : Entry) (y : Parcel) → v.passed ≡ [] → Ended (record v { point = Cleared }) u y → Extends u.view t.view → WalksOn u t → LetsLineGo v y t
 lets_on v u t y none e more w =
-    let ended : u.view.ends ≡ v.view.ends ++ own_end (is_closed v.view.ends) y ∷ [] = e.ends ∙ ap (λ x. v.view.ends ++ x ∷ []) (ends_own (record v { point = Dark }) y (is_closed v.view.ends) none refl) in
+    let ended : u.view.ends ≡ v.view.ends ++ own_end (is_closed v.view.ends) y ∷ [] = e.ends ∙ ap (λ x. v.view.ends ++ x ∷ []) (ends_own (record v { point = Cleared }) y (is_closed v.view.ends) none refl) in
     let from : length u.view.ends ≡ length v.view.ends + 1 = omega (arith, ap length ended, length-append v.view.ends (own_end (is_closed v.view.ends) y ∷ [])) in
     record {
       point = w.point;
@@ -98,7 +98,7 @@ told_by v w t y c closed more l =
 merged_fresh : (base : List ℕ) (z : Parcel) → length z.bytes.bytes ≡ 64 → z.mask.0 ≡ 0 → z.bytes.bytes ≡ base → written base (write_of z) ≡ z.bytes.bytes
 merged_fresh base z line mask is = ap (λ m. merged base z.bytes.bytes m) mask ∙ merged-none base z.bytes.bytes (ap length (sym is) ∙ line) ∙ sym is
 
-pub arrives : (v : Entry) (s t : Spot) (y z : Parcel) (cell : ℕ) → Comes v (entry_of s) y → s.me.1 ≡ (0, y) ∷ [] → t.me ≡ s.me → z.bytes ≡ y.bytes → z.closed ≡ y.closed → z.mask.0 ≡ 0 → z.closed ≡ false → cell ≡ (entry_of s).place % 128
+pub arrives : (v : Entry) (s t : RingSeat) (y z : Parcel) (cell : ℕ) → Comes v (entry_of s) y → s.me.1 ≡ (0, y) ∷ [] → t.me ≡ s.me → z.bytes ≡ y.bytes → z.closed ≡ y.closed → z.mask.0 ≡ 0 → z.closed ≡ false → cell ≡ (entry_of s).place % 128
     → Holds t z cell × ((entry_of t).view.state ≡ shows.Holding) × IsGranted (entry_of t).view (write_of z)
 arrives v s t y z cell c slot same bytes closed mask unclosed at =
     let entry : entry_of s ≡ entry_of t = ap (λ m. sole m.0) (sym same) in
@@ -128,7 +128,7 @@ arrives v s t y z cell c slot same bytes closed mask unclosed at =
     )
 
 -- the holder writes
-pub holds_written : (s : Spot) (y z : Parcel) (cell mask : ℕ) (bytes : List ℕ) → Holds s y cell → z.bytes.bytes ≡ merged y.bytes.bytes bytes mask → z.mask.0 ≡ bit_or y.mask.0 mask → z.closed ≡ y.closed → Holds s z cell
+pub holds_written : (s : RingSeat) (y z : Parcel) (cell mask : ℕ) (bytes : List ℕ) → Holds s y cell → z.bytes.bytes ≡ merged y.bytes.bytes bytes mask → z.mask.0 ≡ bit_or y.mask.0 mask → z.closed ≡ y.closed → Holds s z cell
 holds_written s y z cell mask bytes h b k c = record {
   point = h.point;
   none_passed = h.none_passed;

@@ -16,7 +16,7 @@ use Rattle.ring_line.specs.declared.entry.Entry.{Entry}
 use Rattle.ring_line.specs.declared.rule.Setup.{Setup}
 use Rattle.ring_line.specs.Words.{ticket_at, cell_at, node_at}
 use Rattle.ring_line.specs.Ring.{At, Past, NodeOk, PastOk, Shown, RingRule, has_line, lets_go}
-use Rattle.ring_line.specs.Steps.{sole, Sat, IsStill, asked_free, reset}
+use Rattle.ring_line.specs.Steps.{sole, Contents, IsStill, loaded_node, reset}
 use Rattle.ring_line.proofs.Lists.{at_same, cleared_ended, has_prefix}
 use Rattle.ring_line.proofs.Nodes.{clash_at, put, put_here, put_else, placed_at, others_reset, fresh, fresh_ok}
 use Rattle.ring_line.proofs.Histories.{continues}
@@ -70,8 +70,8 @@ module _ (good : List ℕ → Type 0) (allows : List ℕ → List ℕ → Type 0
     learns_still : Continues allows v.view still_entry.view
     learns_still = continues good allows about r.past r.past r.fine v.view.node v.view.node v still_entry ok still_ok refl ok.orders ok.endings ok.clears (λ q h. h) (λ q h. h) (λ q h. h)
 
-  pub asks_free_next : (me slots i : ℕ) (m : Sat) → m.0 ≡ v ∷ [] → i ≡ node_at v.view.node → Allows Rule slots me m i (λ n. n) (asked_free allows (step slots i 0 0 none) m)
-  asks_free_next me slots i m is word s r deep at small = let at' : get_elem? s.views me ≡ some (v ∷ []) = at ∙ ap some is in (
+  pub loads_node_next : (me slots i : ℕ) (m : Contents) → m.0 ≡ v ∷ [] → i ≡ node_at v.view.node → Allows Rule slots me m i (λ n. n) (loaded_node allows (step slots i 0 0 none) m)
+  loads_node_next me slots i m is word s r deep at small = let at' : get_elem? s.views me ≡ some (v ∷ []) = at ∙ ap some is in (
     still_entry s r me i at' word ∷ [],
     keeps,
     tt,
@@ -139,8 +139,8 @@ module _ (good : List ℕ → Type 0) (allows : List ℕ → List ℕ → Type 0
       wide = length-set words i 0 ∙ h.wide;
       deep = h.deep;
       ticket = get_or-set_other words i ticket_at 0 0 (λ e. omega arith) ∙ h.ticket;
-      dark = λ e. get_or-set_other words i (cell_at (length x.ends % 128)) 0 0 (λ q. omega arith) ∙ h.dark e;
-      lit = λ e. get_or-set_other words i (cell_at (length x.ends % 128)) 0 0 (λ q. omega arith) ∙ h.lit e;
+      cleared = λ e. get_or-set_other words i (cell_at (length x.ends % 128)) 0 0 (λ q. omega arith) ∙ h.cleared e;
+      granted = λ e. get_or-set_other words i (cell_at (length x.ends % 128)) 0 0 (λ q. omega arith) ∙ h.granted e;
       later = λ k a b. get_or-set_other words i (cell_at ((length x.ends + k) % 128)) 0 0 (λ q. omega arith) ∙ h.later k a b;
       flags = λ n a b. dite (ℕ_discrete n v.view.node)
           (λ e. ap (λ k. get_or (set words i 0) k 0) (ap node_at e ∙ sym is) ∙ get_or-set_same words i 0 0 (let w = h.wide in omega arith) ∙ sym (ap (put x.flags v.view.node 0) e ∙ put_here x.flags v.view.node 0))
@@ -148,7 +148,7 @@ module _ (good : List ℕ → Type 0) (allows : List ℕ → List ℕ → Type 0
       home = h.home;
     }
 
-    pub resets_next : (me slots i : ℕ) (m : Sat) → m.0 ≡ v ∷ [] → i ≡ node_at v.view.node → Allows Rule slots me m i (λ _. 0) (λ _. reset (step slots i 0 0 none) m 0)
+    pub resets_next : (me slots i : ℕ) (m : Contents) → m.0 ≡ v ∷ [] → i ≡ node_at v.view.node → Allows Rule slots me m i (λ _. 0) (λ _. reset (step slots i 0 0 none) m 0)
     resets_next me slots i m is word s r deep at small = (
       reset_entry ∷ [],
       keeps,

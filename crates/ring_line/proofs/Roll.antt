@@ -18,12 +18,12 @@ use Rattle.ring_line.specs.declared.entry.Entry.{Entry}
 use Rattle.ring_line.specs.declared.rule.Setup.{Setup}
 use Rattle.ring_line.specs.Words.{ticket_at, cell_at, node_at}
 use Rattle.ring_line.specs.Ring.{At, Past, NodeOk, PastOk, Shown, RingRule, has_line, lets_go, is_kept}
-use Rattle.ring_line.specs.Steps.{sole, Sat, IsRolled, Comes, rolled}
+use Rattle.ring_line.specs.Steps.{sole, Contents, IsRolled, Comes, rolled}
 use Rattle.ring_line.proofs.Lists.{at_same, has_prefix}
 use Rattle.ring_line.proofs.Nodes.{clash_at, put, put_here, put_else, others_roll}
 use Rattle.ring_line.proofs.Histories.{continues}
 use Rattle.ring_line.proofs.Keeping.{St, Homes, rule_step, mine_ok, mine_low}
-use Rattle.ring_line.proofs.Taking.{take_entry, asked_at, near, home, lit, unlit, takes_rule, comes, learns_take}
+use Rattle.ring_line.proofs.Taking.{take_entry, asked_at, near, home, finds_grant, finds_blank, takes_rule, comes, learns_take}
 
 module _ (good : List ℕ → Type 0) (allows : List ℕ → List ℕ → Type 0) (about : Setup) (v : Entry) (queued : v.point ≡ Queued) where
   abbrev Rule : St → Type 0
@@ -112,8 +112,8 @@ module _ (good : List ℕ → Type 0) (allows : List ℕ → List ℕ → Type 0
       wide = length-set words i new ∙ h.wide;
       deep = h.deep;
       ticket = get_or-set_other words i ticket_at new 0 (λ q. omega arith) ∙ h.ticket;
-      dark = λ e. get_or-set_other words i (cell_at (length x.ends % 128)) new 0 (λ q. apart (length x.ends) (omega arith) (omega arith) (λ z. omega arith) (omega arith)) ∙ h.dark e;
-      lit = λ e. get_or-set_other words i (cell_at (length x.ends % 128)) new 0 (λ q. apart (length x.ends) (omega arith) (omega arith) (λ z. omega arith) (omega arith)) ∙ h.lit e;
+      cleared = λ e. get_or-set_other words i (cell_at (length x.ends % 128)) new 0 (λ q. apart (length x.ends) (omega arith) (omega arith) (λ z. omega arith) (omega arith)) ∙ h.cleared e;
+      granted = λ e. get_or-set_other words i (cell_at (length x.ends % 128)) new 0 (λ q. apart (length x.ends) (omega arith) (omega arith) (λ z. omega arith) (omega arith)) ∙ h.granted e;
       later = λ k a b. dite (ℕ_discrete (length x.ends + k) v.place)
           (λ e. ap (λ q. get_or (set words i new) q 0) (ap (λ q. cell_at (q % 128)) e ∙ sym is) ∙ get_or-set_same words i new 0 (let w = h.wide in omega arith) ∙ sum ∙ ap (λ q. 256 * q) (sym here ∙ ap (put x.marks v.place v.view.node) (sym e)))
           (λ ne. get_or-set_other words i (cell_at ((length x.ends + k) % 128)) new 0 (λ q. apart (length x.ends + k) (omega arith) (omega arith) ne (omega arith)) ∙ h.later k a b ∙ ap (λ q. 256 * q) (sym (elsewhere (length x.ends + k) ne)));
@@ -138,7 +138,7 @@ module _ (good : List ℕ → Type 0) (allows : List ℕ → List ℕ → Type 0
     behind = let q = ok.queued queued in omega arith
 
     blank : slice_index s.words i ≡ 0
-    blank = unlit good allows about v queued s r me i at word later
+    blank = finds_blank good allows about v queued s r me i at word later
 
     rolls_rule : Rule record { words = set s.words i ((slice_index s.words i + d) % 2 ^ 64); homes = s.homes; views = set s.views me (roll_entry r.past ∷ []) }
     rolls_rule = let h = (mine_low good allows about s r me v at).1 in let f = r.few in
@@ -161,7 +161,7 @@ module _ (good : List ℕ → Type 0) (allows : List ℕ → List ℕ → Type 0
       marked = has_last v.view.marked (own v.view);
     }
 
-  pub rolls_next : (me slots i d : ℕ) (m : Sat) → m.0 ≡ v ∷ [] → i ≡ cell_at (v.place % 128) → d ≡ 256 * v.view.node → Allows Rule slots me m i (λ n. (n + d) % 2 ^ 64) (rolled allows (step slots i d 0 none) m)
+  pub rolls_next : (me slots i d : ℕ) (m : Contents) → m.0 ≡ v ∷ [] → i ≡ cell_at (v.place % 128) → d ≡ 256 * v.view.node → Allows Rule slots me m i (λ n. (n + d) % 2 ^ 64) (rolled allows (step slots i d 0 none) m)
   rolls_next me slots i d m is word add s r deep at small = let at' : get_elem? s.views me ≡ some (v ∷ []) = at ∙ ap some is in dite (ℕ_discrete v.place (length r.past.ends))
       (λ here. let y = home good allows about v queued s r me i at' word here in (
         take_entry good allows about v queued r.past ∷ [],
@@ -171,7 +171,7 @@ module _ (good : List ℕ → Type 0) (allows : List ℕ → List ℕ → Type 0
         (
           refl,
           subst (λ u. Continues allows (sole u).view (take_entry good allows about v queued r.past).view) (sym is) (learns_take good allows about v queued s r me i at' word here),
-          (λ z. absurd (lit good allows about v queued s r me i at' word here z)),
+          (λ z. absurd (finds_grant good allows about v queued s r me i at' word here z)),
           (λ _. (y.0, refl, subst (λ u. Comes (sole u) (take_entry good allows about v queued r.past) y.0) (sym is) (comes good allows about v queued s r me i at' word here))),
         ),
       ))

@@ -163,8 +163,8 @@ module _ (good : List ℕ → Type 0) (allows : List ℕ → List ℕ → Type 0
 
   pub starts : (words : List ℕ) (y : Parcel) → about.nodes ≤ 32 → length about.opening.bytes ≡ 64 → good about.opening.bytes → length words ≡ word_count → slice_index words (cell_at 0) ≡ 1
       → ((c : ℕ) → c < word_count → c ≢ cell_at 0 → slice_index words c ≡ 0) → y.bytes.bytes ≡ about.opening.bytes → y.closed ≡ false → Rule (opening words (y ∷ []) (newcomers about))
-  starts words y few line fine wide first dark same unclosed = record {
-    past = record { order = []; ends = []; clear = []; hand = 0; dark = false; marks = λ _. 0; passer = λ _. 0; flags = λ _. 0 };
+  starts words y few line fine wide first cleared same unclosed = record {
+    past = record { order = []; ends = []; clear = []; hand = 0; cleared = false; marks = λ _. 0; passer = λ _. 0; flags = λ _. 0 };
     who = newcomer about;
     owner = λ n. (0, n - 1);
     few = few;
@@ -181,7 +181,7 @@ module _ (good : List ℕ → Type 0) (allows : List ℕ → List ℕ → Type 0
       marked = λ p h. absurd (omega arith);
       gone = λ p e at. absurd (at_none p e at);
     };
-    shown = record { wide = wide; deep = refl; ticket = dark ticket_at (omega arith) (λ e. omega arith); dark = λ e. absurd (cc e); lit = λ _. first; later = λ k a b. later_blank k a b; flags = λ n a b. dark (node_at n) (omega arith) (λ e. omega arith); home = λ _. (y, refl, same, unclosed) };
+    shown = record { wide = wide; deep = refl; ticket = cleared ticket_at (omega arith) (λ e. omega arith); cleared = λ e. absurd (cc e); granted = λ _. first; later = λ k a b. later_blank k a b; flags = λ n a b. cleared (node_at n) (omega arith) (λ e. omega arith); home = λ _. (y, refl, same, unclosed) };
     each = λ n a b. record {
       node = refl;
       label = refl;
@@ -221,7 +221,7 @@ module _ (good : List ℕ → Type 0) (allows : List ℕ → List ℕ → Type 0
   }
     where
       later_blank : (k : ℕ) → 0 < k → k < 128 → slice_index words (cell_at ((0 + k) % 128)) ≡ 0
-      later_blank k a b = let same : (0 + k) % 128 ≡ k = omega arith in dark (cell_at ((0 + k) % 128)) (omega arith) (λ e. omega arith)
+      later_blank k a b = let same : (0 + k) % 128 ≡ k = omega arith in cleared (cell_at ((0 + k) % 128)) (omega arith) (λ e. omega arith)
 
       one : (i : ℕ) (v : Entry) → At (newcomers about) i v → Member about.nodes (newcomer about) (λ n. (0, n - 1)) 0 i v
       one i v e = let h = newcomer_at about 0 about.nodes i v e in let l = h.1 in subst (λ (u : Entry). Member about.nodes (newcomer about) (λ n. (0, n - 1)) 0 i u) (sym h.0)

@@ -15,7 +15,7 @@ use Rattle.qolb_model.specs.Sound.{Continues}
 use Rattle.qolb_model.proofs.Prefixes.{prefix_self}
 use Rattle.qolb_model.proofs.Agreed.{length-bytes_after}
 use Rattle.ring_line.specs.declared.entry.Point.{Point}
-use Rattle.ring_line.specs.declared.entry.Point.TheVariants.{Idle, Queued, Holding, Lit, Dark, Freeing, Rolled}
+use Rattle.ring_line.specs.declared.entry.Point.TheVariants.{Idle, Queued, Holding, Passing, Cleared, Freeing, Rolled}
 use Rattle.ring_line.specs.declared.entry.Entry.{Entry}
 use Rattle.ring_line.specs.declared.rule.Setup.{Setup}
 use Rattle.ring_line.specs.declared.rule.Parcel.{Parcel}
@@ -42,8 +42,8 @@ at_turn about x n v ok l = go v.point refl
     go Idle e = absurd (clash_at has_line Idle l e refl)
     go Queued e = absurd (clash_at has_line Queued l e refl)
     go Holding e = inl (ok.holding e)
-    go Lit e = walks (ap lets_go e)
-    go Dark e = walks (ap lets_go e)
+    go Passing e = walks (ap lets_go e)
+    go Cleared e = walks (ap lets_go e)
     go Freeing e = absurd (clash_at has_line Freeing l e refl)
     go Rolled e = absurd (clash_at has_line Rolled l e refl)
 
@@ -55,7 +55,7 @@ module _ (good : List ℕ → Type 0) (allows : List ℕ → List ℕ → Type 0
   take_entry x = record v { view = record v.view { state = shows.Holding; order = x.order; ends = x.ends; clear = x.clear }; point = Holding }
 
   abbrev pub take_past : Past → Past
-  take_past x = record x { hand = v.view.node; dark = false }
+  take_past x = record x { hand = v.view.node; cleared = false }
 
   pub asked_at : (x : Past) → NodeOk about x v.view.node v → At x.order v.place (own v.view)
   asked_at x ok = placed_at about x v.view.node v ok (ok.asked (λ e. let q = queued in cc))
@@ -124,8 +124,8 @@ module _ (good : List ℕ → Type 0) (allows : List ℕ → List ℕ → Type 0
     near = let few = r.few in let high = slice_get_within r.past.order v.place (own v.view) (asked_at r.past ok) in let all = window good allows about s r in omega arith
 
     -- where the request is not at its turn, its cell is blank
-    pub unlit : v.place ≢ length r.past.ends → slice_index s.words i ≡ 0
-    unlit later = let l = ok.queued queued in let b = near in
+    pub finds_blank : v.place ≢ length r.past.ends → slice_index s.words i ≡ 0
+    finds_blank later = let l = ok.queued queued in let b = near in
         let k : length r.past.ends + (v.place - length r.past.ends) ≡ v.place = omega arith in
         let m : 256 * r.past.marks v.place ≡ 0 = ap (λ q. 256 * q) (ok.unmarked (ap is_kept queued)) in
         ap (slice_index s.words) (word ∙ ap (λ q. cell_at (q % 128)) (sym k)) ∙ r.shown.later (v.place - length r.past.ends) (omega arith) (omega arith) ∙ ap (λ q. 256 * r.past.marks q) k ∙ m
@@ -140,8 +140,8 @@ module _ (good : List ℕ → Type 0) (allows : List ℕ → List ℕ → Type 0
       cell_is : i ≡ cell_at (length r.past.ends % 128)
       cell_is = word ∙ ap (λ k. cell_at (k % 128)) here
 
-      pub lit : slice_index s.words i ≢ 0
-      lit z = let b = r.shown.lit hand in let c : slice_index s.words i ≡ slice_index s.words (cell_at (length r.past.ends % 128)) = ap (slice_index s.words) cell_is in omega arith
+      pub finds_grant : slice_index s.words i ≢ 0
+      finds_grant z = let b = r.shown.granted hand in let c : slice_index s.words i ≡ slice_index s.words (cell_at (length r.past.ends % 128)) = ap (slice_index s.words) cell_is in omega arith
 
       take_fine : PastOk good allows about (take_past r.past)
       take_fine = record {
@@ -162,8 +162,8 @@ module _ (good : List ℕ → Type 0) (allows : List ℕ → List ℕ → Type 0
         wide = length-set s.words i z ∙ r.shown.wide;
         deep = length-set s.homes 0 none ∙ r.shown.deep;
         ticket = get_or-set_other s.words i ticket_at z 0 (λ e. omega arith) ∙ r.shown.ticket;
-        dark = λ e. cc;
-        lit = λ e. let l = (mine_low good allows about s r me v at).0 in absurd (omega arith);
+        cleared = λ e. cc;
+        granted = λ e. let l = (mine_low good allows about s r me v at).0 in absurd (omega arith);
         later = λ k a b. get_or-set_other s.words i (cell_at ((length r.past.ends + k) % 128)) z 0 (λ e. cells_apart (length r.past.ends) k a b (omega arith)) ∙ r.shown.later k a b;
         flags = λ n a b. get_or-set_other s.words i (node_at n) z 0 (λ e. omega arith) ∙ r.shown.flags n a b;
         home = λ e. let l = (mine_low good allows about s r me v at).0 in absurd (omega arith);

@@ -18,14 +18,13 @@ use Rattle.qolb_model.proofs.Lists.{element_at, drop_with, push_cases, same_some
 use Rattle.qolb_model.proofs.Prefixes.{prefix_get}
 use Rattle.qolb_model.proofs.Histories.{bytes_after-append, is_closed-append}
 use Rattle.qolb_model.proofs.Writes.{bytes_after-passed}
-use Rattle.ring_line.specs.declared.entry.Point.TheVariants.{Lit, Dark, Freeing}
+use Rattle.ring_line.specs.declared.entry.Point.TheVariants.{Passing, Cleared, Freeing}
 use Rattle.ring_line.specs.declared.entry.Entry.{Entry}
 use Rattle.ring_line.specs.declared.rule.Parcel.{Parcel}
 use Rattle.ring_line.specs.Ring.{At}
 use Rattle.qolb_model.specs.Sound.{Continues}
-use Rattle.ring_line.specs.Steps.{Alone, entry_of, sole, left_by, after_walk, end_of, next_end, Carries, Ended, GoesHome, Passes, Frees}
+use Rattle.ring_line.specs.Steps.{RingSeat, Alone, entry_of, sole, left_by, after_walk, end_of, next_end, Carries, Ended, GoesHome, Passes, Frees}
 use Rattle.ring_line.specs.Releases.{IsBare, WalksOn, AreNodesAt, FreesAll}
-use Rattle.ring_line.specs.Ports.{Spot}
 use Rattle.ring_line.proofs.Lists.{has_prefix}
 use Rattle.ring_line.proofs.Turning.{continues_trans}
 
@@ -132,7 +131,7 @@ frees_all v w i f le = let none : drop i v.passed ≡ [] = past i v.passed le in
     past (suc i) (x ∷ xs) h = past i xs (omega (arith, h))
 
 -- what the freeing of the nodes of all passed requests has done so far, from the seat s on
-pub record IsFreeing (allows : List ℕ → List ℕ → Type 0) (s : Spot) (i : ℕ) (t : Spot) : Type 0 where
+pub record IsFreeing (allows : List ℕ → List ℕ → Type 0) (s : RingSeat) (i : ℕ) (t : RingSeat) : Type 0 where
   pub table : t.table_id ≡ s.table_id
   pub id : t.id ≡ s.id
   pub carried : t.me.1 ≡ s.me.1
@@ -140,11 +139,11 @@ pub record IsFreeing (allows : List ℕ → List ℕ → Type 0) (s : Spot) (i :
   pub continues : (v : View) → Continues allows v (entry_of s).view → Continues allows v (entry_of t).view
   pub frees : FreesFirst (entry_of s) i (entry_of t)
 
-pub freeing_which : {allows : List ℕ → List ℕ → Type 0} (s t : Spot) (nodes : List ℕ) (i : ℕ) → IsFreeing allows s i t → (length nodes ≡ length (entry_of s).passed) × AreNodesAt (entry_of s).view.order (entry_of s).passed nodes → i < length nodes
+pub freeing_which : {allows : List ℕ → List ℕ → Type 0} (s t : RingSeat) (nodes : List ℕ) (i : ℕ) → IsFreeing allows s i t → (length nodes ≡ length (entry_of s).passed) × AreNodesAt (entry_of s).view.order (entry_of s).passed nodes → i < length nodes
     → ((entry_of t).point ≡ Freeing) × (get_or nodes i 0 ≤ 32) × ((q : ℕ) × (ps : List ℕ) × (r : Request) × ((entry_of t).passed ≡ q ∷ ps) × At (entry_of t).view.order q r × (r.node ≡ get_or nodes i 0))
 freeing_which s t nodes i f all lt = frees_which (entry_of s) (entry_of t) nodes i (get_or nodes i 0) f.frees all.0 all.1 (slice_get-get_or nodes i 0 lt)
 
-pub freeing_next : (allows : List ℕ → List ℕ → Type 0) (s t u : Spot) (nodes : List ℕ) (i : ℕ) → IsFreeing allows s i t → (length nodes ≡ length (entry_of s).passed) × AreNodesAt (entry_of s).view.order (entry_of s).passed nodes → i < length nodes
+pub freeing_next : (allows : List ℕ → List ℕ → Type 0) (s t u : RingSeat) (nodes : List ℕ) (i : ℕ) → IsFreeing allows s i t → (length nodes ≡ length (entry_of s).passed) × AreNodesAt (entry_of s).view.order (entry_of s).passed nodes → i < length nodes
     → (u.table_id ≡ t.table_id) × (u.id ≡ t.id) × (u.me.1 ≡ t.me.1) × Alone u.me → Continues allows (entry_of t).view (entry_of u).view
     → ((q : ℕ) (ps : List ℕ) (r : Request) → (entry_of t).passed ≡ q ∷ ps → At (entry_of t).view.order q r → Frees (entry_of t) ps r (entry_of u)) → IsFreeing allows s (i + 1) u
 freeing_next allows s t u nodes i f all lt seat went frees = record {
@@ -169,7 +168,7 @@ pub record Walked (v : Entry) (nodes : List ℕ) (w : Entry) : Type 0 where
 
 -- it stands at one more withdrawn request, that of the node which the last grant found
 pub record StandsAt (nodes : List ℕ) (found : ℕ) (w : Entry) : Type 0 where
-  pub point : w.point ≡ Lit
+  pub point : w.point ≡ Passing
   pub many : length w.passed ≡ length nodes + 1
   pub request : Request
   pub at : At w.view.order (length w.view.ends) request
@@ -201,17 +200,17 @@ walk_begins v passed two = record {
     by f zero p at = omega (arith, same_some at)
     by f (suc i) p at = absurd (let h : None ≡ Some p = at in cc h)
 
-pub stands_first : (v : Entry) (found : ℕ) → v.point ≡ Lit → v.passed ≡ length v.view.ends ∷ [] → (r : Request) × At v.view.order (length v.view.ends) r × (r.node ≡ found / 256) × (r.node ≤ v.view.nodes) → StandsAt [] found v
-stands_first v found lit passed first = record { point = lit; many = omega (arith, ap length passed); request = first.0; at = first.1; node = first.2; high = first.3 }
+pub stands_first : (v : Entry) (found : ℕ) → v.point ≡ Passing → v.passed ≡ length v.view.ends ∷ [] → (r : Request) × At v.view.order (length v.view.ends) r × (r.node ≡ found / 256) × (r.node ≤ v.view.nodes) → StandsAt [] found v
+stands_first v found passing passed first = record { point = passing; many = omega (arith, ap length passed); request = first.0; at = first.1; node = first.2; high = first.3 }
 
 -- who has passed one ends a withdrawn request next
 ends_gone : (ps : List ℕ) (closed : Bool) (y : Parcel) (k : ℕ) → length ps ≡ k + 1 → end_of ps closed y ≡ Gone
 ends_gone [] closed y k e = absurd (omega (arith, e))
 ends_gone (p ∷ ps) closed y k e = refl
 
-pub carries_gone : (allows : List ℕ → List ℕ → Type 0) (v w : Entry) (nodes : List ℕ) (found : ℕ) (y : Parcel) → Walked v nodes w → StandsAt nodes found w → IsBare v y → Carries allows (record w { point = Dark }) y
+pub carries_gone : (allows : List ℕ → List ℕ → Type 0) (v w : Entry) (nodes : List ℕ) (found : ℕ) (y : Parcel) → Walked v nodes w → StandsAt nodes found w → IsBare v y → Carries allows (record w { point = Cleared }) y
 carries_gone allows v w nodes found y k s b =
-    let gone : next_end (record w { point = Dark }) y ≡ Gone = ends_gone w.passed (is_closed w.view.ends) y (length nodes) s.many in
+    let gone : next_end (record w { point = Cleared }) y ≡ Gone = ends_gone w.passed (is_closed w.view.ends) y (length nodes) s.many in
     let opened : w.view.opening.bytes ≡ v.view.opening.bytes = ap (λ (l : Line64). l.bytes) k.opening in
     let bytes : bytes_after w.view.opening.bytes w.view.ends ≡ y.bytes.bytes = (λ i. bytes_after (opened i) (k.ends i)) ∙ (bytes_after-append v.view.opening.bytes v.view.ends (replicate (length nodes) Gone) ∙ (bytes_after-passed (bytes_after v.view.opening.bytes v.view.ends) (length nodes) ∙ b.bytes)) in
     let closed : is_closed w.view.ends ≡ y.closed = ap is_closed k.ends ∙ (is_closed-append v.view.ends (replicate (length nodes) Gone) ∙ (ap (λ c. is_closed v.view.ends || c) (is_closed-passed (length nodes)) ∙ (or-false (is_closed v.view.ends) ∙ b.closed))) in
@@ -232,7 +231,7 @@ record Grows (w x : Entry) (first : ℕ) : Type 0 where
   few : length x.passed + 1 ≤ w.view.nodes
 
 grows : (v w x : Entry) (nodes : List ℕ) (found next : ℕ) (y : Parcel) → Walked v nodes w → StandsAt nodes found w → length x.view.ends ≡ length v.view.ends + (length nodes + 1) → x.view.nodes ≡ w.view.nodes
-    → (next ≡ 0 → GoesHome (record w { point = Dark }) x) → (next ≢ 0 → Passes (record w { point = Dark }) next x) → Grows w x (length v.view.ends)
+    → (next ≡ 0 → GoesHome (record w { point = Cleared }) x) → (next ≢ 0 → Passes (record w { point = Cleared }) next x) → Grows w x (length v.view.ends)
 grows v w x nodes found zero y k s many n home passes = let h = home refl in record {
   run = λ i p at. k.run i p (subst (λ ps. At ps i p) h.passed at);
   front = λ i p lt at. subst (λ ps. At ps i p) h.passed at;
@@ -255,10 +254,10 @@ replicate-push zero e = refl
 replicate-push (suc n) e = ap (λ es. e ∷ es) (replicate-push n e)
 
 -- a grant ends one more withdrawn request
-pub walked_on : (v w x : Entry) (nodes : List ℕ) (found next : ℕ) (y : Parcel) → v.view.nodes ≤ 32 → Walked v nodes w → StandsAt nodes found w → Ended (record w { point = Dark }) x y → Extends w.view x.view → x.view.state ≡ w.view.state
-    → (next ≡ 0 → GoesHome (record w { point = Dark }) x) → (next ≢ 0 → Passes (record w { point = Dark }) next x) → Walked v (nodes ++ found / 256 ∷ []) x
+pub walked_on : (v w x : Entry) (nodes : List ℕ) (found next : ℕ) (y : Parcel) → v.view.nodes ≤ 32 → Walked v nodes w → StandsAt nodes found w → Ended (record w { point = Cleared }) x y → Extends w.view x.view → x.view.state ≡ w.view.state
+    → (next ≡ 0 → GoesHome (record w { point = Cleared }) x) → (next ≢ 0 → Passes (record w { point = Cleared }) next x) → Walked v (nodes ++ found / 256 ∷ []) x
 walked_on v w x nodes found next y low k s e more stays home passes =
-    let gone : next_end (record w { point = Dark }) y ≡ Gone = ends_gone w.passed (is_closed w.view.ends) y (length nodes) s.many in
+    let gone : next_end (record w { point = Cleared }) y ≡ Gone = ends_gone w.passed (is_closed w.view.ends) y (length nodes) s.many in
     let pushed : length (nodes ++ found / 256 ∷ []) ≡ suc (length nodes) = omega (arith, length-append nodes (found / 256 ∷ [])) in
     let ends : x.view.ends ≡ v.view.ends ++ replicate (length (nodes ++ found / 256 ∷ [])) Gone =
     e.ends ∙ ((λ i. k.ends i ++ gone i ∷ []) ∙ (append_assoc v.view.ends (replicate (length nodes) Gone) (Gone ∷ []) ∙ (ap (λ es. v.view.ends ++ es) (replicate-push (length nodes) Gone) ∙ ap (λ n. v.view.ends ++ replicate n Gone) (sym pushed)))) in
@@ -283,7 +282,7 @@ walked_on v w x nodes found next y low k s e more stays home passes =
       few = omega (arith, g.few, k.nodes_are);
     }
 
-pub stands_next : (w x : Entry) (nodes : List ℕ) (found next : ℕ) → StandsAt nodes found w → Passes (record w { point = Dark }) next x → StandsAt (nodes ++ found / 256 ∷ []) next x
+pub stands_next : (w x : Entry) (nodes : List ℕ) (found next : ℕ) → StandsAt nodes found w → Passes (record w { point = Cleared }) next x → StandsAt (nodes ++ found / 256 ∷ []) next x
 stands_next w x nodes found next s p = record {
   point = p.point;
   many = omega (arith, ap length p.passed, length-append w.passed (length x.view.ends ∷ []), length-append nodes (found / 256 ∷ []), s.many);
@@ -293,7 +292,7 @@ stands_next w x nodes found next s p = record {
   high = p.high;
 }
 
-pub is_home : (w x : Entry) (nodes : List ℕ) (found : ℕ) (y : Parcel) → StandsAt nodes found w → Ended (record w { point = Dark }) x y → GoesHome (record w { point = Dark }) x → IsHome (nodes ++ found / 256 ∷ []) x
+pub is_home : (w x : Entry) (nodes : List ℕ) (found : ℕ) (y : Parcel) → StandsAt nodes found w → Ended (record w { point = Cleared }) x y → GoesHome (record w { point = Cleared }) x → IsHome (nodes ++ found / 256 ∷ []) x
 is_home w x nodes found y s e h = record {
   point = h.point ∙ by w.passed (length nodes) s.many;
   many = omega (arith, ap length h.passed, length-append nodes (found / 256 ∷ []), s.many);
@@ -339,7 +338,7 @@ walk_over v w x nodes k h f =
         (i, subst (At w.passed i) (k.run i one.0 one.1 ∙ omega (arith, low)) one.1)
 
 -- what a walk that began at the seat s has done so far
-pub record IsWalking (allows : List ℕ → List ℕ → Type 0) (s : Spot) (nodes : List ℕ) (cell found : ℕ) (t : Spot) : Type 0 where
+pub record IsWalking (allows : List ℕ → List ℕ → Type 0) (s : RingSeat) (nodes : List ℕ) (cell found : ℕ) (t : RingSeat) : Type 0 where
   pub table : t.table_id ≡ s.table_id
   pub id : t.id ≡ s.id
   pub alone : Alone t.me
@@ -350,44 +349,44 @@ pub record IsWalking (allows : List ℕ → List ℕ → Type 0) (s : Spot) (nod
   pub home : found ≡ 0 → (t.me.1 ≡ []) × IsHome nodes (entry_of t)
 
 -- the seat once the cell is cleared
-abbrev pub IsDarkened : Spot → Spot → Type 0
-IsDarkened t d = (d.table_id ≡ t.table_id) × (d.id ≡ t.id) × (d.me ≡ (record (entry_of t) { point = Dark } ∷ [], t.me.1))
+abbrev pub IsCleared : RingSeat → RingSeat → Type 0
+IsCleared t d = (d.table_id ≡ t.table_id) × (d.id ≡ t.id) × (d.me ≡ (record (entry_of t) { point = Cleared } ∷ [], t.me.1))
 
-pub dark_entry : (t d : Spot) → IsDarkened t d → entry_of d ≡ record (entry_of t) { point = Dark }
-dark_entry t d e = ap (λ m. sole m.0) e.2
+pub cleared_entry : (t d : RingSeat) → IsCleared t d → entry_of d ≡ record (entry_of t) { point = Cleared }
+cleared_entry t d e = ap (λ m. sole m.0) e.2
 
-pub dark_slot : (t d : Spot) → IsDarkened t d → d.me.1 ≡ t.me.1
-dark_slot t d e = ap (λ m. m.1) e.2
+pub cleared_slot : (t d : RingSeat) → IsCleared t d → d.me.1 ≡ t.me.1
+cleared_slot t d e = ap (λ m. m.1) e.2
 
 -- what the next grant asks
-pub walk_carries : (allows : List ℕ → List ℕ → Type 0) (s t d : Spot) (nodes : List ℕ) (cell found : ℕ) (y : Parcel) → IsWalking allows s nodes cell found t → found ≢ 0 → IsDarkened t d → s.me.1 ≡ (0, y) ∷ [] → IsBare (entry_of s) y
+pub walk_carries : (allows : List ℕ → List ℕ → Type 0) (s t d : RingSeat) (nodes : List ℕ) (cell found : ℕ) (y : Parcel) → IsWalking allows s nodes cell found t → found ≢ 0 → IsCleared t d → s.me.1 ≡ (0, y) ∷ [] → IsBare (entry_of s) y
     → (d.me.1 ≡ (0, y) ∷ []) × Carries allows (entry_of d) y
-walk_carries allows s t d nodes cell found y k more dark slot bare =
+walk_carries allows s t d nodes cell found y k more cleared slot bare =
     let here = k.stands more in (
-      ap (λ m. m.1) dark.2 ∙ (here.0 ∙ slot),
-      subst (λ e. Carries allows e y) (sym (dark_entry t d dark)) (carries_gone allows (entry_of s) (entry_of t) nodes found y k.walked here.1 bare),
+      ap (λ m. m.1) cleared.2 ∙ (here.0 ∙ slot),
+      subst (λ e. Carries allows e y) (sym (cleared_entry t d cleared)) (carries_gone allows (entry_of s) (entry_of t) nodes found y k.walked here.1 bare),
     )
 
 -- and what the walk has done after it
-pub walk_step : (allows : List ℕ → List ℕ → Type 0) (s t d u : Spot) (nodes : List ℕ) (cell found after next : ℕ) (y : Parcel) → IsWalking allows s nodes cell found t → found ≢ 0 → (entry_of s).view.nodes ≤ 32 → IsDarkened t d
+pub walk_step : (allows : List ℕ → List ℕ → Type 0) (s t d u : RingSeat) (nodes : List ℕ) (cell found after next : ℕ) (y : Parcel) → IsWalking allows s nodes cell found t → found ≢ 0 → (entry_of s).view.nodes ≤ 32 → IsCleared t d
     → s.me.1 ≡ (0, y) ∷ [] → (entry_of s).view.state ≡ left_by y.closed → (u.table_id ≡ d.table_id) × (u.id ≡ d.id) × Alone u.me → Continues allows (entry_of d).view (entry_of u).view → ((x : Parcel) → d.me.1 ≡ (0, x) ∷ [] → Ended (entry_of d) (entry_of u) x)
     → (next ≡ 0 → (u.me.1 ≡ []) × GoesHome (entry_of d) (entry_of u)) → (next ≢ 0 → (u.me.1 ≡ d.me.1) × Passes (entry_of d) next (entry_of u)) → after ≡ (cell + 1) % 128
     → IsWalking allows s (nodes ++ found / 256 ∷ []) after next u
-walk_step allows s t d u nodes cell found after next y k more low dark slot state seat went end home passes step =
+walk_step allows s t d u nodes cell found after next y k more low cleared slot state seat went end home passes step =
     let here = k.stands more in
-    let entry = dark_entry t d dark in
+    let entry = cleared_entry t d cleared in
     let goes : Continues allows (entry_of t).view (entry_of u).view = subst (λ (e : Entry). Continues allows e.view (entry_of u).view) entry went in
-    let ended : Ended (record (entry_of t) { point = Dark }) (entry_of u) y = subst (λ e. Ended e (entry_of u) y) entry (end y (ap (λ m. m.1) dark.2 ∙ (here.0 ∙ slot))) in
-    let homes : next ≡ 0 → GoesHome (record (entry_of t) { point = Dark }) (entry_of u) = λ z. subst (λ e. GoesHome e (entry_of u)) entry (home z).1 in
-    let passed : next ≢ 0 → Passes (record (entry_of t) { point = Dark }) next (entry_of u) = λ z. subst (λ e. Passes e next (entry_of u)) entry (passes z).1 in
-    let longer : length (entry_of u).view.ends ≡ length (entry_of t).view.ends + 1 = omega (arith, ap length ended.ends, length-append (entry_of t).view.ends (next_end (record (entry_of t) { point = Dark }) y ∷ [])) in
+    let ended : Ended (record (entry_of t) { point = Cleared }) (entry_of u) y = subst (λ e. Ended e (entry_of u) y) entry (end y (ap (λ m. m.1) cleared.2 ∙ (here.0 ∙ slot))) in
+    let homes : next ≡ 0 → GoesHome (record (entry_of t) { point = Cleared }) (entry_of u) = λ z. subst (λ e. GoesHome e (entry_of u)) entry (home z).1 in
+    let passed : next ≢ 0 → Passes (record (entry_of t) { point = Cleared }) next (entry_of u) = λ z. subst (λ e. Passes e next (entry_of u)) entry (passes z).1 in
+    let longer : length (entry_of u).view.ends ≡ length (entry_of t).view.ends + 1 = omega (arith, ap length ended.ends, length-append (entry_of t).view.ends (next_end (record (entry_of t) { point = Cleared }) y ∷ [])) in
     record {
-      table = seat.0 ∙ (dark.0 ∙ k.table);
-      id = seat.1 ∙ (dark.1 ∙ k.id);
+      table = seat.0 ∙ (cleared.0 ∙ k.table);
+      id = seat.1 ∙ (cleared.1 ∙ k.id);
       alone = seat.2;
       cell_is = omega (arith, step, k.cell_is, longer);
       continues = λ v had. continues_trans allows v (entry_of t).view (entry_of u).view (k.continues v had) goes;
       walked = walked_on (entry_of s) (entry_of t) (entry_of u) nodes found next y low k.walked here.1 ended goes.extends (ended.state ∙ (sym state ∙ sym k.walked.state)) homes passed;
-      stands = λ z. ((passes z).0 ∙ (ap (λ m. m.1) dark.2 ∙ here.0), stands_next (entry_of t) (entry_of u) nodes found next here.1 (passed z));
+      stands = λ z. ((passes z).0 ∙ (ap (λ m. m.1) cleared.2 ∙ here.0), stands_next (entry_of t) (entry_of u) nodes found next here.1 (passed z));
       home = λ z. ((home z).0, is_home (entry_of t) (entry_of u) nodes found y here.1 ended (homes z));
     }

@@ -4,22 +4,23 @@ use Rattle.std.specs.List.{All}
 use Rattle.atomic_table.specs.Seated.{TableId}
 use Rattle.qolb_model.specs.declared.view.View.{View}
 use Rattle.qolb_model.specs.Finishing.{is_quiet, AreOfLine, EachNode, IsThere, IsQuiet}
+use Rattle.ring_line.specs.Steps.{RingSeat}
 use Rattle.ring_line.specs.declared.entry.Entry.{Entry}
 use Rattle.ring_line.specs.Ring.{At}
-use Rattle.ring_line.specs.Ports.{Spot, Standing, is_at_rest}
+use Rattle.ring_line.specs.Ports.{Standing, is_at_rest}
 
 -- with these ports nothing but want of memory is in the way: they are of the line, each node has one, and none waits or holds
 abbrev pub MayFinish : ℕ → ℕ → List View → Type 0
 MayFinish label nodes views = AreOfLine label views × EachNode nodes (IsThere views) × EachNode nodes (IsQuiet views)
 
 -- the seat has the entries of these ports, each at rest
-pub record IsGathered (table_id : TableId) (ports : List Standing) (whole : Spot) : Type 0 where
+pub record IsGathered (table_id : TableId) (ports : List Standing) (whole : RingSeat) : Type 0 where
   pub table : whole.table_id ≡ table_id
   pub views : map (λ (e : Entry). e.view) whole.me.0 ≡ map (λ (p : Standing). p.view) ports
   pub at_rest : (i : ℕ) (e : Entry) → At whole.me.0 i e → is_at_rest e.point ≡ true
 
 -- the seat has the entries of some of the ports, and the others are to come
-pub record Gathers (table_id : TableId) (ports rest : List Standing) (whole : Spot) : Type 0 where
+pub record Gathers (table_id : TableId) (ports rest : List Standing) (whole : RingSeat) : Type 0 where
   pub table : whole.table_id ≡ table_id
   pub views : map (λ (e : Entry). e.view) whole.me.0 ++ map (λ (p : Standing). p.view) rest ≡ map (λ (p : Standing). p.view) ports
   pub at_rest : (i : ℕ) (e : Entry) → At whole.me.0 i e → is_at_rest e.point ≡ true

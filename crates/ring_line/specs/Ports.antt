@@ -1,6 +1,5 @@
 -- What a port knows and holds.
 use Rattle.std.specs.Prelude.{◌≡◌, ◌⊎◌, map, ℕ, ◌+◌, ◌*◌, ◌-◌, ◌≤◌, ◌%◌, ◌<◌, length, Bool, true, false, List, [], ◌∷◌, Option, Some, None}
-use Rattle.atomic_table.specs.declared.shared.Seat.{Seat}
 use Rattle.atomic_table.specs.Seated.{TableId}
 use Rattle.qolb_model.specs.declared.answer.PortState.{PortState}
 use Rattle.qolb_model.specs.declared.answer.PortState.TheVariants as shows
@@ -16,12 +15,12 @@ use Rattle.qolb_model.specs.Opening.{new_view}
 use Rattle.qolb_model.specs.Turns.{IsGranted}
 use Rattle.qolb_model.specs.LettingGo.{IsTold}
 use Rattle.ring_line.specs.declared.entry.Point.{Point}
-use Rattle.ring_line.specs.declared.entry.Point.TheVariants.{Idle, Queued, Holding, Lit, Dark, Freeing, Rolled}
+use Rattle.ring_line.specs.declared.entry.Point.TheVariants.{Idle, Queued, Holding, Passing, Cleared, Freeing, Rolled}
 use Rattle.ring_line.specs.declared.entry.Entry.{Entry}
 use Rattle.ring_line.specs.declared.rule.Parcel.{Parcel}
 use Rattle.ring_line.specs.declared.rule.Setup.{Setup}
 use Rattle.ring_line.specs.Ring.{At, newcomers_from}
-use Rattle.ring_line.specs.Steps.{Alone, entry_of, write_of}
+use Rattle.ring_line.specs.Steps.{RingSeat, Alone, entry_of, write_of}
 
 -- a port as contracts see it: its table, what it knows, the line's bytes where it holds it with the mask of the turn's writes,
 -- and how many word steps its last call took
@@ -31,10 +30,7 @@ pub record Standing : Type 0 where
   pub turn : Write
   pub steps : ℕ
 
-abbrev pub Spot : Type 0
-Spot = Seat Parcel (List Entry)
-
-abbrev pub standing : Spot → Parcel → ℕ → Standing
+abbrev pub standing : RingSeat → Parcel → ℕ → Standing
 standing s y steps = record { table = s.table_id; view = (entry_of s).view; turn = write_of y; steps = steps }
 
 -- the turn's bytes are those of the earlier ends, changed under the mask
@@ -42,7 +38,7 @@ abbrev pub IsMerged : View → Parcel → Type 0
 IsMerged v y = written (bytes_of v) (write_of y) ≡ y.bytes.bytes
 
 -- the port has the slot, and its own copy of the open line, which it may have written
-pub record Holds (s : Spot) (y : Parcel) (cell : ℕ) : Type 0 where
+pub record Holds (s : RingSeat) (y : Parcel) (cell : ℕ) : Type 0 where
   pub point : (entry_of s).point ≡ Holding
   pub none_passed : (entry_of s).passed ≡ []
   pub slot : Parcel
@@ -53,7 +49,7 @@ pub record Holds (s : Spot) (y : Parcel) (cell : ℕ) : Type 0 where
   pub unclosed : y.closed ≡ false
 
 -- where the port's node is in its calls, by the port's state; no port is ever Linking or Left
-abbrev pub Stands : Spot → Parcel → ℕ → PortState → Type 0
+abbrev pub Stands : RingSeat → Parcel → ℕ → PortState → Type 0
 Stands s y cell shows.Idle = ((entry_of s).point ≡ Idle) × (s.me.1 ≡ [])
 Stands s y cell shows.Linking = ⊥
 Stands s y cell shows.Queued = ((entry_of s).point ≡ Queued) × (s.me.1 ≡ []) × (cell ≡ (entry_of s).place % 128)
@@ -62,7 +58,7 @@ Stands s y cell shows.Left = ⊥
 Stands s y cell shows.Rolled = ((entry_of s).point ≡ Rolled) × (s.me.1 ≡ [])
 Stands s y cell shows.Shut = ((entry_of s).point ≡ Idle) × (s.me.1 ≡ [])
 
-pub record IsPort (label node : ℕ) (s : Spot) (y : Parcel) (cell : ℕ) (state : PortState) : Type 0 where
+pub record IsPort (label node : ℕ) (s : RingSeat) (y : Parcel) (cell : ℕ) (state : PortState) : Type 0 where
   pub alone : Alone s.me
   pub stands : Stands s y cell state
   pub shows_state : (entry_of s).view.state ≡ state
@@ -70,7 +66,7 @@ pub record IsPort (label node : ℕ) (s : Spot) (y : Parcel) (cell : ℕ) (state
   pub node_is : (entry_of s).view.node ≡ node
 
 -- the line has arrived: it is in the port's hand, open and not written; or, closed, it was passed on in that many word steps
-abbrev pub Arrived : Spot → Parcel → ℕ → Option ℕ → Type 0
+abbrev pub Arrived : RingSeat → Parcel → ℕ → Option ℕ → Type 0
 Arrived s y cell None = Holds s y cell × ((entry_of s).view.state ≡ shows.Holding) × IsGranted (entry_of s).view (write_of y)
 Arrived s y cell (Some steps) = ((entry_of s).point ≡ Idle) × (s.me.1 ≡ []) × ((entry_of s).view.state ≡ shows.Shut) × IsTold (entry_of s).view × (steps + 1 ≤ 3 * (entry_of s).view.nodes)
 
@@ -80,15 +76,15 @@ pub record BelongsTo (good : List ℕ → Type 0) (allows : List ℕ → List �
   pub sound : IsSound good allows key.label key.nodes key.opening.bytes p.view
 
 -- the ports of the first n nodes, which never asked
-pub record AreDealt (table_id : TableId) (about : Setup) (n : ℕ) (ports : List Standing) : Type 0 where
+pub record AreSplit (table_id : TableId) (about : Setup) (n : ℕ) (ports : List Standing) : Type 0 where
   pub many : length ports ≡ n
   pub each : (k : ℕ) (p : Standing) → At ports k p → (p.table ≡ table_id) × (p.view ≡ new_view about.label about.nodes about.opening.bytes (k + 1)) × (p.steps ≡ 0)
 
--- the ports of the first n nodes are dealt, and the seat `rest` has the others' entries
-pub record Deals (table_id : TableId) (about : Setup) (n : ℕ) (rest : Spot) (ports : List Standing) : Type 0 where
+-- the ports of the first n nodes are there, and the seat `rest` has the others' entries
+pub record HasSplit (table_id : TableId) (about : Setup) (n : ℕ) (rest : RingSeat) (ports : List Standing) : Type 0 where
   pub table : rest.table_id ≡ table_id
   pub me : rest.me ≡ (newcomers_from about n (about.nodes - n), [])
-  pub dealt : AreDealt table_id about n ports
+  pub new_ports : AreSplit table_id about n ports
 
 -- why a line is not opened: the number of nodes is not 1 to 32, and only else want of memory
 abbrev pub MayNotOpen : ℕ → OpenError → Type 0
@@ -100,8 +96,8 @@ abbrev pub is_at_rest : Point → Bool
 is_at_rest Idle = true
 is_at_rest Queued = false
 is_at_rest Holding = false
-is_at_rest Lit = false
-is_at_rest Dark = false
+is_at_rest Passing = false
+is_at_rest Cleared = false
 is_at_rest Freeing = false
 is_at_rest Rolled = true
 

@@ -16,7 +16,7 @@ use Rattle.qolb_model.specs.Views.{own}
 use Rattle.qolb_model.specs.Kept.{AreAllowed}
 use Rattle.qolb_model.specs.Opening.{new_view}
 use Rattle.ring_line.specs.declared.entry.Point.{Point}
-use Rattle.ring_line.specs.declared.entry.Point.TheVariants.{Idle, Queued, Holding, Lit, Dark, Freeing, Rolled}
+use Rattle.ring_line.specs.declared.entry.Point.TheVariants.{Idle, Queued, Holding, Passing, Cleared, Freeing, Rolled}
 use Rattle.ring_line.specs.declared.entry.Entry.{Entry}
 use Rattle.ring_line.specs.declared.rule.Setup.{Setup}
 use Rattle.ring_line.specs.declared.rule.Parcel.{Parcel}
@@ -42,8 +42,8 @@ abbrev pub has_line : Point → Bool
 has_line Idle = false
 has_line Queued = false
 has_line Holding = true
-has_line Lit = true
-has_line Dark = true
+has_line Passing = true
+has_line Cleared = true
 has_line Freeing = false
 has_line Rolled = false
 
@@ -52,8 +52,8 @@ abbrev pub lets_go : Point → Bool
 lets_go Idle = false
 lets_go Queued = false
 lets_go Holding = false
-lets_go Lit = true
-lets_go Dark = true
+lets_go Passing = true
+lets_go Cleared = true
 lets_go Freeing = true
 lets_go Rolled = false
 
@@ -62,19 +62,19 @@ abbrev pub is_kept : Point → Bool
 is_kept Idle = false
 is_kept Queued = true
 is_kept Holding = true
-is_kept Lit = true
-is_kept Dark = true
+is_kept Passing = true
+is_kept Cleared = true
 is_kept Freeing = true
 is_kept Rolled = false
 
-abbrev pub is_dark : Point → Bool
-is_dark Idle = false
-is_dark Queued = false
-is_dark Holding = false
-is_dark Lit = false
-is_dark Dark = true
-is_dark Freeing = false
-is_dark Rolled = false
+abbrev pub is_cleared : Point → Bool
+is_cleared Idle = false
+is_cleared Queued = false
+is_cleared Holding = false
+is_cleared Passing = false
+is_cleared Cleared = true
+is_cleared Freeing = false
+is_cleared Rolled = false
 
 -- The line's history; who has the line (0: nobody); whether the cell at its turn is cleared; the node that withdrew the request
 -- at a place, or 0; the node whose release passed the request at a place; the word of each node.
@@ -83,7 +83,7 @@ pub record Past : Type 0 where
   pub ends : List End
   pub clear : List Request
   pub hand : ℕ
-  pub dark : Bool
+  pub cleared : Bool
   pub marks : ℕ → ℕ
   pub passer : ℕ → ℕ
   pub flags : ℕ → ℕ
@@ -124,7 +124,7 @@ pub record NodeOk (about : Setup) (x : Past) (n : ℕ) (e : Entry) : Type 0 wher
   pub unmarked : is_kept e.point ≡ true → x.marks e.place ≡ 0
   pub unclear : is_kept e.point ≡ true → Lacks x.clear (own e.view)
   pub rolled : e.point ≡ Rolled → x.marks e.place ≡ n
-  pub holds : has_line e.point ≡ true → (e.view.ends ≡ x.ends) × (x.hand ≡ n) × (x.dark ≡ is_dark e.point)
+  pub holds : has_line e.point ≡ true → (e.view.ends ≡ x.ends) × (x.hand ≡ n) × (x.cleared ≡ is_cleared e.point)
   pub lacks : has_line e.point ≡ false → x.hand ≢ n
   pub holder : e.view.state ≡ shows.Holding → (has_line e.point ≡ true) × (e.place ≡ length x.ends)
   pub passed : (i p : ℕ) → At e.passed i p → HasPassed x n e p
@@ -157,7 +157,7 @@ module _ (good : List ℕ → Type 0) (allows : List ℕ → List ℕ → Type 0
     pub within : x.hand ≤ about.nodes
     pub cleared : Clears x.order (length x.ends) [] x.clear
     -- where nobody has the line, the cell at its turn is granted, the request there is not withdrawn, and the one before is settled
-    pub nobody : x.hand ≡ 0 → (x.dark ≡ false) × (x.marks (length x.ends) ≡ 0)
+    pub nobody : x.hand ≡ 0 → (x.cleared ≡ false) × (x.marks (length x.ends) ≡ 0)
     pub settled : x.hand ≡ 0 → (p : ℕ) (r : Request) (end : End) → p + 1 ≡ length x.ends → At x.order p r → At x.ends p end → is_gone end ≡ false → Has x.clear r
     pub marked : (p : ℕ) → 0 < x.marks p → (r : Request) × At x.order p r × (r.node ≡ x.marks p)
     pub gone : (p : ℕ) (end : End) → At x.ends p end → (is_gone end ≡ true → 0 < x.marks p) × (0 < x.marks p → is_gone end ≡ true)
@@ -167,8 +167,8 @@ module _ (good : List ℕ → Type 0) (allows : List ℕ → List ℕ → Type 0
     pub wide : length words ≡ word_count
     pub deep : length homes ≡ 1
     pub ticket : slice_index words ticket_at ≡ length x.order % 2 ^ 64
-    pub dark : x.dark ≡ true → slice_index words (cell_at (length x.ends % 128)) ≡ 0
-    pub lit : x.hand ≡ 0 → slice_index words (cell_at (length x.ends % 128)) ≡ 1
+    pub cleared : x.cleared ≡ true → slice_index words (cell_at (length x.ends % 128)) ≡ 0
+    pub granted : x.hand ≡ 0 → slice_index words (cell_at (length x.ends % 128)) ≡ 1
     pub later : (k : ℕ) → 0 < k → k < 128 → slice_index words (cell_at ((length x.ends + k) % 128)) ≡ 256 * x.marks (length x.ends + k)
     pub flags : (n : ℕ) → 0 < n → n ≤ 32 → slice_index words (node_at n) ≡ x.flags n
     pub home : x.hand ≡ 0 → (y : Parcel) × (get_elem? homes 0 ≡ some (some y)) × (y.bytes.bytes ≡ bytes_after about.opening.bytes x.ends) × (y.closed ≡ is_closed x.ends)

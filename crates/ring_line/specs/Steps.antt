@@ -20,7 +20,7 @@ use Rattle.qolb_model.specs.Asking.{Asks}
 use Rattle.qolb_model.specs.Turns.{IsClearBefore}
 use Rattle.qolb_model.specs.Meeting.{longer}
 use Rattle.ring_line.specs.declared.entry.Point.{Point}
-use Rattle.ring_line.specs.declared.entry.Point.TheVariants.{Idle, Queued, Holding, Lit, Dark, Freeing, Rolled}
+use Rattle.ring_line.specs.declared.entry.Point.TheVariants.{Idle, Queued, Holding, Passing, Cleared, Freeing, Rolled}
 use Rattle.ring_line.specs.declared.entry.Entry.{Entry}
 use Rattle.ring_line.specs.declared.rule.Parcel.{Parcel}
 use Rattle.ring_line.specs.Ring.{At}
@@ -37,15 +37,19 @@ abbrev pub sole : List Entry → Entry
 sole [] = nothing
 sole (e ∷ es) = e
 
-abbrev pub Sat : Type 0
-Sat = Me Parcel (List Entry)
+abbrev pub RingSeat : Type 0
+RingSeat = Seat Parcel (List Entry)
+
+-- what a seat has: its entries, and the slot where it is in the seat's hand
+abbrev pub Contents : Type 0
+Contents = Me Parcel (List Entry)
 
 -- the seat has one entry alone
-abbrev pub Alone : Sat → Type 0
+abbrev pub Alone : Contents → Type 0
 Alone m = m.0 ≡ sole m.0 ∷ []
 
 -- the entry of a seat that has one
-abbrev pub entry_of : Seat Parcel (List Entry) → Entry
+abbrev pub entry_of : RingSeat → Entry
 entry_of s = sole s.me.0
 
 -- the node asked, and knows all that came before
@@ -148,7 +152,7 @@ pub record GoesHome (v w : Entry) : Type 0 where
 
 -- the next request is withdrawn: the line stays with the node, which passes that request
 pub record Passes (v : Entry) (found : ℕ) (w : Entry) : Type 0 where
-  pub point : w.point ≡ Lit
+  pub point : w.point ≡ Passing
   pub passed : w.passed ≡ v.passed ++ length w.view.ends ∷ []
   pub request : Request
   pub at : At w.view.order (length w.view.ends) request
@@ -170,38 +174,38 @@ pub record Frees (v : Entry) (ps : List ℕ) (r : Request) (w : Entry) : Type 0 
   pub clear : Has w.view.clear r
   pub own_clear : ps ≡ [] → Has w.view.clear (own w.view)
 
-abbrev pub darkened : Step Parcel → Sat → ℕ → Sat → Type 0
-darkened st m n m' = m' ≡ (record (sole m.0) { point = Dark } ∷ [], m.1)
+abbrev pub cleared : Step Parcel → Contents → ℕ → Contents → Type 0
+cleared st m n m' = m' ≡ (record (sole m.0) { point = Cleared } ∷ [], m.1)
 
-abbrev pub reset : Step Parcel → Sat → ℕ → Sat → Type 0
+abbrev pub reset : Step Parcel → Contents → ℕ → Contents → Type 0
 reset st m n m' = m' ≡ (record (sole m.0) { point = Idle } ∷ [], m.1)
 
 module _ (allows : List ℕ → List ℕ → Type 0) where
-  abbrev pub asked : Step Parcel → Sat → ℕ → Sat → Type 0
+  abbrev pub asked : Step Parcel → Contents → ℕ → Contents → Type 0
   asked st m n m' = Alone m' × (m'.1 ≡ m.1) × Continues allows (sole m.0).view (sole m'.0).view × Asked (sole m.0) n (sole m'.0)
 
-  abbrev pub looked : Step Parcel → Sat → ℕ → Sat → Type 0
-  looked st m n m' = Alone m' × Continues allows (sole m.0).view (sole m'.0).view
+  abbrev pub loaded : Step Parcel → Contents → ℕ → Contents → Type 0
+  loaded st m n m' = Alone m' × Continues allows (sole m.0).view (sole m'.0).view
       × (n ≡ 0 → (m'.1 ≡ m.1) × IsEarly (sole m.0) (sole m'.0))
       × (n ≢ 0 → (y : Parcel) × (m'.1 ≡ (0, y) ∷ m.1) × Comes (sole m.0) (sole m'.0) y)
 
-  abbrev pub rolled : Step Parcel → Sat → ℕ → Sat → Type 0
+  abbrev pub rolled : Step Parcel → Contents → ℕ → Contents → Type 0
   rolled st m n m' = Alone m' × Continues allows (sole m.0).view (sole m'.0).view
       × (n ≡ 0 → (m'.1 ≡ m.1) × IsRolled (sole m.0) (sole m'.0))
       × (n ≢ 0 → (y : Parcel) × (m'.1 ≡ (0, y) ∷ m.1) × Comes (sole m.0) (sole m'.0) y)
 
-  abbrev pub granted : Step Parcel → Sat → ℕ → Sat → Type 0
+  abbrev pub granted : Step Parcel → Contents → ℕ → Contents → Type 0
   granted st m n m' = Alone m' × Continues allows (sole m.0).view (sole m'.0).view
       × ((y : Parcel) → m.1 ≡ (0, y) ∷ [] → Ended (sole m.0) (sole m'.0) y)
       × (n ≡ 0 → ((y : Parcel) → m.1 ≡ (0, y) ∷ [] → m'.1 ≡ []) × GoesHome (sole m.0) (sole m'.0))
       × (n ≢ 0 → (m'.1 ≡ m.1) × Passes (sole m.0) n (sole m'.0))
 
-  abbrev pub freed : Step Parcel → Sat → ℕ → Sat → Type 0
+  abbrev pub freed : Step Parcel → Contents → ℕ → Contents → Type 0
   freed st m n m' = Alone m' × (m'.1 ≡ m.1) × Continues allows (sole m.0).view (sole m'.0).view
       × ((q : ℕ) (ps : List ℕ) (r : Request) → (sole m.0).passed ≡ q ∷ ps → At (sole m.0).view.order q r → Frees (sole m.0) ps r (sole m'.0))
 
-  abbrev pub asked_free : Step Parcel → Sat → ℕ → Sat → Type 0
-  asked_free st m n m' = Alone m' × (m'.1 ≡ m.1) × Continues allows (sole m.0).view (sole m'.0).view × IsStill (sole m.0) n (sole m'.0)
+  abbrev pub loaded_node : Step Parcel → Contents → ℕ → Contents → Type 0
+  loaded_node st m n m' = Alone m' × (m'.1 ≡ m.1) × Continues allows (sole m.0).view (sole m'.0).view × IsStill (sole m.0) n (sole m'.0)
 
 abbrev pub front : List Entry → List Entry
 front [] = []
@@ -219,12 +223,12 @@ abbrev pub informed : Entry → Entry → Entry
 informed v u = record v { view = informed_view v.view u.view }
 
 -- two ports of one line compare what they know
-abbrev pub met : (List ℕ → List ℕ → Type 0) → Step Parcel → Sat → ℕ → Sat → Type 0
+abbrev pub met : (List ℕ → List ℕ → Type 0) → Step Parcel → Contents → ℕ → Contents → Type 0
 met allows st m n m' = let v = sole m.0 in let u = sole (behind m.0) in
     (m' ≡ (informed v u ∷ informed u v ∷ [], m.1)) × OneHistory (v.view ∷ u.view ∷ []) × OneHistory (informed_view v.view u.view ∷ informed_view u.view v.view ∷ [])
     × Continues allows v.view (informed_view v.view u.view) × Continues allows u.view (informed_view u.view v.view) × ¬ ((v.point ≡ Holding) × (u.point ≡ Holding))
     × (v.point ≡ Holding → longer v.view.ends u.view.ends ≡ v.view.ends) × (u.point ≡ Holding → longer u.view.ends v.view.ends ≡ u.view.ends)
 
 -- the slot goes home, for a moment
-abbrev pub parked : Step Parcel → Sat → ℕ → Sat → Type 0
+abbrev pub parked : Step Parcel → Contents → ℕ → Contents → Type 0
 parked st m n m' = (m'.0 ≡ m.0) × ((y : Parcel) → m.1 ≡ (0, y) ∷ [] → m'.1 ≡ [])

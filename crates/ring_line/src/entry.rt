@@ -10,9 +10,9 @@ pub enum Point {
     /// It has the line, its request is at its turn, and the cell there is granted.
     Holding,
     /// It lets the line go: the cell at its turn is granted, and the request there is withdrawn.
-    Lit,
+    Passing,
     /// It lets the line go: the cell at its turn is cleared.
-    Dark,
+    Cleared,
     /// It has let the line go, and has yet to free nodes that it passed.
     Freeing,
     /// Its request is withdrawn.

@@ -10,19 +10,18 @@ ghost use Rattle.qolb_model.specs.Asking.{IsBusy, Asks, IsJoined};
 ghost use Rattle.qolb_model.specs.Turns.{IsGranted, IsQueued, IsWithdrawn};
 ghost use Rattle.qolb_model.specs.LettingGo.{Releases, IsTold};
 ghost use Rattle.qolb_model.specs.Meeting.{Meets};
-ghost use Rattle.qolb_model.specs.Finishing.{is_quiet};
 ghost use Rattle.qolb_model.specs.declared.end.End.TheVariants.{Served};
 ghost use Rattle.ring_line.specs.Words.{word_count};
 ghost use Rattle.ring_line.specs.Ports.{BelongsTo};
 ghost use Rattle.ring_line.specs.declared.rule.Parcel.{Parcel};
 
 use crate::entry::Entry;
-use crate::hand::{park, put};
+use crate::meeting::meet_seats;
 use crate::port::Port;
 use crate::release::{arrive, release, renew};
 use crate::rule::{Parcel, Ring, Setup};
-use crate::seating::meet_seats;
-use crate::steps::{ask, look, roll};
+use crate::slot::{park, put};
+use crate::steps::{ask, load, roll};
 use atomic_table::Table;
 use line_lanes::{Line64, Mask, merge};
 use qolb_model::{Enq, Keep, Out, Poll, PortState};
@@ -124,16 +123,16 @@ impl<K: Keep> RingLine<K> {
     {
         let ground = &self.table.shared;
         port.steps = 1;
-        let Some(renewing) = renew(ground, &mut port.place, port.node, port.state) else {
+        let Some(renewing) = renew(ground, &mut port.seat, port.node, port.state) else {
             return Enq::Busy;
         };
         port.steps = renewing + 2;
-        port.cell = ask(ground, &mut port.place);
-        if !look(ground, &mut port.place, port.cell) {
+        port.cell = ask(ground, &mut port.seat);
+        if !load(ground, &mut port.seat, port.cell) {
             port.state = PortState::Queued;
             return Enq::Queued;
         }
-        match arrive(ground, &mut port.place, &mut port.parcel, port.cell) {
+        match arrive(ground, &mut port.seat, &mut port.parcel, port.cell) {
             None => {
                 port.state = PortState::Holding;
                 Enq::Granted
@@ -161,10 +160,10 @@ impl<K: Keep> RingLine<K> {
     {
         let ground = &self.table.shared;
         port.steps = 1;
-        if !look(ground, &mut port.place, port.cell) {
+        if !load(ground, &mut port.seat, port.cell) {
             return Poll::Waiting;
         }
-        match arrive(ground, &mut port.place, &mut port.parcel, port.cell) {
+        match arrive(ground, &mut port.seat, &mut port.parcel, port.cell) {
             None => {
                 port.state = PortState::Holding;
                 Poll::Granted
@@ -192,11 +191,11 @@ impl<K: Keep> RingLine<K> {
     {
         let ground = &self.table.shared;
         port.steps = 1;
-        if !roll(ground, &mut port.place, port.cell, port.node) {
+        if !roll(ground, &mut port.seat, port.cell, port.node) {
             port.state = PortState::Rolled;
             return Out::Withdrawn;
         }
-        match arrive(ground, &mut port.place, &mut port.parcel, port.cell) {
+        match arrive(ground, &mut port.seat, &mut port.parcel, port.cell) {
             None => {
                 port.state = PortState::Holding;
                 Out::Granted
@@ -222,8 +221,8 @@ impl<K: Keep> RingLine<K> {
         ensures bound { port.new.steps + 1 ≤ 3 * self.now.table.shared.key.nodes }
     {
         let ground = &self.table.shared;
-        put(ground, &mut port.place, &port.parcel);
-        port.steps = release(ground, &mut port.place, port.cell);
+        put(ground, &mut port.seat, &port.parcel);
+        port.steps = release(ground, &mut port.seat, port.cell);
         port.state = PortState::Idle;
     }
 
@@ -241,8 +240,8 @@ impl<K: Keep> RingLine<K> {
     {
         let ground = &self.table.shared;
         port.parcel.closed = true;
-        put(ground, &mut port.place, &port.parcel);
-        port.steps = release(ground, &mut port.place, port.cell);
+        put(ground, &mut port.seat, &port.parcel);
+        port.steps = release(ground, &mut port.seat, port.cell);
         port.state = PortState::Shut;
     }
 
@@ -265,46 +264,13 @@ impl<K: Keep> RingLine<K> {
     {
         let ground = &self.table.shared;
         if !b.holds() {
-            meet_seats(ground, &mut a.place, &mut b.place);
+            meet_seats(ground, &mut a.seat, &mut b.seat);
         } else if !a.holds() {
-            meet_seats(ground, &mut b.place, &mut a.place);
+            meet_seats(ground, &mut b.seat, &mut a.seat);
         } else {
-            park(ground, &mut b.place);
-            meet_seats(ground, &mut a.place, &mut b.place);
+            park(ground, &mut b.seat);
+            meet_seats(ground, &mut a.seat, &mut b.seat);
             unreachable!()
         }
-    }
-}
-
-impl Port {
-    /// The label of the port's line.
-    pub(crate) fn label(&self) -> u64
-        ensures { result ≡ self.now.view.label }
-    {
-        self.label
-    }
-
-    /// The port's node.
-    pub(crate) fn node(&self) -> u64
-        ensures { result ≡ self.now.view.node }
-    {
-        self.node
-    }
-
-    /// Whether the port has no request that waits or holds.
-    pub(crate) fn is_quiet(&self) -> bool
-        ensures { result ≡ is_quiet self.now.view.state }
-    {
-        !matches!(
-            self.state,
-            PortState::Linking | PortState::Queued | PortState::Holding
-        )
-    }
-
-    /// Whether the port holds the line.
-    pub(crate) fn holds(&self) -> bool
-        ensures { IsTrue result ↔ (self.now.view.state ≡ PortState.Holding) }
-    {
-        self.state == PortState::Holding
     }
 }

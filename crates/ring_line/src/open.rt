@@ -3,12 +3,12 @@ ghost use Rattle.std.specs.Prelude.{◌≡◌, ◌≢◌, ℕ, ◌<◌, ◌≤�
 ghost use Rattle.qolb_model.specs.Opening.{AreNew};
 ghost use Rattle.ring_line.specs.Words.{word_count, cell_at};
 ghost use Rattle.ring_line.specs.Ring.{newcomers};
-ghost use Rattle.ring_line.specs.Ports.{Standing, AreDealt, BelongsTo, MayNotOpen};
+ghost use Rattle.ring_line.specs.Ports.{Standing, AreSplit, BelongsTo, MayNotOpen};
 
 use crate::line::RingLine;
 use crate::plays::Cut;
 use crate::port::Port;
-use crate::rule::{Ground, Parcel, Place, Setup};
+use crate::rule::{Ground, Parcel, RingSeat, Setup};
 use crate::words::{WORDS, cell_word};
 use atomic_table::Table;
 use line_lanes::{Line64, Mask};
@@ -43,17 +43,17 @@ impl<K: Keep> RingLine<K> {
             nodes,
             opening,
         };
-        let Ok((line, rest)) = RingLine::<K>::lay(alloc, &setup) else {
+        let Ok((line, rest)) = RingLine::<K>::new_table(alloc, &setup) else {
             return Err(OpenError::Memory);
         };
-        let Ok(ports) = deal(alloc, &line.table.shared, rest, &setup) else {
+        let Ok(ports) = split_ports(alloc, &line.table.shared, rest, &setup) else {
             return Err(OpenError::Memory);
         };
         Ok((line, ports))
     }
 
     /// The line, and one seat for all nodes.
-    fn lay(alloc: Global, setup: &Setup) -> Result<(RingLine<K>, Place), AllocError>
+    fn new_table(alloc: Global, setup: &Setup) -> Result<(RingLine<K>, RingSeat), AllocError>
         requires some_nodes { 1 ≤ setup.now.nodes }
         requires nodes { setup.now.nodes ≤ 32 }
         requires line { length setup.now.opening.bytes ≡ 64 }
@@ -73,13 +73,13 @@ impl<K: Keep> RingLine<K> {
         };
         let slots = Vec::from_array(alloc, [parcel])?;
         match Table::new(alloc, words.as_slice(), slots, setup) {
-            Ok((table, place)) => Ok((
+            Ok((table, seat)) => Ok((
                 RingLine {
                     table,
                     label,
                     nodes,
                 },
-                place,
+                seat,
             )),
             Err(_) => Err(AllocError),
         }
@@ -99,15 +99,15 @@ fn first_words(alloc: Global, count: usize) -> Result<Vec<u64>, AllocError>
 }
 
 /// A port for each node, from the seat that has the entries of all.
-fn deal<K: Keep>(
+fn split_ports<K: Keep>(
     alloc: Global,
     ground: &Ground<K>,
-    rest: Place,
+    rest: RingSeat,
     setup: &Setup,
 ) -> Result<Vec<Port>, AllocError>
     requires table { (rest.table_id ≡ ground.now.table_id) × (0 < ground.now.table_id.words) × (setup.now.nodes ≤ 32) }
     requires whole { rest.me ≡ (newcomers setup.now, []) }
-    ensures { IfOk result (λ ports. AreDealt ground.now.table_id setup.now setup.now.nodes ports.items) }
+    ensures { IfOk result (λ ports. AreSplit ground.now.table_id setup.now setup.now.nodes ports.items) }
 {
     let mut rest = rest;
     let label = setup.label;
@@ -117,15 +117,15 @@ fn deal<K: Keep>(
         closed: false,
     };
     let mut ports = Vec::with_capacity(alloc, setup.nodes as usize)?;
-    for dealt in 0..setup.nodes {
+    for done in 0..setup.nodes {
         let others = ground.split_seat::<Cut>(&mut rest);
-        let place = mem::replace(&mut rest, others);
+        let seat = mem::replace(&mut rest, others);
         ports.push(Port {
             parcel,
-            place,
+            seat,
             cell: 0,
             label,
-            node: dealt + 1,
+            node: done + 1,
             steps: 0,
             state: PortState::Idle,
         })?;

@@ -1,6 +1,6 @@
 //! What each step tells, and how seats are cut and joined.
 ghost use Rattle.std.specs.Prelude.{[], ◌++◌};
-ghost use Rattle.ring_line.specs.Steps.{asked, looked, rolled, darkened, granted, freed, asked_free, reset, front, behind, met, parked};
+ghost use Rattle.ring_line.specs.Steps.{asked, loaded, rolled, cleared, granted, freed, loaded_node, reset, front, behind, met, parked};
 
 use crate::entry::Entry;
 use crate::rule::Parcel;
@@ -19,12 +19,12 @@ impl<K: Keep> Play<Parcel, LinkedList<Entry>> for Ask<K> {
 }
 
 /// The own cell is read.
-pub(crate) struct Look<K> {
+pub(crate) struct Load<K> {
     law: PhantomData<K>,
 }
 
-impl<K: Keep> Play<Parcel, LinkedList<Entry>> for Look<K> {
-    ghost then = { looked K.allows };
+impl<K: Keep> Play<Parcel, LinkedList<Entry>> for Load<K> {
+    ghost then = { loaded K.allows };
 }
 
 /// The own number is added to the own cell.
@@ -37,10 +37,10 @@ impl<K: Keep> Play<Parcel, LinkedList<Entry>> for Roll<K> {
 }
 
 /// The cell at its turn is cleared.
-pub(crate) struct Darken;
+pub(crate) struct Clear;
 
-impl Play<Parcel, LinkedList<Entry>> for Darken {
-    ghost then = { darkened };
+impl Play<Parcel, LinkedList<Entry>> for Clear {
+    ghost then = { cleared };
 }
 
 /// The next cell is granted.
@@ -62,12 +62,12 @@ impl<K: Keep> Play<Parcel, LinkedList<Entry>> for Free<K> {
 }
 
 /// The own node's word is read.
-pub(crate) struct AskFree<K> {
+pub(crate) struct LoadNode<K> {
     law: PhantomData<K>,
 }
 
-impl<K: Keep> Play<Parcel, LinkedList<Entry>> for AskFree<K> {
-    ghost then = { asked_free K.allows };
+impl<K: Keep> Play<Parcel, LinkedList<Entry>> for LoadNode<K> {
+    ghost then = { loaded_node K.allows };
 }
 
 /// The own node's word is cleared.

@@ -1,5 +1,8 @@
 //! The port of a node.
-use crate::rule::{Parcel, Place};
+ghost use Rattle.std.specs.Prelude.{◌≡◌, ◌↔◌, IsTrue};
+ghost use Rattle.qolb_model.specs.Finishing.{is_quiet};
+
+use crate::rule::{Parcel, RingSeat};
 use qolb_model::PortState;
 use std::marker::Model;
 
@@ -9,7 +12,7 @@ use std::marker::Model;
 #[derive(Drop)]
 pub struct Port {
     pub(crate) parcel: Parcel,
-    pub(crate) place: Place,
+    pub(crate) seat: RingSeat,
     /// The cell of the last request.
     pub(crate) cell: u64,
     pub(crate) label: u64,
@@ -24,7 +27,40 @@ impl Model for Port {
 
     ghost Value = { Standing };
 
-    ghost view = { λ p. standing p.place p.parcel p.steps };
+    ghost view = { λ p. standing p.seat p.parcel p.steps };
 
-    ghost invariant = { λ p. IsPort p.label p.node p.place p.parcel p.cell p.state };
+    ghost invariant = { λ p. IsPort p.label p.node p.seat p.parcel p.cell p.state };
+}
+
+impl Port {
+    /// The label of the port's line.
+    pub(crate) fn label(&self) -> u64
+        ensures { result ≡ self.now.view.label }
+    {
+        self.label
+    }
+
+    /// The port's node.
+    pub(crate) fn node(&self) -> u64
+        ensures { result ≡ self.now.view.node }
+    {
+        self.node
+    }
+
+    /// Whether the port has no request that waits or holds.
+    pub(crate) fn is_quiet(&self) -> bool
+        ensures { result ≡ is_quiet self.now.view.state }
+    {
+        !matches!(
+            self.state,
+            PortState::Linking | PortState::Queued | PortState::Holding
+        )
+    }
+
+    /// Whether the port holds the line.
+    pub(crate) fn holds(&self) -> bool
+        ensures { IsTrue result ↔ (self.now.view.state ≡ PortState.Holding) }
+    {
+        self.state == PortState::Holding
+    }
 }

@@ -37,4 +37,5 @@ impl<K: Keep> TableRule<Parcel, LinkedList<Entry>, Setup> for Ring<K> {
 
 pub type Ground<K> = Shared<Parcel, LinkedList<Entry>, Setup, Ring<K>>;
 
-pub type Place = Seat<Parcel, LinkedList<Entry>>;
+/// A seat of the table: a port has one.
+pub type RingSeat = Seat<Parcel, LinkedList<Entry>>;

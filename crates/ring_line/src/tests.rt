@@ -173,7 +173,7 @@ fn four_nodes_are_served_in_order(rt: HostRuntime) -> Result<(), Fail> {
 fn a_line_is_handed_over_with_its_bytes(rt: HostRuntime) -> Result<(), Fail> {
     let mut row = Row::open(rt.alloc(), 7, 2, Line64::zero())?;
     assert_eq!(rt; row.ask(1), Some(Enq::Granted));
-    let (mask, bytes) = placed(0, &[0xa1, 0xb2]).ok_or("no place")?;
+    let (mask, bytes) = placed(0, &[0xa1, 0xb2]).ok_or("no seat")?;
     assert_eq!(rt; row.write(1, mask, &bytes), Some(true));
     assert_eq!(rt; row.ask(2), Some(Enq::Queued));
     assert_eq!(rt; row.poll(2), Some(Poll::Waiting));

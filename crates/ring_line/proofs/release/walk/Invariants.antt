@@ -3,7 +3,7 @@ use Rattle.ring_line.proofs.Walking.{IsWalking}
 use Rattle.ring_line.proofs.release.walk.Given as goal
 
 abbrev pub invariant-loop-found : goal.invariant-loop-found
-invariant-loop-found g l = IsWalking g.K.Keep.allows l.initial.place l.passed.items l.cell l.found l.place
+invariant-loop-found g l = IsWalking g.K.Keep.allows l.initial.seat l.passed.items l.cell l.found l.seat
 
 abbrev pub decreases-loop-found : goal.decreases-loop-found
 decreases-loop-found g l = 32 - length l.passed.items

@@ -9,6 +9,6 @@ pub fetch_add-requires : goal.fetch_add-requires
 fetch_add-requires g c = let y = c.requires.parcel in let r = c.requires.ready in (
   search rules,
   omega arith,
-  grants_next g.K.Keep.good g.K.Keep.allows c.args.ground.now.key g.K.Keep.stays_good (entry_of c.args.place.now) r.1 y.0 y.2 _ _ _ c.args.place.now.me (λ i. (r.0 i, y.1 i))
-      (c.cell_word.ensures ∙ ap cell_at c.cell_after.ensures ∙ ap (λ (k : ℕ). cell_at ((k + 1) % 128)) r.2 ∙ ap cell_at (mod-add-mod (length (entry_of c.args.place.now).view.ends) 128 1)),
+  grants_next g.K.Keep.good g.K.Keep.allows c.args.ground.now.key g.K.Keep.stays_good (entry_of c.args.seat.now) r.1 y.0 y.2 _ _ _ c.args.seat.now.me (λ i. (r.0 i, y.1 i))
+      (c.cell_word.ensures ∙ ap cell_at c.cell_after.ensures ∙ ap (λ (k : ℕ). cell_at ((k + 1) % 128)) r.2 ∙ ap cell_at (mod-add-mod (length (entry_of c.args.seat.now).view.ends) 128 1)),
 )

@@ -3,7 +3,7 @@ use Rattle.atomic_table.specs.Table.{opening}
 use Rattle.ring_line.specs.declared.rule.Parcel.{Parcel}
 use Rattle.ring_line.specs.Ring.{newcomers, RingRule}
 use Rattle.ring_line.proofs.Seats.{starts}
-use Rattle.ring_line.proofs.line.RingLine.lay.Goals as goal
+use Rattle.ring_line.proofs.line.RingLine.new_table.Goals as goal
 
 pub new-requires : goal.new-requires
 new-requires g c =

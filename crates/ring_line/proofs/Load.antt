@@ -13,11 +13,11 @@ use Rattle.ring_line.specs.declared.entry.Entry.{Entry}
 use Rattle.ring_line.specs.declared.rule.Setup.{Setup}
 use Rattle.ring_line.specs.Words.{cell_at}
 use Rattle.ring_line.specs.Ring.{NodeOk, RingRule, is_kept}
-use Rattle.ring_line.specs.Steps.{sole, Sat, IsEarly, Comes, looked}
+use Rattle.ring_line.specs.Steps.{sole, Contents, IsEarly, Comes, loaded}
 use Rattle.ring_line.proofs.Nodes.{fresh, fresh_ok}
 use Rattle.ring_line.proofs.Histories.{not_withdrawn, continues}
 use Rattle.ring_line.proofs.Keeping.{St, rule_step, mine_ok}
-use Rattle.ring_line.proofs.Taking.{take_entry, asked_at, home, lit, unlit, takes_rule, comes, learns_take}
+use Rattle.ring_line.proofs.Taking.{take_entry, asked_at, home, finds_grant, finds_blank, takes_rule, comes, learns_take}
 
 module _ (good : List ℕ → Type 0) (allows : List ℕ → List ℕ → Type 0) (about : Setup) (v : Entry) (queued : v.point ≡ Queued) where
   abbrev Rule : St → Type 0
@@ -51,8 +51,8 @@ module _ (good : List ℕ → Type 0) (allows : List ℕ → List ℕ → Type 0
       early = let w = ok.queued queued in omega arith;
     }
 
-  pub looks_next : (me slots i : ℕ) (m : Sat) → m.0 ≡ v ∷ [] → i ≡ cell_at (v.place % 128) → Allows Rule slots me m i (λ n. n) (looked allows (step slots i 0 0 none) m)
-  looks_next me slots i m is word s r deep at small = let at' : get_elem? s.views me ≡ some (v ∷ []) = at ∙ ap some is in dite (ℕ_discrete v.place (length r.past.ends))
+  pub loads_next : (me slots i : ℕ) (m : Contents) → m.0 ≡ v ∷ [] → i ≡ cell_at (v.place % 128) → Allows Rule slots me m i (λ n. n) (loaded allows (step slots i 0 0 none) m)
+  loads_next me slots i m is word s r deep at small = let at' : get_elem? s.views me ≡ some (v ∷ []) = at ∙ ap some is in dite (ℕ_discrete v.place (length r.past.ends))
       (λ here. let y = home good allows about v queued s r me i at' word here in (
         take_entry good allows about v queued r.past ∷ [],
         takes 0 y.0,
@@ -61,7 +61,7 @@ module _ (good : List ℕ → Type 0) (allows : List ℕ → List ℕ → Type 0
         (
           refl,
           subst (λ u. Continues allows (sole u).view (take_entry good allows about v queued r.past).view) (sym is) (learns_take good allows about v queued s r me i at' word here),
-          (λ z. absurd (lit good allows about v queued s r me i at' word here z)),
+          (λ z. absurd (finds_grant good allows about v queued s r me i at' word here z)),
           (λ _. (y.0, refl, subst (λ u. Comes (sole u) (take_entry good allows about v queued r.past) y.0) (sym is) (comes good allows about v queued s r me i at' word here))),
         ),
       ))
@@ -74,6 +74,6 @@ module _ (good : List ℕ → Type 0) (allows : List ℕ → List ℕ → Type 0
           refl,
           subst (λ u. Continues allows (sole u).view (wait_entry s r me i at' word).view) (sym is) (learns_wait s r me i at' word),
           (λ _. (refl, subst (λ u. IsEarly (sole u) (wait_entry s r me i at' word)) (sym is) (early s r me i at' word later))),
-          (λ ne. absurd (ne (unlit good allows about v queued s r me i at' word later))),
+          (λ ne. absurd (ne (finds_blank good allows about v queued s r me i at' word later))),
         ),
       ))

@@ -8,12 +8,12 @@ ghost use Rattle.ring_line.specs.Steps.{Alone, entry_of, informed};
 ghost use Rattle.ring_line.specs.declared.entry.Point.TheVariants.{Holding};
 
 use crate::plays::{Blank, Cut, Glue, Meet};
-use crate::rule::{Ground, Place};
+use crate::rule::{Ground, RingSeat};
 use qolb_model::Keep;
 use std::mem;
 
 /// Two seats with an entry each, of which the first may hold the slot, learn what the other knows.
-pub(crate) fn meet_seats<K: Keep>(ground: &Ground<K>, a: &mut Place, b: &mut Place)
+pub(crate) fn meet_seats<K: Keep>(ground: &Ground<K>, a: &mut RingSeat, b: &mut RingSeat)
     requires table { (a.old.table_id ≡ ground.now.table_id) × (b.old.table_id ≡ ground.now.table_id) × (ground.now.table_id.words ≡ word_count) }
     requires ready { Alone a.old.me × Alone b.old.me }
     requires slot { b.old.me.1 ≡ [] }

@@ -1,4 +1,4 @@
--- How the entries of all nodes are dealt to ports.
+-- How the entries of all nodes are split into ports.
 use Rattle.std.proofs.Common.{◌≡◌, ℕ, suc, ◌+◌, ◌-◌, ◌<◌, List, [], ◌∷◌, ◌++◌, map, sym, refl, ap, ◌∙◌, subst, ⊎_elim, arith, length-append, Some, slice_get, option_map}
 use Rattle.std.proofs.lemmas.Option.{slice_get_within, slice_get-map}
 use Rattle.std.proofs.lemmas.List.{length-map}
@@ -12,14 +12,14 @@ use Rattle.qolb_model.proofs.Agreeing.{new_is_sound}
 use Rattle.ring_line.specs.declared.rule.Setup.{Setup}
 use Rattle.ring_line.specs.declared.rule.Parcel.{Parcel}
 use Rattle.ring_line.specs.Ring.{At, newcomer, newcomers_from}
-use Rattle.ring_line.specs.Steps.{sole, front, behind}
-use Rattle.ring_line.specs.Ports.{Spot, Standing, standing, IsPort, AreDealt, BelongsTo}
+use Rattle.ring_line.specs.Steps.{RingSeat, sole, front, behind}
+use Rattle.ring_line.specs.Ports.{Standing, standing, IsPort, AreSplit, BelongsTo}
 
 from_more : (about : Setup) (n N : ℕ) → n < N → newcomers_from about n (N - n) ≡ newcomer about (n + 1) ∷ newcomers_from about (n + 1) (N - (n + 1))
 from_more about n N l = let j = N - (n + 1) in let e : N - n ≡ suc j = omega arith in let f : suc n ≡ n + 1 = omega arith in
     ap (newcomers_from about n) e ∙ (λ i. newcomer about (f i) ∷ newcomers_from about (f i) j)
 
-module _ (about : Setup) (n : ℕ) (old first rest : Spot) (more : n < about.nodes) (whole : old.me ≡ (newcomers_from about n (about.nodes - n), [])) where
+module _ (about : Setup) (n : ℕ) (old first rest : RingSeat) (more : n < about.nodes) (whole : old.me ≡ (newcomers_from about n (about.nodes - n), [])) where
   pub first_me : first.me ≡ (front old.me.0, old.me.1) → first.me ≡ (newcomer about (n + 1) ∷ [], [])
   first_me e = e ∙ (λ i. (front (whole i).0, (whole i).1)) ∙ (λ i. (front (from_more about n about.nodes more i), []))
 
@@ -35,7 +35,7 @@ module _ (about : Setup) (n : ℕ) (old first rest : Spot) (more : n < about.nod
     node_is = ap (λ m. (sole m.0).view.node) is;
   }
 
-pub one_more : (table_id : TableId) (about : Setup) (n : ℕ) (ports : List Standing) (first : Spot) (y : Parcel) → AreDealt table_id about n ports → first.table_id ≡ table_id → first.me ≡ (newcomer about (n + 1) ∷ [], []) → AreDealt table_id about (n + 1) (ports ++ standing first y 0 ∷ [])
+pub one_more : (table_id : TableId) (about : Setup) (n : ℕ) (ports : List Standing) (first : RingSeat) (y : Parcel) → AreSplit table_id about n ports → first.table_id ≡ table_id → first.me ≡ (newcomer about (n + 1) ∷ [], []) → AreSplit table_id about (n + 1) (ports ++ standing first y 0 ∷ [])
 one_more table_id about n ports first y d t is = record {
   many = length-append ports (standing first y 0 ∷ []) ∙ ap (λ k. k + 1) d.many;
   each = λ k p at. ⊎_elim (λ z. d.each k p z.1)
@@ -43,18 +43,18 @@ one_more table_id about n ports first y d t is = record {
       (push_cases ports (standing first y 0) k p at);
 }
 
--- each port that is dealt belongs to the line
-pub dealt_belongs : (good : List ℕ → Type 0) (allows : List ℕ → List ℕ → Type 0) (table_id : TableId) (about : Setup) (ports : List Standing) → good about.opening.bytes → AreDealt table_id about about.nodes ports
+-- each port that is split off belongs to the line
+pub split_belongs : (good : List ℕ → Type 0) (allows : List ℕ → List ℕ → Type 0) (table_id : TableId) (about : Setup) (ports : List Standing) → good about.opening.bytes → AreSplit table_id about about.nodes ports
     → (k : ℕ) (p : Standing) → At ports k p → BelongsTo good allows about table_id p × (p.view.state ≡ shows.Idle)
-dealt_belongs good allows table_id about ports fine d k p at =
+split_belongs good allows table_id about ports fine d k p at =
     let inside = slice_get_within ports k p at in let many = d.many in let e = d.each k p at in (
       record { table_is = e.0; sound = subst (IsSound good allows about.label about.nodes about.opening.bytes) (sym e.1) (new_is_sound good allows about.label about.nodes about.opening.bytes (k + 1) fine (omega arith) (omega arith)) },
       ap (λ (v : View). v.state) e.1,
     )
 
 -- the ports of a new line are new
-pub dealt_new : (table_id : TableId) (about : Setup) (ports : List Standing) → AreDealt table_id about about.nodes ports → AreNew about.label about.nodes about.opening.bytes (map (λ (p : Standing). p.view) ports)
-dealt_new table_id about ports d = record {
+pub split_new : (table_id : TableId) (about : Setup) (ports : List Standing) → AreSplit table_id about about.nodes ports → AreNew about.label about.nodes about.opening.bytes (map (λ (p : Standing). p.view) ports)
+split_new table_id about ports d = record {
   count = length-map ports (λ (p : Standing). p.view) ∙ d.many;
   each = λ i l. let at = element_at ports i (let m = d.many in omega arith) in slice_get-map (λ (p : Standing). p.view) ports i ∙ ap (option_map (λ (p : Standing). p.view)) at.1 ∙ ap Some (d.each i at.0 at.1).1;
 }

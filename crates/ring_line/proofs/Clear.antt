@@ -3,29 +3,29 @@ use Rattle.std.proofs.Common.{◌≡◌, ◌≢◌, ◌⊎◌, ℕ, ◌+◌, ◌
 use mathlib.Core.Option.{none, some}
 use lib.ListN.{get_elem?}
 use Rattle.atomic_table.specs.Table.{step, keeps, Allows}
-use Rattle.ring_line.specs.declared.entry.Point.TheVariants.{Idle, Holding, Lit, Dark, Rolled}
+use Rattle.ring_line.specs.declared.entry.Point.TheVariants.{Idle, Holding, Passing, Cleared, Rolled}
 use Rattle.ring_line.specs.declared.entry.Entry.{Entry}
 use Rattle.ring_line.specs.declared.rule.Setup.{Setup}
 use Rattle.ring_line.specs.Words.{ticket_at, cell_at, node_at}
 use Rattle.ring_line.specs.Ring.{Past, Walks, NodeOk, Shown, RingRule, has_line, lets_go, is_kept}
-use Rattle.ring_line.specs.Steps.{sole, Sat, darkened}
+use Rattle.ring_line.specs.Steps.{sole, Contents, cleared}
 use Rattle.qolb_model.proofs.Prefixes.{prefix_self}
 use Rattle.ring_line.proofs.Nodes.{clash_at, passed_goes, none_passed, others_hand}
 use Rattle.ring_line.proofs.Keeping.{Homes, rule_step, mine_ok, mine_low}
 use Rattle.ring_line.proofs.Taking.{cells_apart}
 
-module _ (good : List ℕ → Type 0) (allows : List ℕ → List ℕ → Type 0) (about : Setup) (v : Entry) (lit : (v.point ≡ Holding) ⊎ (v.point ≡ Lit)) where
-  abbrev dark_entry : Entry
-  dark_entry = record v { point = Dark }
+module _ (good : List ℕ → Type 0) (allows : List ℕ → List ℕ → Type 0) (about : Setup) (v : Entry) (passing : (v.point ≡ Holding) ⊎ (v.point ≡ Passing)) where
+  abbrev cleared_entry : Entry
+  cleared_entry = record v { point = Cleared }
 
-  abbrev dark_past : Past → Past
-  dark_past x = record x { dark = true }
+  abbrev cleared_past : Past → Past
+  cleared_past x = record x { cleared = true }
 
   has_it : has_line v.point ≡ true
-  has_it = ⊎_elim (λ e. ap has_line e) (λ e. ap has_line e) lit
+  has_it = ⊎_elim (λ e. ap has_line e) (λ e. ap has_line e) passing
 
   keeps_it : is_kept v.point ≡ true
-  keeps_it = ⊎_elim (λ e. ap is_kept e) (λ e. ap is_kept e) lit
+  keeps_it = ⊎_elim (λ e. ap is_kept e) (λ e. ap is_kept e) passing
 
   not_idle : v.point ≢ Idle
   not_idle e = clash_at has_line Idle has_it e refl
@@ -33,8 +33,8 @@ module _ (good : List ℕ → Type 0) (allows : List ℕ → List ℕ → Type 0
   not_rolled : v.point ≢ Rolled
   not_rolled e = clash_at has_line Rolled has_it e refl
 
-  dark_node : (x : Past) → NodeOk about x v.view.node v → NodeOk about (dark_past x) v.view.node dark_entry
-  dark_node x ok = record {
+  cleared_node : (x : Past) → NodeOk about x v.view.node v → NodeOk about (cleared_past x) v.view.node cleared_entry
+  cleared_node x ok = record {
     node = refl;
     label = ok.label;
     nodes = ok.nodes;
@@ -57,7 +57,7 @@ module _ (good : List ℕ → Type 0) (allows : List ℕ → List ℕ → Type 0
     holds = λ _. let h = ok.holds has_it in (h.0, h.1, refl);
     lacks = λ e. cc;
     holder = λ e. (refl, (ok.holder e).1);
-    passed = λ i p at. let h = ok.passed i p at in passed_goes x (dark_past x) v.view.node v dark_entry p h refl refl (omega arith) h.marked (prefix_self v.view.order) h.unclear;
+    passed = λ i p at. let h = ok.passed i p at in passed_goes x (cleared_past x) v.view.node v cleared_entry p h refl refl (omega arith) h.marked (prefix_self v.view.order) h.unclear;
     passed_once = ok.passed_once;
     own_ends = ok.own_ends;
     own_marks = ok.own_marks;
@@ -71,31 +71,31 @@ module _ (good : List ℕ → Type 0) (allows : List ℕ → List ℕ → Type 0
   }
     where
       walks : Walks x v
-      walks = ⊎_elim (λ e. inl (ok.holding e, none_passed about x v.view.node v ok (ap lets_go e))) (λ e. ok.walking (ap lets_go e) has_it) lit
+      walks = ⊎_elim (λ e. inl (ok.holding e, none_passed about x v.view.node v ok (ap lets_go e))) (λ e. ok.walking (ap lets_go e) has_it) passing
 
-  dark_shown : (x : Past) (words : List ℕ) (homes : Homes) (i : ℕ) → i ≡ cell_at (length x.ends % 128) → x.hand ≡ v.view.node → 0 < v.view.node → Shown good allows about x words homes → Shown good allows about (dark_past x) (set words i 0) homes
-  dark_shown x words homes i is mine low h = let small : length x.ends % 128 < 128 = mod-lt (length x.ends) (omega arith) in record {
+  cleared_shown : (x : Past) (words : List ℕ) (homes : Homes) (i : ℕ) → i ≡ cell_at (length x.ends % 128) → x.hand ≡ v.view.node → 0 < v.view.node → Shown good allows about x words homes → Shown good allows about (cleared_past x) (set words i 0) homes
+  cleared_shown x words homes i is mine low h = let small : length x.ends % 128 < 128 = mod-lt (length x.ends) (omega arith) in record {
     wide = length-set words i 0 ∙ h.wide;
     deep = h.deep;
     ticket = get_or-set_other words i ticket_at 0 0 (λ e. omega arith) ∙ h.ticket;
-    dark = λ _. ap (λ k. get_or (set words i 0) k 0) (sym is) ∙ get_or-set_same words i 0 0 (let w = h.wide in omega arith);
-    lit = λ e. absurd (omega arith);
+    cleared = λ _. ap (λ k. get_or (set words i 0) k 0) (sym is) ∙ get_or-set_same words i 0 0 (let w = h.wide in omega arith);
+    granted = λ e. absurd (omega arith);
     later = λ k a b. get_or-set_other words i (cell_at ((length x.ends + k) % 128)) 0 0 (λ e. cells_apart (length x.ends) k a b (omega arith)) ∙ h.later k a b;
     flags = λ n a b. get_or-set_other words i (node_at n) 0 0 (λ e. omega arith) ∙ h.flags n a b;
     home = h.home;
   }
 
-  pub darkens_next : (me slots i : ℕ) (m : Sat) → m.0 ≡ v ∷ [] → i ≡ cell_at (length v.view.ends % 128) → Allows (RingRule good allows about) slots me m i (λ _. 0) (λ _. darkened (step slots i 0 0 none) m 0)
-  darkens_next me slots i m is word s r deep at small = (
-    dark_entry ∷ [],
+  pub clears_next : (me slots i : ℕ) (m : Contents) → m.0 ≡ v ∷ [] → i ≡ cell_at (length v.view.ends % 128) → Allows (RingRule good allows about) slots me m i (λ _. 0) (λ _. cleared (step slots i 0 0 none) m 0)
+  clears_next me slots i m is word s r deep at small = (
+    cleared_entry ∷ [],
     keeps,
     tt,
-    rule_step good allows about s r me v dark_entry (dark_past r.past) (set s.words i 0) s.homes at' refl
+    rule_step good allows about s r me v cleared_entry (cleared_past r.past) (set s.words i 0) s.homes at' refl
         (record { legal = r.fine.legal; nodes = r.fine.nodes; kept = r.fine.kept; sound = r.fine.sound; within = r.fine.within; cleared = r.fine.cleared; nobody = λ e. absurd (held e); settled = λ e. absurd (held e); marked = r.fine.marked; gone = r.fine.gone })
-        (dark_shown r.past s.words s.homes i (word ∙ ap (λ es. cell_at (length es % 128)) (ok.holds has_it).0) mine low r.shown)
-        (dark_node r.past ok)
+        (cleared_shown r.past s.words s.homes i (word ∙ ap (λ es. cell_at (length es % 128)) (ok.holds has_it).0) mine low r.shown)
+        (cleared_node r.past ok)
         (λ n a b ne. others_hand about r.past n (r.who n) (r.each n a b) r.past.hand true (λ e. ne (sym e ∙ mine)) (λ e. ne (sym e ∙ mine))),
-    (λ j. (record (sole (sym is j)) { point = Dark } ∷ [], m.1)),
+    (λ j. (record (sole (sym is j)) { point = Cleared } ∷ [], m.1)),
   )
     where
       at' : get_elem? s.views me ≡ some (v ∷ [])

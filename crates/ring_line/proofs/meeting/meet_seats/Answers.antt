@@ -1,12 +1,11 @@
 use Rattle.std.proofs.Common.{rules, arith, ap, ◌≡◌, ◌∙◌, [], ◌∷◌, ◌++◌}
-use Rattle.ring_line.specs.Steps.{entry_of}
-use Rattle.ring_line.specs.Ports.{Spot}
+use Rattle.ring_line.specs.Steps.{RingSeat, entry_of}
 use Rattle.ring_line.proofs.Seats.{blanks, cuts, joins}
 use Rattle.ring_line.proofs.Meets.{meets_next}
-use Rattle.ring_line.proofs.seating.meet_seats.Goals as goal
+use Rattle.ring_line.proofs.meeting.meet_seats.Goals as goal
 
 -- the views of the seat that took in the other's
-glued : (a b s o j : Spot) → a.me.0 ≡ entry_of a ∷ [] → b.me.0 ≡ entry_of b ∷ [] → s.me ≡ a.me → o ≡ b → j.me ≡ (s.me.0 ++ o.me.0, s.me.1) → j.me ≡ (entry_of a ∷ entry_of b ∷ [], a.me.1)
+glued : (a b s o j : RingSeat) → a.me.0 ≡ entry_of a ∷ [] → b.me.0 ≡ entry_of b ∷ [] → s.me ≡ a.me → o ≡ b → j.me ≡ (s.me.0 ++ o.me.0, s.me.1) → j.me ≡ (entry_of a ∷ entry_of b ∷ [], a.me.1)
 glued a b s o j ea eb es eo ej = ej ∙ (λ i. ((es i).0 ++ (eo i).me.0, (es i).1)) ∙ (λ i. (ea i ++ eb i, a.me.1))
 
 pub split_seat-blank-requires : goal.split_seat-blank-requires
