@@ -20,7 +20,7 @@ use Rattle.qolb_model.proofs.Histories.{legal_ask}
 use Rattle.ring_line.specs.declared.entry.Point.TheVariants.{Idle, Queued}
 use Rattle.ring_line.specs.declared.entry.Entry.{Entry}
 use Rattle.ring_line.specs.declared.rule.Setup.{Setup}
-use Rattle.ring_line.specs.Words.{ticket_at, cell_at, node_at}
+use Rattle.ring_line.specs.Words.{ticket_at, cell_at, node_at, cell_of}
 use Rattle.ring_line.specs.Ring.{At, Past, NodeOk, PastOk, Shown, RingRule, has_line, lets_go}
 use Rattle.ring_line.specs.Steps.{sole, Contents, Asked, asked}
 use Rattle.ring_line.proofs.Lists.{at_longer, prefix_more, has_prefix, cleared_ended, clears_wider}
@@ -112,9 +112,9 @@ module _ (good : List ℕ → Type 0) (allows : List ℕ → List ℕ → Type 0
     wide = length-set words ticket_at next ∙ h.wide;
     deep = h.deep;
     ticket = get_or-set_same words ticket_at next 0 (let w = h.wide in omega arith) ∙ ap (λ k. (k + 1) % 2 ^ 64) h.ticket ∙ mod-add-mod (length x.order) (2 ^ 64) 1 ∙ ap (λ k. k % 2 ^ 64) (sym (length-append x.order (new x ∷ [])));
-    cleared = λ d. get_or-set_other words ticket_at (cell_at (length x.ends % 128)) next 0 (λ e. omega arith) ∙ h.cleared d;
-    granted = λ d. get_or-set_other words ticket_at (cell_at (length x.ends % 128)) next 0 (λ e. omega arith) ∙ h.granted d;
-    later = λ k a b. get_or-set_other words ticket_at (cell_at ((length x.ends + k) % 128)) next 0 (λ e. omega arith) ∙ h.later k a b;
+    cleared = λ d. get_or-set_other words ticket_at (cell_at (cell_of (length x.ends))) next 0 (λ e. omega arith) ∙ h.cleared d;
+    granted = λ d. get_or-set_other words ticket_at (cell_at (cell_of (length x.ends))) next 0 (λ e. omega arith) ∙ h.granted d;
+    later = λ k a b. get_or-set_other words ticket_at (cell_at (cell_of (length x.ends + k))) next 0 (λ e. omega arith) ∙ h.later k a b;
     flags = λ n a b. get_or-set_other words ticket_at (node_at n) next 0 (λ e. omega arith) ∙ h.flags n a b;
     home = h.home;
   }
@@ -132,7 +132,7 @@ module _ (good : List ℕ → Type 0) (allows : List ℕ → List ℕ → Type 0
       subst (λ u. Continues allows (sole u).view (ask_entry r.past).view) (sym is) learns,
       subst (λ u. Asked (sole u) (slice_index s.words ticket_at) (ask_entry r.past)) (sym is) record {
         point = refl;
-        cell = ap (λ k. k % 128) r.shown.ticket ∙ mod-mod-pow (length r.past.order) 57 7;
+        cell = ap cell_of r.shown.ticket ∙ mod-mod-pow (length r.past.order) 56 8;
         asks = record {
           was_clear = λ before. has_prefix v.view.clear r.past.clear (own v.view) ok.clears (ok.idle idle before).1;
           count = ap (λ k. k + 1) ok.counts;

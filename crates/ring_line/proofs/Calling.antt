@@ -14,6 +14,7 @@ use Rattle.qolb_model.specs.Sound.{Continues}
 use Rattle.qolb_model.specs.Asking.{Asks}
 use Rattle.qolb_model.specs.LettingGo.{Releases}
 use Rattle.qolb_model.proofs.Writes.{bytes_after-release}
+use Rattle.ring_line.specs.Words.{cell_of}
 use Rattle.ring_line.specs.declared.entry.Entry.{Entry}
 use Rattle.ring_line.specs.declared.port.Port.TheInside.{Inside}
 use Rattle.ring_line.specs.declared.rule.Parcel.{Parcel}
@@ -77,10 +78,10 @@ pub told_port : {allows : List ℕ → List ℕ → Type 0} (q : Inside) (t : Ri
 told_port q t z cell steps between c alone a = record { alone = alone; stands = (a.0, a.1); shows_state = a.2; label_is = c.extends.label ∙ between.label_is; node_is = c.extends.node ∙ between.node_is }
 
 -- it waits
-pub queued_port : {allows : List ℕ → List ℕ → Type 0} {a : Entry} (q : Inside) (l : RingSeat) (cell : ℕ) → IsBetween q → Continues allows (known q) (entry_of l).view → Alone l.me → (l.me.1 ≡ []) × IsEarly a (entry_of l) → cell ≡ a.place % 128 → IsPort q.label q.node l q.parcel cell shows.Queued
+pub queued_port : {allows : List ℕ → List ℕ → Type 0} {a : Entry} (q : Inside) (l : RingSeat) (cell : ℕ) → IsBetween q → Continues allows (known q) (entry_of l).view → Alone l.me → (l.me.1 ≡ []) × IsEarly a (entry_of l) → cell ≡ cell_of a.place → IsPort q.label q.node l q.parcel cell shows.Queued
 queued_port q l cell between c alone waits is = record {
   alone = alone;
-  stands = (waits.1.point, waits.0, is ∙ ap (λ k. k % 128) (sym waits.1.place));
+  stands = (waits.1.point, waits.0, is ∙ ap cell_of (sym waits.1.place));
   shows_state = waits.1.state;
   label_is = c.extends.label ∙ between.label_is;
   node_is = c.extends.node ∙ between.node_is;

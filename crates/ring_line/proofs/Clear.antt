@@ -3,10 +3,11 @@ use Rattle.std.proofs.Common.{◌≡◌, ◌≢◌, ◌⊎◌, ℕ, ◌+◌, ◌
 use mathlib.Core.Option.{none, some}
 use lib.ListN.{get_elem?}
 use Rattle.atomic_table.specs.Table.{step, keeps, Allows}
+use Rattle.ring_line.specs.declared.words.TheConstants.{CELLS}
 use Rattle.ring_line.specs.declared.entry.Point.TheVariants.{Idle, Holding, Passing, Cleared, Rolled}
 use Rattle.ring_line.specs.declared.entry.Entry.{Entry}
 use Rattle.ring_line.specs.declared.rule.Setup.{Setup}
-use Rattle.ring_line.specs.Words.{ticket_at, cell_at, node_at}
+use Rattle.ring_line.specs.Words.{ticket_at, cell_at, node_at, cell_of}
 use Rattle.ring_line.specs.Ring.{Past, Walks, NodeOk, Shown, RingRule, has_line, lets_go, is_kept}
 use Rattle.ring_line.specs.Steps.{sole, Contents, cleared}
 use Rattle.qolb_model.proofs.Prefixes.{prefix_self}
@@ -73,26 +74,26 @@ module _ (good : List ℕ → Type 0) (allows : List ℕ → List ℕ → Type 0
       walks : Walks x v
       walks = ⊎_elim (λ e. inl (ok.holding e, none_passed about x v.view.node v ok (ap lets_go e))) (λ e. ok.walking (ap lets_go e) has_it) passing
 
-  cleared_shown : (x : Past) (words : List ℕ) (homes : Homes) (i : ℕ) → i ≡ cell_at (length x.ends % 128) → x.hand ≡ v.view.node → 0 < v.view.node → Shown good allows about x words homes → Shown good allows about (cleared_past x) (set words i 0) homes
-  cleared_shown x words homes i is mine low h = let small : length x.ends % 128 < 128 = mod-lt (length x.ends) (omega arith) in record {
+  cleared_shown : (x : Past) (words : List ℕ) (homes : Homes) (i : ℕ) → i ≡ cell_at (cell_of (length x.ends)) → x.hand ≡ v.view.node → 0 < v.view.node → Shown good allows about x words homes → Shown good allows about (cleared_past x) (set words i 0) homes
+  cleared_shown x words homes i is mine low h = let small : cell_of (length x.ends) < CELLS = mod-lt (length x.ends) (omega arith) in record {
     wide = length-set words i 0 ∙ h.wide;
     deep = h.deep;
     ticket = get_or-set_other words i ticket_at 0 0 (λ e. omega arith) ∙ h.ticket;
     cleared = λ _. ap (λ k. get_or (set words i 0) k 0) (sym is) ∙ get_or-set_same words i 0 0 (let w = h.wide in omega arith);
     granted = λ e. absurd (omega arith);
-    later = λ k a b. get_or-set_other words i (cell_at ((length x.ends + k) % 128)) 0 0 (λ e. cells_apart (length x.ends) k a b (omega arith)) ∙ h.later k a b;
+    later = λ k a b. get_or-set_other words i (cell_at (cell_of (length x.ends + k))) 0 0 (λ e. cells_apart (length x.ends) k a b (omega arith)) ∙ h.later k a b;
     flags = λ n a b. get_or-set_other words i (node_at n) 0 0 (λ e. omega arith) ∙ h.flags n a b;
     home = h.home;
   }
 
-  pub clears_next : (me slots i : ℕ) (m : Contents) → m.0 ≡ v ∷ [] → i ≡ cell_at (length v.view.ends % 128) → Allows (RingRule good allows about) slots me m i (λ _. 0) (λ _. cleared (step slots i 0 0 none) m 0)
+  pub clears_next : (me slots i : ℕ) (m : Contents) → m.0 ≡ v ∷ [] → i ≡ cell_at (cell_of (length v.view.ends)) → Allows (RingRule good allows about) slots me m i (λ _. 0) (λ _. cleared (step slots i 0 0 none) m 0)
   clears_next me slots i m is word s r deep at small = (
     cleared_entry ∷ [],
     keeps,
     tt,
     rule_step good allows about s r me v cleared_entry (cleared_past r.past) (set s.words i 0) s.homes at' refl
         (record { legal = r.fine.legal; nodes = r.fine.nodes; kept = r.fine.kept; sound = r.fine.sound; within = r.fine.within; cleared = r.fine.cleared; nobody = λ e. absurd (held e); settled = λ e. absurd (held e); marked = r.fine.marked; gone = r.fine.gone })
-        (cleared_shown r.past s.words s.homes i (word ∙ ap (λ es. cell_at (length es % 128)) (ok.holds has_it).0) mine low r.shown)
+        (cleared_shown r.past s.words s.homes i (word ∙ ap (λ es. cell_at (cell_of (length es))) (ok.holds has_it).0) mine low r.shown)
         (cleared_node r.past ok)
         (λ n a b ne. others_hand about r.past n (r.who n) (r.each n a b) r.past.hand true (λ e. ne (sym e ∙ mine)) (λ e. ne (sym e ∙ mine))),
     (λ j. (record (sole (sym is j)) { point = Cleared } ∷ [], m.1)),

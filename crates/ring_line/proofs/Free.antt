@@ -13,10 +13,11 @@ use Rattle.qolb_model.specs.Sound.{Continues}
 use Rattle.qolb_model.proofs.Prefixes.{prefix_self, prefix_get}
 use Rattle.qolb_model.proofs.Requests.{has_left, has_last, has_push, lacks_from, same_place}
 use Rattle.qolb_model.proofs.Lists.{never}
+use Rattle.ring_line.specs.declared.words.TheConstants.{MOST_NODES}
 use Rattle.ring_line.specs.declared.entry.Point.TheVariants.{Idle, Queued, Holding, Freeing, Rolled}
 use Rattle.ring_line.specs.declared.entry.Entry.{Entry}
 use Rattle.ring_line.specs.declared.rule.Setup.{Setup}
-use Rattle.ring_line.specs.Words.{ticket_at, cell_at, node_at}
+use Rattle.ring_line.specs.Words.{ticket_at, cell_at, node_at, cell_of}
 use Rattle.ring_line.specs.Ring.{At, Past, HasPassed, NodeOk, PastOk, Shown, RingRule, has_line, is_kept}
 use Rattle.ring_line.specs.Steps.{sole, Contents, after_walk, Frees, freed}
 use Rattle.ring_line.proofs.Lists.{at_same, prefix_more, has_prefix, lacks_push}
@@ -147,14 +148,14 @@ module _ (good : List ℕ → Type 0) (allows : List ℕ → List ℕ → Type 0
         go [] = others_clear about (record x { clear = x.clear ++ r ∷ []; flags = put x.flags r.node 1 }) n u one (own v.view) v.place (λ e. ne (sym e)) placed unmarked f.legal
         go (p ∷ l) = one
 
-    free_shown : (words : List ℕ) (homes : Homes) (i : ℕ) → i ≡ node_at r.node → r.node ≤ 32 → Shown good allows about x words homes → Shown good allows about (free_past x) (set words i 1) homes
+    free_shown : (words : List ℕ) (homes : Homes) (i : ℕ) → i ≡ node_at r.node → r.node ≤ MOST_NODES → Shown good allows about x words homes → Shown good allows about (free_past x) (set words i 1) homes
     free_shown words homes i is high h = record {
       wide = length-set words i 1 ∙ h.wide;
       deep = h.deep;
       ticket = get_or-set_other words i ticket_at 1 0 (λ e. let l = low in omega arith) ∙ h.ticket;
-      cleared = λ e. get_or-set_other words i (cell_at (length x.ends % 128)) 1 0 (λ z. omega arith) ∙ h.cleared e;
-      granted = λ e. get_or-set_other words i (cell_at (length x.ends % 128)) 1 0 (λ z. omega arith) ∙ h.granted e;
-      later = λ k a b. get_or-set_other words i (cell_at ((length x.ends + k) % 128)) 1 0 (λ z. omega arith) ∙ h.later k a b;
+      cleared = λ e. get_or-set_other words i (cell_at (cell_of (length x.ends))) 1 0 (λ z. omega arith) ∙ h.cleared e;
+      granted = λ e. get_or-set_other words i (cell_at (cell_of (length x.ends))) 1 0 (λ z. omega arith) ∙ h.granted e;
+      later = λ k a b. get_or-set_other words i (cell_at (cell_of (length x.ends + k))) 1 0 (λ z. omega arith) ∙ h.later k a b;
       flags = λ n a b. dite (ℕ_discrete n r.node)
           (λ e. ap (λ k. get_or (set words i 1) k 0) (ap node_at e ∙ sym is) ∙ get_or-set_same words i 1 0 (let w = h.wide in omega arith) ∙ sym (ap (put x.flags r.node 1) e ∙ put_here x.flags r.node 1))
           (λ ne. get_or-set_other words i (node_at n) 1 0 (λ z. ne (omega arith)) ∙ h.flags n a b ∙ sym (put_else x.flags r.node 1 n ne));
@@ -186,7 +187,7 @@ module _ (good : List ℕ → Type 0) (allows : List ℕ → List ℕ → Type 0
       own_clear = λ e. own_clear ps (ap after_walk e);
     }
 
-  pub frees_next : (me slots i : ℕ) (m : Contents) → m.0 ≡ v ∷ [] → i ≡ node_at r.node → r.node ≤ 32 → Allows Rule slots me m i (λ _. 1) (λ _. freed allows (step slots i 1 0 none) m 0)
+  pub frees_next : (me slots i : ℕ) (m : Contents) → m.0 ≡ v ∷ [] → i ≡ node_at r.node → r.node ≤ MOST_NODES → Allows Rule slots me m i (λ _. 1) (λ _. freed allows (step slots i 1 0 none) m 0)
   frees_next me slots i m is word high s t deep at small = (
     free_entry t.past ∷ [],
     keeps,

@@ -20,11 +20,12 @@ use Rattle.qolb_model.specs.Sound.{Continues}
 use Rattle.qolb_model.proofs.Lists.{push_cases, never}
 use Rattle.qolb_model.proofs.Prefixes.{prefix_self}
 use Rattle.qolb_model.proofs.Requests.{has_last, lacks_from, same_place}
+use Rattle.ring_line.specs.declared.words.TheConstants.{CELLS, WITHDRAWN, MOST_NODES}
 use Rattle.ring_line.specs.declared.entry.Point.TheVariants.{Idle, Queued, Holding, Passing, Cleared, Rolled}
 use Rattle.ring_line.specs.declared.entry.Entry.{Entry}
 use Rattle.ring_line.specs.declared.rule.Setup.{Setup}
 use Rattle.ring_line.specs.declared.rule.Parcel.{Parcel}
-use Rattle.ring_line.specs.Words.{ticket_at, cell_at, node_at}
+use Rattle.ring_line.specs.Words.{ticket_at, cell_at, node_at, cell_of, withdrawn_by}
 use Rattle.ring_line.specs.Ring.{At, Past, HasPassed, Walks, NodeOk, PastOk, Shown, RingRule, has_line, lets_go, is_kept, is_cleared}
 use Rattle.ring_line.specs.Steps.{Contents, next_end, left_by, after_walk, Carries, Ended, GoesHome, Passes, granted}
 use Rattle.ring_line.proofs.Lists.{elem_within, at_same, prefix_more, has_prefix, cleared_ended}
@@ -126,23 +127,23 @@ module _ (good : List ℕ → Type 0) (allows : List ℕ → List ℕ → Type 0
       ended_others passer passes n u ne k = others_end about x n u k v.view.node turn.0 e passer turn.1 turn.2 marked ne hand passes
 
       -- the cell behind the granted one
-      module _ (words : List ℕ) (homes : Homes) (i : ℕ) (is : i ≡ cell_at ((length x.ends + 1) % 128)) (far : x.marks (length x.ends + 128) ≡ 0) (h : Shown good allows about x words homes) where
-        found : slice_index words i ≡ 256 * x.marks (length (x.ends ++ e ∷ []))
-        found = ap (slice_index words) is ∙ h.later 1 (omega arith) (omega arith) ∙ ap (λ k. 256 * x.marks k) (sym longer)
+      module _ (words : List ℕ) (homes : Homes) (i : ℕ) (is : i ≡ cell_at (cell_of (length x.ends + 1))) (far : x.marks (length x.ends + CELLS) ≡ 0) (h : Shown good allows about x words homes) where
+        found : slice_index words i ≡ WITHDRAWN * x.marks (length (x.ends ++ e ∷ []))
+        found = ap (slice_index words) is ∙ h.later 1 (omega arith) (omega arith) ∙ ap (λ k. WITHDRAWN * x.marks k) (sym longer)
 
-        small : (length x.ends + 1) % 128 < 128
+        small : cell_of (length x.ends + 1) < CELLS
         small = mod-lt (length x.ends + 1) (omega arith)
 
-        later_cells : (z k : ℕ) → 0 < k → k < 128 → slice_index (set words i z) (cell_at ((length (x.ends ++ e ∷ []) + k) % 128)) ≡ 256 * x.marks (length (x.ends ++ e ∷ []) + k)
-        later_cells z k a b = subst (λ q. slice_index (set words i z) (cell_at (q % 128)) ≡ 256 * x.marks q) (sym (ap (λ q. q + k) longer))
-            (get_or-set_other words i (cell_at ((length x.ends + 1 + k) % 128)) z 0 (λ q. cells_apart (length x.ends + 1) k a b (let s = small in let t : (length x.ends + 1 + k) % 128 < 128 = mod-lt (length x.ends + 1 + k) (omega arith) in omega arith)) ∙ old (ℕ_discrete k 127))
+        later_cells : (z k : ℕ) → 0 < k → k < CELLS → slice_index (set words i z) (cell_at (cell_of (length (x.ends ++ e ∷ []) + k))) ≡ WITHDRAWN * x.marks (length (x.ends ++ e ∷ []) + k)
+        later_cells z k a b = subst (λ q. slice_index (set words i z) (cell_at (cell_of q)) ≡ WITHDRAWN * x.marks q) (sym (ap (λ q. q + k) longer))
+            (get_or-set_other words i (cell_at (cell_of (length x.ends + 1 + k))) z 0 (λ q. cells_apart (length x.ends + 1) k a b (let s = small in let t : cell_of (length x.ends + 1 + k) < CELLS = mod-lt (length x.ends + 1 + k) (omega arith) in omega arith)) ∙ old (ℕ_discrete (k + 1) CELLS))
           where
-            old : Dec (k ≡ 127) → slice_index words (cell_at ((length x.ends + 1 + k) % 128)) ≡ 256 * x.marks (length x.ends + 1 + k)
-            old (yes last) = let n : length x.ends + 1 + k ≡ length x.ends + 128 = omega arith in let w : (length x.ends + 1 + k) % 128 ≡ length x.ends % 128 = omega arith in
+            old : Dec (k + 1 ≡ CELLS) → slice_index words (cell_at (cell_of (length x.ends + 1 + k))) ≡ WITHDRAWN * x.marks (length x.ends + 1 + k)
+            old (yes last) = let n : length x.ends + 1 + k ≡ length x.ends + CELLS = omega arith in let w : cell_of (length x.ends + 1 + k) ≡ cell_of (length x.ends) = omega arith in
                 let m : x.marks (length x.ends + 1 + k) ≡ 0 = ap x.marks n ∙ far in
-                ap (λ q. slice_index words (cell_at q)) w ∙ h.cleared was_cleared ∙ (let z : 0 ≡ 256 * x.marks (length x.ends + 1 + k) = omega arith in z)
+                ap (λ q. slice_index words (cell_at q)) w ∙ h.cleared was_cleared ∙ (let z : 0 ≡ WITHDRAWN * x.marks (length x.ends + 1 + k) = omega arith in z)
             old (no ne) = let n : length x.ends + (k + 1) ≡ length x.ends + 1 + k = omega arith in
-                subst (λ q. slice_index words (cell_at (q % 128)) ≡ 256 * x.marks q) n (h.later (k + 1) (omega arith) (omega arith))
+                subst (λ q. slice_index words (cell_at (cell_of q)) ≡ WITHDRAWN * x.marks q) n (h.later (k + 1) (omega arith) (omega arith))
 
         walk_shown : (z : ℕ) → Shown good allows about (walk_past x) (set words i z) homes
         walk_shown z = record {
@@ -162,8 +163,8 @@ module _ (good : List ℕ → Type 0) (allows : List ℕ → List ℕ → Type 0
           deep = length-set homes 0 (some y) ∙ h.deep;
           ticket = get_or-set_other words i ticket_at new 0 (λ q. omega arith) ∙ h.ticket;
           cleared = λ q. absurd (cc q);
-          granted = λ _. ap (λ k. get_or (set words i new) k 0) (ap (λ k. cell_at (k % 128)) longer ∙ sym is) ∙ get_or-set_same words i new 0 (let w = h.wide in let b = small in omega arith)
-              ∙ ap (λ k. (k + 1) % 2 ^ 64) (found ∙ ap (λ k. 256 * k) free);
+          granted = λ _. ap (λ k. get_or (set words i new) k 0) (ap (λ k. cell_at (cell_of k)) longer ∙ sym is) ∙ get_or-set_same words i new 0 (let w = h.wide in let b = small in omega arith)
+              ∙ ap (λ k. (k + 1) % 2 ^ 64) (found ∙ ap (λ k. WITHDRAWN * k) free);
           later = λ k a b. later_cells new k a b;
           flags = λ n a b. get_or-set_other words i (node_at n) new 0 (λ q. omega arith) ∙ h.flags n a b;
           home = λ _. (y, set_here homes 0 (some y) (let d = h.deep in omega arith), bytes, shut);
@@ -341,7 +342,7 @@ module _ (good : List ℕ → Type 0) (allows : List ℕ → List ℕ → Type 0
   own_turn_of x ok empty = ⊎_elim (λ z. subst (λ q. At x.order q (own v.view)) (z.0 ∙ ap length (sym (ok.holds (ap has_line cleared)).0)) (placed_at about x v.view.node v ok (ok.asked not_idle)))
       (λ z. absurd (z.2 empty)) (ok.walking (ap lets_go cleared) (ap has_line cleared))
 
-  module _ (s : St) (r : Rule s) (me i : ℕ) (at : get_elem? s.views me ≡ some (v ∷ [])) (word : i ≡ cell_at ((length v.view.ends + 1) % 128)) where
+  module _ (s : St) (r : Rule s) (me i : ℕ) (at : get_elem? s.views me ≡ some (v ∷ [])) (word : i ≡ cell_at (cell_of (length v.view.ends + 1))) where
     ok : NodeOk about r.past v.view.node v
     ok = mine_ok good allows about s r me v at
 
@@ -351,10 +352,10 @@ module _ (good : List ℕ → Type 0) (allows : List ℕ → List ℕ → Type 0
     same_ends : v.view.ends ≡ r.past.ends
     same_ends = ends r.past r.fine ok
 
-    cell_is : i ≡ cell_at ((length r.past.ends + 1) % 128)
-    cell_is = word ∙ ap (λ es. cell_at ((length es + 1) % 128)) same_ends
+    cell_is : i ≡ cell_at (cell_of (length r.past.ends + 1))
+    cell_is = word ∙ ap (λ es. cell_at (cell_of (length es + 1))) same_ends
 
-    seen : slice_index s.words i ≡ 256 * r.past.marks (length (r.past.ends ++ e ∷ []))
+    seen : slice_index s.words i ≡ WITHDRAWN * r.past.marks (length (r.past.ends ++ e ∷ []))
     seen = found r.past r.fine ok above s.words s.homes i cell_is (blank good allows about s r) r.shown
 
     homes_rule : r.past.marks (length (r.past.ends ++ e ∷ [])) ≡ 0 → Rule record { words = set s.words i ((slice_index s.words i + 1) % 2 ^ 64); homes = set s.homes 0 (some y); views = set s.views me (home_entry r.past ∷ []) }
@@ -373,11 +374,11 @@ module _ (good : List ℕ → Type 0) (allows : List ℕ → List ℕ → Type 0
       passed = refl;
       request = k.0;
       at = k.1;
-      node = k.2 ∙ (let w = seen in let d : r.past.marks (length (r.past.ends ++ e ∷ [])) ≡ slice_index s.words i / 256 = omega arith in d);
+      node = k.2 ∙ (let w = seen in let d : r.past.marks (length (r.past.ends ++ e ∷ [])) ≡ withdrawn_by (slice_index s.words i) = omega arith in d);
       high = subst (λ q. k.0.node ≤ q) (sym ok.nodes) (r.fine.nodes (length (r.past.ends ++ e ∷ [])) k.0 k.1).1;
       few = subst (λ q. length (v.passed ++ length (r.past.ends ++ e ∷ []) ∷ []) + 1 ≤ q) (sym ok.nodes)
           (few_passed good allows about (record { words = set s.words i 0; homes = s.homes; views = set s.views me (walk_entry r.past ∷ []) }) (walks_rule rolled 0) me (walk_entry r.past) (set_here s.views me (walk_entry r.past ∷ []) (elem_within s.views me (v ∷ []) at)) refl);
-      nodes = subst (λ q. q ≤ 32) (sym ok.nodes) r.few;
+      nodes = subst (λ q. q ≤ MOST_NODES) (sym ok.nodes) r.few;
     }
 
     ended_home : Ended v (home_entry r.past) y
@@ -386,7 +387,7 @@ module _ (good : List ℕ → Type 0) (allows : List ℕ → List ℕ → Type 0
     ended_walk : Ended v (walk_entry r.past) y
     ended_walk = record { known = (ended_fine r.past r.fine ok above r.past.passer).legal.ended; ends = ap (λ l. l ++ e ∷ []) (sym same_ends); state = refl; count = refl; own_turn = own_turn_of r.past ok }
 
-  pub grants_next : (me slots i : ℕ) (m : Contents) → m ≡ (v ∷ [], (0, y) ∷ []) → i ≡ cell_at ((length v.view.ends + 1) % 128) → Allows Rule slots me m i (λ n. (n + 1) % 2 ^ 64) (granted allows (step slots i 1 0 none) m)
+  pub grants_next : (me slots i : ℕ) (m : Contents) → m ≡ (v ∷ [], (0, y) ∷ []) → i ≡ cell_at (cell_of (length v.view.ends + 1)) → Allows Rule slots me m i (λ n. (n + 1) % 2 ^ 64) (granted allows (step slots i 1 0 none) m)
   grants_next me slots i m is word = subst (λ (z : Contents). Allows Rule slots me z i (λ n. (n + 1) % 2 ^ 64) (granted allows (step slots i 1 0 none) z)) (sym is) (λ s r deep at small.
       let w = seen s r me i at word in
       dite (ℕ_discrete (r.past.marks (length (r.past.ends ++ e ∷ []))) 0)

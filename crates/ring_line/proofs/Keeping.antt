@@ -9,6 +9,7 @@ use Rattle.std.proofs.lemmas.Option.{slice_get_within}
 use Rattle.atomic_table.specs.Table.{State}
 use Rattle.qolb_model.specs.declared.request.Request.{Request}
 use Rattle.qolb_model.specs.Requests.{count_of}
+use Rattle.ring_line.specs.declared.words.TheConstants.{CELLS}
 use Rattle.ring_line.specs.declared.entry.Entry.{Entry}
 use Rattle.ring_line.specs.declared.rule.Setup.{Setup}
 use Rattle.ring_line.specs.declared.rule.Parcel.{Parcel}
@@ -65,6 +66,6 @@ module _ (good : List ℕ → Type 0) (allows : List ℕ → List ℕ → Type 0
       once k a b = count_once k (drop (length r.past.ends) r.past.order) (λ i j q t at at' mine mine'. let ok = r.each k a b in let l = place k ok i q at mine in let m = place k ok j t at' mine' in omega arith)
 
   -- far ahead nothing is marked
-  pub blank : (s : St) (r : Rule s) → r.past.marks (length r.past.ends + 128) ≡ 0
-  blank s r = dite (ℕ_discrete (r.past.marks (length r.past.ends + 128)) 0) (λ z. z)
-      (λ ne. let k = r.fine.marked (length r.past.ends + 128) (omega arith) in let h = slice_get_within r.past.order (length r.past.ends + 128) k.0 k.1 in let w = window s r in let f = r.few in absurd (omega arith))
+  pub blank : (s : St) (r : Rule s) → r.past.marks (length r.past.ends + CELLS) ≡ 0
+  blank s r = dite (ℕ_discrete (r.past.marks (length r.past.ends + CELLS)) 0) (λ z. z)
+      (λ ne. let k = r.fine.marked (length r.past.ends + CELLS) (omega arith) in let h = slice_get_within r.past.order (length r.past.ends + CELLS) k.0 k.1 in let w = window s r in let f = r.few in absurd (omega arith))

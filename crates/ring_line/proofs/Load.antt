@@ -11,7 +11,7 @@ use Rattle.qolb_model.specs.Sound.{Continues}
 use Rattle.ring_line.specs.declared.entry.Point.TheVariants.{Queued}
 use Rattle.ring_line.specs.declared.entry.Entry.{Entry}
 use Rattle.ring_line.specs.declared.rule.Setup.{Setup}
-use Rattle.ring_line.specs.Words.{cell_at}
+use Rattle.ring_line.specs.Words.{cell_at, cell_of}
 use Rattle.ring_line.specs.Ring.{NodeOk, RingRule, is_kept}
 use Rattle.ring_line.specs.Steps.{sole, Contents, IsEarly, Comes, loaded}
 use Rattle.ring_line.proofs.Nodes.{fresh, fresh_ok}
@@ -23,7 +23,7 @@ module _ (good : List ℕ → Type 0) (allows : List ℕ → List ℕ → Type 0
   abbrev Rule : St → Type 0
   Rule = RingRule good allows about
 
-  module _ (s : St) (r : Rule s) (me i : ℕ) (at : get_elem? s.views me ≡ some (v ∷ [])) (word : i ≡ cell_at (v.place % 128)) where
+  module _ (s : St) (r : Rule s) (me i : ℕ) (at : get_elem? s.views me ≡ some (v ∷ [])) (word : i ≡ cell_at (cell_of v.place)) where
     ok : NodeOk about r.past v.view.node v
     ok = mine_ok good allows about s r me v at
 
@@ -51,7 +51,7 @@ module _ (good : List ℕ → Type 0) (allows : List ℕ → List ℕ → Type 0
       early = let w = ok.queued queued in omega arith;
     }
 
-  pub loads_next : (me slots i : ℕ) (m : Contents) → m.0 ≡ v ∷ [] → i ≡ cell_at (v.place % 128) → Allows Rule slots me m i (λ n. n) (loaded allows (step slots i 0 0 none) m)
+  pub loads_next : (me slots i : ℕ) (m : Contents) → m.0 ≡ v ∷ [] → i ≡ cell_at (cell_of v.place) → Allows Rule slots me m i (λ n. n) (loaded allows (step slots i 0 0 none) m)
   loads_next me slots i m is word s r deep at small = let at' : get_elem? s.views me ≡ some (v ∷ []) = at ∙ ap some is in dite (ℕ_discrete v.place (length r.past.ends))
       (λ here. let y = home good allows about v queued s r me i at' word here in (
         take_entry good allows about v queued r.past ∷ [],

@@ -16,6 +16,7 @@ use Rattle.qolb_model.specs.LettingGo.{LetsGo}
 use Rattle.qolb_model.proofs.Lists.{element_at, same_some}
 use Rattle.qolb_model.proofs.Prefixes.{prefix_get}
 use Rattle.qolb_model.proofs.Histories.{bytes_after-append, is_closed-append}
+use Rattle.ring_line.specs.Words.{cell_of}
 use Rattle.ring_line.specs.declared.entry.Point.TheVariants.{Cleared}
 use Rattle.ring_line.specs.declared.entry.Entry.{Entry}
 use Rattle.ring_line.specs.declared.rule.Parcel.{Parcel}
@@ -98,7 +99,7 @@ told_by v w t y c closed more l =
 merged_fresh : (base : List ℕ) (z : Parcel) → length z.bytes.bytes ≡ 64 → z.mask.0 ≡ 0 → z.bytes.bytes ≡ base → written base (write_of z) ≡ z.bytes.bytes
 merged_fresh base z line mask is = ap (λ m. merged base z.bytes.bytes m) mask ∙ merged-none base z.bytes.bytes (ap length (sym is) ∙ line) ∙ sym is
 
-pub arrives : (v : Entry) (s t : RingSeat) (y z : Parcel) (cell : ℕ) → Comes v (entry_of s) y → s.me.1 ≡ (0, y) ∷ [] → t.me ≡ s.me → z.bytes ≡ y.bytes → z.closed ≡ y.closed → z.mask.0 ≡ 0 → z.closed ≡ false → cell ≡ (entry_of s).place % 128
+pub arrives : (v : Entry) (s t : RingSeat) (y z : Parcel) (cell : ℕ) → Comes v (entry_of s) y → s.me.1 ≡ (0, y) ∷ [] → t.me ≡ s.me → z.bytes ≡ y.bytes → z.closed ≡ y.closed → z.mask.0 ≡ 0 → z.closed ≡ false → cell ≡ cell_of (entry_of s).place
     → Holds t z cell × ((entry_of t).view.state ≡ shows.Holding) × IsGranted (entry_of t).view (write_of z)
 arrives v s t y z cell c slot same bytes closed mask unclosed at =
     let entry : entry_of s ≡ entry_of t = ap (λ m. sole m.0) (sym same) in
@@ -110,7 +111,7 @@ arrives v s t y z cell c slot same bytes closed mask unclosed at =
         none_passed = here.passed;
         slot = y;
         carried = ap (λ m. m.1) same ∙ slot;
-        cell_is = at ∙ (ap (λ (e : Entry). e.place % 128) entry ∙ ap (λ k. k % 128) here.here);
+        cell_is = at ∙ (ap (λ (e : Entry). cell_of e.place) entry ∙ ap cell_of here.here);
         merged = merged_fresh (bytes_of (entry_of t).view) z (ap (λ l. length l.bytes) bytes ∙ here.line) mask base;
         is_open = unshut;
         unclosed = unclosed;

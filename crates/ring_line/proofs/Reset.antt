@@ -11,10 +11,11 @@ use Rattle.qolb_model.specs.Views.{own}
 use Rattle.qolb_model.specs.Sound.{Continues}
 use Rattle.qolb_model.proofs.Requests.{same_place}
 use Rattle.qolb_model.proofs.Lists.{never}
+use Rattle.ring_line.specs.declared.words.TheConstants.{MOST_NODES}
 use Rattle.ring_line.specs.declared.entry.Point.TheVariants.{Idle, Rolled}
 use Rattle.ring_line.specs.declared.entry.Entry.{Entry}
 use Rattle.ring_line.specs.declared.rule.Setup.{Setup}
-use Rattle.ring_line.specs.Words.{ticket_at, cell_at, node_at}
+use Rattle.ring_line.specs.Words.{ticket_at, cell_at, node_at, cell_of}
 use Rattle.ring_line.specs.Ring.{At, Past, NodeOk, PastOk, Shown, RingRule, has_line, lets_go}
 use Rattle.ring_line.specs.Steps.{sole, Contents, IsStill, loaded_node, reset}
 use Rattle.ring_line.proofs.Lists.{at_same, cleared_ended, has_prefix}
@@ -134,14 +135,14 @@ module _ (good : List ℕ → Type 0) (allows : List ℕ → List ℕ → Type 0
         ended c = let o = cleared_ended x.order (length x.ends) x.clear f.cleared (own v.view) (has_prefix v.view.clear x.clear (own v.view) ok.clears clear) in
             subst (λ q. q < length x.ends) (same_place x.order f.legal.numbered o.0 v.place (own v.view) o.2 (placed_at about x v.view.node v ok c)) o.1
 
-    reset_shown : (x : Past) (words : List ℕ) (homes : Homes) (i : ℕ) → i ≡ node_at v.view.node → 0 < v.view.node → v.view.node ≤ 32 → Shown good allows about x words homes → Shown good allows about (reset_past x) (set words i 0) homes
+    reset_shown : (x : Past) (words : List ℕ) (homes : Homes) (i : ℕ) → i ≡ node_at v.view.node → 0 < v.view.node → v.view.node ≤ MOST_NODES → Shown good allows about x words homes → Shown good allows about (reset_past x) (set words i 0) homes
     reset_shown x words homes i is low high h = record {
       wide = length-set words i 0 ∙ h.wide;
       deep = h.deep;
       ticket = get_or-set_other words i ticket_at 0 0 (λ e. omega arith) ∙ h.ticket;
-      cleared = λ e. get_or-set_other words i (cell_at (length x.ends % 128)) 0 0 (λ q. omega arith) ∙ h.cleared e;
-      granted = λ e. get_or-set_other words i (cell_at (length x.ends % 128)) 0 0 (λ q. omega arith) ∙ h.granted e;
-      later = λ k a b. get_or-set_other words i (cell_at ((length x.ends + k) % 128)) 0 0 (λ q. omega arith) ∙ h.later k a b;
+      cleared = λ e. get_or-set_other words i (cell_at (cell_of (length x.ends))) 0 0 (λ q. omega arith) ∙ h.cleared e;
+      granted = λ e. get_or-set_other words i (cell_at (cell_of (length x.ends))) 0 0 (λ q. omega arith) ∙ h.granted e;
+      later = λ k a b. get_or-set_other words i (cell_at (cell_of (length x.ends + k))) 0 0 (λ q. omega arith) ∙ h.later k a b;
       flags = λ n a b. dite (ℕ_discrete n v.view.node)
           (λ e. ap (λ k. get_or (set words i 0) k 0) (ap node_at e ∙ sym is) ∙ get_or-set_same words i 0 0 (let w = h.wide in omega arith) ∙ sym (ap (put x.flags v.view.node 0) e ∙ put_here x.flags v.view.node 0))
           (λ ne. get_or-set_other words i (node_at n) 0 0 (λ q. ne (omega arith)) ∙ h.flags n a b ∙ sym (put_else x.flags v.view.node 0 n ne));

@@ -13,10 +13,11 @@ use Rattle.qolb_model.specs.Views.{own}
 use Rattle.qolb_model.specs.Sound.{Continues}
 use Rattle.qolb_model.proofs.Prefixes.{prefix_self}
 use Rattle.qolb_model.proofs.Requests.{has_left, has_last, has_push}
+use Rattle.ring_line.specs.declared.words.TheConstants.{CELLS, WITHDRAWN, MOST_NODES}
 use Rattle.ring_line.specs.declared.entry.Point.TheVariants.{Queued, Rolled}
 use Rattle.ring_line.specs.declared.entry.Entry.{Entry}
 use Rattle.ring_line.specs.declared.rule.Setup.{Setup}
-use Rattle.ring_line.specs.Words.{ticket_at, cell_at, node_at}
+use Rattle.ring_line.specs.Words.{ticket_at, cell_at, node_at, cell_of}
 use Rattle.ring_line.specs.Ring.{At, Past, NodeOk, PastOk, Shown, RingRule, has_line, lets_go, is_kept}
 use Rattle.ring_line.specs.Steps.{sole, Contents, IsRolled, Comes, rolled}
 use Rattle.ring_line.proofs.Lists.{at_same, has_prefix}
@@ -106,28 +107,28 @@ module _ (good : List ℕ → Type 0) (allows : List ℕ → List ℕ → Type 0
           ((λ z. subst (λ q. 0 < q) (sym s) (g.0 z)), (λ z. g.1 (subst (λ q. 0 < q) s z)));
     }
 
-    roll_shown : (words : List ℕ) (homes : Homes) (i d : ℕ) → i ≡ cell_at (v.place % 128) → v.place < length x.ends + 128 → d ≡ 256 * v.view.node → v.view.node ≤ 32 → slice_index words i ≡ 0 → Shown good allows about x words homes
+    roll_shown : (words : List ℕ) (homes : Homes) (i d : ℕ) → i ≡ cell_at (cell_of v.place) → v.place < length x.ends + CELLS → d ≡ WITHDRAWN * v.view.node → v.view.node ≤ MOST_NODES → slice_index words i ≡ 0 → Shown good allows about x words homes
         → Shown good allows about (roll_past x) (set words i ((slice_index words i + d) % 2 ^ 64)) homes
-    roll_shown words homes i d is close add high blank h = let new : ℕ = (slice_index words i + d) % 2 ^ 64 in let small : v.place % 128 < 128 = mod-lt v.place (omega arith) in record {
+    roll_shown words homes i d is close add high blank h = let new : ℕ = (slice_index words i + d) % 2 ^ 64 in let small : cell_of v.place < CELLS = mod-lt v.place (omega arith) in record {
       wide = length-set words i new ∙ h.wide;
       deep = h.deep;
       ticket = get_or-set_other words i ticket_at new 0 (λ q. omega arith) ∙ h.ticket;
-      cleared = λ e. get_or-set_other words i (cell_at (length x.ends % 128)) new 0 (λ q. apart (length x.ends) (omega arith) (omega arith) (λ z. omega arith) (omega arith)) ∙ h.cleared e;
-      granted = λ e. get_or-set_other words i (cell_at (length x.ends % 128)) new 0 (λ q. apart (length x.ends) (omega arith) (omega arith) (λ z. omega arith) (omega arith)) ∙ h.granted e;
+      cleared = λ e. get_or-set_other words i (cell_at (cell_of (length x.ends))) new 0 (λ q. apart (length x.ends) (omega arith) (omega arith) (λ z. omega arith) (omega arith)) ∙ h.cleared e;
+      granted = λ e. get_or-set_other words i (cell_at (cell_of (length x.ends))) new 0 (λ q. apart (length x.ends) (omega arith) (omega arith) (λ z. omega arith) (omega arith)) ∙ h.granted e;
       later = λ k a b. dite (ℕ_discrete (length x.ends + k) v.place)
-          (λ e. ap (λ q. get_or (set words i new) q 0) (ap (λ q. cell_at (q % 128)) e ∙ sym is) ∙ get_or-set_same words i new 0 (let w = h.wide in omega arith) ∙ sum ∙ ap (λ q. 256 * q) (sym here ∙ ap (put x.marks v.place v.view.node) (sym e)))
-          (λ ne. get_or-set_other words i (cell_at ((length x.ends + k) % 128)) new 0 (λ q. apart (length x.ends + k) (omega arith) (omega arith) ne (omega arith)) ∙ h.later k a b ∙ ap (λ q. 256 * q) (sym (elsewhere (length x.ends + k) ne)));
+          (λ e. ap (λ q. get_or (set words i new) q 0) (ap (λ q. cell_at (cell_of q)) e ∙ sym is) ∙ get_or-set_same words i new 0 (let w = h.wide in omega arith) ∙ sum ∙ ap (λ q. WITHDRAWN * q) (sym here ∙ ap (put x.marks v.place v.view.node) (sym e)))
+          (λ ne. get_or-set_other words i (cell_at (cell_of (length x.ends + k))) new 0 (λ q. apart (length x.ends + k) (omega arith) (omega arith) ne (omega arith)) ∙ h.later k a b ∙ ap (λ q. WITHDRAWN * q) (sym (elsewhere (length x.ends + k) ne)));
       flags = λ n a b. get_or-set_other words i (node_at n) new 0 (λ q. omega arith) ∙ h.flags n a b;
       home = h.home;
     }
       where
-        apart : (p : ℕ) → length x.ends ≤ p → p < length x.ends + 128 → p ≢ v.place → p % 128 ≢ v.place % 128
-        apart p a b ne e = dite (dec_le p v.place) (λ l. ne (one_turn p v.place 128 l (omega arith) e)) (λ g. ne (sym (one_turn v.place p 128 (omega arith) (omega arith) (sym e))))
+        apart : (p : ℕ) → length x.ends ≤ p → p < length x.ends + CELLS → p ≢ v.place → cell_of p ≢ cell_of v.place
+        apart p a b ne e = dite (dec_le p v.place) (λ l. ne (one_turn p v.place CELLS l (omega arith) e)) (λ g. ne (sym (one_turn v.place p CELLS (omega arith) (omega arith) (sym e))))
 
-        sum : (slice_index words i + d) % 2 ^ 64 ≡ 256 * v.view.node
+        sum : (slice_index words i + d) % 2 ^ 64 ≡ WITHDRAWN * v.view.node
         sum = omega arith
 
-  module _ (s : St) (r : Rule s) (me i d : ℕ) (at : get_elem? s.views me ≡ some (v ∷ [])) (word : i ≡ cell_at (v.place % 128)) (add : d ≡ 256 * v.view.node) (later : v.place ≢ length r.past.ends) where
+  module _ (s : St) (r : Rule s) (me i d : ℕ) (at : get_elem? s.views me ≡ some (v ∷ [])) (word : i ≡ cell_at (cell_of v.place)) (add : d ≡ WITHDRAWN * v.view.node) (later : v.place ≢ length r.past.ends) where
     ok : NodeOk about r.past v.view.node v
     ok = mine_ok good allows about s r me v at
 
@@ -161,7 +162,7 @@ module _ (good : List ℕ → Type 0) (allows : List ℕ → List ℕ → Type 0
       marked = has_last v.view.marked (own v.view);
     }
 
-  pub rolls_next : (me slots i d : ℕ) (m : Contents) → m.0 ≡ v ∷ [] → i ≡ cell_at (v.place % 128) → d ≡ 256 * v.view.node → Allows Rule slots me m i (λ n. (n + d) % 2 ^ 64) (rolled allows (step slots i d 0 none) m)
+  pub rolls_next : (me slots i d : ℕ) (m : Contents) → m.0 ≡ v ∷ [] → i ≡ cell_at (cell_of v.place) → d ≡ WITHDRAWN * v.view.node → Allows Rule slots me m i (λ n. (n + d) % 2 ^ 64) (rolled allows (step slots i d 0 none) m)
   rolls_next me slots i d m is word add s r deep at small = let at' : get_elem? s.views me ≡ some (v ∷ []) = at ∙ ap some is in dite (ℕ_discrete v.place (length r.past.ends))
       (λ here. let y = home good allows about v queued s r me i at' word here in (
         take_entry good allows about v queued r.past ∷ [],

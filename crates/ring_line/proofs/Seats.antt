@@ -7,10 +7,11 @@ use Rattle.atomic_table.specs.Table.{Splits, Joins, opening}
 use Rattle.atomic_table.proofs.Lists.{at_set, set_again}
 use Rattle.qolb_model.specs.Histories.{none}
 use Rattle.qolb_model.proofs.Lists.{same_some}
+use Rattle.ring_line.specs.declared.words.TheConstants.{CELLS, MOST_NODES}
 use Rattle.ring_line.specs.declared.entry.Entry.{Entry}
 use Rattle.ring_line.specs.declared.rule.Setup.{Setup}
 use Rattle.ring_line.specs.declared.rule.Parcel.{Parcel}
-use Rattle.ring_line.specs.Words.{word_count, ticket_at, cell_at, node_at}
+use Rattle.ring_line.specs.Words.{word_count, ticket_at, cell_at, node_at, cell_of}
 use Rattle.ring_line.specs.Ring.{At, newcomer, newcomers_from, newcomers, Member, RingRule}
 use Rattle.ring_line.specs.Steps.{front, behind}
 use Rattle.ring_line.proofs.Lists.{at_none, at_either}
@@ -161,7 +162,7 @@ module _ (good : List ℕ → Type 0) (allows : List ℕ → List ℕ → Type 0
           (at_set s.views me j (vs ++ ws) us t.1))
           (at_set (set s.views me (vs ++ ws)) other j [] us a)
 
-  pub starts : (words : List ℕ) (y : Parcel) → about.nodes ≤ 32 → length about.opening.bytes ≡ 64 → good about.opening.bytes → length words ≡ word_count → slice_index words (cell_at 0) ≡ 1
+  pub starts : (words : List ℕ) (y : Parcel) → about.nodes ≤ MOST_NODES → length about.opening.bytes ≡ 64 → good about.opening.bytes → length words ≡ word_count → slice_index words (cell_at 0) ≡ 1
       → ((c : ℕ) → c < word_count → c ≢ cell_at 0 → slice_index words c ≡ 0) → y.bytes.bytes ≡ about.opening.bytes → y.closed ≡ false → Rule (opening words (y ∷ []) (newcomers about))
   starts words y few line fine wide first cleared same unclosed = record {
     past = record { order = []; ends = []; clear = []; hand = 0; cleared = false; marks = λ _. 0; passer = λ _. 0; flags = λ _. 0 };
@@ -220,8 +221,8 @@ module _ (good : List ℕ → Type 0) (allows : List ℕ → List ℕ → Type 0
     members = all;
   }
     where
-      later_blank : (k : ℕ) → 0 < k → k < 128 → slice_index words (cell_at ((0 + k) % 128)) ≡ 0
-      later_blank k a b = let same : (0 + k) % 128 ≡ k = omega arith in cleared (cell_at ((0 + k) % 128)) (omega arith) (λ e. omega arith)
+      later_blank : (k : ℕ) → 0 < k → k < CELLS → slice_index words (cell_at (cell_of (0 + k))) ≡ 0
+      later_blank k a b = let same : cell_of (0 + k) ≡ k = omega arith in cleared (cell_at (cell_of (0 + k))) (omega arith) (λ e. omega arith)
 
       one : (i : ℕ) (v : Entry) → At (newcomers about) i v → Member about.nodes (newcomer about) (λ n. (0, n - 1)) 0 i v
       one i v e = let h = newcomer_at about 0 about.nodes i v e in let l = h.1 in subst (λ (u : Entry). Member about.nodes (newcomer about) (λ n. (0, n - 1)) 0 i u) (sym h.0)

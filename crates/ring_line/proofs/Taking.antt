@@ -14,12 +14,13 @@ use Rattle.qolb_model.specs.Views.{own}
 use Rattle.qolb_model.specs.Sound.{Continues}
 use Rattle.qolb_model.proofs.Prefixes.{prefix_self}
 use Rattle.qolb_model.proofs.Agreed.{length-bytes_after}
+use Rattle.ring_line.specs.declared.words.TheConstants.{CELLS, WITHDRAWN}
 use Rattle.ring_line.specs.declared.entry.Point.{Point}
 use Rattle.ring_line.specs.declared.entry.Point.TheVariants.{Idle, Queued, Holding, Passing, Cleared, Freeing, Rolled}
 use Rattle.ring_line.specs.declared.entry.Entry.{Entry}
 use Rattle.ring_line.specs.declared.rule.Setup.{Setup}
 use Rattle.ring_line.specs.declared.rule.Parcel.{Parcel}
-use Rattle.ring_line.specs.Words.{ticket_at, cell_at, node_at}
+use Rattle.ring_line.specs.Words.{ticket_at, cell_at, node_at, cell_of}
 use Rattle.ring_line.specs.Ring.{At, Past, NodeOk, PastOk, Shown, RingRule, has_line, lets_go, is_kept}
 use Rattle.ring_line.specs.Steps.{Comes}
 use Rattle.ring_line.proofs.Lists.{at_same, has_prefix}
@@ -28,8 +29,8 @@ use Rattle.ring_line.proofs.Histories.{not_withdrawn, continues}
 use Rattle.ring_line.proofs.Keeping.{St, rule_step, mine_ok, mine_low, window}
 
 -- the cells behind one are others
-pub cells_apart : (m k : ℕ) → 0 < k → k < 128 → (m + k) % 128 ≢ m % 128
-cells_apart m k a b e = let f = one_turn m (m + k) 128 (omega arith) (omega arith) (sym e) in omega arith
+pub cells_apart : (m k : ℕ) → 0 < k → k < CELLS → cell_of (m + k) ≢ cell_of m
+cells_apart m k a b e = let f = one_turn m (m + k) CELLS (omega arith) (omega arith) (sym e) in omega arith
 
 -- a node that has the line is at the turn of its own request, or of a withdrawn one
 pub at_turn : (about : Setup) (x : Past) (n : ℕ) (v : Entry) → NodeOk about x n v → has_line v.point ≡ true → (v.place ≡ length x.ends) ⊎ (0 < x.marks (length x.ends))
@@ -116,19 +117,19 @@ module _ (good : List ℕ → Type 0) (allows : List ℕ → List ℕ → Type 0
       go u k true e = ⊎_elim (λ z. other u k e z) (λ z. let m : x.marks (length x.ends) ≡ 0 = ap x.marks (sym here) ∙ ok.unmarked (ap is_kept queued) in omega arith) (at_turn about x x.hand u k e)
 
   -- the state s, whose seat `me` has the entry v alone, at the word i of its cell
-  module _ (s : St) (r : Rule s) (me i : ℕ) (at : get_elem? s.views me ≡ some (v ∷ [])) (word : i ≡ cell_at (v.place % 128)) where
+  module _ (s : St) (r : Rule s) (me i : ℕ) (at : get_elem? s.views me ≡ some (v ∷ [])) (word : i ≡ cell_at (cell_of v.place)) where
     ok : NodeOk about r.past v.view.node v
     ok = mine_ok good allows about s r me v at
 
-    pub near : v.place < length r.past.ends + 128
+    pub near : v.place < length r.past.ends + CELLS
     near = let few = r.few in let high = slice_get_within r.past.order v.place (own v.view) (asked_at r.past ok) in let all = window good allows about s r in omega arith
 
     -- where the request is not at its turn, its cell is blank
     pub finds_blank : v.place ≢ length r.past.ends → slice_index s.words i ≡ 0
     finds_blank later = let l = ok.queued queued in let b = near in
         let k : length r.past.ends + (v.place - length r.past.ends) ≡ v.place = omega arith in
-        let m : 256 * r.past.marks v.place ≡ 0 = ap (λ q. 256 * q) (ok.unmarked (ap is_kept queued)) in
-        ap (slice_index s.words) (word ∙ ap (λ q. cell_at (q % 128)) (sym k)) ∙ r.shown.later (v.place - length r.past.ends) (omega arith) (omega arith) ∙ ap (λ q. 256 * r.past.marks q) k ∙ m
+        let m : WITHDRAWN * r.past.marks v.place ≡ 0 = ap (λ q. WITHDRAWN * q) (ok.unmarked (ap is_kept queued)) in
+        ap (slice_index s.words) (word ∙ ap (λ q. cell_at (cell_of q)) (sym k)) ∙ r.shown.later (v.place - length r.past.ends) (omega arith) (omega arith) ∙ ap (λ q. WITHDRAWN * r.past.marks q) k ∙ m
 
     module _ (here : v.place ≡ length r.past.ends) where
       hand : r.past.hand ≡ 0
@@ -137,11 +138,11 @@ module _ (good : List ℕ → Type 0) (allows : List ℕ → List ℕ → Type 0
       pub home : (y : Parcel) × (get_elem? s.homes 0 ≡ some (some y)) × (y.bytes.bytes ≡ bytes_after about.opening.bytes r.past.ends) × (y.closed ≡ is_closed r.past.ends)
       home = r.shown.home hand
 
-      cell_is : i ≡ cell_at (length r.past.ends % 128)
-      cell_is = word ∙ ap (λ k. cell_at (k % 128)) here
+      cell_is : i ≡ cell_at (cell_of (length r.past.ends))
+      cell_is = word ∙ ap (λ k. cell_at (cell_of k)) here
 
       pub finds_grant : slice_index s.words i ≢ 0
-      finds_grant z = let b = r.shown.granted hand in let c : slice_index s.words i ≡ slice_index s.words (cell_at (length r.past.ends % 128)) = ap (slice_index s.words) cell_is in omega arith
+      finds_grant z = let b = r.shown.granted hand in let c : slice_index s.words i ≡ slice_index s.words (cell_at (cell_of (length r.past.ends))) = ap (slice_index s.words) cell_is in omega arith
 
       take_fine : PastOk good allows about (take_past r.past)
       take_fine = record {
@@ -158,13 +159,13 @@ module _ (good : List ℕ → Type 0) (allows : List ℕ → List ℕ → Type 0
       }
 
       take_shown : (z : ℕ) → Shown good allows about (take_past r.past) (set s.words i z) (set s.homes 0 none)
-      take_shown z = let at_cell = cell_is in let small : length r.past.ends % 128 < 128 = mod-lt (length r.past.ends) (omega arith) in record {
+      take_shown z = let at_cell = cell_is in let small : cell_of (length r.past.ends) < CELLS = mod-lt (length r.past.ends) (omega arith) in record {
         wide = length-set s.words i z ∙ r.shown.wide;
         deep = length-set s.homes 0 none ∙ r.shown.deep;
         ticket = get_or-set_other s.words i ticket_at z 0 (λ e. omega arith) ∙ r.shown.ticket;
         cleared = λ e. cc;
         granted = λ e. let l = (mine_low good allows about s r me v at).0 in absurd (omega arith);
-        later = λ k a b. get_or-set_other s.words i (cell_at ((length r.past.ends + k) % 128)) z 0 (λ e. cells_apart (length r.past.ends) k a b (omega arith)) ∙ r.shown.later k a b;
+        later = λ k a b. get_or-set_other s.words i (cell_at (cell_of (length r.past.ends + k))) z 0 (λ e. cells_apart (length r.past.ends) k a b (omega arith)) ∙ r.shown.later k a b;
         flags = λ n a b. get_or-set_other s.words i (node_at n) z 0 (λ e. omega arith) ∙ r.shown.flags n a b;
         home = λ e. let l = (mine_low good allows about s r me v at).0 in absurd (omega arith);
       }

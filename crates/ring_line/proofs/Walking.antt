@@ -18,6 +18,8 @@ use Rattle.qolb_model.proofs.Lists.{element_at, drop_with, push_cases, same_some
 use Rattle.qolb_model.proofs.Prefixes.{prefix_get}
 use Rattle.qolb_model.proofs.Histories.{bytes_after-append, is_closed-append}
 use Rattle.qolb_model.proofs.Writes.{bytes_after-passed}
+use Rattle.ring_line.specs.Words.{cell_of, withdrawn_by}
+use Rattle.ring_line.specs.declared.words.TheConstants.{MOST_NODES}
 use Rattle.ring_line.specs.declared.entry.Point.TheVariants.{Passing, Cleared, Freeing}
 use Rattle.ring_line.specs.declared.entry.Entry.{Entry}
 use Rattle.ring_line.specs.declared.rule.Parcel.{Parcel}
@@ -62,7 +64,7 @@ frees_none v p some = record {
 
 -- the node that is freed next
 pub frees_which : (v w : Entry) (nodes : List ℕ) (i node : ℕ) → FreesFirst v i w → length nodes ≡ length v.passed → AreNodesAt v.view.order v.passed nodes → At nodes i node
-    → (w.point ≡ Freeing) × (node ≤ 32) × ((q : ℕ) × (ps : List ℕ) × (r : Request) × (w.passed ≡ q ∷ ps) × At w.view.order q r × (r.node ≡ node))
+    → (w.point ≡ Freeing) × (node ≤ MOST_NODES) × ((q : ℕ) × (ps : List ℕ) × (r : Request) × (w.passed ≡ q ∷ ps) × At w.view.order q r × (r.node ≡ node))
 frees_which v w nodes i node f many are is =
     let here = element_at v.passed i (omega (arith, many, slice_get_within nodes i node is)) in
     let cut : drop i v.passed ≡ here.0 ∷ drop (i + 1) v.passed = drop_with v.passed i here.0 here.1 in
@@ -140,7 +142,7 @@ pub record IsFreeing (allows : List ℕ → List ℕ → Type 0) (s : RingSeat) 
   pub frees : FreesFirst (entry_of s) i (entry_of t)
 
 pub freeing_which : {allows : List ℕ → List ℕ → Type 0} (s t : RingSeat) (nodes : List ℕ) (i : ℕ) → IsFreeing allows s i t → (length nodes ≡ length (entry_of s).passed) × AreNodesAt (entry_of s).view.order (entry_of s).passed nodes → i < length nodes
-    → ((entry_of t).point ≡ Freeing) × (get_or nodes i 0 ≤ 32) × ((q : ℕ) × (ps : List ℕ) × (r : Request) × ((entry_of t).passed ≡ q ∷ ps) × At (entry_of t).view.order q r × (r.node ≡ get_or nodes i 0))
+    → ((entry_of t).point ≡ Freeing) × (get_or nodes i 0 ≤ MOST_NODES) × ((q : ℕ) × (ps : List ℕ) × (r : Request) × ((entry_of t).passed ≡ q ∷ ps) × At (entry_of t).view.order q r × (r.node ≡ get_or nodes i 0))
 freeing_which s t nodes i f all lt = frees_which (entry_of s) (entry_of t) nodes i (get_or nodes i 0) f.frees all.0 all.1 (slice_get-get_or nodes i 0 lt)
 
 pub freeing_next : (allows : List ℕ → List ℕ → Type 0) (s t u : RingSeat) (nodes : List ℕ) (i : ℕ) → IsFreeing allows s i t → (length nodes ≡ length (entry_of s).passed) × AreNodesAt (entry_of s).view.order (entry_of s).passed nodes → i < length nodes
@@ -172,7 +174,7 @@ pub record StandsAt (nodes : List ℕ) (found : ℕ) (w : Entry) : Type 0 where
   pub many : length w.passed ≡ length nodes + 1
   pub request : Request
   pub at : At w.view.order (length w.view.ends) request
-  pub node : request.node ≡ found / 256
+  pub node : request.node ≡ withdrawn_by found
   pub high : request.node ≤ w.view.nodes
 
 -- the line is home
@@ -200,7 +202,7 @@ walk_begins v passed two = record {
     by f zero p at = omega (arith, same_some at)
     by f (suc i) p at = absurd (let h : None ≡ Some p = at in cc h)
 
-pub stands_first : (v : Entry) (found : ℕ) → v.point ≡ Passing → v.passed ≡ length v.view.ends ∷ [] → (r : Request) × At v.view.order (length v.view.ends) r × (r.node ≡ found / 256) × (r.node ≤ v.view.nodes) → StandsAt [] found v
+pub stands_first : (v : Entry) (found : ℕ) → v.point ≡ Passing → v.passed ≡ length v.view.ends ∷ [] → (r : Request) × At v.view.order (length v.view.ends) r × (r.node ≡ withdrawn_by found) × (r.node ≤ v.view.nodes) → StandsAt [] found v
 stands_first v found passing passed first = record { point = passing; many = omega (arith, ap length passed); request = first.0; at = first.1; node = first.2; high = first.3 }
 
 -- who has passed one ends a withdrawn request next
@@ -254,15 +256,15 @@ replicate-push zero e = refl
 replicate-push (suc n) e = ap (λ es. e ∷ es) (replicate-push n e)
 
 -- a grant ends one more withdrawn request
-pub walked_on : (v w x : Entry) (nodes : List ℕ) (found next : ℕ) (y : Parcel) → v.view.nodes ≤ 32 → Walked v nodes w → StandsAt nodes found w → Ended (record w { point = Cleared }) x y → Extends w.view x.view → x.view.state ≡ w.view.state
-    → (next ≡ 0 → GoesHome (record w { point = Cleared }) x) → (next ≢ 0 → Passes (record w { point = Cleared }) next x) → Walked v (nodes ++ found / 256 ∷ []) x
+pub walked_on : (v w x : Entry) (nodes : List ℕ) (found next : ℕ) (y : Parcel) → v.view.nodes ≤ MOST_NODES → Walked v nodes w → StandsAt nodes found w → Ended (record w { point = Cleared }) x y → Extends w.view x.view → x.view.state ≡ w.view.state
+    → (next ≡ 0 → GoesHome (record w { point = Cleared }) x) → (next ≢ 0 → Passes (record w { point = Cleared }) next x) → Walked v (nodes ++ withdrawn_by found ∷ []) x
 walked_on v w x nodes found next y low k s e more stays home passes =
     let gone : next_end (record w { point = Cleared }) y ≡ Gone = ends_gone w.passed (is_closed w.view.ends) y (length nodes) s.many in
-    let pushed : length (nodes ++ found / 256 ∷ []) ≡ suc (length nodes) = omega (arith, length-append nodes (found / 256 ∷ [])) in
-    let ends : x.view.ends ≡ v.view.ends ++ replicate (length (nodes ++ found / 256 ∷ [])) Gone =
+    let pushed : length (nodes ++ withdrawn_by found ∷ []) ≡ suc (length nodes) = omega (arith, length-append nodes (withdrawn_by found ∷ [])) in
+    let ends : x.view.ends ≡ v.view.ends ++ replicate (length (nodes ++ withdrawn_by found ∷ [])) Gone =
     e.ends ∙ ((λ i. k.ends i ++ gone i ∷ []) ∙ (append_assoc v.view.ends (replicate (length nodes) Gone) (Gone ∷ []) ∙ (ap (λ es. v.view.ends ++ es) (replicate-push (length nodes) Gone) ∙ ap (λ n. v.view.ends ++ replicate n Gone) (sym pushed)))) in
     let before : length w.view.ends ≡ length v.view.ends + length nodes = ap length k.ends ∙ omega (arith, length-append v.view.ends (replicate (length nodes) Gone), length-replicate (length nodes) Gone) in
-    let many : length x.view.ends ≡ length v.view.ends + (length nodes + 1) = ap length ends ∙ omega (arith, pushed, length-append v.view.ends (replicate (length (nodes ++ found / 256 ∷ [])) Gone), length-replicate (length (nodes ++ found / 256 ∷ [])) Gone) in
+    let many : length x.view.ends ≡ length v.view.ends + (length nodes + 1) = ap length ends ∙ omega (arith, pushed, length-append v.view.ends (replicate (length (nodes ++ withdrawn_by found ∷ [])) Gone), length-replicate (length (nodes ++ withdrawn_by found ∷ [])) Gone) in
     let g = grows v w x nodes found next y k s many more.nodes home passes in
     record {
       opening = more.opening ∙ k.opening;
@@ -272,7 +274,7 @@ walked_on v w x nodes found next y low k s e more stays home passes =
       ends = ends;
       run = g.run;
       made = record {
-        each = λ j p n at is. elim (push_cases nodes (found / 256) j n is) [
+        each = λ j p n at is. elim (push_cases nodes (withdrawn_by found) j n is) [
           | inl old ↦ let one = k.made.each j p n (g.front j p (omega (arith, old.0, s.many)) at) old.1 in (one.0, prefix_get w.view.order x.view.order p one.0 more.order one.1, one.2, one.3)
           | inr last ↦
               let place : length w.view.ends ≡ p = omega (arith, before, g.run j p at, last.0) in
@@ -282,20 +284,20 @@ walked_on v w x nodes found next y low k s e more stays home passes =
       few = omega (arith, g.few, k.nodes_are);
     }
 
-pub stands_next : (w x : Entry) (nodes : List ℕ) (found next : ℕ) → StandsAt nodes found w → Passes (record w { point = Cleared }) next x → StandsAt (nodes ++ found / 256 ∷ []) next x
+pub stands_next : (w x : Entry) (nodes : List ℕ) (found next : ℕ) → StandsAt nodes found w → Passes (record w { point = Cleared }) next x → StandsAt (nodes ++ withdrawn_by found ∷ []) next x
 stands_next w x nodes found next s p = record {
   point = p.point;
-  many = omega (arith, ap length p.passed, length-append w.passed (length x.view.ends ∷ []), length-append nodes (found / 256 ∷ []), s.many);
+  many = omega (arith, ap length p.passed, length-append w.passed (length x.view.ends ∷ []), length-append nodes (withdrawn_by found ∷ []), s.many);
   request = p.request;
   at = p.at;
   node = p.node;
   high = p.high;
 }
 
-pub is_home : (w x : Entry) (nodes : List ℕ) (found : ℕ) (y : Parcel) → StandsAt nodes found w → Ended (record w { point = Cleared }) x y → GoesHome (record w { point = Cleared }) x → IsHome (nodes ++ found / 256 ∷ []) x
+pub is_home : (w x : Entry) (nodes : List ℕ) (found : ℕ) (y : Parcel) → StandsAt nodes found w → Ended (record w { point = Cleared }) x y → GoesHome (record w { point = Cleared }) x → IsHome (nodes ++ withdrawn_by found ∷ []) x
 is_home w x nodes found y s e h = record {
   point = h.point ∙ by w.passed (length nodes) s.many;
-  many = omega (arith, ap length h.passed, length-append nodes (found / 256 ∷ []), s.many);
+  many = omega (arith, ap length h.passed, length-append nodes (withdrawn_by found ∷ []), s.many);
   some = λ none. absurd (omega (arith, s.many, ap length (sym h.passed ∙ none)));
   known = e.known;
   unmarked = h.unmarked;
@@ -342,7 +344,7 @@ pub record IsWalking (allows : List ℕ → List ℕ → Type 0) (s : RingSeat) 
   pub table : t.table_id ≡ s.table_id
   pub id : t.id ≡ s.id
   pub alone : Alone t.me
-  pub cell_is : cell ≡ length (entry_of t).view.ends % 128
+  pub cell_is : cell ≡ cell_of (length (entry_of t).view.ends)
   pub continues : (v : View) → Continues allows v (entry_of s).view → Continues allows v (entry_of t).view
   pub walked : Walked (entry_of s) nodes (entry_of t)
   pub stands : found ≢ 0 → (t.me.1 ≡ s.me.1) × StandsAt nodes found (entry_of t)
@@ -368,10 +370,10 @@ walk_carries allows s t d nodes cell found y k more cleared slot bare =
     )
 
 -- and what the walk has done after it
-pub walk_step : (allows : List ℕ → List ℕ → Type 0) (s t d u : RingSeat) (nodes : List ℕ) (cell found after next : ℕ) (y : Parcel) → IsWalking allows s nodes cell found t → found ≢ 0 → (entry_of s).view.nodes ≤ 32 → IsCleared t d
+pub walk_step : (allows : List ℕ → List ℕ → Type 0) (s t d u : RingSeat) (nodes : List ℕ) (cell found after next : ℕ) (y : Parcel) → IsWalking allows s nodes cell found t → found ≢ 0 → (entry_of s).view.nodes ≤ MOST_NODES → IsCleared t d
     → s.me.1 ≡ (0, y) ∷ [] → (entry_of s).view.state ≡ left_by y.closed → (u.table_id ≡ d.table_id) × (u.id ≡ d.id) × Alone u.me → Continues allows (entry_of d).view (entry_of u).view → ((x : Parcel) → d.me.1 ≡ (0, x) ∷ [] → Ended (entry_of d) (entry_of u) x)
-    → (next ≡ 0 → (u.me.1 ≡ []) × GoesHome (entry_of d) (entry_of u)) → (next ≢ 0 → (u.me.1 ≡ d.me.1) × Passes (entry_of d) next (entry_of u)) → after ≡ (cell + 1) % 128
-    → IsWalking allows s (nodes ++ found / 256 ∷ []) after next u
+    → (next ≡ 0 → (u.me.1 ≡ []) × GoesHome (entry_of d) (entry_of u)) → (next ≢ 0 → (u.me.1 ≡ d.me.1) × Passes (entry_of d) next (entry_of u)) → after ≡ cell_of (cell + 1)
+    → IsWalking allows s (nodes ++ withdrawn_by found ∷ []) after next u
 walk_step allows s t d u nodes cell found after next y k more low cleared slot state seat went end home passes step =
     let here = k.stands more in
     let entry = cleared_entry t d cleared in

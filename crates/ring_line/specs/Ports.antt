@@ -14,6 +14,8 @@ use Rattle.qolb_model.specs.Sound.{IsSound}
 use Rattle.qolb_model.specs.Opening.{new_view}
 use Rattle.qolb_model.specs.Turns.{IsGranted}
 use Rattle.qolb_model.specs.LettingGo.{IsTold}
+use Rattle.ring_line.specs.Words.{cell_of}
+use Rattle.ring_line.specs.declared.words.TheConstants.{MOST_NODES}
 use Rattle.ring_line.specs.declared.entry.Point.{Point}
 use Rattle.ring_line.specs.declared.entry.Point.TheVariants.{Idle, Queued, Holding, Passing, Cleared, Freeing, Rolled}
 use Rattle.ring_line.specs.declared.entry.Entry.{Entry}
@@ -43,7 +45,7 @@ pub record Holds (s : RingSeat) (y : Parcel) (cell : ℕ) : Type 0 where
   pub none_passed : (entry_of s).passed ≡ []
   pub slot : Parcel
   pub carried : s.me.1 ≡ (0, slot) ∷ []
-  pub cell_is : cell ≡ length (entry_of s).view.ends % 128
+  pub cell_is : cell ≡ cell_of (length (entry_of s).view.ends)
   pub merged : IsMerged (entry_of s).view y
   pub is_open : is_closed (entry_of s).view.ends ≡ false
   pub unclosed : y.closed ≡ false
@@ -52,7 +54,7 @@ pub record Holds (s : RingSeat) (y : Parcel) (cell : ℕ) : Type 0 where
 abbrev pub Stands : RingSeat → Parcel → ℕ → PortState → Type 0
 Stands s y cell shows.Idle = ((entry_of s).point ≡ Idle) × (s.me.1 ≡ [])
 Stands s y cell shows.Linking = ⊥
-Stands s y cell shows.Queued = ((entry_of s).point ≡ Queued) × (s.me.1 ≡ []) × (cell ≡ (entry_of s).place % 128)
+Stands s y cell shows.Queued = ((entry_of s).point ≡ Queued) × (s.me.1 ≡ []) × (cell ≡ cell_of (entry_of s).place)
 Stands s y cell shows.Holding = Holds s y cell
 Stands s y cell shows.Left = ⊥
 Stands s y cell shows.Rolled = ((entry_of s).point ≡ Rolled) × (s.me.1 ≡ [])
@@ -86,10 +88,10 @@ pub record HasSplit (table_id : TableId) (about : Setup) (n : ℕ) (rest : RingS
   pub me : rest.me ≡ (newcomers_from about n (about.nodes - n), [])
   pub new_ports : AreSplit table_id about n ports
 
--- why a line is not opened: the number of nodes is not 1 to 32, and only else want of memory
+-- why a line is not opened: the number of nodes is not in range, and only else want of memory
 abbrev pub MayNotOpen : ℕ → OpenError → Type 0
-MayNotOpen nodes Nodes = (nodes ≡ 0) ⊎ (32 < nodes)
-MayNotOpen nodes Memory = (1 ≤ nodes) × (nodes ≤ 32)
+MayNotOpen nodes Nodes = (nodes ≡ 0) ⊎ (MOST_NODES < nodes)
+MayNotOpen nodes Memory = (1 ≤ nodes) × (nodes ≤ MOST_NODES)
 
 -- the node is in no call, and neither waits nor holds
 abbrev pub is_at_rest : Point → Bool

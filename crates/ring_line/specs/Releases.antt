@@ -8,6 +8,7 @@ use Rattle.qolb_model.specs.Requests.{Has, Lacks}
 use Rattle.qolb_model.specs.Ends.{is_closed}
 use Rattle.qolb_model.specs.Views.{own, bytes_of}
 use Rattle.qolb_model.specs.LettingGo.{LetsGo, Releases, IsTold}
+use Rattle.ring_line.specs.declared.words.TheConstants.{MOST_NODES}
 use Rattle.ring_line.specs.declared.entry.Point.TheVariants.{Idle, Rolled}
 use Rattle.ring_line.specs.declared.entry.Entry.{Entry}
 use Rattle.ring_line.specs.declared.rule.Parcel.{Parcel}
@@ -48,7 +49,7 @@ pub record IsPassedOn (v w : Entry) : Type 0 where
 
 -- each of these nodes, which are of a line's, made the request at the place that stands where the node does
 pub record AreNodesAt (order : List Request) (places nodes : List ℕ) : Type 0 where
-  pub each : (k p n : ℕ) → At places k p → At nodes k n → (r : Request) × At order p r × (r.node ≡ n) × (n ≤ 32)
+  pub each : (k p n : ℕ) → At places k p → At nodes k n → (r : Request) × At order p r × (r.node ≡ n) × (n ≤ MOST_NODES)
 
 -- all requests that the node had passed are freed and clear, and so is its own, and nothing else has changed
 pub record FreesAll (v w : Entry) : Type 0 where

@@ -15,12 +15,13 @@ use Rattle.qolb_model.specs.Histories.{IsLegal, Clears}
 use Rattle.qolb_model.specs.Views.{own}
 use Rattle.qolb_model.specs.Kept.{AreAllowed}
 use Rattle.qolb_model.specs.Opening.{new_view}
+use Rattle.ring_line.specs.declared.words.TheConstants.{CELLS, WITHDRAWN, MOST_NODES}
 use Rattle.ring_line.specs.declared.entry.Point.{Point}
 use Rattle.ring_line.specs.declared.entry.Point.TheVariants.{Idle, Queued, Holding, Passing, Cleared, Freeing, Rolled}
 use Rattle.ring_line.specs.declared.entry.Entry.{Entry}
 use Rattle.ring_line.specs.declared.rule.Setup.{Setup}
 use Rattle.ring_line.specs.declared.rule.Parcel.{Parcel}
-use Rattle.ring_line.specs.Words.{word_count, ticket_at, node_at, cell_at}
+use Rattle.ring_line.specs.Words.{word_count, ticket_at, node_at, cell_at, cell_of}
 
 -- the member of the list at the place
 abbrev pub At : {A : Type 0} → List A → ℕ → A → Type 0
@@ -167,17 +168,17 @@ module _ (good : List ℕ → Type 0) (allows : List ℕ → List ℕ → Type 0
     pub wide : length words ≡ word_count
     pub deep : length homes ≡ 1
     pub ticket : slice_index words ticket_at ≡ length x.order % 2 ^ 64
-    pub cleared : x.cleared ≡ true → slice_index words (cell_at (length x.ends % 128)) ≡ 0
-    pub granted : x.hand ≡ 0 → slice_index words (cell_at (length x.ends % 128)) ≡ 1
-    pub later : (k : ℕ) → 0 < k → k < 128 → slice_index words (cell_at ((length x.ends + k) % 128)) ≡ 256 * x.marks (length x.ends + k)
-    pub flags : (n : ℕ) → 0 < n → n ≤ 32 → slice_index words (node_at n) ≡ x.flags n
+    pub cleared : x.cleared ≡ true → slice_index words (cell_at (cell_of (length x.ends))) ≡ 0
+    pub granted : x.hand ≡ 0 → slice_index words (cell_at (cell_of (length x.ends))) ≡ 1
+    pub later : (k : ℕ) → 0 < k → k < CELLS → slice_index words (cell_at (cell_of (length x.ends + k))) ≡ WITHDRAWN * x.marks (length x.ends + k)
+    pub flags : (n : ℕ) → 0 < n → n ≤ MOST_NODES → slice_index words (node_at n) ≡ x.flags n
     pub home : x.hand ≡ 0 → (y : Parcel) × (get_elem? homes 0 ≡ some (some y)) × (y.bytes.bytes ≡ bytes_after about.opening.bytes x.ends) × (y.closed ≡ is_closed x.ends)
 
   pub record RingRule (s : State Parcel (List Entry)) : Type 0 where
     pub past : Past
     pub who : ℕ → Entry
     pub owner : ℕ → ℕ × ℕ
-    pub few : about.nodes ≤ 32
+    pub few : about.nodes ≤ MOST_NODES
     pub line : length about.opening.bytes ≡ 64
     pub fine : PastOk past
     pub shown : Shown past s.words s.homes

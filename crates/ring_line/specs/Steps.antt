@@ -19,6 +19,8 @@ use Rattle.qolb_model.specs.Sound.{Continues}
 use Rattle.qolb_model.specs.Asking.{Asks}
 use Rattle.qolb_model.specs.Turns.{IsClearBefore}
 use Rattle.qolb_model.specs.Meeting.{longer}
+use Rattle.ring_line.specs.Words.{cell_of, withdrawn_by}
+use Rattle.ring_line.specs.declared.words.TheConstants.{MOST_NODES}
 use Rattle.ring_line.specs.declared.entry.Point.{Point}
 use Rattle.ring_line.specs.declared.entry.Point.TheVariants.{Idle, Queued, Holding, Passing, Cleared, Freeing, Rolled}
 use Rattle.ring_line.specs.declared.entry.Entry.{Entry}
@@ -55,7 +57,7 @@ entry_of s = sole s.me.0
 -- the node asked, and knows all that came before
 pub record Asked (v : Entry) (found : ℕ) (w : Entry) : Type 0 where
   pub point : w.point ≡ Queued
-  pub cell : found % 128 ≡ w.place % 128
+  pub cell : cell_of found ≡ cell_of w.place
   pub asks : Asks v.view w.view
   pub joined : Has w.view.joined (own w.view)
 
@@ -156,10 +158,10 @@ pub record Passes (v : Entry) (found : ℕ) (w : Entry) : Type 0 where
   pub passed : w.passed ≡ v.passed ++ length w.view.ends ∷ []
   pub request : Request
   pub at : At w.view.order (length w.view.ends) request
-  pub node : request.node ≡ found / 256
+  pub node : request.node ≡ withdrawn_by found
   pub high : request.node ≤ w.view.nodes
   pub few : length w.passed + 1 ≤ w.view.nodes
-  pub nodes : w.view.nodes ≤ 32
+  pub nodes : w.view.nodes ≤ MOST_NODES
 
 -- the node of the first passed request is free, and that request clear; ps are the passed ones that are left
 pub record Frees (v : Entry) (ps : List ℕ) (r : Request) (w : Entry) : Type 0 where

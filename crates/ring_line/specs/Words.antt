@@ -1,14 +1,23 @@
--- Where the words of a table lie: the ticket, the words of the nodes 1 to 32, and 128 cells, each apart from the others.
-use Rattle.std.specs.Prelude.{ℕ, ◌+◌, ◌*◌}
+-- Where the words of a table lie: the ticket, a word for each node, and the cells, each apart from the others.
+use Rattle.std.specs.Prelude.{ℕ, ◌+◌, ◌*◌, ◌/◌, ◌%◌}
+use Rattle.ring_line.specs.declared.words.TheConstants.{MOST_NODES, CELLS, NODE_STRIDE, CELL_STRIDE, WITHDRAWN}
 
 abbrev pub ticket_at : ℕ
-ticket_at = 16
+ticket_at = NODE_STRIDE
 
 abbrev pub node_at : ℕ → ℕ
-node_at n = 16 + 16 * n
+node_at n = NODE_STRIDE + NODE_STRIDE * n
 
 abbrev pub cell_at : ℕ → ℕ
-cell_at c = 544 + c * 8
+cell_at c = node_at (MOST_NODES + 1) + c * CELL_STRIDE
 
 abbrev pub word_count : ℕ
-word_count = 1568
+word_count = cell_at CELLS
+
+-- the cell of a ticket
+abbrev pub cell_of : ℕ → ℕ
+cell_of ticket = ticket % CELLS
+
+-- the node that withdrew at a cell with this word
+abbrev pub withdrawn_by : ℕ → ℕ
+withdrawn_by word = word / WITHDRAWN

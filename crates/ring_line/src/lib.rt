@@ -17,6 +17,7 @@ mod words;
 
 pub use line::RingLine;
 pub use port::Port;
+pub use words::CELLS;
 
 #[cfg(test)]
 mod tests;

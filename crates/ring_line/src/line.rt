@@ -11,6 +11,7 @@ ghost use Rattle.qolb_model.specs.Turns.{IsGranted, IsQueued, IsWithdrawn};
 ghost use Rattle.qolb_model.specs.LettingGo.{Releases, IsTold};
 ghost use Rattle.qolb_model.specs.Meeting.{Meets};
 ghost use Rattle.qolb_model.specs.declared.end.End.TheVariants.{Served};
+ghost use Rattle.ring_line.specs.declared.words.TheConstants.{MOST_NODES};
 ghost use Rattle.ring_line.specs.Words.{word_count};
 ghost use Rattle.ring_line.specs.Ports.{BelongsTo};
 ghost use Rattle.ring_line.specs.declared.rule.Parcel.{Parcel};
@@ -38,7 +39,7 @@ pub struct RingLine<K: Keep> {
     ghost labelled: { label ≡ table.shared.key.label },
     ghost counted: { nodes ≡ table.shared.key.nodes },
     ghost some_nodes: { 1 ≤ nodes },
-    ghost few_nodes: { nodes ≤ 32 },
+    ghost few_nodes: { nodes ≤ MOST_NODES },
 }
 
 impl<K: Keep> RingLine<K> {

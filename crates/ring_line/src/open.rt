@@ -1,6 +1,7 @@
 //! How a line is opened.
 ghost use Rattle.std.specs.Prelude.{◌≡◌, ◌≢◌, ℕ, ◌<◌, ◌≤◌, [], length, map, slice_get, slice_index, Some, IfOk, IfErr};
 ghost use Rattle.qolb_model.specs.Opening.{AreNew};
+ghost use Rattle.ring_line.specs.declared.words.TheConstants.{MOST_NODES};
 ghost use Rattle.ring_line.specs.Words.{word_count, cell_at};
 ghost use Rattle.ring_line.specs.Ring.{newcomers};
 ghost use Rattle.ring_line.specs.Ports.{Standing, AreSplit, BelongsTo, MayNotOpen};
@@ -9,15 +10,12 @@ use crate::line::RingLine;
 use crate::plays::Cut;
 use crate::port::Port;
 use crate::rule::{Ground, Parcel, RingSeat, Setup};
-use crate::words::{WORDS, cell_word};
+use crate::words::{MOST_NODES, WORDS, cell_word};
 use atomic_table::Table;
 use line_lanes::{Line64, Mask};
 use qolb_model::{Keep, OpenError, PortState};
 use std::alloc::{AllocError, Global};
 use std::mem;
-
-/// The most nodes that a line has.
-const MOST_NODES: u64 = 32;
 
 impl<K: Keep> RingLine<K> {
     /// A line with these bytes, and a port for each of the nodes 1 to `nodes`, in this order.
@@ -29,7 +27,7 @@ impl<K: Keep> RingLine<K> {
     ) -> Result<(RingLine<K>, Vec<Port>), OpenError>
         requires { K.good opening.bytes }
         ensures key { IfOk result (λ r. r.0.table.shared.key ≡ record { label = label; nodes = nodes; opening = opening }) }
-        ensures few { IfOk result (λ r. (1 ≤ nodes) × (nodes ≤ 32)) }
+        ensures few { IfOk result (λ r. (1 ≤ nodes) × (nodes ≤ MOST_NODES)) }
         ensures new { IfOk result (λ r. AreNew label nodes opening.bytes (map (λ port. port.view) r.1.items)) }
         ensures belong { IfOk result (λ r. (i : ℕ) (port : Standing) → slice_get r.1.items i ≡ Some port → BelongsTo K.good K.allows r.0.table.shared.key r.0.table.shared.table_id port) }
         ensures unused { IfOk result (λ r. (i : ℕ) (port : Standing) → slice_get r.1.items i ≡ Some port → port.steps ≡ 0) }
@@ -55,7 +53,7 @@ impl<K: Keep> RingLine<K> {
     /// The line, and one seat for all nodes.
     fn new_table(alloc: Global, setup: &Setup) -> Result<(RingLine<K>, RingSeat), AllocError>
         requires some_nodes { 1 ≤ setup.now.nodes }
-        requires nodes { setup.now.nodes ≤ 32 }
+        requires nodes { setup.now.nodes ≤ MOST_NODES }
         requires line { length setup.now.opening.bytes ≡ 64 }
         requires good { K.good setup.now.opening.bytes }
         ensures { IfOk result (λ t. (t.1.table_id ≡ t.0.table.shared.table_id) × (t.0.table.shared.key ≡ setup.now) × (t.1.me ≡ (newcomers setup.now, []))) }
@@ -105,7 +103,7 @@ fn split_ports<K: Keep>(
     rest: RingSeat,
     setup: &Setup,
 ) -> Result<Vec<Port>, AllocError>
-    requires table { (rest.table_id ≡ ground.now.table_id) × (0 < ground.now.table_id.words) × (setup.now.nodes ≤ 32) }
+    requires table { (rest.table_id ≡ ground.now.table_id) × (0 < ground.now.table_id.words) × (setup.now.nodes ≤ MOST_NODES) }
     requires whole { rest.me ≡ (newcomers setup.now, []) }
     ensures { IfOk result (λ ports. AreSplit ground.now.table_id setup.now setup.now.nodes ports.items) }
 {

@@ -3,7 +3,8 @@ ghost use Rattle.std.specs.Prelude.{◌≡◌, ◌≢◌, ℕ, ◌+◌, ◌/◌,
 ghost use Rattle.qolb_model.specs.declared.request.Request.{Request};
 ghost use Rattle.qolb_model.specs.declared.view.View.{View};
 ghost use Rattle.qolb_model.specs.Sound.{Continues};
-ghost use Rattle.ring_line.specs.Words.{word_count};
+ghost use Rattle.ring_line.specs.declared.words.TheConstants.{MOST_NODES};
+ghost use Rattle.ring_line.specs.Words.{word_count, cell_of, withdrawn_by};
 ghost use Rattle.ring_line.specs.Ring.{At};
 ghost use Rattle.ring_line.specs.Steps.{Alone, entry_of, Comes, Carries, left_by};
 ghost use Rattle.ring_line.specs.Releases.{IsRenewed, IsBare, LetsLineGo, WalksOn, IsPassedOn, AreNodesAt, FreesAll};
@@ -15,12 +16,12 @@ ghost use Rattle.ring_line.specs.declared.entry.Point.TheVariants.{Idle, Holding
 use crate::rule::{Ground, Parcel, RingSeat};
 use crate::slot::take;
 use crate::steps::{clear, free, grant, load_node, reset};
-use crate::words::{WITHDRAWN, cell_after};
+use crate::words::{MOST_NODES, WITHDRAWN, cell_after};
 use arrayvec::ArrayVec;
 use qolb_model::{Keep, PortState};
 
 /// The most requests that a release passes: those of all nodes but its own.
-const MOST_PASSED: usize = 31;
+const MOST_PASSED: usize = MOST_NODES as usize - 1;
 
 /// Makes a node ready to ask, and returns how many word steps that took. A withdrawn request that still stands in the queue keeps
 /// it from asking: then `None`.
@@ -33,7 +34,7 @@ pub(crate) fn renew<K: Keep>(
 ) -> Option<u64>
     requires table { (seat.old.table_id ≡ ground.now.table_id) × (ground.now.table_id.words ≡ word_count) }
     requires ready { Alone seat.old.me × (state ≡ PortState.Rolled → (entry_of seat.old).point ≡ Rolled) × (state ≢ PortState.Rolled → (entry_of seat.old).point ≡ Idle) }
-    requires own { (node ≡ (entry_of seat.old).view.node) × (node ≤ 32) }
+    requires own { (node ≡ (entry_of seat.old).view.node) × (node ≤ MOST_NODES) }
     ensures seat { (seat.new.table_id ≡ seat.old.table_id) × (seat.new.id ≡ seat.old.id) × (seat.new.me.1 ≡ seat.old.me.1) × Alone seat.new.me }
     ensures continues { (v : View) → Continues K.allows v (entry_of seat.old).view → Continues K.allows v (entry_of seat.new).view }
     ensures count { (entry_of seat.new).view.count ≡ (entry_of seat.old).view.count }
@@ -58,7 +59,7 @@ pub(crate) fn arrive<K: Keep>(
     cell: u64,
 ) -> Option<u64>
     requires table { (seat.old.table_id ≡ ground.now.table_id) × (ground.now.table_id.words ≡ word_count) }
-    requires ready { Alone seat.old.me × (cell ≡ (entry_of seat.old).place % 128) × (1 ≤ (entry_of seat.old).view.nodes) }
+    requires ready { Alone seat.old.me × (cell ≡ cell_of (entry_of seat.old).place) × (1 ≤ (entry_of seat.old).view.nodes) }
     requires comes { (v : Entry) × (y : Parcel) × (seat.old.me.1 ≡ (0, y) ∷ []) × Comes v (entry_of seat.old) y }
     ensures seat { (seat.new.table_id ≡ seat.old.table_id) × (seat.new.id ≡ seat.old.id) × Alone seat.new.me }
     ensures continues { (v : View) → Continues K.allows v (entry_of seat.old).view → Continues K.allows v (entry_of seat.new).view }
@@ -78,7 +79,7 @@ pub(crate) fn arrive<K: Keep>(
 #[inline(never)]
 fn pass_on<K: Keep>(ground: &Ground<K>, seat: &mut RingSeat, cell: u64) -> u64
     requires table { (seat.old.table_id ≡ ground.now.table_id) × (ground.now.table_id.words ≡ word_count) }
-    requires ready { Alone seat.old.me × (cell ≡ (entry_of seat.old).place % 128) × (1 ≤ (entry_of seat.old).view.nodes) }
+    requires ready { Alone seat.old.me × (cell ≡ cell_of (entry_of seat.old).place) × (1 ≤ (entry_of seat.old).view.nodes) }
     requires comes { (v : Entry) × (y : Parcel) × (seat.old.me.1 ≡ (0, y) ∷ []) × Comes v (entry_of seat.old) y × (y.closed ≡ true) }
     ensures seat { (seat.new.table_id ≡ seat.old.table_id) × (seat.new.id ≡ seat.old.id) × Alone seat.new.me }
     ensures continues { Continues K.allows (entry_of seat.old).view (entry_of seat.new).view }
@@ -92,7 +93,7 @@ fn pass_on<K: Keep>(ground: &Ground<K>, seat: &mut RingSeat, cell: u64) -> u64
 #[inline]
 pub(crate) fn release<K: Keep>(ground: &Ground<K>, seat: &mut RingSeat, cell: u64) -> u64
     requires table { (seat.old.table_id ≡ ground.now.table_id) × (ground.now.table_id.words ≡ word_count) }
-    requires ready { Alone seat.old.me × ((entry_of seat.old).point ≡ Holding) × ((entry_of seat.old).passed ≡ []) × (cell ≡ length (entry_of seat.old).view.ends % 128) }
+    requires ready { Alone seat.old.me × ((entry_of seat.old).point ≡ Holding) × ((entry_of seat.old).passed ≡ []) × (cell ≡ cell_of (length (entry_of seat.old).view.ends)) }
     requires nodes { 1 ≤ (entry_of seat.old).view.nodes }
     requires parcel { (y : Parcel) × (seat.old.me.1 ≡ (0, y) ∷ []) × Carries K.allows (entry_of seat.old) y }
     ensures seat { (seat.new.table_id ≡ seat.old.table_id) × (seat.new.id ≡ seat.old.id) × Alone seat.new.me × (seat.new.me.1 ≡ []) }
@@ -115,9 +116,9 @@ pub(crate) fn release<K: Keep>(ground: &Ground<K>, seat: &mut RingSeat, cell: u6
 #[inline(never)]
 fn walk<K: Keep>(ground: &Ground<K>, seat: &mut RingSeat, cell: u64, found: u64) -> u64
     requires table { (seat.old.table_id ≡ ground.now.table_id) × (ground.now.table_id.words ≡ word_count) }
-    requires ready { Alone seat.old.me × ((entry_of seat.old).point ≡ Passing) × (cell ≡ length (entry_of seat.old).view.ends % 128) × (found ≢ 0) }
-    requires first { ((entry_of seat.old).passed ≡ length (entry_of seat.old).view.ends ∷ []) × ((r : Request) × At (entry_of seat.old).view.order (length (entry_of seat.old).view.ends) r × (r.node ≡ found / 256) × (r.node ≤ (entry_of seat.old).view.nodes)) }
-    requires nodes { (2 ≤ (entry_of seat.old).view.nodes) × ((entry_of seat.old).view.nodes ≤ 32) }
+    requires ready { Alone seat.old.me × ((entry_of seat.old).point ≡ Passing) × (cell ≡ cell_of (length (entry_of seat.old).view.ends)) × (found ≢ 0) }
+    requires first { ((entry_of seat.old).passed ≡ length (entry_of seat.old).view.ends ∷ []) × ((r : Request) × At (entry_of seat.old).view.order (length (entry_of seat.old).view.ends) r × (r.node ≡ withdrawn_by found) × (r.node ≤ (entry_of seat.old).view.nodes)) }
+    requires nodes { (2 ≤ (entry_of seat.old).view.nodes) × ((entry_of seat.old).view.nodes ≤ MOST_NODES) }
     requires parcel { (y : Parcel) × (seat.old.me.1 ≡ (0, y) ∷ []) × IsBare (entry_of seat.old) y × ((entry_of seat.old).view.state ≡ left_by y.closed) }
     ensures seat { (seat.new.table_id ≡ seat.old.table_id) × (seat.new.id ≡ seat.old.id) × Alone seat.new.me × (seat.new.me.1 ≡ []) }
     ensures continues { (v : View) → Continues K.allows v (entry_of seat.old).view → Continues K.allows v (entry_of seat.new).view }

@@ -4,7 +4,8 @@ ghost use Rattle.qolb_model.specs.declared.request.Request.{Request};
 ghost use Rattle.qolb_model.specs.Requests.{Has, Lacks};
 ghost use Rattle.qolb_model.specs.Views.{own};
 ghost use Rattle.qolb_model.specs.Sound.{Continues};
-ghost use Rattle.ring_line.specs.Words.{word_count};
+ghost use Rattle.ring_line.specs.declared.words.TheConstants.{CELLS, MOST_NODES};
+ghost use Rattle.ring_line.specs.Words.{word_count, cell_of};
 ghost use Rattle.ring_line.specs.Ring.{At};
 ghost use Rattle.ring_line.specs.Steps.{Alone, entry_of, Asked, IsEarly, Comes, IsRolled, Carries, Ended, GoesHome, Passes, Frees};
 ghost use Rattle.ring_line.specs.declared.rule.Parcel.{Parcel};
@@ -20,7 +21,7 @@ pub(crate) fn ask<K: Keep>(ground: &Ground<K>, seat: &mut RingSeat) -> u64
     requires table { (seat.old.table_id ≡ ground.now.table_id) × (ground.now.table_id.words ≡ word_count) }
     requires ready { Alone seat.old.me × ((entry_of seat.old).point ≡ Idle) }
     ensures seat { (seat.new.table_id ≡ seat.old.table_id) × (seat.new.id ≡ seat.old.id) × (seat.new.me.1 ≡ seat.old.me.1) × Alone seat.new.me }
-    ensures cell { result ≡ (entry_of seat.new).place % 128 }
+    ensures cell { result ≡ cell_of (entry_of seat.new).place }
     ensures continues { Continues K.allows (entry_of seat.old).view (entry_of seat.new).view }
     ensures asked { Asked (entry_of seat.old) result (entry_of seat.new) }
 {
@@ -31,7 +32,7 @@ pub(crate) fn ask<K: Keep>(ground: &Ground<K>, seat: &mut RingSeat) -> u64
 /// Looks whether the own cell is granted.
 pub(crate) fn load<K: Keep>(ground: &Ground<K>, seat: &mut RingSeat, cell: u64) -> bool
     requires table { (seat.old.table_id ≡ ground.now.table_id) × (ground.now.table_id.words ≡ word_count) }
-    requires ready { Alone seat.old.me × (seat.old.me.1 ≡ []) × ((entry_of seat.old).point ≡ Queued) × (cell ≡ (entry_of seat.old).place % 128) }
+    requires ready { Alone seat.old.me × (seat.old.me.1 ≡ []) × ((entry_of seat.old).point ≡ Queued) × (cell ≡ cell_of (entry_of seat.old).place) }
     ensures seat { (seat.new.table_id ≡ seat.old.table_id) × (seat.new.id ≡ seat.old.id) × Alone seat.new.me }
     ensures continues { Continues K.allows (entry_of seat.old).view (entry_of seat.new).view }
     ensures waits { result ≡ false → (seat.new.me.1 ≡ []) × IsEarly (entry_of seat.old) (entry_of seat.new) }
@@ -43,8 +44,8 @@ pub(crate) fn load<K: Keep>(ground: &Ground<K>, seat: &mut RingSeat, cell: u64) 
 /// Withdraws the request, unless the own cell is granted.
 pub(crate) fn roll<K: Keep>(ground: &Ground<K>, seat: &mut RingSeat, cell: u64, node: u64) -> bool
     requires table { (seat.old.table_id ≡ ground.now.table_id) × (ground.now.table_id.words ≡ word_count) }
-    requires ready { Alone seat.old.me × (seat.old.me.1 ≡ []) × ((entry_of seat.old).point ≡ Queued) × (cell ≡ (entry_of seat.old).place % 128) }
-    requires own { (node ≡ (entry_of seat.old).view.node) × (node ≤ 32) }
+    requires ready { Alone seat.old.me × (seat.old.me.1 ≡ []) × ((entry_of seat.old).point ≡ Queued) × (cell ≡ cell_of (entry_of seat.old).place) }
+    requires own { (node ≡ (entry_of seat.old).view.node) × (node ≤ MOST_NODES) }
     ensures seat { (seat.new.table_id ≡ seat.old.table_id) × (seat.new.id ≡ seat.old.id) × Alone seat.new.me }
     ensures continues { Continues K.allows (entry_of seat.old).view (entry_of seat.new).view }
     ensures withdrawn { result ≡ false → (seat.new.me.1 ≡ []) × IsRolled (entry_of seat.old) (entry_of seat.new) }
@@ -56,7 +57,7 @@ pub(crate) fn roll<K: Keep>(ground: &Ground<K>, seat: &mut RingSeat, cell: u64, 
 /// Clears the cell at its turn.
 pub(crate) fn clear<K: Keep>(ground: &Ground<K>, seat: &mut RingSeat, cell: u64)
     requires table { (seat.old.table_id ≡ ground.now.table_id) × (ground.now.table_id.words ≡ word_count) }
-    requires ready { Alone seat.old.me × (((entry_of seat.old).point ≡ Holding) ⊎ ((entry_of seat.old).point ≡ Passing)) × (cell ≡ length (entry_of seat.old).view.ends % 128) }
+    requires ready { Alone seat.old.me × (((entry_of seat.old).point ≡ Holding) ⊎ ((entry_of seat.old).point ≡ Passing)) × (cell ≡ cell_of (length (entry_of seat.old).view.ends)) }
     ensures seat { (seat.new.table_id ≡ seat.old.table_id) × (seat.new.id ≡ seat.old.id) × (seat.new.me ≡ (record (entry_of seat.old) { point = Cleared } ∷ [], seat.old.me.1)) }
 {
     ground.store::<Clear>(seat, cell_word(cell), 0);
@@ -66,7 +67,7 @@ pub(crate) fn clear<K: Keep>(ground: &Ground<K>, seat: &mut RingSeat, cell: u64)
 /// else with the number of the node that withdrew there, whose request is passed.
 pub(crate) fn grant<K: Keep>(ground: &Ground<K>, seat: &mut RingSeat, cell: u64) -> u64
     requires table { (seat.old.table_id ≡ ground.now.table_id) × (ground.now.table_id.words ≡ word_count) }
-    requires ready { Alone seat.old.me × ((entry_of seat.old).point ≡ Cleared) × (cell ≡ length (entry_of seat.old).view.ends % 128) }
+    requires ready { Alone seat.old.me × ((entry_of seat.old).point ≡ Cleared) × (cell ≡ cell_of (length (entry_of seat.old).view.ends)) }
     requires parcel { (y : Parcel) × (seat.old.me.1 ≡ (0, y) ∷ []) × Carries K.allows (entry_of seat.old) y }
     ensures seat { (seat.new.table_id ≡ seat.old.table_id) × (seat.new.id ≡ seat.old.id) × Alone seat.new.me }
     ensures continues { Continues K.allows (entry_of seat.old).view (entry_of seat.new).view }
@@ -80,7 +81,7 @@ pub(crate) fn grant<K: Keep>(ground: &Ground<K>, seat: &mut RingSeat, cell: u64)
 /// Frees the node of the first request that was passed and is not freed yet.
 pub(crate) fn free<K: Keep>(ground: &Ground<K>, seat: &mut RingSeat, node: u64)
     requires table { (seat.old.table_id ≡ ground.now.table_id) × (ground.now.table_id.words ≡ word_count) }
-    requires ready { Alone seat.old.me × ((entry_of seat.old).point ≡ Freeing) × (node ≤ 32) }
+    requires ready { Alone seat.old.me × ((entry_of seat.old).point ≡ Freeing) × (node ≤ MOST_NODES) }
     requires next { (q : ℕ) × (ps : List ℕ) × (r : Request) × ((entry_of seat.old).passed ≡ q ∷ ps) × At (entry_of seat.old).view.order q r × (r.node ≡ node) }
     ensures seat { (seat.new.table_id ≡ seat.old.table_id) × (seat.new.id ≡ seat.old.id) × (seat.new.me.1 ≡ seat.old.me.1) × Alone seat.new.me }
     ensures continues { Continues K.allows (entry_of seat.old).view (entry_of seat.new).view }
@@ -93,7 +94,7 @@ pub(crate) fn free<K: Keep>(ground: &Ground<K>, seat: &mut RingSeat, node: u64)
 pub(crate) fn load_node<K: Keep>(ground: &Ground<K>, seat: &mut RingSeat, node: u64) -> bool
     requires table { (seat.old.table_id ≡ ground.now.table_id) × (ground.now.table_id.words ≡ word_count) }
     requires ready { Alone seat.old.me × ((entry_of seat.old).point ≡ Rolled) }
-    requires own { (node ≡ (entry_of seat.old).view.node) × (node ≤ 32) }
+    requires own { (node ≡ (entry_of seat.old).view.node) × (node ≤ MOST_NODES) }
     ensures seat { (seat.new.table_id ≡ seat.old.table_id) × (seat.new.id ≡ seat.old.id) × (seat.new.me.1 ≡ seat.old.me.1) × Alone seat.new.me }
     ensures continues { Continues K.allows (entry_of seat.old).view (entry_of seat.new).view }
     ensures point { (entry_of seat.new).point ≡ Rolled }
@@ -109,7 +110,7 @@ pub(crate) fn load_node<K: Keep>(ground: &Ground<K>, seat: &mut RingSeat, node: 
 pub(crate) fn reset<K: Keep>(ground: &Ground<K>, seat: &mut RingSeat, node: u64)
     requires table { (seat.old.table_id ≡ ground.now.table_id) × (ground.now.table_id.words ≡ word_count) }
     requires ready { Alone seat.old.me × ((entry_of seat.old).point ≡ Rolled) × Has (entry_of seat.old).view.clear (own (entry_of seat.old).view) }
-    requires own { (node ≡ (entry_of seat.old).view.node) × (node ≤ 32) }
+    requires own { (node ≡ (entry_of seat.old).view.node) × (node ≤ MOST_NODES) }
     ensures seat { (seat.new.table_id ≡ seat.old.table_id) × (seat.new.id ≡ seat.old.id) × (seat.new.me ≡ (record (entry_of seat.old) { point = Idle } ∷ [], seat.old.me.1)) }
 {
     ground.store::<Reset>(seat, node_word(node), 0);

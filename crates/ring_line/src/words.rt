@@ -1,15 +1,20 @@
-//! Where the words of a table lie. Those that nodes poll stand apart, so that they share no cache line.
-ghost use Rattle.std.specs.Prelude.{◌≡◌, ◌+◌, ◌%◌, ◌<◌, ◌≤◌};
-ghost use Rattle.ring_line.specs.Words.{word_count, ticket_at, node_at, cell_at};
+//! Where the words of a table lie, and what they say. Those that nodes poll stand apart, so that they share no cache line.
+ghost use Rattle.std.specs.Prelude.{◌≡◌, ◌≢◌, ◌↔◌, ◌+◌, ◌<◌, ◌≤◌, IsTrue};
+ghost use Rattle.ring_line.specs.declared.words.TheConstants.{MOST_NODES, CELLS};
+ghost use Rattle.ring_line.specs.Words.{node_at, cell_at, cell_of, withdrawn_by};
+
+/// The most nodes that a line has.
+pub(crate) const MOST_NODES: u64 = 200;
+
+/// How many cells there are. There are more than nodes, so a cell is cleared before it is drawn again; and they divide 2^64, so
+/// that the tickets may wrap.
+pub const CELLS: u64 = 256;
 
 /// How many words lie between those of two nodes.
 pub(crate) const NODE_STRIDE: usize = 16;
 
 /// How many words lie between two cells.
 pub(crate) const CELL_STRIDE: usize = 8;
-
-/// How many cells there are. There are more than nodes, so a cell is cleared before it is drawn again.
-pub(crate) const CELLS: u64 = 128;
 
 /// What a grant adds to a cell.
 pub(crate) const GRANTED: u64 = 1;
@@ -20,16 +25,16 @@ pub(crate) const WITHDRAWN: u64 = 256;
 /// The ticket, behind a gap.
 pub(crate) const TICKET: usize = NODE_STRIDE;
 
-/// The first cell, behind the words of 32 nodes.
-const FIRST_CELL: usize = TICKET + 33 * NODE_STRIDE;
+/// The first cell, behind the words of all nodes.
+const FIRST_CELL: usize = NODE_STRIDE + NODE_STRIDE * (MOST_NODES as usize + 1);
 
 /// All words.
-pub(crate) const WORDS: usize = FIRST_CELL + 128 * CELL_STRIDE;
+pub(crate) const WORDS: usize = FIRST_CELL + CELLS as usize * CELL_STRIDE;
 
 /// The word of a cell.
 #[inline]
 pub(crate) fn cell_word(cell: u64) -> usize
-    requires { cell < 128 }
+    requires { cell < CELLS }
     ensures { result ≡ cell_at cell }
 {
     FIRST_CELL + cell as usize * CELL_STRIDE
@@ -38,17 +43,49 @@ pub(crate) fn cell_word(cell: u64) -> usize
 /// The word of a node.
 #[inline]
 pub(crate) fn node_word(node: u64) -> usize
-    requires { node ≤ 32 }
+    requires { node ≤ MOST_NODES }
     ensures { result ≡ node_at node }
 {
-    TICKET + node as usize * NODE_STRIDE
+    NODE_STRIDE + NODE_STRIDE * node as usize
+}
+
+/// The cell of a ticket.
+#[inline]
+pub(crate) fn cell_of_ticket(ticket: u64) -> u64
+    ensures { result ≡ cell_of ticket }
+{
+    ticket % CELLS
 }
 
 /// The cell behind this one.
 #[inline]
 pub(crate) fn cell_after(cell: u64) -> u64
-    requires { cell < 128 }
-    ensures { result ≡ (cell + 1) % 128 }
+    requires { cell < CELLS }
+    ensures { result ≡ cell_of (cell + 1) }
 {
     (cell + 1) % CELLS
+}
+
+/// Whether a cell with this word has been granted, if nobody has withdrawn there.
+#[inline]
+pub(crate) fn is_granted(word: u64) -> bool
+    ensures { IsTrue result ↔ (word ≢ 0) }
+{
+    word != 0
+}
+
+/// Whether somebody had withdrawn at a cell with this word, before it was granted.
+#[inline]
+pub(crate) fn is_withdrawn(word: u64) -> bool
+    ensures { IsTrue result ↔ (word ≢ 0) }
+{
+    word != 0
+}
+
+/// The node that had withdrawn at a cell with this word.
+#[inline]
+pub(crate) fn withdrawn_by(word: u64) -> u64
+    ensures { result ≡ withdrawn_by word }
+{
+    word / WITHDRAWN
 }

@@ -1,4 +1,5 @@
 use Rattle.std.proofs.Common.{arith, ◌∙◌, ◌+◌, sym, ap, ◌%◌}
+use Rattle.ring_line.specs.Words.{cell_of}
 use Rattle.ring_line.specs.Steps.{entry_of}
 use Rattle.ring_line.proofs.Turning.{continues_trans, joined_goes}
 use Rattle.ring_line.proofs.Calling.{own_state, continues_from, continues_open, belongs_after, some_nodes, arrived_steps, asking_asks, holds_port, told_port, queued_port, busy_port}
@@ -26,7 +27,7 @@ pub returns-then-not-load-clause-asks : goal.returns-then-not-load-clause-asks
 returns-then-not-load-clause-asks g c _ = asking_asks c.port.inside c.port.view_is (c.renew.ensures.continues _ (continues_open c.port.inside c.requires.belongs c.port.view_is)) c.renew.ensures.count c.ask-port-inside.ensures.asked.asks c.load.ensures.continues (c.load.ensures.waits c.if-not-load.true).1.count
 
 pub arrive-requires-clause-ready : goal.arrive-requires-clause-ready
-arrive-requires-clause-ready g c = (c.load.ensures.seat.2, c.ask-port-inside.ensures.cell ∙ ap (λ k. k % 128) (sym (c.load.ensures.comes c.if-not-load.false).2.place), some_nodes c.port.inside c.requires.belongs c.port.view_is (continues_trans _ _ _ _ (continues_trans _ _ _ _ (c.renew.ensures.continues _ (continues_open c.port.inside c.requires.belongs c.port.view_is)) c.ask-port-inside.ensures.continues) c.load.ensures.continues))
+arrive-requires-clause-ready g c = (c.load.ensures.seat.2, c.ask-port-inside.ensures.cell ∙ ap cell_of (sym (c.load.ensures.comes c.if-not-load.false).2.place), some_nodes c.port.inside c.requires.belongs c.port.view_is (continues_trans _ _ _ _ (continues_trans _ _ _ _ (c.renew.ensures.continues _ (continues_open c.port.inside c.requires.belongs c.port.view_is)) c.ask-port-inside.ensures.continues) c.load.ensures.continues))
 
 pub invariant_of-port-in-None : goal.invariant_of-port-in-None
 invariant_of-port-in-None g c = holds_port c.port.inside c.arrive.new.seat c.arrive.new.parcel c.ask-port-inside.result c.port.invariant (c.arrive.ensures.continues _ (continues_trans _ _ _ _ (continues_trans _ _ _ _ (c.renew.ensures.continues _ (continues_open c.port.inside c.requires.belongs c.port.view_is)) c.ask-port-inside.ensures.continues) c.load.ensures.continues)) c.arrive.ensures.seat.2 c.in-None.ensures.arrived
