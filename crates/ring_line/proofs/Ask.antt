@@ -14,7 +14,7 @@ use Rattle.qolb_model.specs.Requests.{Has, count_of, next_of}
 use Rattle.qolb_model.specs.Views.{own}
 use Rattle.qolb_model.specs.Sound.{Continues}
 use Rattle.qolb_model.proofs.Lists.{slice_get-push, push_cases}
-use Rattle.qolb_model.proofs.Prefixes.{prefix_self, prefix_length}
+use Rattle.qolb_model.proofs.Prefixes.{prefix_length}
 use Rattle.qolb_model.proofs.Requests.{count_of-push_same, has_left, has_last, has_push, lacks_from, same_place}
 use Rattle.qolb_model.proofs.Histories.{legal_ask}
 use Rattle.ring_line.specs.declared.entry.Point.TheVariants.{Idle, Queued}
@@ -24,9 +24,10 @@ use Rattle.ring_line.specs.Words.{ticket_at, cell_at, node_at, cell_of}
 use Rattle.ring_line.specs.Ring.{At, Past, NodeOk, PastOk, Shown, RingRule, has_line, lets_go}
 use Rattle.ring_line.specs.Steps.{sole, Contents, Asked, asked}
 use Rattle.ring_line.proofs.Lists.{at_longer, prefix_more, has_prefix, cleared_ended, clears_wider}
-use Rattle.ring_line.proofs.Nodes.{clash_at, others_ask}
+use Rattle.ring_line.proofs.Nodes.{others_ask, knows_whole, hand_none, passes_none, freed_so}
 use Rattle.ring_line.proofs.Histories.{continues}
 use Rattle.ring_line.proofs.Keeping.{Homes, rule_step, mine_ok, mine_low}
+use Rattle.ring_line.proofs.Turning.{goes_step}
 
 module _ (good : List ℕ → Type 0) (allows : List ℕ → List ℕ → Type 0) (about : Setup) (v : Entry) (idle : v.point ≡ Idle) where
   abbrev new : Past → Request
@@ -41,43 +42,41 @@ module _ (good : List ℕ → Type 0) (allows : List ℕ → List ℕ → Type 0
     point = Queued;
     place = length x.order;
     passed = v.passed;
+    steps = v.steps + 1;
   }
 
   ask_node : (x : Past) → PastOk good allows about x → NodeOk about x v.view.node v → NodeOk about (ask_past x) v.view.node (ask_entry x)
   ask_node x f ok = record {
-    node = refl;
-    label = ok.label;
-    nodes = ok.nodes;
-    opening = ok.opening;
-    orders = prefix_self (x.order ++ new x ∷ []);
-    endings = prefix_self x.ends;
-    clears = prefix_self x.clear;
-    counts = count_of-push_same v.view.node x.order (new x) refl;
-    asked = λ _. omega arith;
-    placed = λ _. slice_get-push x.order (new x);
-    last_open = λ p r at mine h. (omega arith, ⊎_elim (λ t. absurd (ended p r t.1 mine h)) (λ t. t.0) (push_cases x.order (new x) p r at));
-    idle = λ e. cc;
-    queued = λ _. f.legal.ended;
-    holding = λ e. cc;
-    walking = λ e. cc;
-    freeing = λ e. cc;
-    unmarked = λ _. unmarked_new;
-    unclear = λ _. lacks_from x.clear (new x) fresh_request;
-    rolled = λ e. cc;
-    holds = λ e. cc;
-    lacks = λ _. ok.lacks (ap has_line idle);
-    holder = λ e. cc;
-    passed = λ i p at. absurd (clash_at lets_go Idle (ok.passed i p at).in_release idle refl);
-    passed_once = ok.passed_once;
-    own_ends = λ p r end _ _ en _. slice_get_within x.ends p end en;
-    own_marks = λ p r at mine h. ⊎_elim (λ t. ok.own_marks p r t.1 mine h) (λ t. absurd (let k : x.marks p ≡ 0 = ap x.marks t.0 ∙ unmarked_new in omega arith)) (push_cases x.order (new x) p r at);
-    marked_last = λ p r at mine h lacks. ⊎_elim (λ t. absurd (let k = (ok.marked_last p r t.1 mine h lacks).0 in let i = idle in cc)) (λ t. absurd (let k : x.marks p ≡ 0 = ap x.marks t.0 ∙ unmarked_new in omega arith)) (push_cases x.order (new x) p r at);
-    own_flag = λ e. cc;
-    no_flag = λ _. ok.no_flag (λ e. let i = idle in cc);
-    own_joined = λ p r at mine. ⊎_elim (λ t. has_left v.view.joined (new x ∷ []) r (ok.own_joined p r t.1 mine)) (λ t. subst (Has (v.view.joined ++ new x ∷ [])) (sym t.1) (has_last v.view.joined (new x))) (push_cases x.order (new x) p r at);
-    all_joined = λ r h. ⊎_elim (λ t. has_left x.order (new x ∷ []) r (ok.all_joined r t)) (λ t. subst (Has (x.order ++ new x ∷ [])) (sym t) (has_last x.order (new x))) (has_push v.view.joined (new x) r h);
-    all_marked = λ r h. let k = ok.all_marked r h in (k.0, at_longer x.order (new x ∷ []) k.0 r k.1, k.2);
-    freed_clear = λ r h. has_prefix v.view.clear x.clear r ok.clears (ok.freed_clear r h);
+    who = record { node = refl; label = ok.who.label; terms = ok.who.terms };
+    knows = knows_whole (x.order ++ new x ∷ []) x.ends x.clear v.view.node (ask_entry x).view refl refl refl (count_of-push_same v.view.node x.order (new x) refl) (freed_so about x v.view.node v ok);
+    stance = record {
+      asked = λ _. omega arith;
+      placed = λ _. slice_get-push x.order (new x);
+      last_open = λ p r at mine h. (omega arith, ⊎_elim (λ t. absurd (ended p r t.1 mine h)) (λ t. t.0) (push_cases x.order (new x) p r at));
+      idle = λ e. cc;
+      queued = λ _. f.legal.ended;
+      holding = λ e. cc;
+      freeing = λ e. cc;
+      waits = λ _ _. refl;
+    };
+    hand = hand_none x.ends x.hand x.cleared v.view.node (ask_entry x) refl (ok.hand.lacks (ap has_line idle)) (λ e. cc);
+    passes = passes_none ok.passes (ap lets_go idle) (ask_entry x) (length x.ends) x.clear x.marks x.passer refl refl;
+    marks = record {
+      unmarked = λ _. unmarked_new;
+      unclear = λ _. lacks_from x.clear (new x) fresh_request;
+      rolled = λ e. cc;
+      known = λ p r at mine h. ⊎_elim (λ t. ok.marks.known p r t.1 mine h) (λ t. absurd (let k : x.marks p ≡ 0 = ap x.marks t.0 ∙ unmarked_new in omega arith)) (push_cases x.order (new x) p r at);
+      last = λ p r at mine h lacks. ⊎_elim (λ t. absurd (let k = (ok.marks.last p r t.1 mine h lacks).0 in let i = idle in cc)) (λ t. absurd (let k : x.marks p ≡ 0 = ap x.marks t.0 ∙ unmarked_new in omega arith)) (push_cases x.order (new x) p r at);
+      all = λ r h. let k = ok.marks.all r h in (k.0, at_longer x.order (new x ∷ []) k.0 r k.1, k.2);
+    };
+    flag = record {
+      rolled = λ e. cc;
+      not_rolled = λ _. ok.flag.not_rolled (λ e. let i = idle in cc);
+    };
+    joins = record {
+      known = λ p r at mine. ⊎_elim (λ t. has_left v.view.joined (new x ∷ []) r (ok.joins.known p r t.1 mine)) (λ t. subst (Has (v.view.joined ++ new x ∷ [])) (sym t.1) (has_last v.view.joined (new x))) (push_cases x.order (new x) p r at);
+      all = λ r h. ⊎_elim (λ t. has_left x.order (new x ∷ []) r (ok.joins.all r t)) (λ t. subst (Has (x.order ++ new x ∷ [])) (sym t) (has_last x.order (new x))) (has_push v.view.joined (new x) r h);
+    };
   }
     where
       unmarked_new : x.marks (length x.order) ≡ 0
@@ -85,18 +84,18 @@ module _ (good : List ℕ → Type 0) (allows : List ℕ → List ℕ → Type 0
 
       -- the new request stands at one place
       fresh_request : Has x.clear (new x) → ⊥
-      fresh_request h = let o = cleared_ended x.order (length x.ends) x.clear f.cleared (new x) h in let l = legal_ask x.order x.ends v.view.node f.legal in
+      fresh_request h = let o = cleared_ended x.order (length x.ends) x.clear f.cleared (new x) h in let l = legal_ask about.terms.lease x.order x.ends v.view.node f.legal in
           let q = same_place (x.order ++ new x ∷ []) l.numbered o.0 (length x.order) (new x) (at_longer x.order (new x ∷ []) o.0 (new x) o.2) (slice_get-push x.order (new x)) in
           let b = o.1 in let e = f.legal.ended in omega arith
 
       -- none of the node's earlier requests is open
       ended : (p : ℕ) (r : Request) → At x.order p r → r.node ≡ v.view.node → length x.ends ≤ p → ⊥
-      ended p r at mine h = let o = ok.last_open p r at mine h in let i = (ok.idle idle o.0).0 in let e = o.1 in omega arith
+      ended p r at mine h = let o = ok.stance.last_open p r at mine h in let i = (ok.stance.idle idle o.0).0 in let e = o.1 in omega arith
 
-  ask_fine : (x : Past) → 0 < v.view.node → v.view.node ≤ about.nodes → PastOk good allows about x → PastOk good allows about (ask_past x)
+  ask_fine : (x : Past) → 0 < v.view.node → v.view.node ≤ about.terms.nodes → PastOk good allows about x → PastOk good allows about (ask_past x)
   ask_fine x a b f = record {
-    legal = legal_ask x.order x.ends v.view.node f.legal;
-    nodes = λ p r at. ⊎_elim (λ t. f.nodes p r t.1) (λ t. subst (λ (z : Request). (0 < z.node) × (z.node ≤ about.nodes)) (sym t.1) (a, b)) (push_cases x.order (new x) p r at);
+    legal = legal_ask about.terms.lease x.order x.ends v.view.node f.legal;
+    nodes = λ p r at. ⊎_elim (λ t. f.nodes p r t.1) (λ t. subst (λ (z : Request). (0 < z.node) × (z.node ≤ about.terms.nodes)) (sym t.1) (a, b)) (push_cases x.order (new x) p r at);
     kept = f.kept;
     sound = f.sound;
     within = f.within;
@@ -125,18 +124,17 @@ module _ (good : List ℕ → Type 0) (allows : List ℕ → List ℕ → Type 0
     keeps,
     tt,
     rule_step good allows about s r me v (ask_entry r.past) (ask_past r.past) (set s.words ticket_at ((slice_index s.words ticket_at + 1) % 2 ^ 64)) s.homes at' refl fine' (ask_shown r.past s.words s.homes r.shown) (ask_node r.past r.fine ok)
-        (λ n a b ne. others_ask about r.past n (r.who n) (r.each n a b) (new r.past) r.fine.legal.ended (λ e. ne (sym e))),
+        (λ n a b ne. others_ask about r.past n (r.who n) (r.each n a b) (new r.past) (λ e. ne (sym e))),
     (
       refl,
-      refl,
-      subst (λ u. Continues allows (sole u).view (ask_entry r.past).view) (sym is) learns,
+      goes_step allows m v (ask_entry r.past) m.1 is learns refl,
       subst (λ u. Asked (sole u) (slice_index s.words ticket_at) (ask_entry r.past)) (sym is) record {
         point = refl;
         cell = ap cell_of r.shown.ticket ∙ mod-mod-pow (length r.past.order) 56 8;
         asks = record {
-          was_clear = λ before. has_prefix v.view.clear r.past.clear (own v.view) ok.clears (ok.idle idle before).1;
-          count = ap (λ k. k + 1) ok.counts;
-          behind = (length r.past.order, prefix_length v.view.order r.past.order ok.orders, slice_get-push r.past.order (new r.past));
+          was_clear = λ before. has_prefix v.view.clear r.past.clear (own v.view) ok.knows.clears (ok.stance.idle idle before).1;
+          count = ap (λ k. k + 1) ok.knows.counts;
+          behind = (length r.past.order, prefix_length v.view.order r.past.order ok.knows.orders, slice_get-push r.past.order (new r.past));
         };
         joined = has_last v.view.joined (new r.past);
       },
@@ -154,4 +152,4 @@ module _ (good : List ℕ → Type 0) (allows : List ℕ → List ℕ → Type 0
 
       learns : Continues allows v.view (ask_entry r.past).view
       learns = continues good allows about r.past (ask_past r.past) fine' v.view.node v.view.node v (ask_entry r.past) ok (ask_node r.past r.fine ok) refl
-          (prefix_more v.view.order r.past.order (new r.past ∷ []) ok.orders) ok.endings ok.clears (λ q h. has_left v.view.joined (new r.past ∷ []) q h) (λ q h. h) (λ q h. h)
+          (prefix_more v.view.order r.past.order (new r.past ∷ []) ok.knows.orders) ok.knows.endings ok.knows.clears (λ q h. has_left v.view.joined (new r.past ∷ []) q h) (λ q h. h) (λ q h. h)

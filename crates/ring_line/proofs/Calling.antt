@@ -1,27 +1,39 @@
 -- What a port's fields, and what its contract shows of them, are after a call.
-use Rattle.std.proofs.Common.{◌≡◌, ℕ, ◌+◌, ◌*◌, ◌%◌, ◌≤◌, List, [], ◌∷◌, true, false, sym, ap, ◌∙◌, subst, Some, None, Bool, arith, bit_or}
+use Rattle.std.proofs.Common.{◌≡◌, ◌≢◌, ℕ, ◌+◌, ◌*◌, ◌≤◌, inr, List, [], ◌∷◌, true, false, sym, refl, ap, ◌∙◌, subst, Some, None, Bool, ◌||◌, arith, bit_or}
 use Rattle.line_lanes.specs.Line.{merged}
 use Rattle.atomic_table.specs.Seated.{TableId}
+use Rattle.qolb_model.specs.declared.terms.TheConstants.{MOST_NODES}
+use Rattle.qolb_model.specs.declared.terms.Terms.{Terms}
+use Rattle.qolb_model.specs.declared.answer.Enq.TheVariants as enq
+use Rattle.qolb_model.specs.declared.answer.Poll.TheVariants as poll
+use Rattle.qolb_model.specs.declared.answer.Out.TheVariants as out
 use Rattle.qolb_model.specs.declared.answer.PortState.{PortState}
 use Rattle.qolb_model.specs.declared.answer.PortState.TheVariants as shows
 use Rattle.qolb_model.specs.declared.end.End.TheVariants.{Served}
 use Rattle.qolb_model.specs.declared.view.View.{View}
 use Rattle.qolb_model.specs.declared.write.Write.{Write}
+use Rattle.qolb_model.specs.PortStates.{left_by}
+use Rattle.qolb_model.specs.Leases.{turns_left, closes}
+use Rattle.qolb_model.specs.Steps.{is_one}
 use Rattle.qolb_model.specs.Ends.{is_closed, bytes_after, written}
-use Rattle.qolb_model.specs.Views.{bytes_of}
+use Rattle.qolb_model.specs.Views.{bytes_of, Extends}
 use Rattle.qolb_model.specs.Kept.{MayRelease}
 use Rattle.qolb_model.specs.Sound.{Continues}
-use Rattle.qolb_model.specs.Asking.{Asks}
-use Rattle.qolb_model.specs.LettingGo.{Releases}
+use Rattle.qolb_model.specs.Asking.{IsBusy, Asks, IsJoined}
+use Rattle.qolb_model.specs.Turns.{IsGranted, IsQueued, IsWithdrawn}
+use Rattle.qolb_model.specs.LettingGo.{IsTold, EndsTurn}
+use Rattle.qolb_model.specs.Calls.{Enqueues, Polls, Withdraws, Releases}
+use Rattle.qolb_model.proofs.Leases.{last-is_one}
 use Rattle.qolb_model.proofs.Writes.{bytes_after-release}
 use Rattle.ring_line.specs.Words.{cell_of}
+use Rattle.ring_line.specs.declared.entry.Point.TheVariants.{Holding}
 use Rattle.ring_line.specs.declared.entry.Entry.{Entry}
 use Rattle.ring_line.specs.declared.port.Port.TheInside.{Inside}
 use Rattle.ring_line.specs.declared.rule.Parcel.{Parcel}
 use Rattle.ring_line.specs.declared.rule.Setup.{Setup}
-use Rattle.ring_line.specs.Steps.{RingSeat, Alone, entry_of, sole, write_of, own_end, left_by, Carries, IsEarly}
-use Rattle.ring_line.specs.Releases.{IsRenewed, LetsLineGo}
-use Rattle.ring_line.specs.Ports.{Standing, standing, IsMerged, Holds, Stands, IsPort, BelongsTo, Arrived}
+use Rattle.ring_line.specs.Steps.{RingSeat, SameSeat, HasSlot, HasNoSlot, Alone, entry_of, sole, GoesOn, write_of, own_end, Carries, IsEarly, IsRolled}
+use Rattle.ring_line.specs.Releases.{IsRenewed, IsPutBack, LetsLineGo}
+use Rattle.ring_line.specs.Ports.{Standing, standing, Holds, Stands, IsPort, BelongsTo, Arrived}
 use Rattle.ring_line.proofs.Turning.{continues_sound, sound_goes, asks_goes, asks_from}
 use Rattle.ring_line.proofs.Releasing.{carries_served, holds_written}
 
@@ -35,71 +47,138 @@ seen q = standing q.seat q.parcel q.steps
 abbrev pub known : Inside → View
 known q = (entry_of q.seat).view
 
--- the steps go on from what the contract speaks of
-pub continues_from : {allows : List ℕ → List ℕ → Type 0} {p : Standing} {w : View} (q : Inside) → seen q ≡ p → Continues allows (known q) w → Continues allows p.view w
-continues_from {allows} {w = w} q is c = subst (λ (x : Standing). Continues allows x.view w) is c
+-- after n steps of a port of the line
+module _ {good : List ℕ → Type 0} {allows : List ℕ → List ℕ → Type 0} {key : Setup} {table_id : TableId} {p : Standing} (q : Inside) (b : BelongsTo good allows key table_id p) (is : seen q ≡ p) (t : RingSeat) (n : ℕ) (same : SameSeat q.seat t) (goes : GoesOn allows q.seat.me t.me n) where
+  -- it goes on knowing
+  pub call_continues : Continues allows p.view (entry_of t).view
+  call_continues = goes.continues p.view (subst (λ (x : Standing). Continues allows p.view x.view) (sym is) (continues_sound good allows key.label key.terms p.view b.sound))
 
--- a port that belongs to a line goes on with itself
-pub continues_open : {good : List ℕ → Type 0} {allows : List ℕ → List ℕ → Type 0} {key : Setup} {table_id : TableId} {p : Standing} (q : Inside) → BelongsTo good allows key table_id p → seen q ≡ p → Continues allows (known q) (known q)
-continues_open {good} {allows} {key} {p = p} q b is = subst (λ (x : Standing). Continues allows x.view x.view) (sym is) (continues_sound good allows key.label key.nodes key.opening.bytes p.view b.sound)
+  -- it belongs to the line
+  pub call_belongs : (z : Parcel) (steps : ℕ) → BelongsTo good allows key table_id (standing t z steps)
+  call_belongs z steps = record {
+    table_is = same.0 ∙ (ap (λ (x : Standing). x.table) is ∙ b.table_is);
+    sound = sound_goes good allows key.label key.terms p.view (entry_of t).view b.sound call_continues;
+  }
 
--- it belongs to the line after the call
-pub belongs_after : {good : List ℕ → Type 0} {allows : List ℕ → List ℕ → Type 0} {key : Setup} {table_id : TableId} {p : Standing} (q : Inside) (t : RingSeat) (z : Parcel) (steps : ℕ) → BelongsTo good allows key table_id p → seen q ≡ p → t.table_id ≡ q.seat.table_id
-    → Continues allows (known q) (entry_of t).view → BelongsTo good allows key table_id (standing t z steps)
-belongs_after {good} {allows} {key} {p = p} q t z steps b is same c = record {
-  table_is = same ∙ (ap (λ (x : Standing). x.table) is ∙ b.table_is);
-  sound = sound_goes good allows key.label key.nodes key.opening.bytes p.view (entry_of t).view b.sound (continues_from q is c);
-}
+  -- and has counted its steps
+  pub call_taken : (steps : ℕ) → steps ≡ n → (entry_of t).steps ≡ p.taken + steps
+  call_taken steps e = omega (arith, goes.counted, ap (λ (x : Standing). x.taken) is)
 
--- and the line has a node
-pub some_nodes : {good : List ℕ → Type 0} {allows : List ℕ → List ℕ → Type 0} {key : Setup} {table_id : TableId} {p : Standing} {w : View} (q : Inside) → BelongsTo good allows key table_id p → seen q ≡ p → Continues allows (known q) w → 1 ≤ w.nodes
-some_nodes {allows = allows} {p = p} {w = w} q b is c =
-    let went : Continues allows p.view w = continues_from q is c in
-    omega (arith, went.extends.nodes, b.sound.nodes_are, b.sound.first_node, b.sound.last_node)
+  -- the line has a node, and not too many
+  pub call_nodes : (1 ≤ (entry_of t).view.terms.nodes) × ((entry_of t).view.terms.nodes ≤ MOST_NODES)
+  call_nodes = let terms = ap (λ (x : Terms). x.nodes) (call_continues.extends.terms ∙ b.sound.terms_are) in let may = b.sound.may_open.nodes in (omega (arith, terms, may.some), omega (arith, terms, may.few))
 
--- how many steps it took that a closed line came
-pub arrived_steps : {good : List ℕ → Type 0} {allows : List ℕ → List ℕ → Type 0} {key : Setup} {table_id : TableId} {p : Standing} (q : Inside) (t : RingSeat) (z : Parcel) (cell steps : ℕ) → BelongsTo good allows key table_id p → seen q ≡ p
-    → Continues allows (known q) (entry_of t).view → Arrived t z cell (Some steps) → steps + 1 ≤ 3 * key.nodes
-arrived_steps {allows = allows} {p = p} q t z cell steps b is c a =
-    let went : Continues allows p.view (entry_of t).view = continues_from q is c in
-    omega (arith, a.4, went.extends.nodes, b.sound.nodes_are)
+  pub call_terms : (entry_of t).view.terms.nodes ≡ key.terms.nodes
+  call_terms = ap (λ (x : Terms). x.nodes) (call_continues.extends.terms ∙ b.sound.terms_are)
 
--- a node that was made ready, asked and loaded has asked
-pub asking_asks : {allows : List ℕ → List ℕ → Type 0} {p : Standing} {r a l : View} (q : Inside) → seen q ≡ p → Continues allows (known q) r → r.count ≡ (known q).count → Asks r a → Continues allows a l → l.count ≡ a.count → Asks p.view l
+  -- the port after the call, where its state is this
+  pub call_port : {state : PortState} (z : Parcel) (cell : ℕ) → IsBetween q → Stands t z cell state → (entry_of t).view.state ≡ state → IsPort q.label q.node t z cell state
+  call_port z cell between stands shown = record {
+    alone = goes.alone;
+    stands = stands;
+    shows_state = shown;
+    label_is = goes.extends.label ∙ between.label_is;
+    node_is = goes.extends.node ∙ between.node_is;
+  }
+
+-- a node that was made ready, asked and loaded its cell has asked
+pub asking_asks : {p : Standing} {r a l : View} (q : Inside) → seen q ≡ p → Extends (known q) r → r.count ≡ (known q).count → Asks r a → Extends a l → l.count ≡ a.count → Asks p.view l
 asking_asks {r = r} {a = a} {l = l} q is ready same asks later count =
-    subst (λ (x : Standing). Asks x.view l) is (asks_goes (known q) a l (asks_from (known q) r a ready.extends same asks) later.extends count)
+    subst (λ (x : Standing). Asks x.view l) is (asks_goes (known q) a l (asks_from (known q) r a ready same asks) later count)
 
--- the port after the call: it holds
-pub holds_port : {allows : List ℕ → List ℕ → Type 0} (q : Inside) (t : RingSeat) (z : Parcel) (cell : ℕ) → IsBetween q → Continues allows (known q) (entry_of t).view → Alone t.me → Arrived t z cell None → IsPort q.label q.node t z cell shows.Holding
-holds_port q t z cell between c alone a = record { alone = alone; stands = a.0; shows_state = a.1; label_is = c.extends.label ∙ between.label_is; node_is = c.extends.node ∙ between.node_is }
+-- where the line arrived, the port holds it, or was told that it is closed
+pub arrived_stands : (t : RingSeat) (z : Parcel) (cell before steps : ℕ) (state : PortState) → Arrived t z cell before steps state → Stands t z cell state × ((entry_of t).view.state ≡ state)
+arrived_stands t z cell before steps shows.Idle a = absurd a
+arrived_stands t z cell before steps shows.Linking a = absurd a
+arrived_stands t z cell before steps shows.Queued a = absurd a
+arrived_stands t z cell before steps shows.Holding a = (a.0, a.1)
+arrived_stands t z cell before steps shows.Left a = absurd a
+arrived_stands t z cell before steps shows.Rolled a = absurd a
+arrived_stands t z cell before steps shows.Shut a = ((a.0, a.1), a.2)
 
--- it has passed a closed line on
-pub told_port : {allows : List ℕ → List ℕ → Type 0} (q : Inside) (t : RingSeat) (z : Parcel) (cell steps : ℕ) → IsBetween q → Continues allows (known q) (entry_of t).view → Alone t.me → Arrived t z cell (Some steps) → IsPort q.label q.node t z cell shows.Shut
-told_port q t z cell steps between c alone a = record { alone = alone; stands = (a.0, a.1); shows_state = a.2; label_is = c.extends.label ∙ between.label_is; node_is = c.extends.node ∙ between.node_is }
+pub granted_of : (t : RingSeat) (z : Parcel) (cell before steps : ℕ) (state : PortState) → Arrived t z cell before steps state → state ≡ shows.Holding → IsGranted (entry_of t).view (write_of z) × (steps ≡ before)
+granted_of t z cell before steps shows.Idle a h = absurd a
+granted_of t z cell before steps shows.Linking a h = absurd a
+granted_of t z cell before steps shows.Queued a h = absurd a
+granted_of t z cell before steps shows.Holding a h = (a.2, a.3)
+granted_of t z cell before steps shows.Left a h = absurd a
+granted_of t z cell before steps shows.Rolled a h = absurd a
+granted_of t z cell before steps shows.Shut a h = absurd (cc h)
 
--- it waits
-pub queued_port : {allows : List ℕ → List ℕ → Type 0} {a : Entry} (q : Inside) (l : RingSeat) (cell : ℕ) → IsBetween q → Continues allows (known q) (entry_of l).view → Alone l.me → (l.me.1 ≡ []) × IsEarly a (entry_of l) → cell ≡ cell_of a.place → IsPort q.label q.node l q.parcel cell shows.Queued
-queued_port q l cell between c alone waits is = record {
-  alone = alone;
-  stands = (waits.1.point, waits.0, is ∙ ap cell_of (sym waits.1.place));
-  shows_state = waits.1.state;
-  label_is = c.extends.label ∙ between.label_is;
-  node_is = c.extends.node ∙ between.node_is;
-}
+pub told_of : (t : RingSeat) (z : Parcel) (cell before steps : ℕ) (state : PortState) → Arrived t z cell before steps state → state ≢ shows.Holding → IsTold (entry_of t).view × (steps + 1 ≤ before + 3 * (entry_of t).view.terms.nodes)
+told_of t z cell before steps shows.Idle a h = absurd a
+told_of t z cell before steps shows.Linking a h = absurd a
+told_of t z cell before steps shows.Queued a h = absurd a
+told_of t z cell before steps shows.Holding a h = absurd (h refl)
+told_of t z cell before steps shows.Left a h = absurd a
+told_of t z cell before steps shows.Rolled a h = absurd a
+told_of t z cell before steps shows.Shut a h = (a.3, a.4)
+
+-- the answers of the calls that ask
+module _ {allows : List ℕ → List ℕ → Type 0} {v w : View} {turn : Write} (c : Continues allows v w) where
+  pub enqueues_busy : IsBusy v w → Enqueues allows v w turn enq.Busy
+  enqueues_busy busy = record { continues = c; busy = λ _. busy; asks = λ ne. absurd (ne refl); joined = λ ne. absurd (ne refl); granted = λ e. absurd (cc e); queued = λ e. absurd (cc e); told = λ e. absurd (cc e) }
+
+  pub enqueues_queued : Asks v w → IsJoined w → IsQueued w → Enqueues allows v w turn enq.Queued
+  enqueues_queued asks joined queued = record { continues = c; busy = λ e. absurd (cc e); asks = λ _. asks; joined = λ _. joined; granted = λ e. absurd (cc e); queued = λ _. queued; told = λ e. absurd (cc e) }
+
+  pub enqueues_granted : Asks v w → IsJoined w → IsGranted w turn → Enqueues allows v w turn enq.Granted
+  enqueues_granted asks joined granted = record { continues = c; busy = λ e. absurd (cc e); asks = λ _. asks; joined = λ _. joined; granted = λ _. granted; queued = λ e. absurd (cc e); told = λ e. absurd (cc e) }
+
+  pub enqueues_told : Asks v w → IsJoined w → IsTold w → Enqueues allows v w turn enq.Closed
+  enqueues_told asks joined told = record { continues = c; busy = λ e. absurd (cc e); asks = λ _. asks; joined = λ _. joined; granted = λ e. absurd (cc e); queued = λ e. absurd (cc e); told = λ _. told }
+
+  module _ (count : w.count ≡ v.count) where
+    pub polls_waiting : IsQueued w → Polls allows v w turn poll.Waiting
+    polls_waiting waits = record { continues = c; count = count; granted = λ e. absurd (cc e); waiting = λ _. waits; told = λ e. absurd (cc e) }
+
+    pub polls_granted : IsGranted w turn → Polls allows v w turn poll.Granted
+    polls_granted granted = record { continues = c; count = count; granted = λ _. granted; waiting = λ e. absurd (cc e); told = λ e. absurd (cc e) }
+
+    pub polls_told : IsTold w → Polls allows v w turn poll.Closed
+    polls_told told = record { continues = c; count = count; granted = λ e. absurd (cc e); waiting = λ e. absurd (cc e); told = λ _. told }
+
+    pub withdraws_withdrawn : IsWithdrawn w → Withdraws allows v w turn out.Withdrawn
+    withdraws_withdrawn withdrawn = record { continues = c; count = count; withdrawn = λ _. withdrawn; granted = λ e. absurd (cc e); told = λ e. absurd (cc e) }
+
+    pub withdraws_granted : IsGranted w turn → Withdraws allows v w turn out.Granted
+    withdraws_granted granted = record { continues = c; count = count; withdrawn = λ e. absurd (cc e); granted = λ _. granted; told = λ e. absurd (cc e) }
+
+    pub withdraws_told : IsTold w → Withdraws allows v w turn out.Closed
+    withdraws_told told = record { continues = c; count = count; withdrawn = λ e. absurd (cc e); granted = λ e. absurd (cc e); told = λ _. told }
+
+-- a request behind another waits, or is withdrawn
+pub early_waits : (v w : Entry) → IsEarly v w → IsQueued w.view
+early_waits v w e = record { state = e.state; waits = (w.place, e.early, e.placed); unmarked = e.unmarked }
+
+pub rolled_withdrawn : (v w : Entry) → IsRolled v w → IsWithdrawn w.view
+rolled_withdrawn v w e = record { state = e.state; waits = (w.place, e.early, e.placed); marked = e.marked }
+
+pub early_stands : (v : Entry) (t : RingSeat) (z : Parcel) (cell : ℕ) → HasNoSlot t × IsEarly v (entry_of t) → cell ≡ cell_of v.place → Stands t z cell shows.Queued
+early_stands v t z cell e is = (e.1.point, e.0, is ∙ ap cell_of (sym e.1.place))
+
+-- the count of a port's requests, as its contract shows it
+pub same_count : {p : Standing} (w : View) (q : Inside) → seen q ≡ p → w.count ≡ (known q).count → w.count ≡ p.view.count
+same_count w q is e = e ∙ ap (λ (x : Standing). x.view.count) is
 
 -- its node is busy, and stays withdrawn
-pub busy_port : {allows : List ℕ → List ℕ → Type 0} (q : Inside) (r : RingSeat) → IsBetween q → Continues allows (known q) (entry_of r).view → Alone r.me → r.me.1 ≡ q.seat.me.1 → IsRenewed q.state (entry_of q.seat) (entry_of r) None → IsPort q.label q.node r q.parcel q.cell q.state
-busy_port q r between c alone slot busy = record {
-  alone = alone;
-  stands = subst (Stands r q.parcel q.cell) (sym busy.0) (busy.1, slot ∙ (subst (Stands q.seat q.parcel q.cell) busy.0 between.stands).1);
-  shows_state = busy.2 ∙ between.shows_state;
-  label_is = c.extends.label ∙ between.label_is;
-  node_is = c.extends.node ∙ between.node_is;
-}
+pub busy_stands : (q : Inside) (t : RingSeat) → IsBetween q → t.me.1 ≡ q.seat.me.1 → IsRenewed q.state (entry_of q.seat) (entry_of t) None → Stands t q.parcel q.cell q.state × ((entry_of t).view.state ≡ q.state)
+busy_stands q t between slot busy = (
+  subst (Stands t q.parcel q.cell) (sym busy.0) (busy.1, slot ∙ (subst (Stands q.seat q.parcel q.cell) busy.0 between.stands).1),
+  busy.2 ∙ between.shows_state,
+)
 
 -- the state that a port shows is its own
 pub own_state : {p : Standing} (q : Inside) → IsBetween q → seen q ≡ p → p.view.state ≡ q.state
 own_state q between is = ap (λ (x : Standing). x.view.state) (sym is) ∙ between.shows_state
+
+pub is_busy : {p : Standing} (q : Inside) (t : RingSeat) → IsBetween q → seen q ≡ p → IsRenewed q.state (entry_of q.seat) (entry_of t) None → IsBusy p.view (entry_of t).view
+is_busy q t between is busy = record {
+  was = inr (own_state q between is ∙ busy.0);
+  unclear = busy.4;
+  state = busy.2 ∙ ap (λ (x : Standing). x.view.state) is;
+  count = busy.3 ∙ ap (λ (x : Standing). x.view.count) is;
+}
 
 -- a port that shows that it holds holds
 shown_state : {p : Standing} (q : Inside) → IsBetween q → seen q ≡ p → p.view.state ≡ shows.Holding → q.state ≡ shows.Holding
@@ -108,8 +187,18 @@ shown_state q between is held = sym between.shows_state ∙ (ap (λ (x : Standin
 pub holds_of : {p : Standing} (q : Inside) → IsBetween q → seen q ≡ p → p.view.state ≡ shows.Holding → Holds q.seat q.parcel q.cell
 holds_of q between is held = subst (Stands q.seat q.parcel q.cell) (shown_state q between is held) between.stands
 
+-- no port is ever Left or Linking
+pub never_linked : (label node : ℕ) (s : RingSeat) (y : Parcel) (cell : ℕ) (state : PortState) → IsPort label node s y cell state → (state ≢ shows.Left) × (state ≢ shows.Linking)
+never_linked label node s y cell shows.Idle p = ((λ e. cc e), (λ e. cc e))
+never_linked label node s y cell shows.Linking p = absurd p.stands
+never_linked label node s y cell shows.Queued p = ((λ e. cc e), (λ e. cc e))
+never_linked label node s y cell shows.Holding p = ((λ e. cc e), (λ e. cc e))
+never_linked label node s y cell shows.Left p = absurd p.stands
+never_linked label node s y cell shows.Rolled p = ((λ e. cc e), (λ e. cc e))
+never_linked label node s y cell shows.Shut p = ((λ e. cc e), (λ e. cc e))
+
 -- it writes
-pub written_port : {p : Standing} (q : Inside) (z : Parcel) (mask : ℕ) (bytes : List ℕ) → IsBetween q → seen q ≡ p → p.view.state ≡ shows.Holding → z.bytes.bytes ≡ merged q.parcel.bytes.bytes bytes mask → z.mask.0 ≡ bit_or q.parcel.mask.0 mask → z.closed ≡ q.parcel.closed
+pub written_port : {p : Standing} (q : Inside) (z : Parcel) (mask : ℕ) (bytes : List ℕ) → IsBetween q → seen q ≡ p → p.view.state ≡ shows.Holding → z.bytes.bytes ≡ merged q.parcel.bytes.bytes bytes mask → z.mask.0 ≡ bit_or q.parcel.mask.0 mask → z.turns_left ≡ q.parcel.turns_left
     → IsPort q.label q.node q.seat z q.cell q.state
 written_port q z mask bytes between is held b m c = record {
   alone = between.alone;
@@ -119,45 +208,75 @@ written_port q z mask bytes between is held b m c = record {
   node_is = between.node_is;
 }
 
--- it puts the line back into its slot, closed or not, and lets it go
-abbrev pub IsPutBack : Inside → Parcel → RingSeat → Type 0
-IsPutBack q z u = (u.table_id ≡ q.seat.table_id) × (u.id ≡ q.seat.id) × (u.me ≡ (q.seat.me.0, (0, z) ∷ []))
+-- a holder's turns
+module _ {good : List ℕ → Type 0} {allows : List ℕ → List ℕ → Type 0} {key : Setup} {table_id : TableId} {p : Standing} (q : Inside) (b : BelongsTo good allows key table_id p) (is : seen q ≡ p) (between : IsBetween q) (held : p.view.state ≡ shows.Holding) where
+  its : Holds q.seat q.parcel q.cell
+  its = holds_of q between is held
 
-put_entry : (q : Inside) (z : Parcel) (u : RingSeat) → IsPutBack q z u → entry_of u ≡ entry_of q.seat
-put_entry q z u put = ap (λ m. sole m.0) put.2
+  pub left_of : q.parcel.turns_left ≡ turns_left key.terms.lease p.view.ends
+  left_of = its.turns ∙ ap (λ (x : Standing). turns_left x.view.terms.lease x.view.ends) is ∙ ap (λ (t : Terms). turns_left t.lease p.view.ends) b.sound.terms_are
 
-pub put_slot : (q : Inside) (z : Parcel) (u : RingSeat) → IsPutBack q z u → u.me.1 ≡ (0, z) ∷ []
-put_slot q z u put = ap (λ m. m.1) put.2
+  pub some_left : q.parcel.turns_left ≢ Some 0
+  some_left = its.some_left
 
-pub put_carries : {p : Standing} (allows : List ℕ → List ℕ → Type 0) (q : Inside) (z : Parcel) (u : RingSeat) → IsBetween q → seen q ≡ p → p.view.state ≡ shows.Holding → MayRelease allows p.view p.turn → write_of z ≡ write_of q.parcel → IsPutBack q z u
-    → (y : Parcel) × (u.me.1 ≡ (0, y) ∷ []) × Carries allows (entry_of u) y
-put_carries allows q z u between is held may same put =
-    let h = holds_of q between is held in
-    let here : MayRelease allows (known q) (write_of z) = subst (MayRelease allows (known q)) (sym same) (subst (λ (x : Standing). MayRelease allows x.view x.turn) (sym is) may) in
-    let merged : IsMerged (known q) z = subst (λ (w : Write). written (bytes_of (known q)) w ≡ w.bytes.bytes) (sym same) h.merged in
-    (z, put_slot q z u put, subst (λ e. Carries allows e z) (sym (put_entry q z u put)) (carries_served allows (entry_of q.seat) z h.none_passed h.is_open merged here))
+  -- its slot is open, and says so too
+  pub slot_of : (y : Parcel) × HasSlot q.seat y × (y.closed ≡ false) × (y.turns_left ≡ q.parcel.turns_left)
+  slot_of = (its.slot, its.carried, its.slot_open, its.slot_turns)
 
-pub put_continues : {allows : List ℕ → List ℕ → Type 0} {w : View} (q : Inside) (z : Parcel) (u : RingSeat) → IsPutBack q z u → Continues allows (entry_of u).view w → Continues allows (known q) w
-put_continues {allows} {w} q z u put c = subst (λ (e : Entry). Continues allows e.view w) (put_entry q z u put) c
+  -- the line is put back into it, closed or not
+  module _ (shut closed : Bool) (is_shut : closed ≡ (shut || is_one q.parcel.turns_left)) (u : RingSeat) (same : SameSeat q.seat u) (entries : u.me.0 ≡ q.seat.me.0) (back : (y : Parcel) × HasSlot u y × IsPutBack q.parcel closed y) where
+    entry : entry_of u ≡ entry_of q.seat
+    entry = ap sole entries
 
-pub released : {p : Standing} (q : Inside) (z : Parcel) (u t : RingSeat) → IsBetween q → seen q ≡ p → p.view.state ≡ shows.Holding → write_of z ≡ write_of q.parcel → IsPutBack q z u → LetsLineGo (entry_of u) z (entry_of t)
-    → Releases p.view (Served p.turn z.closed) (left_by z.closed) (entry_of t).view
-released q z u t between is held same put l =
-    let here : LetsLineGo (entry_of q.seat) z (entry_of t) = subst (λ e. LetsLineGo e z (entry_of t)) (put_entry q z u put) l in
-    let end : own_end (is_closed (known q).ends) z ≡ Served (write_of q.parcel) z.closed = ap (λ b. own_end b z) (holds_of q between is held).is_open ∙ ap (λ w. Served w z.closed) same in
-    subst (λ (x : Standing). Releases x.view (Served x.turn z.closed) (left_by z.closed) (entry_of t).view) is (subst (λ e. Releases (known q) e (left_by z.closed) (entry_of t).view) end here.releases)
+    pub put_at : (entry_of u).point ≡ Holding
+    put_at = ap (λ (e : Entry). e.point) entry ∙ its.point
 
--- with the bytes that it wrote
-pub released_bytes : {allows : List ℕ → List ℕ → Type 0} {p : Standing} {w : View} {shut : Bool} {leaves : PortState} (q : Inside) → IsBetween q → seen q ≡ p → p.view.state ≡ shows.Holding → Continues allows (known q) w → Releases p.view (Served p.turn shut) leaves w
-    → bytes_of w ≡ p.turn.bytes.bytes
-released_bytes {allows} {p} {w} {shut} q between is held c r =
-    let merged : written (bytes_of p.view) p.turn ≡ p.turn.bytes.bytes = subst (λ (x : Standing). written (bytes_of x.view) x.turn ≡ x.turn.bytes.bytes) is (holds_of q between is held).merged in
-    let went : Continues allows p.view w = continues_from q is c in
-    (λ i. bytes_after (went.extends.opening i).bytes (r.ends i)) ∙ (bytes_after-release p.view.opening.bytes p.view.ends p.turn shut r.passed ∙ merged)
+    pub put_closes : closed ≡ closes (known q).terms.lease (known q).ends shut
+    put_closes = is_shut ∙ ap (λ b. shut || b) (ap is_one its.turns ∙ last-is_one (known q).terms.lease (known q).ends)
 
--- and is then idle, or knows that the line is closed
-pub idle_port : {allows : List ℕ → List ℕ → Type 0} {v : Entry} {z : Parcel} (q : Inside) (t : RingSeat) (y : Parcel) (cell : ℕ) → IsBetween q → Continues allows (known q) (entry_of t).view → Alone t.me → t.me.1 ≡ [] → LetsLineGo v z (entry_of t) → z.closed ≡ false → IsPort q.label q.node t y cell shows.Idle
-idle_port q t y cell between c alone slot l unclosed = record { alone = alone; stands = (l.point, slot); shows_state = l.state ∙ ap left_by unclosed; label_is = c.extends.label ∙ between.label_is; node_is = c.extends.node ∙ between.node_is }
+    pub put_carries : MayRelease allows p.view p.turn → (y : Parcel) × HasSlot u y × Carries allows (entry_of u) y
+    put_carries may = (
+      back.0,
+      back.1,
+      subst (λ e. Carries allows e back.0) (sym entry)
+          (carries_served allows (entry_of q.seat) q.parcel back.0 shut its.none_passed its.is_open its.turns its.merged (subst (λ (x : Standing). MayRelease allows x.view x.turn) (sym is) may) (subst (λ c. IsPutBack q.parcel c back.0) put_closes back.2)),
+    )
 
-pub shut_port : {allows : List ℕ → List ℕ → Type 0} {v : Entry} {z : Parcel} (q : Inside) (t : RingSeat) (y : Parcel) (cell : ℕ) → IsBetween q → Continues allows (known q) (entry_of t).view → Alone t.me → t.me.1 ≡ [] → LetsLineGo v z (entry_of t) → z.closed ≡ true → IsPort q.label q.node t y cell shows.Shut
-shut_port q t y cell between c alone slot l closed = record { alone = alone; stands = (l.point, slot); shows_state = l.state ∙ ap left_by closed; label_is = c.extends.label ∙ between.label_is; node_is = c.extends.node ∙ between.node_is }
+    pub put_goes : Alone u.me
+    put_goes = entries ∙ (between.alone ∙ ap (λ es. sole es ∷ []) (sym entries))
+
+    -- and let go
+    pub let_go_releases : (t : RingSeat) (n : ℕ) → GoesOn allows q.seat.me t.me n → SameSeat q.seat t → LetsLineGo (entry_of u) back.0 (entry_of t) → Releases allows shut p.view (entry_of t).view p.turn
+    let_go_releases t n goes seat l = record {
+      continues = c;
+      ends_turn = ends;
+      bytes = (λ i. bytes_after (c.extends.terms i).opening.bytes (ends.ends i)) ∙ (bytes_after-release p.view.terms.opening.bytes p.view.ends p.turn (closes p.view.terms.lease p.view.ends shut) ends.passed ∙ merged);
+    }
+      where
+        c : Continues allows p.view (entry_of t).view
+        c = call_continues q b is t n seat goes
+
+        merged : written (bytes_of p.view) p.turn ≡ p.turn.bytes.bytes
+        merged = subst (λ (x : Standing). written (bytes_of x.view) x.turn ≡ x.turn.bytes.bytes) is its.merged
+
+        here : LetsLineGo (entry_of q.seat) back.0 (entry_of t)
+        here = subst (λ e. LetsLineGo e back.0 (entry_of t)) entry l
+
+        what : own_end (is_closed (known q).ends) back.0 ≡ Served (write_of q.parcel) (closes (known q).terms.lease (known q).ends shut)
+        what = ap (λ k. own_end k back.0) its.is_open ∙ (λ i. Served (record { mask = back.2.mask i; bytes = back.2.bytes i }) ((back.2.closed_is ∙ put_closes) i))
+
+        leaves : left_by back.0.closed ≡ left_by (closes (known q).terms.lease (known q).ends shut)
+        leaves = ap left_by (back.2.closed_is ∙ put_closes)
+
+        ends : let closing = closes p.view.terms.lease p.view.ends shut in EndsTurn p.view (Served p.turn closing) (left_by closing) (entry_of t).view
+        ends = subst (λ (x : Standing). EndsTurn x.view (Served x.turn (closes x.view.terms.lease x.view.ends shut)) (left_by (closes x.view.terms.lease x.view.ends shut)) (entry_of t).view) is
+            (subst (λ e. EndsTurn (known q) e (left_by (closes (known q).terms.lease (known q).ends shut)) (entry_of t).view) what
+            (subst (λ k. EndsTurn (known q) (own_end (is_closed (known q).ends) back.0) k (entry_of t).view) leaves here.ends_turn))
+
+    -- the state that this leaves
+    pub let_go_stands : (t : RingSeat) (z : Parcel) (cell : ℕ) → HasNoSlot t → LetsLineGo (entry_of u) back.0 (entry_of t) → Stands t z cell (left_by closed) × ((entry_of t).view.state ≡ left_by closed)
+    let_go_stands t z cell slot l = (by closed, l.state ∙ ap left_by back.2.closed_is)
+      where
+        by : (k : Bool) → Stands t z cell (left_by k)
+        by true = (l.point, slot)
+        by false = (l.point, slot)

@@ -1,15 +1,15 @@
 -- A node that has the line clears the cell at its turn.
-use Rattle.std.proofs.Common.{◌≡◌, ◌≢◌, ◌⊎◌, ℕ, ◌+◌, ◌%◌, ◌<◌, List, [], ◌∷◌, length, set, get_or, true, sym, refl, ap, ◌∙◌, inl, ⊎_elim, arith, length-set, mod-lt, get_or-set_same, get_or-set_other}
+use Rattle.std.proofs.Common.{◌≡◌, ◌≢◌, ◌⊎◌, ℕ, ◌+◌, ◌<◌, List, [], ◌∷◌, length, set, get_or, true, sym, refl, ap, ◌∙◌, inl, ⊎_elim, arith, length-set, mod-lt, get_or-set_same, get_or-set_other}
 use mathlib.Core.Option.{none, some}
 use lib.ListN.{get_elem?}
 use Rattle.atomic_table.specs.Table.{step, keeps, Allows}
 use Rattle.ring_line.specs.declared.words.TheConstants.{CELLS}
-use Rattle.ring_line.specs.declared.entry.Point.TheVariants.{Idle, Holding, Passing, Cleared, Rolled}
+use Rattle.ring_line.specs.declared.entry.Point.TheVariants.{Idle, Holding, Passing, Rolled}
 use Rattle.ring_line.specs.declared.entry.Entry.{Entry}
 use Rattle.ring_line.specs.declared.rule.Setup.{Setup}
 use Rattle.ring_line.specs.Words.{ticket_at, cell_at, node_at, cell_of}
 use Rattle.ring_line.specs.Ring.{Past, Walks, NodeOk, Shown, RingRule, has_line, lets_go, is_kept}
-use Rattle.ring_line.specs.Steps.{sole, Contents, cleared}
+use Rattle.ring_line.specs.Steps.{sole, Contents, cleared, after_clear}
 use Rattle.qolb_model.proofs.Prefixes.{prefix_self}
 use Rattle.ring_line.proofs.Nodes.{clash_at, passed_goes, none_passed, others_hand}
 use Rattle.ring_line.proofs.Keeping.{Homes, rule_step, mine_ok, mine_low}
@@ -17,7 +17,7 @@ use Rattle.ring_line.proofs.Taking.{cells_apart}
 
 module _ (good : List ℕ → Type 0) (allows : List ℕ → List ℕ → Type 0) (about : Setup) (v : Entry) (passing : (v.point ≡ Holding) ⊎ (v.point ≡ Passing)) where
   abbrev cleared_entry : Entry
-  cleared_entry = record v { point = Cleared }
+  cleared_entry = after_clear v
 
   abbrev cleared_past : Past → Past
   cleared_past x = record x { cleared = true }
@@ -36,43 +36,46 @@ module _ (good : List ℕ → Type 0) (allows : List ℕ → List ℕ → Type 0
 
   cleared_node : (x : Past) → NodeOk about x v.view.node v → NodeOk about (cleared_past x) v.view.node cleared_entry
   cleared_node x ok = record {
-    node = refl;
-    label = ok.label;
-    nodes = ok.nodes;
-    opening = ok.opening;
-    orders = ok.orders;
-    endings = ok.endings;
-    clears = ok.clears;
-    counts = ok.counts;
-    asked = λ _. ok.asked not_idle;
-    placed = ok.placed;
-    last_open = ok.last_open;
-    idle = λ e. cc;
-    queued = λ e. cc;
-    holding = λ e. cc;
-    walking = λ _ _. walks;
-    freeing = λ e. cc;
-    unmarked = λ _. ok.unmarked keeps_it;
-    unclear = λ _. ok.unclear keeps_it;
-    rolled = λ e. cc;
-    holds = λ _. let h = ok.holds has_it in (h.0, h.1, refl);
-    lacks = λ e. cc;
-    holder = λ e. (refl, (ok.holder e).1);
-    passed = λ i p at. let h = ok.passed i p at in passed_goes x (cleared_past x) v.view.node v cleared_entry p h refl refl (omega arith) h.marked (prefix_self v.view.order) h.unclear;
-    passed_once = ok.passed_once;
-    own_ends = ok.own_ends;
-    own_marks = ok.own_marks;
-    marked_last = λ p r at mine h lacks. absurd (not_rolled (ok.marked_last p r at mine h lacks).0);
-    own_flag = λ e. cc;
-    no_flag = λ _. ok.no_flag not_rolled;
-    own_joined = ok.own_joined;
-    all_joined = ok.all_joined;
-    all_marked = ok.all_marked;
-    freed_clear = ok.freed_clear;
+    who = ok.who;
+    knows = ok.knows;
+    stance = record {
+      asked = λ _. ok.stance.asked not_idle;
+      placed = ok.stance.placed;
+      last_open = ok.stance.last_open;
+      idle = λ e. cc;
+      queued = λ e. cc;
+      holding = λ e. cc;
+      freeing = λ e. cc;
+      waits = λ _. ok.stance.waits keeps_it;
+    };
+    hand = record {
+      holds = λ _. let h = ok.hand.holds has_it in (h.0, h.1, refl);
+      lacks = λ e. cc;
+      holder = λ e. (refl, (ok.hand.holder e).1);
+    };
+    passes = record {
+      walking = λ _ _. walks;
+      freeing = λ e. cc;
+      passed = λ i p at. let h = ok.passes.passed i p at in passed_goes v.view.node p v cleared_entry (length x.ends) (length x.ends) x.clear x.clear x.marks x.marks x.passer x.passer h refl refl (omega arith) h.marked (prefix_self v.view.order) h.unclear;
+      once = ok.passes.once;
+    };
+    marks = record {
+      unmarked = λ _. ok.marks.unmarked keeps_it;
+      unclear = λ _. ok.marks.unclear keeps_it;
+      rolled = λ e. cc;
+      known = ok.marks.known;
+      last = λ p r at mine h lacks. absurd (not_rolled (ok.marks.last p r at mine h lacks).0);
+      all = ok.marks.all;
+    };
+    flag = record {
+      rolled = λ e. cc;
+      not_rolled = λ _. ok.flag.not_rolled not_rolled;
+    };
+    joins = ok.joins;
   }
     where
-      walks : Walks x v
-      walks = ⊎_elim (λ e. inl (ok.holding e, none_passed about x v.view.node v ok (ap lets_go e))) (λ e. ok.walking (ap lets_go e) has_it) passing
+      walks : Walks (length x.ends) x.marks v
+      walks = ⊎_elim (λ e. inl (ok.stance.holding e, none_passed ok.passes (ap lets_go e))) (λ e. ok.passes.walking (ap lets_go e) has_it) passing
 
   cleared_shown : (x : Past) (words : List ℕ) (homes : Homes) (i : ℕ) → i ≡ cell_at (cell_of (length x.ends)) → x.hand ≡ v.view.node → 0 < v.view.node → Shown good allows about x words homes → Shown good allows about (cleared_past x) (set words i 0) homes
   cleared_shown x words homes i is mine low h = let small : cell_of (length x.ends) < CELLS = mod-lt (length x.ends) (omega arith) in record {
@@ -93,10 +96,10 @@ module _ (good : List ℕ → Type 0) (allows : List ℕ → List ℕ → Type 0
     tt,
     rule_step good allows about s r me v cleared_entry (cleared_past r.past) (set s.words i 0) s.homes at' refl
         (record { legal = r.fine.legal; nodes = r.fine.nodes; kept = r.fine.kept; sound = r.fine.sound; within = r.fine.within; cleared = r.fine.cleared; nobody = λ e. absurd (held e); settled = λ e. absurd (held e); marked = r.fine.marked; gone = r.fine.gone })
-        (cleared_shown r.past s.words s.homes i (word ∙ ap (λ es. cell_at (cell_of (length es))) (ok.holds has_it).0) mine low r.shown)
+        (cleared_shown r.past s.words s.homes i (word ∙ ap (λ es. cell_at (cell_of (length es))) (ok.hand.holds has_it).0) mine low r.shown)
         (cleared_node r.past ok)
         (λ n a b ne. others_hand about r.past n (r.who n) (r.each n a b) r.past.hand true (λ e. ne (sym e ∙ mine)) (λ e. ne (sym e ∙ mine))),
-    (λ j. (record (sole (sym is j)) { point = Cleared } ∷ [], m.1)),
+    (λ j. (after_clear (sole (sym is j)) ∷ [], m.1)),
   )
     where
       at' : get_elem? s.views me ≡ some (v ∷ [])
@@ -109,7 +112,7 @@ module _ (good : List ℕ → Type 0) (allows : List ℕ → List ℕ → Type 0
       low = (mine_low good allows about s r me v at').0
 
       mine : r.past.hand ≡ v.view.node
-      mine = (ok.holds has_it).1
+      mine = (ok.hand.holds has_it).1
 
       held : r.past.hand ≡ 0 → ⊥
       held e = let h = mine in let l = low in omega arith

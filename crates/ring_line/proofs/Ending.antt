@@ -8,13 +8,15 @@ use Rattle.qolb_model.specs.Requests.{Has}
 use Rattle.qolb_model.specs.Ends.{is_closed, MayEnd, bytes_after}
 use Rattle.qolb_model.specs.EndKinds.{is_gone}
 use Rattle.qolb_model.specs.Kept.{AreAllowed}
+use Rattle.qolb_model.specs.Leases.{is_last_turn}
+use Rattle.qolb_model.specs.PortStates.{left_by}
 use Rattle.qolb_model.proofs.Lists.{push_cases}
 use Rattle.qolb_model.proofs.Histories.{legal_end, bytes_after-append}
 use Rattle.qolb_model.proofs.Writes.{allowed-append}
 use Rattle.ring_line.specs.declared.rule.Setup.{Setup}
 use Rattle.ring_line.specs.declared.rule.Parcel.{Parcel}
 use Rattle.ring_line.specs.Ring.{At, Past, PastOk}
-use Rattle.ring_line.specs.Steps.{end_of, left_by}
+use Rattle.ring_line.specs.Steps.{end_of}
 use Rattle.ring_line.proofs.Lists.{clears_later}
 
 pub not_holding : (b : Bool) → left_by b ≢ shows.Holding
@@ -30,11 +32,6 @@ pub passed_gone : (l : List ℕ) (b : Bool) (y : Parcel) → l ≢ [] → is_gon
 passed_gone [] b y ne = absurd (ne refl)
 passed_gone (p ∷ ps) b y ne = refl
 
-pub may_follow : (l : List ℕ) (b : Bool) (y : Parcel) → MayEnd b (end_of l b y)
-may_follow [] false y = refl
-may_follow [] true y = refl
-may_follow (p ∷ ps) b y = tt
-
 module _ (good : List ℕ → Type 0) (allows : List ℕ → List ℕ → Type 0) (about : Setup) where
   sound_end : ((a b : List ℕ) → good a → allows a b → good b) → (bytes : List ℕ) (e : End) → good bytes → AreAllowed allows bytes (e ∷ []) → good (bytes_after bytes (e ∷ []))
   sound_end goes bytes (Served w s) g a = goes bytes _ g a.0
@@ -42,14 +39,14 @@ module _ (good : List ℕ → Type 0) (allows : List ℕ → List ℕ → Type 0
   sound_end goes bytes Told g a = g
 
   -- the request at its turn ends, while a node has the line
-  pub fine_end : ((a b : List ℕ) → good a → allows a b → good b) → (x : Past) (e : End) (passer : ℕ → ℕ) → PastOk good allows about x → x.hand ≢ 0 → length x.ends < length x.order → MayEnd (is_closed x.ends) e
-      → AreAllowed allows (bytes_after about.opening.bytes x.ends) (e ∷ []) → (is_gone e ≡ true → 0 < x.marks (length x.ends)) → (0 < x.marks (length x.ends) → is_gone e ≡ true)
+  pub fine_end : ((a b : List ℕ) → good a → allows a b → good b) → (x : Past) (e : End) (passer : ℕ → ℕ) → PastOk good allows about x → x.hand ≢ 0 → length x.ends < length x.order → MayEnd (is_closed x.ends) (is_last_turn about.terms.lease x.ends) e
+      → AreAllowed allows (bytes_after about.terms.opening.bytes x.ends) (e ∷ []) → (is_gone e ≡ true → 0 < x.marks (length x.ends)) → (0 < x.marks (length x.ends) → is_gone e ≡ true)
       → PastOk good allows about (record x { ends = x.ends ++ e ∷ []; cleared = false; passer = passer })
   fine_end goes x e passer f held more follows allowed gone marked = record {
-    legal = legal_end x.order x.ends e f.legal more follows;
+    legal = legal_end about.terms.lease x.order x.ends e f.legal more follows;
     nodes = f.nodes;
-    kept = allowed-append allows about.opening.bytes x.ends (e ∷ []) f.kept allowed;
-    sound = subst good (sym (bytes_after-append about.opening.bytes x.ends (e ∷ []))) (sound_end goes (bytes_after about.opening.bytes x.ends) e f.sound allowed);
+    kept = allowed-append allows about.terms.opening.bytes x.ends (e ∷ []) f.kept allowed;
+    sound = subst good (sym (bytes_after-append about.terms.opening.bytes x.ends (e ∷ []))) (sound_end goes (bytes_after about.terms.opening.bytes x.ends) e f.sound allowed);
     within = f.within;
     cleared = clears_later x.order (length x.ends) (length (x.ends ++ e ∷ [])) [] x.clear (let l = length-append x.ends (e ∷ []) in omega arith) f.cleared;
     nobody = λ h. absurd (held h);

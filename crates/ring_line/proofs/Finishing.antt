@@ -1,17 +1,18 @@
 -- What the ports handed to `finish` are found to be, and how their seats are joined.
-use Rattle.std.proofs.Common.{◌≡◌, ℕ, suc, ◌+◌, ◌<◌, ◌≤◌, List, [], ◌∷◌, ◌++◌, length, map, Bool, true, false, sym, refl, ap, ◌∙◌, subst, ⊎_elim, arith, Some, MatchBool, append_assoc, append-nil}
-use mathlib.Core.Logic.{dite}
-use native.Mathlib.Decide.{ℕ_discrete}
-use Rattle.std.specs.List.{HoldsAt, AllWithin, All, insert}
+use Rattle.std.proofs.Common.{◌≡◌, ℕ, suc, ◌<◌, ◌≤◌, List, [], ◌∷◌, ◌++◌, length, map, true, false, sym, refl, ap, ◌∙◌, subst, ⊎_elim, arith, append_assoc, append-nil}
+use Rattle.std.specs.List.{All}
 use Rattle.std.specs.List.Sorted.{IsPermutation}
 use Rattle.std.proofs.lemmas.List.{map-append}
-use Rattle.std.proofs.lemmas.List.Sorted.{IsPermutation-trans, IsPermutation-middle, IsPermutation-append_left, IsPermutation-insert, IsPermutation-map, Contains-permutation, All-permutation, length_permutation}
-use Rattle.std.proofs.lemmas.Option.{get_or_from_slice_get, slice_get-get_or, slice_get_within}
+use Rattle.std.proofs.lemmas.List.Sorted.{IsPermutation-map, All-permutation, length_permutation}
+use Rattle.std.proofs.lemmas.Option.{get_or_from_slice_get, slice_get_within}
 use Rattle.atomic_table.specs.Seated.{TableId}
 use Rattle.qolb_model.specs.declared.view.View.{View}
 use Rattle.qolb_model.specs.declared.unfinished.FinishError.{FinishError}
 use Rattle.qolb_model.specs.OneHistory.{IsAmong}
-use Rattle.qolb_model.specs.Finishing.{is_quiet, MayRefuse, IsFinished}
+use Rattle.qolb_model.specs.declared.terms.Terms.{Terms}
+use Rattle.qolb_model.specs.PortStates.{may_ask}
+use Rattle.qolb_model.specs.Finishing.{MayFinish, MayRefuse, IsFinished}
+use Rattle.qolb_model.proofs.Finishing.{among_other, once_other}
 use Rattle.qolb_model.proofs.Lists.{element_at}
 use Rattle.qolb_model.proofs.Agreeing.{among_map, among_map_port}
 use Rattle.qolb_model.specs.declared.answer.PortState.{PortState}
@@ -22,52 +23,26 @@ use Rattle.ring_line.specs.declared.rule.Setup.{Setup}
 use Rattle.ring_line.specs.Ring.{At}
 use Rattle.ring_line.specs.Steps.{RingSeat, entry_of}
 use Rattle.ring_line.specs.Ports.{Standing, standing, IsPort, BelongsTo, AllAtRest, is_at_rest, IsLast}
-use Rattle.ring_line.specs.Finish.{MayFinish, IsGathered, Gathers}
+use Rattle.ring_line.specs.Finish.{IsGathered, Gathers}
 use Rattle.ring_line.proofs.Lists.{at_either, at_one}
 
 -- what the ports know
 abbrev pub views : List Standing → List View
 views ports = map (λ (p : Standing). p.view) ports
 
-module _ (P Q : View → Type 0) where
-  -- what a test finds of the ports' views
-  pub among_any : (r : Bool) (ports : List Standing) → MatchBool r ((k : ℕ) × (k < length ports) × HoldsAt (λ (p : Standing). P p.view) ports k) (AllWithin (λ (p : Standing). Q p.view) ports 0 (length ports))
-      → MatchBool r ((v : View) × IsAmong (views ports) v × P v) ((v : View) → IsAmong (views ports) v → Q v)
-  among_any true ports (k, l, h) = let at = element_at ports k l in
-      (at.0.view, among_map (λ (p : Standing). p.view) ports k at.0 at.1, subst (λ (p : Standing). P p.view) (get_or_from_slice_get ports k at.0 at.0 at.1) (h at.0))
-  among_any false ports h = λ v i. let p = among_map_port (λ (p : Standing). p.view) ports v i in
-      subst Q (sym p.3) (subst (λ (p : Standing). Q p.view) (get_or_from_slice_get ports p.0 p.1 p.1 p.2) (h p.0 p.1 (omega arith) (slice_get_within ports p.0 p.1 p.2)))
-
--- a port more is laid
-pub laid_more : (ports laid new left rest : List Standing) (i : ℕ) (p : Standing) → left ≡ p ∷ rest → new ≡ insert laid i p → IsPermutation ports (laid ++ left) → IsPermutation ports (new ++ rest)
-laid_more ports laid new left rest i p at is h = subst (λ l. IsPermutation ports (l ++ rest)) (sym is)
-    (IsPermutation-trans ports (laid ++ p ∷ rest) (insert laid i p ++ rest) (subst (λ l. IsPermutation ports (laid ++ l)) at h)
-    (IsPermutation-trans (laid ++ p ∷ rest) (p ∷ (laid ++ rest)) (insert laid i p ++ rest) (IsPermutation-middle laid p rest)
-    (IsPermutation-append_left rest (p ∷ laid) (insert laid i p) (IsPermutation-insert laid i p))))
-
--- and takes a place of the room
-length-insert : {A : Type 0} (xs : List A) (i : ℕ) (x : A) → length (insert xs i x) ≡ length xs + 1
-length-insert xs i x = let e = length_permutation (x ∷ xs) (insert xs i x) (IsPermutation-insert xs i x) in omega arith
-
-pub room_left : (laid new left rest : List Standing) (i : ℕ) (p : Standing) (room wide : ℕ) → left ≡ p ∷ rest → new ≡ insert laid i p → length laid + length left ≤ room → room ≤ wide → length new + length rest ≤ wide
-room_left laid new left rest i p room wide at is fits grows =
-    let longer = ap length is ∙ length-insert laid i p in
-    let shorter = ap length at in
-    omega arith
-
 -- a quiet port is at rest, and has nothing in its hand
-pub quiet_point : (label node : ℕ) (s : RingSeat) (y : Parcel) (cell : ℕ) (state : PortState) → IsPort label node s y cell state → is_quiet (entry_of s).view.state ≡ true → (is_at_rest (entry_of s).point ≡ true) × (s.me.1 ≡ [])
+pub quiet_point : (label node : ℕ) (s : RingSeat) (y : Parcel) (cell : ℕ) (state : PortState) → IsPort label node s y cell state → may_ask (entry_of s).view.state ≡ true → (is_at_rest (entry_of s).point ≡ true) × (s.me.1 ≡ [])
 quiet_point label node s y cell shows.Idle p h = (ap is_at_rest p.stands.0, p.stands.1)
 quiet_point label node s y cell shows.Linking p h = absurd p.stands
-quiet_point label node s y cell shows.Queued p h = absurd (let e : is_quiet (entry_of s).view.state ≡ false = ap is_quiet p.shows_state in cc (h, e))
-quiet_point label node s y cell shows.Holding p h = absurd (let e : is_quiet (entry_of s).view.state ≡ false = ap is_quiet p.shows_state in cc (h, e))
+quiet_point label node s y cell shows.Queued p h = absurd (let e : may_ask (entry_of s).view.state ≡ false = ap may_ask p.shows_state in cc (h, e))
+quiet_point label node s y cell shows.Holding p h = absurd (let e : may_ask (entry_of s).view.state ≡ false = ap may_ask p.shows_state in cc (h, e))
 quiet_point label node s y cell shows.Left p h = absurd p.stands
 quiet_point label node s y cell shows.Rolled p h = (ap is_at_rest p.stands.0, p.stands.1)
 quiet_point label node s y cell shows.Shut p h = (ap is_at_rest p.stands.0, p.stands.1)
 
 -- the first of the ports to come is quiet
-pub head_quiet : (table_id : TableId) (ports left rest : List Standing) (whole : RingSeat) (p : Standing) → left ≡ p ∷ rest → Gathers table_id ports left whole → is_quiet p.view.state ≡ true
-head_quiet table_id ports left rest whole p e h = subst (All (λ (q : Standing). is_quiet q.view.state ≡ true)) e h.quiet 0 p (omega arith)
+pub head_quiet : (table_id : TableId) (ports left rest : List Standing) (whole : RingSeat) (p : Standing) → left ≡ p ∷ rest → Gathers table_id ports left whole → may_ask p.view.state ≡ true
+head_quiet table_id ports left rest whole p e h = subst (All (λ (q : Standing). may_ask q.view.state ≡ true)) e h.quiet 0 p (omega arith)
 
 -- what holds of each holds of the first, and of the others
 pub all_first : {A : Type 0} (P : A → Type 0) (x : A) (xs : List A) → All P (x ∷ xs) → P x
@@ -77,31 +52,31 @@ pub all_rest : {A : Type 0} (P : A → Type 0) (x : A) (xs : List A) → All P (
 all_rest P x xs h = λ k d l. h (suc k) d (omega arith)
 
 -- the entries of one seat
-module _ (label node : ℕ) (s : RingSeat) (y : Parcel) (cell steps : ℕ) (state : PortState) (p : Standing) (is : standing s y steps ≡ p) (ok : IsPort label node s y cell state) (quiet : is_quiet p.view.state ≡ true) where
+module _ (label node : ℕ) (s : RingSeat) (y : Parcel) (cell steps : ℕ) (state : PortState) (p : Standing) (is : standing s y steps ≡ p) (ok : IsPort label node s y cell state) (quiet : may_ask p.view.state ≡ true) where
   same_view : (entry_of s).view ≡ p.view
   same_view = ap (λ (q : Standing). q.view) is
 
   pub none_carried : s.me.1 ≡ []
-  none_carried = (quiet_point label node s y cell state ok (ap (λ (v : View). is_quiet v.state) same_view ∙ quiet)).1
+  none_carried = (quiet_point label node s y cell state ok (ap (λ (v : View). may_ask v.state) same_view ∙ quiet)).1
 
   only_at_rest : (i : ℕ) (e : Entry) → At s.me.0 i e → is_at_rest e.point ≡ true
-  only_at_rest i e at = ap (λ (x : Entry). is_at_rest x.point) (sym (at_one (entry_of s) e i (subst (λ es. At es i e) ok.alone at))) ∙ (quiet_point label node s y cell state ok (ap (λ (v : View). is_quiet v.state) same_view ∙ quiet)).0
+  only_at_rest i e at = ap (λ (x : Entry). is_at_rest x.point) (sym (at_one (entry_of s) e i (subst (λ es. At es i e) ok.alone at))) ∙ (quiet_point label node s y cell state ok (ap (λ (v : View). may_ask v.state) same_view ∙ quiet)).0
 
   -- the first seat
-  pub gathers_first : (table_id : TableId) (rest : List Standing) → All (λ (q : Standing). q.table ≡ table_id) (p ∷ rest) → All (λ (q : Standing). is_quiet q.view.state ≡ true) (p ∷ rest)
+  pub gathers_first : (table_id : TableId) (rest : List Standing) → All (λ (q : Standing). q.table ≡ table_id) (p ∷ rest) → All (λ (q : Standing). may_ask q.view.state ≡ true) (p ∷ rest)
       → Gathers table_id (p ∷ rest) rest s
   gathers_first table_id rest tables quiets = record {
     table = ap (λ (q : Standing). q.table) is ∙ all_first (λ (q : Standing). q.table ≡ table_id) p rest tables;
     views = ap (λ es. map (λ (e : Entry). e.view) es ++ views rest) ok.alone ∙ ap (λ v. v ∷ views rest) same_view;
     at_rest = only_at_rest;
     tables = all_rest (λ (q : Standing). q.table ≡ table_id) p rest tables;
-    quiet = all_rest (λ (q : Standing). is_quiet q.view.state ≡ true) p rest quiets;
+    quiet = all_rest (λ (q : Standing). may_ask q.view.state ≡ true) p rest quiets;
   }
 
   -- the same, of a list of ports with this one at its head
-  pub gathers_head : (table_id : TableId) (ports rest : List Standing) → ports ≡ p ∷ rest → All (λ (q : Standing). q.table ≡ table_id) ports → All (λ (q : Standing). is_quiet q.view.state ≡ true) ports → Gathers table_id ports rest s
+  pub gathers_head : (table_id : TableId) (ports rest : List Standing) → ports ≡ p ∷ rest → All (λ (q : Standing). q.table ≡ table_id) ports → All (λ (q : Standing). may_ask q.view.state ≡ true) ports → Gathers table_id ports rest s
   gathers_head table_id ports rest e tables quiets = subst (λ ps. Gathers table_id ps rest s) (sym e)
-      (gathers_first table_id rest (subst (All (λ (q : Standing). q.table ≡ table_id)) e tables) (subst (All (λ (q : Standing). is_quiet q.view.state ≡ true)) e quiets))
+      (gathers_first table_id rest (subst (All (λ (q : Standing). q.table ≡ table_id)) e tables) (subst (All (λ (q : Standing). may_ask q.view.state ≡ true)) e quiets))
 
   -- the seat is of the same table
   pub head_table : (table_id : TableId) (ports rest : List Standing) (whole : RingSeat) (left : List Standing) → left ≡ p ∷ rest → Gathers table_id ports left whole → s.table_id ≡ table_id
@@ -119,54 +94,56 @@ module _ (label node : ℕ) (s : RingSeat) (y : Parcel) (cell steps : ℕ) (stat
         ∙ h.views;
     at_rest = λ i e at. ⊎_elim (λ z. h.at_rest i e z) (λ z. only_at_rest z.0 e z.2) (at_either old.me.0 s.me.0 i e (subst (λ z. At z.0 i e) m at));
     tables = all_rest (λ (q : Standing). q.table ≡ table_id) p rest h.tables;
-    quiet = all_rest (λ (q : Standing). is_quiet q.view.state ≡ true) p rest h.quiet;
+    quiet = all_rest (λ (q : Standing). may_ask q.view.state ≡ true) p rest h.quiet;
   }
 
 -- the first seat, as the iterator over the ports gives it
 pub gathers_start : (label node : ℕ) (s : RingSeat) (y : Parcel) (cell steps : ℕ) (state : PortState) (p : Standing) → standing s y steps ≡ p → IsPort label node s y cell state → (table_id : TableId) (ports items rest left : List Standing) → items ≡ ports → items ≡ p ∷ rest → left ≡ rest
-    → All (λ (q : Standing). q.table ≡ table_id) ports → All (λ (q : Standing). is_quiet q.view.state ≡ true) ports → Gathers table_id ports left s
+    → All (λ (q : Standing). q.table ≡ table_id) ports → All (λ (q : Standing). may_ask q.view.state ≡ true) ports → Gathers table_id ports left s
 gathers_start label node s y cell steps state p is ok table_id ports items rest left a b c tables quiets =
     let e : ports ≡ p ∷ rest = sym a ∙ b in
     subst (λ l. Gathers table_id ports l s) (sym c)
-    (gathers_head label node s y cell steps state p is ok (all_first (λ (q : Standing). is_quiet q.view.state ≡ true) p rest (subst (All (λ (q : Standing). is_quiet q.view.state ≡ true)) e quiets)) table_id ports rest e tables quiets)
+    (gathers_head label node s y cell steps state p is ok (all_first (λ (q : Standing). may_ask q.view.state ≡ true) p rest (subst (All (λ (q : Standing). may_ask q.view.state ≡ true)) e quiets)) table_id ports rest e tables quiets)
 
 -- all seats are joined
 pub gathers_all : (table_id : TableId) (ports : List Standing) (whole : RingSeat) → Gathers table_id ports [] whole → IsGathered table_id ports whole
 gathers_all table_id ports whole h = record { table = h.table; views = sym (append-nil (map (λ (e : Entry). e.view) whole.me.0)) ∙ h.views; at_rest = h.at_rest }
 
--- what one list of ports knows, another one does that has them in another order
-pub among_other : (ports laid : List Standing) → IsPermutation ports laid → (v : View) → IsAmong (views ports) v → IsAmong (views laid) v
-among_other ports laid h v (i, e) =
-    let c = Contains-permutation (views ports) (views laid) v (IsPermutation-map (λ (p : Standing). p.view) ports laid h) (i, slice_get_within (views ports) i v e, get_or_from_slice_get (views ports) i v v e) in
-    (c.0, slice_get-get_or (views laid) c.0 v c.1 ∙ ap Some c.2)
+module _ (good : List ℕ → Type 0) (allows : List ℕ → List ℕ → Type 0) (label : ℕ) (terms : Terms) (ports laid : List Standing) (table_id : TableId) (whole : RingSeat) (other : IsPermutation ports laid) (all : IsGathered table_id laid whole) (may : MayFinish label terms.nodes (views ports)) where
+  same_views : IsPermutation (views ports) (map (λ (e : Entry). e.view) whole.me.0)
+  same_views = subst (IsPermutation (views ports)) (sym all.views) (IsPermutation-map (λ (p : Standing). p.view) ports laid other)
 
-module _ (label nodes : ℕ) (opening : List ℕ) (ports laid : List Standing) (table_id : TableId) (whole : RingSeat) (other : IsPermutation ports laid) (all : IsGathered table_id laid whole) (may : MayFinish label nodes (views ports)) where
-  among_entries : (v : View) → IsAmong (views ports) v → IsAmong (map (λ (e : Entry). e.view) whole.me.0) v
-  among_entries v i = subst (λ vs. IsAmong vs v) (sym all.views) (among_other ports laid other v i)
-
-  pub all_at_rest : AllAtRest nodes whole.me.0
-  all_at_rest n a b = let v = may.1 n a b in let e = among_map_port (λ (e : Entry). e.view) whole.me.0 v.0 (among_entries v.0 v.1) in
+  pub all_at_rest : AllAtRest terms.nodes whole.me.0
+  all_at_rest n a b = let v = may.1 n a b in let e = among_map_port (λ (e : Entry). e.view) whole.me.0 v.0 (among_other (views ports) (map (λ (e : Entry). e.view) whole.me.0) same_views v.0 v.1) in
       (e.0, e.1, e.2, ap (λ (w : View). w.node) (sym e.3) ∙ v.2, all.at_rest e.0 e.1 e.2)
 
-  pub is_finished : (bytes : List ℕ) → IsLast opening whole.me.0 bytes → IsFinished label nodes opening (views ports) bytes
+  pub is_finished : (bytes : List ℕ) → IsLast good allows terms whole.me.0 bytes → IsFinished good allows label terms (views ports) bytes
   is_finished bytes last = record {
     of_line = may.0;
     there = may.1;
+    once = once_other (views ports) (map (λ (e : Entry). e.view) whole.me.0) same_views last.once;
     quiet = may.2;
     history = record {
+      terms = last.history.terms;
       order = last.history.order;
       ends = last.history.ends;
       clear = last.history.clear;
       legal = last.history.legal;
       cleared = last.history.cleared;
-      known = λ v i. last.history.known v (among_entries v i);
-      agreed = λ v w i j. last.history.agreed v w (among_entries v i) (among_entries w j);
+      known = λ v i. last.history.known v (among v i);
+      agreed = λ v w i j. last.history.agreed v w (among v i) (among w j);
     };
+    terms_are = last.terms_are;
     all_ended = last.all_ended;
+    kept = last.kept;
     result = last.result;
+    is_good = last.is_good;
   }
+    where
+      among : (v : View) → IsAmong (views ports) v → IsAmong (map (λ (e : Entry). e.view) whole.me.0) v
+      among = among_other (views ports) (map (λ (e : Entry). e.view) whole.me.0) same_views
 
-module _ (good : List ℕ → Type 0) (allows : List ℕ → List ℕ → Type 0) (key : Setup) (table_id : TableId) (ports laid : List Standing) (other : IsPermutation ports laid) (may : MayFinish key.label key.nodes (views ports))
+module _ (good : List ℕ → Type 0) (allows : List ℕ → List ℕ → Type 0) (key : Setup) (table_id : TableId) (ports laid : List Standing) (other : IsPermutation ports laid) (may : MayFinish key.label key.terms.nodes (views ports))
     (belong : All (λ (p : Standing). p.view.label ≡ key.label → BelongsTo good allows key table_id p) ports) where
   each_belongs : (k : ℕ) (p : Standing) → At ports k p → BelongsTo good allows key table_id p
   each_belongs k p at = subst (λ (q : Standing). q.view.label ≡ key.label → BelongsTo good allows key table_id q) (get_or_from_slice_get ports k p p at) (belong k p (slice_get_within ports k p at))
@@ -178,17 +155,13 @@ module _ (good : List ℕ → Type 0) (allows : List ℕ → List ℕ → Type 0
   pub tables_are : All (λ (p : Standing). p.table ≡ table_id) laid
   tables_are = each_is (λ (p : Standing). p.table ≡ table_id) (λ k p at. (each_belongs k p at).table_is)
 
-  pub all_quiet : All (λ (p : Standing). is_quiet p.view.state ≡ true) laid
-  all_quiet = each_is (λ (p : Standing). is_quiet p.view.state ≡ true) (λ k p at. let s = (each_belongs k p at).sound in
+  pub all_quiet : All (λ (p : Standing). may_ask p.view.state ≡ true) laid
+  all_quiet = each_is (λ (p : Standing). may_ask p.view.state ≡ true) (λ k p at. let s = (each_belongs k p at).sound in
       may.2 p.view.node s.first_node s.last_node p.view (among_map (λ (p : Standing). p.view) ports k p at) refl)
 
-  pub some_port : 1 ≤ key.nodes → 0 < length laid
+  pub some_port : 1 ≤ key.terms.nodes → 0 < length laid
   some_port few = let v = may.1 1 (omega arith) few in let p = among_map_port (λ (p : Standing). p.view) ports v.0 v.1 in
       let l = slice_get_within ports p.0 p.1 p.2 in let e = length_permutation ports laid other in omega arith
-
--- what holds of each node below the next one
-pub each_more : (P : ℕ → Type 0) (n : ℕ) → ((m : ℕ) → 1 ≤ m → m < n → P m) → P n → (m : ℕ) → 1 ≤ m → m < n + 1 → P m
-each_more P n below here m a b = dite (ℕ_discrete m n) (λ e. subst P (sym e) here) (λ ne. below m a (omega arith))
 
 -- the line's own label and number of nodes are those of its key
 pub refuses_so : (l label n nodes : ℕ) (qs ports : List Standing) (why : FinishError) → l ≡ label → n ≡ nodes → qs ≡ ports → MayRefuse l n (views qs) why → MayRefuse label nodes (views ports) why

@@ -1,5 +1,5 @@
 -- A release frees the node of the first request that it passed.
-use Rattle.std.proofs.Common.{◌≡◌, ◌≢◌, ℕ, suc, ◌+◌, ◌%◌, ◌<◌, ◌≤◌, List, [], ◌∷◌, ◌++◌, length, set, get_or, true, sym, refl, ap, ◌∙◌, subst, ⊎_elim, arith, length-set, get_or-set_same, get_or-set_other}
+use Rattle.std.proofs.Common.{◌≡◌, ◌≢◌, ℕ, suc, ◌+◌, ◌<◌, ◌≤◌, List, [], ◌∷◌, ◌++◌, length, set, get_or, true, sym, refl, ap, ◌∙◌, subst, ⊎_elim, arith, length-set, get_or-set_same, get_or-set_other}
 use mathlib.Core.Logic.{dite}
 use mathlib.Core.List.{IsPrefix}
 use mathlib.Core.Option.{none, some}
@@ -13,7 +13,7 @@ use Rattle.qolb_model.specs.Sound.{Continues}
 use Rattle.qolb_model.proofs.Prefixes.{prefix_self, prefix_get}
 use Rattle.qolb_model.proofs.Requests.{has_left, has_last, has_push, lacks_from, same_place}
 use Rattle.qolb_model.proofs.Lists.{never}
-use Rattle.ring_line.specs.declared.words.TheConstants.{MOST_NODES}
+use Rattle.qolb_model.specs.declared.terms.TheConstants.{MOST_NODES}
 use Rattle.ring_line.specs.declared.entry.Point.TheVariants.{Idle, Queued, Holding, Freeing, Rolled}
 use Rattle.ring_line.specs.declared.entry.Entry.{Entry}
 use Rattle.ring_line.specs.declared.rule.Setup.{Setup}
@@ -21,10 +21,11 @@ use Rattle.ring_line.specs.Words.{ticket_at, cell_at, node_at, cell_of}
 use Rattle.ring_line.specs.Ring.{At, Past, HasPassed, NodeOk, PastOk, Shown, RingRule, has_line, is_kept}
 use Rattle.ring_line.specs.Steps.{sole, Contents, after_walk, Frees, freed}
 use Rattle.ring_line.proofs.Lists.{at_same, prefix_more, has_prefix, lacks_push}
-use Rattle.ring_line.proofs.Nodes.{clash_at, passed_goes, put, put_here, put_else, placed_at, others_clear, others_free}
+use Rattle.ring_line.proofs.Nodes.{clash_at, passed_goes, put, put_here, put_else, placed_at, others_clear, others_free, hand_none}
 use Rattle.ring_line.proofs.Histories.{continues}
 use Rattle.ring_line.proofs.Keeping.{St, Homes, rule_step, mine_ok}
 use Rattle.ring_line.proofs.Clearing.{not_after, no_line_after, goes_after, clear_with, more_clear, still_unclear, fine_clear, fine_flags}
+use Rattle.ring_line.proofs.Turning.{goes_step}
 
 module _ (good : List ℕ → Type 0) (allows : List ℕ → List ℕ → Type 0) (about : Setup) (v : Entry) (freeing : v.point ≡ Freeing) (q : ℕ) (ps : List ℕ) (whole : v.passed ≡ q ∷ ps) (r : Request) (known : At v.view.order q r) where
   abbrev Rule : St → Type 0
@@ -34,7 +35,7 @@ module _ (good : List ℕ → Type 0) (allows : List ℕ → List ℕ → Type 0
   free_past x = record x { clear = clear_with (own v.view) ps (x.clear ++ r ∷ []); flags = put x.flags r.node 1 }
 
   abbrev free_entry : Past → Entry
-  free_entry x = record v { view = record v.view { clear = clear_with (own v.view) ps (x.clear ++ r ∷ []); freed = v.view.freed ++ r ∷ [] }; point = after_walk ps; passed = ps }
+  free_entry x = record v { view = record v.view { clear = clear_with (own v.view) ps (x.clear ++ r ∷ []); freed = v.view.freed ++ r ∷ [] }; point = after_walk ps; passed = ps; steps = v.steps + 1 }
 
   not_idle : v.point ≢ Idle
   not_idle e = let f = freeing in cc
@@ -49,30 +50,30 @@ module _ (good : List ℕ → Type 0) (allows : List ℕ → List ℕ → Type 0
   later i p at = subst (λ (l : List ℕ). At l (suc i) p) (sym whole) at
 
   module _ (x : Past) (f : PastOk good allows about x) (ok : NodeOk about x v.view.node v) where
-    it : HasPassed x v.view.node v q
-    it = ok.passed 0 q first
+    it : HasPassed (length x.ends) x.clear x.marks x.passer v.view.node v q
+    it = ok.passes.passed 0 q first
 
     asked : At x.order q r
-    asked = prefix_get v.view.order x.order q r ok.orders known
+    asked = prefix_get v.view.order x.order q r ok.knows.orders known
 
     unclear : Lacks x.clear r
     unclear = subst (Lacks x.clear) (at_same v.view.order q it.request r it.at known) it.unclear
 
     ended : q < length x.ends
-    ended = (ok.freeing freeing).1 0 q first
+    ended = ok.passes.freeing freeing 0 q first
 
     placed : At x.order v.place (own v.view)
-    placed = placed_at about x v.view.node v ok (ok.asked not_idle)
+    placed = placed_at about x v.view.node v ok (ok.stance.asked not_idle)
 
     unmarked : x.marks v.place ≡ 0
-    unmarked = ok.unmarked (ap is_kept freeing)
+    unmarked = ok.marks.unmarked (ap is_kept freeing)
 
     -- the passed request is of another node
     other : r.node ≢ v.view.node
-    other e = not_rolled (ok.marked_last q r asked e it.marked unclear).0
+    other e = not_rolled (ok.marks.last q r asked e it.marked unclear).0
 
     own_unclear : Lacks (x.clear ++ r ∷ []) (own v.view)
-    own_unclear = lacks_push x.clear r (own v.view) (λ e. other (sym (ap (λ (z : Request). z.node) e))) (ok.unclear (ap is_kept freeing))
+    own_unclear = lacks_push x.clear r (own v.view) (λ e. other (sym (ap (λ (z : Request). z.node) e))) (ok.marks.unclear (ap is_kept freeing))
 
     more : (s : Request) → Has x.clear s → Has (clear_with (own v.view) ps (x.clear ++ r ∷ [])) s
     more s h = more_clear (own v.view) ps (x.clear ++ r ∷ []) s (has_left x.clear (r ∷ []) s h)
@@ -84,41 +85,47 @@ module _ (good : List ℕ → Type 0) (allows : List ℕ → List ℕ → Type 0
 
     free_node : NodeOk about (free_past x) v.view.node (free_entry x)
     free_node = record {
-      node = refl;
-      label = ok.label;
-      nodes = ok.nodes;
-      opening = ok.opening;
-      orders = ok.orders;
-      endings = ok.endings;
-      clears = prefix_self (clear_with (own v.view) ps (x.clear ++ r ∷ []));
-      counts = ok.counts;
-      asked = λ _. ok.asked not_idle;
-      placed = ok.placed;
-      last_open = ok.last_open;
-      idle = λ e _. ((ok.freeing freeing).0, own_clear ps e);
-      queued = λ e. absurd (not_after ps Queued (λ i. cc) (λ i. cc) e);
-      holding = λ e. absurd (not_after ps Holding (λ i. cc) (λ i. cc) e);
-      walking = λ _ l. absurd (never l (no_line_after ps));
-      freeing = λ _. ((ok.freeing freeing).0, (λ i p at. (ok.freeing freeing).1 (suc i) p (later i p at)));
-      unmarked = λ _. unmarked;
-      unclear = λ k. own_kept ps k;
-      rolled = λ e. absurd (not_after ps Rolled (λ i. cc) (λ i. cc) e);
-      holds = λ l. absurd (never l (no_line_after ps));
-      lacks = λ _. ok.lacks (ap has_line freeing);
-      holder = λ e. absurd (clash_at has_line Freeing (ok.holder e).0 freeing refl);
-      passed = λ i p at. let h = ok.passed (suc i) p (later i p at) in passed_goes x (free_past x) v.view.node v (free_entry x) p h (goes_after ps i p at) refl (omega arith) h.marked (prefix_self v.view.order)
-          (still_unclear (own v.view) ps (x.clear ++ r ∷ []) h.request i p at (lacks_push x.clear r h.request (λ e. apart i p at (same_place x.order f.legal.numbered p q h.request (prefix_get v.view.order x.order p h.request ok.orders h.at) (subst (At x.order q) (sym e) asked))) h.unclear));
-      passed_once = λ i j p a b. let e = ok.passed_once (suc i) (suc j) p (later i p a) (later j p b) in omega arith;
-      own_ends = ok.own_ends;
-      own_marks = ok.own_marks;
-      marked_last = λ p s at mine h lacks. absurd (not_rolled (ok.marked_last p s at mine h (lacks_from x.clear s (λ was. never (more s was) lacks))).0);
-      own_flag = λ e. absurd (not_after ps Rolled (λ i. cc) (λ i. cc) e);
-      no_flag = λ _. put_else x.flags r.node 1 v.view.node (λ e. other (sym e)) ∙ ok.no_flag not_rolled;
-      own_joined = ok.own_joined;
-      all_joined = ok.all_joined;
-      all_marked = ok.all_marked;
-      freed_clear = λ s h. ⊎_elim (λ z. more s (has_prefix v.view.clear x.clear s ok.clears (ok.freed_clear s z)))
-          (λ z. more_clear (own v.view) ps (x.clear ++ r ∷ []) s (subst (Has (x.clear ++ r ∷ [])) (sym z) (has_last x.clear r))) (has_push v.view.freed r s h);
+      who = record { node = refl; label = ok.who.label; terms = ok.who.terms };
+      knows = record {
+        orders = ok.knows.orders;
+        endings = ok.knows.endings;
+        clears = prefix_self (clear_with (own v.view) ps (x.clear ++ r ∷ []));
+        counts = ok.knows.counts;
+        own_ends = ok.knows.own_ends;
+        freed_clear = λ s h. ⊎_elim (λ z. more s (has_prefix v.view.clear x.clear s ok.knows.clears (ok.knows.freed_clear s z)))
+            (λ z. more_clear (own v.view) ps (x.clear ++ r ∷ []) s (subst (Has (x.clear ++ r ∷ [])) (sym z) (has_last x.clear r))) (has_push v.view.freed r s h);
+      };
+      stance = record {
+        asked = λ _. ok.stance.asked not_idle;
+        placed = ok.stance.placed;
+        last_open = ok.stance.last_open;
+        idle = λ e _. ((ok.stance.freeing freeing), own_clear ps e);
+        queued = λ e. absurd (not_after ps Queued (λ i. cc) (λ i. cc) e);
+        holding = λ e. absurd (not_after ps Holding (λ i. cc) (λ i. cc) e);
+        freeing = λ _. ok.stance.freeing freeing;
+        waits = λ _ h. let e = ok.stance.freeing freeing in absurd (omega arith);
+      };
+      hand = hand_none x.ends x.hand x.cleared v.view.node (free_entry x) (no_line_after ps) (ok.hand.lacks (ap has_line freeing)) (λ e. clash_at has_line Freeing (ok.hand.holder e).0 freeing refl);
+      passes = record {
+        walking = λ _ l. absurd (never l (no_line_after ps));
+        freeing = λ _ i p at. ok.passes.freeing freeing (suc i) p (later i p at);
+        passed = λ i p at. let h = ok.passes.passed (suc i) p (later i p at) in passed_goes v.view.node p v (free_entry x) (length x.ends) (length x.ends) x.clear (clear_with (own v.view) ps (x.clear ++ r ∷ [])) x.marks x.marks x.passer x.passer h (goes_after ps i p at) refl (omega arith) h.marked (prefix_self v.view.order)
+            (still_unclear (own v.view) ps (x.clear ++ r ∷ []) h.request i p at (lacks_push x.clear r h.request (λ e. apart i p at (same_place x.order f.legal.numbered p q h.request (prefix_get v.view.order x.order p h.request ok.knows.orders h.at) (subst (At x.order q) (sym e) asked))) h.unclear));
+        once = λ i j p a b. let e = ok.passes.once (suc i) (suc j) p (later i p a) (later j p b) in omega arith;
+      };
+      marks = record {
+        unmarked = λ _. unmarked;
+        unclear = λ k. own_kept ps k;
+        rolled = λ e. absurd (not_after ps Rolled (λ i. cc) (λ i. cc) e);
+        known = ok.marks.known;
+        last = λ p s at mine h lacks. absurd (not_rolled (ok.marks.last p s at mine h (lacks_from x.clear s (λ was. never (more s was) lacks))).0);
+        all = ok.marks.all;
+      };
+      flag = record {
+        rolled = λ e. absurd (not_after ps Rolled (λ i. cc) (λ i. cc) e);
+        not_rolled = λ _. put_else x.flags r.node 1 v.view.node (λ e. other (sym e)) ∙ ok.flag.not_rolled not_rolled;
+      };
+      joins = ok.joins;
     }
       where
         own_kept : (l : List ℕ) → is_kept (after_walk l) ≡ true → Lacks (clear_with (own v.view) l (x.clear ++ r ∷ [])) (own v.view)
@@ -126,7 +133,7 @@ module _ (good : List ℕ → Type 0) (allows : List ℕ → List ℕ → Type 0
         own_kept (p ∷ l) e = own_unclear
 
         apart : (i p : ℕ) → At ps i p → p ≢ q
-        apart i p at e = let s = ok.passed_once (suc i) 0 p (later i p at) (subst (At v.passed 0) (sym e) first) in omega arith
+        apart i p at e = let s = ok.passes.once (suc i) 0 p (later i p at) (subst (At v.passed 0) (sym e) first) in omega arith
 
     free_fine : PastOk good allows about (free_past x)
     free_fine = go ps
@@ -135,14 +142,14 @@ module _ (good : List ℕ → Type 0) (allows : List ℕ → List ℕ → Type 0
         one = fine_flags good allows about (record x { clear = x.clear ++ r ∷ [] }) (put x.flags r.node 1) (fine_clear good allows about x q r f ended asked unclear)
 
         go : (l : List ℕ) → PastOk good allows about (record x { clear = clear_with (own v.view) l (x.clear ++ r ∷ []); flags = put x.flags r.node 1 })
-        go [] = fine_clear good allows about (record x { clear = x.clear ++ r ∷ []; flags = put x.flags r.node 1 }) v.place (own v.view) one (ok.freeing freeing).0 placed own_unclear
+        go [] = fine_clear good allows about (record x { clear = x.clear ++ r ∷ []; flags = put x.flags r.node 1 }) v.place (own v.view) one (ok.stance.freeing freeing) placed own_unclear
         go (p ∷ l) = one
 
     free_others : (n : ℕ) (u : Entry) → n ≢ v.view.node → NodeOk about x n u → NodeOk about (free_past x) n u
     free_others n u ne k = go ps
       where
         one : NodeOk about (record x { clear = x.clear ++ r ∷ []; flags = put x.flags r.node 1 }) n u
-        one = others_free about x n u k v.view.node q r asked it.passer it.marked unclear ne f.legal
+        one = others_free about x n u k v.view.node q r asked it.passer_is it.marked unclear ne f.legal
 
         go : (l : List ℕ) → NodeOk about (record x { clear = clear_with (own v.view) l (x.clear ++ r ∷ []); flags = put x.flags r.node 1 }) n u
         go [] = others_clear about (record x { clear = x.clear ++ r ∷ []; flags = put x.flags r.node 1 }) n u one (own v.view) v.place (λ e. ne (sym e)) placed unmarked f.legal
@@ -170,8 +177,8 @@ module _ (good : List ℕ → Type 0) (allows : List ℕ → List ℕ → Type 0
         (λ s h. h) (λ s h. h) (λ s h. has_left v.view.freed (r ∷ []) s h)
       where
         wider : (l : List ℕ) → IsPrefix v.view.clear (clear_with (own v.view) l (x.clear ++ r ∷ []))
-        wider [] = prefix_more v.view.clear (x.clear ++ r ∷ []) (own v.view ∷ []) (prefix_more v.view.clear x.clear (r ∷ []) ok.clears)
-        wider (p ∷ l) = prefix_more v.view.clear x.clear (r ∷ []) ok.clears
+        wider [] = prefix_more v.view.clear (x.clear ++ r ∷ []) (own v.view ∷ []) (prefix_more v.view.clear x.clear (r ∷ []) ok.knows.clears)
+        wider (p ∷ l) = prefix_more v.view.clear x.clear (r ∷ []) ok.knows.clears
 
     frees_of : Frees v ps r (free_entry x)
     frees_of = record {
@@ -196,8 +203,7 @@ module _ (good : List ℕ → Type 0) (allows : List ℕ → List ℕ → Type 0
         (λ n a b ne. free_others t.past t.fine ok n (t.who n) ne (t.each n a b)),
     (
       refl,
-      refl,
-      subst (λ u. Continues allows (sole u).view (free_entry t.past).view) (sym is) (learns_free t.past t.fine ok),
+      goes_step allows m v (free_entry t.past) m.1 is (learns_free t.past t.fine ok) refl,
       subst (λ u. (q' : ℕ) (ps' : List ℕ) (r' : Request) → (sole u).passed ≡ q' ∷ ps' → At (sole u).view.order q' r' → Frees (sole u) ps' r' (free_entry t.past)) (sym is) told,
     ),
   )

@@ -1,6 +1,6 @@
 -- A release grants the next cell: the request at its turn has ended. Where the next one is not withdrawn the line is at home, else it
 -- stays with the node, which passes that request.
-use Rattle.std.proofs.Common.{◌≡◌, ◌≢◌, ◌⊎◌, ℕ, ◌+◌, ◌*◌, ◌/◌, ◌%◌, ◌^◌, ◌<◌, ◌≤◌, List, [], ◌∷◌, ◌++◌, length, set, slice_index, get_or, true, false, sym, refl, ap, ◌∙◌, subst, inl, inr, ⊎_elim, arith, length-append, length-set, mod-lt, get_or-set_same, get_or-set_other}
+use Rattle.std.proofs.Common.{◌≡◌, ◌≢◌, ◌⊎◌, ℕ, ◌+◌, ◌*◌, ◌%◌, ◌^◌, ◌<◌, ◌≤◌, List, [], ◌∷◌, ◌++◌, length, set, slice_index, get_or, true, false, sym, refl, ap, ◌∙◌, subst, inl, inr, ⊎_elim, arith, length-append, length-set, mod-lt, get_or-set_same, get_or-set_other}
 use mathlib.Core.Logic.{dite}
 use mathlib.Core.List.{IsPrefix}
 use mathlib.Core.Option.{none, some}
@@ -18,24 +18,28 @@ use Rattle.qolb_model.specs.Views.{own}
 use Rattle.qolb_model.specs.Kept.{AreAllowed}
 use Rattle.qolb_model.specs.Sound.{Continues}
 use Rattle.qolb_model.proofs.Lists.{push_cases, never}
-use Rattle.qolb_model.proofs.Prefixes.{prefix_self}
 use Rattle.qolb_model.proofs.Requests.{has_last, lacks_from, same_place}
-use Rattle.ring_line.specs.declared.words.TheConstants.{CELLS, WITHDRAWN, MOST_NODES}
+use Rattle.qolb_model.specs.declared.terms.TheConstants.{MOST_NODES}
+use Rattle.ring_line.specs.declared.words.TheConstants.{CELLS, WITHDRAWN}
 use Rattle.ring_line.specs.declared.entry.Point.TheVariants.{Idle, Queued, Holding, Passing, Cleared, Rolled}
 use Rattle.ring_line.specs.declared.entry.Entry.{Entry}
 use Rattle.ring_line.specs.declared.rule.Setup.{Setup}
 use Rattle.ring_line.specs.declared.rule.Parcel.{Parcel}
 use Rattle.ring_line.specs.Words.{ticket_at, cell_at, node_at, cell_of, withdrawn_by}
 use Rattle.ring_line.specs.Ring.{At, Past, HasPassed, Walks, NodeOk, PastOk, Shown, RingRule, has_line, lets_go, is_kept, is_cleared}
-use Rattle.ring_line.specs.Steps.{Contents, next_end, left_by, after_walk, Carries, Ended, GoesHome, Passes, granted}
-use Rattle.ring_line.proofs.Lists.{elem_within, at_same, prefix_more, has_prefix, cleared_ended}
-use Rattle.ring_line.proofs.Nodes.{passed_goes, put, put_here, put_else, placed_at, others_end, others_clear, others_hand}
+use Rattle.ring_line.specs.Steps.{Contents, next_end, after_walk, Carries, Ended, GoesHome, Passes, granted}
+use Rattle.ring_line.proofs.Lists.{elem_within, at_same, prefix_more, cleared_ended}
+use Rattle.ring_line.proofs.Nodes.{passed_goes, put, put_here, put_else, placed_at, others_end, others_clear, others_hand, knows_whole, hand_none, freed_so}
 use Rattle.ring_line.proofs.Histories.{marked_at, continues}
 use Rattle.ring_line.proofs.Keeping.{St, Homes, rule_step, mine_ok, mine_low, blank}
 use Rattle.ring_line.proofs.Taking.{cells_apart}
 use Rattle.ring_line.proofs.Clearing.{not_after, no_line_after, goes_after, clear_with, more_clear, still_unclear, fine_clear}
-use Rattle.ring_line.proofs.Ending.{not_holding, own_not_gone, passed_gone, may_follow, fine_end, fine_home}
+use Rattle.ring_line.proofs.Ending.{not_holding, own_not_gone, passed_gone, fine_end, fine_home}
 use Rattle.ring_line.proofs.Passed.{few_passed}
+use Rattle.ring_line.proofs.Turning.{goes_step}
+use Rattle.qolb_model.specs.Leases.{turns_left, is_last_turn}
+use Rattle.qolb_model.specs.declared.terms.Terms.{Terms}
+use Rattle.qolb_model.specs.PortStates.{left_by}
 
 abbrev pub carried_parcel : Parcel → List (ℕ × Parcel) → Parcel
 carried_parcel d [] = d
@@ -56,13 +60,13 @@ module _ (good : List ℕ → Type 0) (allows : List ℕ → List ℕ → Type 0
   walk_past x = record x { ends = x.ends ++ e ∷ []; cleared = false; passer = put x.passer (length (x.ends ++ e ∷ [])) v.view.node }
 
   abbrev walk_entry : Past → Entry
-  walk_entry x = record v { view = record v.view { state = left_by y.closed; order = x.order; ends = x.ends ++ e ∷ []; clear = x.clear }; point = Passing; passed = v.passed ++ length (x.ends ++ e ∷ []) ∷ [] }
+  walk_entry x = record v { view = record v.view { state = left_by y.closed; order = x.order; ends = x.ends ++ e ∷ []; clear = x.clear }; point = Passing; passed = v.passed ++ length (x.ends ++ e ∷ []) ∷ []; steps = v.steps + 1 }
 
   abbrev home_past : Past → Past
   home_past x = record x { ends = x.ends ++ e ∷ []; clear = clear_with (own v.view) v.passed x.clear; hand = 0; cleared = false }
 
   abbrev home_entry : Past → Entry
-  home_entry x = record v { view = record v.view { state = left_by y.closed; order = x.order; ends = x.ends ++ e ∷ []; clear = clear_with (own v.view) v.passed x.clear }; point = after_walk v.passed }
+  home_entry x = record v { view = record v.view { state = left_by y.closed; order = x.order; ends = x.ends ++ e ∷ []; clear = clear_with (own v.view) v.passed x.clear }; point = after_walk v.passed; steps = v.steps + 1 }
 
   not_idle : v.point ≢ Idle
   not_idle i = let d = cleared in cc
@@ -75,25 +79,25 @@ module _ (good : List ℕ → Type 0) (allows : List ℕ → List ℕ → Type 0
     longer = length-append x.ends (e ∷ [])
 
     ends : v.view.ends ≡ x.ends
-    ends = (ok.holds (ap has_line cleared)).0
+    ends = (ok.hand.holds (ap has_line cleared)).0
 
     hand : x.hand ≡ v.view.node
-    hand = (ok.holds (ap has_line cleared)).1
+    hand = (ok.hand.holds (ap has_line cleared)).1
 
     was_cleared : x.cleared ≡ true
-    was_cleared = (ok.holds (ap has_line cleared)).2 ∙ ap is_cleared cleared
+    was_cleared = (ok.hand.holds (ap has_line cleared)).2 ∙ ap is_cleared cleared
 
-    walks : Walks x v
-    walks = ok.walking (ap lets_go cleared) (ap has_line cleared)
+    walks : Walks (length x.ends) x.marks v
+    walks = ok.passes.walking (ap lets_go cleared) (ap has_line cleared)
 
     unmarked : x.marks v.place ≡ 0
-    unmarked = ok.unmarked (ap is_kept cleared)
+    unmarked = ok.marks.unmarked (ap is_kept cleared)
 
     unclear : Lacks x.clear (own v.view)
-    unclear = ok.unclear (ap is_kept cleared)
+    unclear = ok.marks.unclear (ap is_kept cleared)
 
     placed : At x.order v.place (own v.view)
-    placed = placed_at about x v.view.node v ok (ok.asked not_idle)
+    placed = placed_at about x v.view.node v ok (ok.stance.asked not_idle)
 
     below : v.place < length (x.ends ++ e ∷ [])
     below = ⊎_elim (λ z. let a = z.0 in let l = longer in omega arith) (λ z. let a = z.0 in let l = longer in omega arith) walks
@@ -109,11 +113,17 @@ module _ (good : List ℕ → Type 0) (allows : List ℕ → List ℕ → Type 0
     marked : 0 < x.marks (length x.ends) → is_gone e ≡ true
     marked h = ⊎_elim (λ z. let w : x.marks (length x.ends) ≡ 0 = ap x.marks (sym z.0) ∙ unmarked in absurd (omega arith)) (λ z. passed_gone v.passed (is_closed v.view.ends) y z.2) walks
 
-    allowed : AreAllowed allows (bytes_after about.opening.bytes x.ends) (e ∷ [])
-    allowed = subst (λ b. AreAllowed allows b (e ∷ [])) (λ j. bytes_after (ok.opening j).bytes (ends j)) carries.allowed
+    allowed : AreAllowed allows (bytes_after about.terms.opening.bytes x.ends) (e ∷ [])
+    allowed = subst (λ b. AreAllowed allows b (e ∷ [])) (λ j. bytes_after (ok.who.terms j).opening.bytes (ends j)) carries.allowed
 
-    bytes : y.bytes.bytes ≡ bytes_after about.opening.bytes (x.ends ++ e ∷ [])
-    bytes = sym carries.bytes ∙ (λ j. bytes_after (ok.opening j).bytes (ends j ++ e ∷ []))
+    bytes : y.bytes.bytes ≡ bytes_after about.terms.opening.bytes (x.ends ++ e ∷ [])
+    bytes = sym carries.bytes ∙ (λ j. bytes_after (ok.who.terms j).opening.bytes (ends j ++ e ∷ []))
+
+    left : y.turns_left ≡ turns_left about.terms.lease (x.ends ++ e ∷ [])
+    left = sym carries.turns ∙ (λ j. turns_left (ok.who.terms j).lease (ends j ++ e ∷ []))
+
+    follows : MayEnd (is_closed x.ends) (is_last_turn about.terms.lease x.ends) e
+    follows = subst (λ (z : List End × Terms). MayEnd (is_closed z.0) (is_last_turn z.1.lease z.0) e) (λ j. (ends j, ok.who.terms j)) carries.may_end
 
     shut : y.closed ≡ is_closed (x.ends ++ e ∷ [])
     shut = sym carries.closed ∙ (λ j. is_closed (ends j ++ e ∷ []))
@@ -121,7 +131,7 @@ module _ (good : List ℕ → Type 0) (allows : List ℕ → List ℕ → Type 0
     module _ (low : 0 < v.view.node) where
       ended_fine : (passer : ℕ → ℕ) → PastOk good allows about (record x { ends = x.ends ++ e ∷ []; cleared = false; passer = passer })
       ended_fine passer = fine_end good allows about goes x e passer f (λ z. let h = hand in omega arith) (slice_get_within x.order (length x.ends) turn.0 turn.1)
-          (subst (λ (b : List End). MayEnd (is_closed b) e) ends (may_follow v.passed (is_closed v.view.ends) y)) allowed gone marked
+          follows allowed gone marked
 
       ended_others : (passer : ℕ → ℕ) → ((p : ℕ) → p ≤ length x.ends → passer p ≡ x.passer p) → (n : ℕ) (u : Entry) → n ≢ v.view.node → NodeOk about x n u → NodeOk about (record x { ends = x.ends ++ e ∷ []; cleared = false; passer = passer }) n u
       ended_others passer passes n u ne k = others_end about x n u k v.view.node turn.0 e passer turn.1 turn.2 marked ne hand passes
@@ -167,7 +177,7 @@ module _ (good : List ℕ → Type 0) (allows : List ℕ → List ℕ → Type 0
               ∙ ap (λ k. (k + 1) % 2 ^ 64) (found ∙ ap (λ k. WITHDRAWN * k) free);
           later = λ k a b. later_cells new k a b;
           flags = λ n a b. get_or-set_other words i (node_at n) new 0 (λ q. omega arith) ∙ h.flags n a b;
-          home = λ _. (y, set_here homes 0 (some y) (let d = h.deep in omega arith), bytes, shut);
+          home = λ _. (y, set_here homes 0 (some y) (let d = h.deep in omega arith), bytes, shut, left);
         }
 
       -- the next request is withdrawn
@@ -175,10 +185,10 @@ module _ (good : List ℕ → Type 0) (allows : List ℕ → List ℕ → Type 0
         passed_request : (r : Request) × At x.order (length (x.ends ++ e ∷ [])) r × (r.node ≡ x.marks (length (x.ends ++ e ∷ [])))
         passed_request = f.marked (length (x.ends ++ e ∷ [])) rolled
 
-        new_passed : HasPassed (walk_past x) v.view.node (walk_entry x) (length (x.ends ++ e ∷ []))
+        new_passed : HasPassed (length (x.ends ++ e ∷ [])) x.clear x.marks (put x.passer (length (x.ends ++ e ∷ [])) v.view.node) v.view.node (walk_entry x) (length (x.ends ++ e ∷ []))
         new_passed = record {
           in_release = refl;
-          passer = put_here x.passer (length (x.ends ++ e ∷ [])) v.view.node;
+          passer_is = put_here x.passer (length (x.ends ++ e ∷ [])) v.view.node;
           within = omega arith;
           marked = rolled;
           request = passed_request.0;
@@ -189,49 +199,52 @@ module _ (good : List ℕ → Type 0) (allows : List ℕ → List ℕ → Type 0
 
         walk_node : NodeOk about (walk_past x) v.view.node (walk_entry x)
         walk_node = record {
-          node = refl;
-          label = ok.label;
-          nodes = ok.nodes;
-          opening = ok.opening;
-          orders = prefix_self x.order;
-          endings = prefix_self (x.ends ++ e ∷ []);
-          clears = prefix_self x.clear;
-          counts = ok.counts;
-          asked = λ _. ok.asked not_idle;
-          placed = λ _. placed;
-          last_open = λ p r at mine h. ok.last_open p r at mine (let l = longer in omega arith);
-          idle = λ i. cc;
-          queued = λ i. cc;
-          holding = λ i. cc;
-          walking = λ _ _. inr (below, rolled, some_list v.passed (length (x.ends ++ e ∷ [])));
-          freeing = λ i. cc;
-          unmarked = λ _. unmarked;
-          unclear = λ _. unclear;
-          rolled = λ i. cc;
-          holds = λ _. (refl, hand, refl);
-          lacks = λ i. cc;
-          holder = λ i. absurd (not_holding y.closed i);
-          passed = λ i p at. ⊎_elim
-              (λ z. let h = ok.passed i p z.1 in passed_goes x (walk_past x) v.view.node v (walk_entry x) p h refl (put_else x.passer (length (x.ends ++ e ∷ [])) v.view.node p (λ q. let w = h.within in let l = longer in omega arith)) (let l = longer in omega arith) h.marked ok.orders h.unclear)
-              (λ z. subst (HasPassed (walk_past x) v.view.node (walk_entry x)) (sym z.1) new_passed)
-              (push_cases v.passed (length (x.ends ++ e ∷ [])) i p at);
-          passed_once = λ i j p a b. ⊎_elim
-              (λ z. ⊎_elim (λ w. ok.passed_once i j p z.1 w.1) (λ w. absurd (old i p z.1 w.1)) (push_cases v.passed (length (x.ends ++ e ∷ [])) j p b))
-              (λ z. ⊎_elim (λ w. absurd (old j p w.1 z.1)) (λ w. z.0 ∙ sym w.0) (push_cases v.passed (length (x.ends ++ e ∷ [])) j p b))
-              (push_cases v.passed (length (x.ends ++ e ∷ [])) i p a);
-          own_ends = λ p r end _ _ en _. slice_get_within (x.ends ++ e ∷ []) p end en;
-          own_marks = ok.own_marks;
-          marked_last = λ p r at mine h lacks. absurd (not_rolled (ok.marked_last p r at mine h lacks).0);
-          own_flag = λ i. cc;
-          no_flag = λ _. ok.no_flag not_rolled;
-          own_joined = ok.own_joined;
-          all_joined = ok.all_joined;
-          all_marked = ok.all_marked;
-          freed_clear = λ r h. has_prefix v.view.clear x.clear r ok.clears (ok.freed_clear r h);
+          who = record { node = refl; label = ok.who.label; terms = ok.who.terms };
+          knows = knows_whole x.order (x.ends ++ e ∷ []) x.clear v.view.node (walk_entry x).view refl refl refl ok.knows.counts (freed_so about x v.view.node v ok);
+          stance = record {
+            asked = λ _. ok.stance.asked not_idle;
+            placed = λ _. placed;
+            last_open = λ p r at mine h. ok.stance.last_open p r at mine (let l = longer in omega arith);
+            idle = λ i. cc;
+            queued = λ i. cc;
+            holding = λ i. cc;
+            freeing = λ i. cc;
+            waits = λ _ h. absurd (let b = below in omega arith);
+          };
+          hand = record {
+            holds = λ _. (refl, hand, refl);
+            lacks = λ i. cc;
+            holder = λ i. absurd (not_holding y.closed i);
+          };
+          passes = record {
+            walking = λ _ _. inr (below, rolled, some_list v.passed (length (x.ends ++ e ∷ [])));
+            freeing = λ i. cc;
+            passed = λ i p at. ⊎_elim
+                (λ z. let h = ok.passes.passed i p z.1 in passed_goes v.view.node p v (walk_entry x) (length x.ends) (length (x.ends ++ e ∷ [])) x.clear x.clear x.marks x.marks x.passer (put x.passer (length (x.ends ++ e ∷ [])) v.view.node) h refl (put_else x.passer (length (x.ends ++ e ∷ [])) v.view.node p (λ q. let w = h.within in let l = longer in omega arith)) (let l = longer in omega arith) h.marked ok.knows.orders h.unclear)
+                (λ z. subst (HasPassed (length (x.ends ++ e ∷ [])) x.clear x.marks (put x.passer (length (x.ends ++ e ∷ [])) v.view.node) v.view.node (walk_entry x)) (sym z.1) new_passed)
+                (push_cases v.passed (length (x.ends ++ e ∷ [])) i p at);
+            once = λ i j p a b. ⊎_elim
+                (λ z. ⊎_elim (λ w. ok.passes.once i j p z.1 w.1) (λ w. absurd (old i p z.1 w.1)) (push_cases v.passed (length (x.ends ++ e ∷ [])) j p b))
+                (λ z. ⊎_elim (λ w. absurd (old j p w.1 z.1)) (λ w. z.0 ∙ sym w.0) (push_cases v.passed (length (x.ends ++ e ∷ [])) j p b))
+                (push_cases v.passed (length (x.ends ++ e ∷ [])) i p a);
+          };
+          marks = record {
+            unmarked = λ _. unmarked;
+            unclear = λ _. unclear;
+            rolled = λ i. cc;
+            known = ok.marks.known;
+            last = λ p r at mine h lacks. absurd (not_rolled (ok.marks.last p r at mine h lacks).0);
+            all = ok.marks.all;
+          };
+          flag = record {
+            rolled = λ i. cc;
+            not_rolled = λ _. ok.flag.not_rolled not_rolled;
+          };
+          joins = ok.joins;
         }
           where
             old : (i p : ℕ) → At v.passed i p → p ≡ length (x.ends ++ e ∷ []) → ⊥
-            old i p at q = let h = (ok.passed i p at).within in let l = longer in omega arith
+            old i p at q = let h = (ok.passes.passed i p at).within in let l = longer in omega arith
 
         walk_others : (n : ℕ) (u : Entry) → n ≢ v.view.node → NodeOk about x n u → NodeOk about (walk_past x) n u
         walk_others n u ne k = ended_others (put x.passer (length (x.ends ++ e ∷ [])) v.view.node) (λ p le. put_else x.passer (length (x.ends ++ e ∷ [])) v.view.node p (λ q. let l = longer in omega arith)) n u ne k
@@ -240,7 +253,7 @@ module _ (good : List ℕ → Type 0) (allows : List ℕ → List ℕ → Type 0
         walk_fine = ended_fine (put x.passer (length (x.ends ++ e ∷ [])) v.view.node)
 
         learns_walk : Continues allows v.view (walk_entry x).view
-        learns_walk = continues good allows about x (walk_past x) walk_fine v.view.node v.view.node v (walk_entry x) ok walk_node refl ok.orders (prefix_more v.view.ends x.ends (e ∷ []) ok.endings) ok.clears (λ q h. h) (λ q h. h) (λ q h. h)
+        learns_walk = continues good allows about x (walk_past x) walk_fine v.view.node v.view.node v (walk_entry x) ok walk_node refl ok.knows.orders (prefix_more v.view.ends x.ends (e ∷ []) ok.knows.endings) ok.knows.clears (λ q h. h) (λ q h. h) (λ q h. h)
 
       -- the next request is not withdrawn
       module _ (free : x.marks (length (x.ends ++ e ∷ [])) ≡ 0) where
@@ -257,39 +270,38 @@ module _ (good : List ℕ → Type 0) (allows : List ℕ → List ℕ → Type 0
 
         home_node : NodeOk about (home_past x) v.view.node (home_entry x)
         home_node = record {
-          node = refl;
-          label = ok.label;
-          nodes = ok.nodes;
-          opening = ok.opening;
-          orders = prefix_self x.order;
-          endings = prefix_self (x.ends ++ e ∷ []);
-          clears = prefix_self (clear_with (own v.view) v.passed x.clear);
-          counts = ok.counts;
-          asked = λ _. ok.asked not_idle;
-          placed = λ _. placed;
-          last_open = λ p r at mine h. ok.last_open p r at mine (let l = longer in omega arith);
-          idle = λ i _. (below, own_clear v.passed i);
-          queued = λ i. absurd (not_after v.passed Queued (λ z. cc) (λ z. cc) i);
-          holding = λ i. absurd (not_after v.passed Holding (λ z. cc) (λ z. cc) i);
-          walking = λ _ l. absurd (never l (no_line_after v.passed));
-          freeing = λ _. (below, (λ i p at. let h = (ok.passed i p at).within in let l = longer in omega arith));
-          unmarked = λ _. unmarked;
-          unclear = λ k. own_kept v.passed k;
-          rolled = λ i. absurd (not_after v.passed Rolled (λ z. cc) (λ z. cc) i);
-          holds = λ l. absurd (never l (no_line_after v.passed));
-          lacks = λ _ z. omega arith;
-          holder = λ i. absurd (not_holding y.closed i);
-          passed = λ i p at. let h = ok.passed i p at in passed_goes x (home_past x) v.view.node v (home_entry x) p h (goes_after v.passed i p at) refl (let l = longer in omega arith) h.marked ok.orders (still_unclear (own v.view) v.passed x.clear h.request i p at h.unclear);
-          passed_once = ok.passed_once;
-          own_ends = λ p r end _ _ en _. slice_get_within (x.ends ++ e ∷ []) p end en;
-          own_marks = ok.own_marks;
-          marked_last = λ p r at mine h lacks. absurd (not_rolled (ok.marked_last p r at mine h (lacks_from x.clear r (λ was. never (more r was) lacks))).0);
-          own_flag = λ i. absurd (not_after v.passed Rolled (λ z. cc) (λ z. cc) i);
-          no_flag = λ _. ok.no_flag not_rolled;
-          own_joined = ok.own_joined;
-          all_joined = ok.all_joined;
-          all_marked = ok.all_marked;
-          freed_clear = λ r h. more r (has_prefix v.view.clear x.clear r ok.clears (ok.freed_clear r h));
+          who = record { node = refl; label = ok.who.label; terms = ok.who.terms };
+          knows = knows_whole x.order (x.ends ++ e ∷ []) (clear_with (own v.view) v.passed x.clear) v.view.node (home_entry x).view refl refl refl ok.knows.counts (λ r h. more r (freed_so about x v.view.node v ok r h));
+          stance = record {
+            asked = λ _. ok.stance.asked not_idle;
+            placed = λ _. placed;
+            last_open = λ p r at mine h. ok.stance.last_open p r at mine (let l = longer in omega arith);
+            idle = λ i _. (below, own_clear v.passed i);
+            queued = λ i. absurd (not_after v.passed Queued (λ z. cc) (λ z. cc) i);
+            holding = λ i. absurd (not_after v.passed Holding (λ z. cc) (λ z. cc) i);
+            freeing = λ _. below;
+            waits = λ _ h. absurd (let b = below in omega arith);
+          };
+          hand = hand_none (x.ends ++ e ∷ []) 0 false v.view.node (home_entry x) (no_line_after v.passed) (λ z. omega arith) (not_holding y.closed);
+          passes = record {
+            walking = λ _ l. absurd (never l (no_line_after v.passed));
+            freeing = λ _ i p at. let h = (ok.passes.passed i p at).within in let l = longer in omega arith;
+            passed = λ i p at. let h = ok.passes.passed i p at in passed_goes v.view.node p v (home_entry x) (length x.ends) (length (x.ends ++ e ∷ [])) x.clear (clear_with (own v.view) v.passed x.clear) x.marks x.marks x.passer x.passer h (goes_after v.passed i p at) refl (let l = longer in omega arith) h.marked ok.knows.orders (still_unclear (own v.view) v.passed x.clear h.request i p at h.unclear);
+            once = ok.passes.once;
+          };
+          marks = record {
+            unmarked = λ _. unmarked;
+            unclear = λ k. own_kept v.passed k;
+            rolled = λ i. absurd (not_after v.passed Rolled (λ z. cc) (λ z. cc) i);
+            known = ok.marks.known;
+            last = λ p r at mine h lacks. absurd (not_rolled (ok.marks.last p r at mine h (lacks_from x.clear r (λ was. never (more r was) lacks))).0);
+            all = ok.marks.all;
+          };
+          flag = record {
+            rolled = λ i. absurd (not_after v.passed Rolled (λ z. cc) (λ z. cc) i);
+            not_rolled = λ _. ok.flag.not_rolled not_rolled;
+          };
+          joins = ok.joins;
         }
 
         home_others : (n : ℕ) (u : Entry) → 0 < n → n ≢ v.view.node → NodeOk about x n u → NodeOk about (home_past x) n u
@@ -324,11 +336,11 @@ module _ (good : List ℕ → Type 0) (allows : List ℕ → List ℕ → Type 0
                 (λ z. absurd (never (ap is_gone same ∙ marked z.1) kind)) walks
 
         learns_home : Continues allows v.view (home_entry x).view
-        learns_home = continues good allows about x (home_past x) home_fine v.view.node v.view.node v (home_entry x) ok home_node refl ok.orders (prefix_more v.view.ends x.ends (e ∷ []) ok.endings) (wider v.passed) (λ q h. h) (λ q h. h) (λ q h. h)
+        learns_home = continues good allows about x (home_past x) home_fine v.view.node v.view.node v (home_entry x) ok home_node refl ok.knows.orders (prefix_more v.view.ends x.ends (e ∷ []) ok.knows.endings) (wider v.passed) (λ q h. h) (λ q h. h) (λ q h. h)
           where
             wider : (l : List ℕ) → IsPrefix v.view.clear (clear_with (own v.view) l x.clear)
-            wider [] = prefix_more v.view.clear x.clear (own v.view ∷ []) ok.clears
-            wider (p ∷ l) = ok.clears
+            wider [] = prefix_more v.view.clear x.clear (own v.view ∷ []) ok.knows.clears
+            wider (p ∷ l) = ok.knows.clears
 
         goes_home : GoesHome v (home_entry x)
         goes_home = record {
@@ -339,8 +351,8 @@ module _ (good : List ℕ → Type 0) (allows : List ℕ → List ℕ → Type 0
         }
 
   own_turn_of : (x : Past) (ok : NodeOk about x v.view.node v) → v.passed ≡ [] → At x.order (length v.view.ends) (own v.view)
-  own_turn_of x ok empty = ⊎_elim (λ z. subst (λ q. At x.order q (own v.view)) (z.0 ∙ ap length (sym (ok.holds (ap has_line cleared)).0)) (placed_at about x v.view.node v ok (ok.asked not_idle)))
-      (λ z. absurd (z.2 empty)) (ok.walking (ap lets_go cleared) (ap has_line cleared))
+  own_turn_of x ok empty = ⊎_elim (λ z. subst (λ q. At x.order q (own v.view)) (z.0 ∙ ap length (sym (ok.hand.holds (ap has_line cleared)).0)) (placed_at about x v.view.node v ok (ok.stance.asked not_idle)))
+      (λ z. absurd (z.2 empty)) (ok.passes.walking (ap lets_go cleared) (ap has_line cleared))
 
   module _ (s : St) (r : Rule s) (me i : ℕ) (at : get_elem? s.views me ≡ some (v ∷ [])) (word : i ≡ cell_at (cell_of (length v.view.ends + 1))) where
     ok : NodeOk about r.past v.view.node v
@@ -375,10 +387,10 @@ module _ (good : List ℕ → Type 0) (allows : List ℕ → List ℕ → Type 0
       request = k.0;
       at = k.1;
       node = k.2 ∙ (let w = seen in let d : r.past.marks (length (r.past.ends ++ e ∷ [])) ≡ withdrawn_by (slice_index s.words i) = omega arith in d);
-      high = subst (λ q. k.0.node ≤ q) (sym ok.nodes) (r.fine.nodes (length (r.past.ends ++ e ∷ [])) k.0 k.1).1;
-      few = subst (λ q. length (v.passed ++ length (r.past.ends ++ e ∷ []) ∷ []) + 1 ≤ q) (sym ok.nodes)
+      high = subst (λ (t : Terms). k.0.node ≤ t.nodes) (sym ok.who.terms) (r.fine.nodes (length (r.past.ends ++ e ∷ [])) k.0 k.1).1;
+      few = subst (λ (t : Terms). length (v.passed ++ length (r.past.ends ++ e ∷ []) ∷ []) + 1 ≤ t.nodes) (sym ok.who.terms)
           (few_passed good allows about (record { words = set s.words i 0; homes = s.homes; views = set s.views me (walk_entry r.past ∷ []) }) (walks_rule rolled 0) me (walk_entry r.past) (set_here s.views me (walk_entry r.past ∷ []) (elem_within s.views me (v ∷ []) at)) refl);
-      nodes = subst (λ q. q ≤ MOST_NODES) (sym ok.nodes) r.few;
+      nodes = subst (λ (t : Terms). t.nodes ≤ MOST_NODES) (sym ok.who.terms) r.may_open.nodes.few;
     }
 
     ended_home : Ended v (home_entry r.past) y
@@ -397,8 +409,7 @@ module _ (good : List ℕ → Type 0) (allows : List ℕ → List ℕ → Type 0
         tt,
         homes_rule s r me i at word free,
         (
-          refl,
-          learns_home r.past r.fine (ok s r me i at word) (above s r me i at word) free,
+          goes_step allows (v ∷ [], (0, y) ∷ []) v (home_entry r.past) [] refl (learns_home r.past r.fine (ok s r me i at word) (above s r me i at word) free) refl,
           (λ z c. subst (λ (u : Parcel). Ended v (home_entry r.past) u) (ap (carried_parcel y) c) (ended_home s r me i at word)),
           (λ _. ((λ z c. refl), goes_home r.past r.fine (ok s r me i at word) (above s r me i at word) free)),
           (λ ne. absurd (ne (omega arith))),
@@ -410,8 +421,7 @@ module _ (good : List ℕ → Type 0) (allows : List ℕ → List ℕ → Type 0
         tt,
         walks_rule s r me i at word (omega arith) ((slice_index s.words i + 1) % 2 ^ 64),
         (
-          refl,
-          learns_walk r.past r.fine (ok s r me i at word) (above s r me i at word) (omega arith),
+          goes_step allows (v ∷ [], (0, y) ∷ []) v (walk_entry r.past) ((0, y) ∷ []) refl (learns_walk r.past r.fine (ok s r me i at word) (above s r me i at word) (omega arith)) refl,
           (λ z c. subst (λ (u : Parcel). Ended v (walk_entry r.past) u) (ap (carried_parcel y) c) (ended_walk s r me i at word)),
           (λ z. absurd (ne (omega arith))),
           (λ _. (refl, passes s r me i at word (omega arith))),

@@ -1,5 +1,5 @@
 -- Lists of requests and ends.
-use Rattle.std.proofs.Common.{◌≡◌, ◌≢◌, ◌⊎◌, ℕ, zero, suc, ◌+◌, ◌<◌, ◌≤◌, List, [], ◌∷◌, ◌++◌, length, drop, Bool, true, false, cond, eqb, sym, refl, ap, ◌∙◌, inl, inr, ⊎_elim, subst, arith, length-append, zero-add, eq-eqb, ne_eqb, Some, None}
+use Rattle.std.proofs.Common.{◌≡◌, ◌≢◌, ◌⊎◌, ℕ, zero, suc, ◌+◌, ◌<◌, ◌≤◌, List, [], ◌∷◌, ◌++◌, length, drop, Bool, true, false, cond, eqb, sym, refl, ap, ◌∙◌, inl, inr, ⊎_elim, subst, arith, zero-add, eq-eqb, ne_eqb, Some, None}
 use mathlib.Core.Logic.{dite}
 use mathlib.Core.List.{IsPrefix}
 use mathlib.Core.Option.{some, some-ne-none}
@@ -7,12 +7,11 @@ use native.Mathlib.Decide.{ℕ_discrete}
 use lib.ListN.{get_elem?}
 use Rattle.std.proofs.lemmas.Option.{slice_get_within}
 use Rattle.qolb_model.specs.declared.request.Request.{Request}
-use Rattle.qolb_model.specs.declared.end.End.{End}
 use Rattle.qolb_model.specs.Requests.{Has, Lacks, has, count_of}
-use Rattle.qolb_model.specs.Histories.{IsLegal, Clears, none, more}
+use Rattle.qolb_model.specs.Histories.{Clears, none, more}
 use Rattle.qolb_model.proofs.Lists.{never, same_some, slice_get-append_left, slice_get-drop}
 use Rattle.qolb_model.proofs.Prefixes.{prefix_append, prefix_trans}
-use Rattle.qolb_model.proofs.Requests.{count_of-append, count_of-push_same, count_of-push_other, lacks_from, has_left, has_push, same_place}
+use Rattle.qolb_model.proofs.Requests.{count_of-append, count_of-push_same, count_of-push_other, lacks_from, has_left, has_push}
 use Rattle.ring_line.specs.Ring.{At}
 
 module _ {A : Type 0} where
@@ -73,14 +72,6 @@ clears_wider order ms ended later a b le (more p q c l at new) = more p q (clear
 pub clears_later : (order : List Request) (ended later : ℕ) (a b : List Request) → ended ≤ later → Clears order ended a b → Clears order later a b
 clears_later order ended later a b le none = none
 clears_later order ended later a b le (more p q c l at new) = more p q (clears_later order ended later a _ le c) (omega arith) at new
-
--- the request at its turn ends, and is cleared
-pub clears_push : (order : List Request) (ends : List End) (clear : List Request) (r : Request) (e : End) → IsLegal order ends → At order (length ends) r → Clears order (length ends) [] clear
-    → Clears order (length (ends ++ e ∷ [])) [] (clear ++ r ∷ [])
-clears_push order ends clear r e legal turn c =
-    let l : length (ends ++ e ∷ []) ≡ length ends + 1 = length-append ends (e ∷ []) in
-    more (length ends) r (clears_later order (length ends) (length (ends ++ e ∷ [])) [] clear (omega arith) c) (omega arith) turn
-    (lacks_from clear r (λ h. let o = cleared_ended order (length ends) clear c r h in let s = same_place order legal.numbered o.0 (length ends) r o.2 turn in let b = o.1 in absurd (omega arith)))
 
 -- Nodes that stand at most once each are not more than there are nodes
 pub sum_to : (ℕ → ℕ) → ℕ → ℕ

@@ -1,5 +1,5 @@
 -- A node looks at its cell, and takes the line where it has come.
-use Rattle.std.proofs.Common.{◌≡◌, ◌≢◌, ℕ, ◌%◌, List, [], ◌∷◌, length, set, slice_index, sym, refl, ap, ◌∙◌, subst, arith}
+use Rattle.std.proofs.Common.{◌≡◌, ◌≢◌, ℕ, List, [], ◌∷◌, length, set, slice_index, sym, refl, ap, ◌∙◌, subst, arith}
 use mathlib.Core.Logic.{dite}
 use mathlib.Core.Option.{none, some}
 use native.Mathlib.Decide.{ℕ_discrete}
@@ -12,12 +12,13 @@ use Rattle.ring_line.specs.declared.entry.Point.TheVariants.{Queued}
 use Rattle.ring_line.specs.declared.entry.Entry.{Entry}
 use Rattle.ring_line.specs.declared.rule.Setup.{Setup}
 use Rattle.ring_line.specs.Words.{cell_at, cell_of}
-use Rattle.ring_line.specs.Ring.{NodeOk, RingRule, is_kept}
+use Rattle.ring_line.specs.Ring.{NodeOk, RingRule, has_line, lets_go, is_kept}
 use Rattle.ring_line.specs.Steps.{sole, Contents, IsEarly, Comes, loaded}
 use Rattle.ring_line.proofs.Nodes.{fresh, fresh_ok}
 use Rattle.ring_line.proofs.Histories.{not_withdrawn, continues}
 use Rattle.ring_line.proofs.Keeping.{St, rule_step, mine_ok}
 use Rattle.ring_line.proofs.Taking.{take_entry, asked_at, home, finds_grant, finds_blank, takes_rule, comes, learns_take}
+use Rattle.ring_line.proofs.Turning.{goes_step}
 
 module _ (good : List ℕ → Type 0) (allows : List ℕ → List ℕ → Type 0) (about : Setup) (v : Entry) (queued : v.point ≡ Queued) where
   abbrev Rule : St → Type 0
@@ -31,14 +32,14 @@ module _ (good : List ℕ → Type 0) (allows : List ℕ → List ℕ → Type 0
     wait_entry = fresh about r.past v.view.node v ok shows.Queued
 
     wait_ok : NodeOk about r.past v.view.node wait_entry
-    wait_ok = fresh_ok about r.past v.view.node v ok shows.Queued (λ e. cc)
+    wait_ok = fresh_ok about r.past v.view.node v ok shows.Queued (λ e. cc) (ap lets_go queued) (ap has_line queued) (λ _. refl)
 
     waits_rule : Rule record { words = set s.words i (slice_index s.words i); homes = s.homes; views = set s.views me (wait_entry ∷ []) }
     waits_rule = subst (λ ws. Rule record { words = ws; homes = s.homes; views = set s.views me (wait_entry ∷ []) }) (sym (set-get_or s.words i 0))
         (rule_step good allows about s r me v wait_entry r.past s.words s.homes at refl r.fine r.shown wait_ok (λ n a b ne. r.each n a b))
 
     learns_wait : Continues allows v.view wait_entry.view
-    learns_wait = continues good allows about r.past r.past r.fine v.view.node v.view.node v wait_entry ok wait_ok refl ok.orders ok.endings ok.clears (λ q h. h) (λ q h. h) (λ q h. h)
+    learns_wait = continues good allows about r.past r.past r.fine v.view.node v.view.node v wait_entry ok wait_ok refl ok.knows.orders ok.knows.endings ok.knows.clears (λ q h. h) (λ q h. h) (λ q h. h)
 
     early : v.place ≢ length r.past.ends → IsEarly v wait_entry
     early later = record {
@@ -48,7 +49,7 @@ module _ (good : List ℕ → Type 0) (allows : List ℕ → List ℕ → Type 0
       count = refl;
       place = refl;
       placed = asked_at good allows about v queued r.past ok;
-      early = let w = ok.queued queued in omega arith;
+      early = let w = ok.stance.queued queued in omega arith;
     }
 
   pub loads_next : (me slots i : ℕ) (m : Contents) → m.0 ≡ v ∷ [] → i ≡ cell_at (cell_of v.place) → Allows Rule slots me m i (λ n. n) (loaded allows (step slots i 0 0 none) m)
@@ -59,8 +60,7 @@ module _ (good : List ℕ → Type 0) (allows : List ℕ → List ℕ → Type 0
         y.1,
         takes_rule good allows about v queued s r me i at' word here (slice_index s.words i),
         (
-          refl,
-          subst (λ u. Continues allows (sole u).view (take_entry good allows about v queued r.past).view) (sym is) (learns_take good allows about v queued s r me i at' word here),
+          goes_step allows m v (take_entry good allows about v queued r.past) ((0, y.0) ∷ m.1) is (learns_take good allows about v queued s r me i at' word here) refl,
           (λ z. absurd (finds_grant good allows about v queued s r me i at' word here z)),
           (λ _. (y.0, refl, subst (λ u. Comes (sole u) (take_entry good allows about v queued r.past) y.0) (sym is) (comes good allows about v queued s r me i at' word here))),
         ),
@@ -71,8 +71,7 @@ module _ (good : List ℕ → Type 0) (allows : List ℕ → List ℕ → Type 0
         tt,
         waits_rule s r me i at' word,
         (
-          refl,
-          subst (λ u. Continues allows (sole u).view (wait_entry s r me i at' word).view) (sym is) (learns_wait s r me i at' word),
+          goes_step allows m v (wait_entry s r me i at' word) m.1 is (learns_wait s r me i at' word) refl,
           (λ _. (refl, subst (λ u. IsEarly (sole u) (wait_entry s r me i at' word)) (sym is) (early s r me i at' word later))),
           (λ ne. absurd (ne (finds_blank good allows about v queued s r me i at' word later))),
         ),

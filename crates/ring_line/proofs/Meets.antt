@@ -11,11 +11,11 @@ use Rattle.atomic_table.specs.Table.{step, keeps, gives, put_back, rest, Allows}
 use Rattle.atomic_table.proofs.Lists.{at_set, set_again}
 use Rattle.qolb_model.specs.declared.request.Request.{Request}
 use Rattle.qolb_model.specs.declared.view.View.{View}
-use Rattle.qolb_model.specs.Requests.{Has}
+use Rattle.qolb_model.specs.Requests.{Has, is_same}
 use Rattle.qolb_model.specs.Views.{own}
 use Rattle.qolb_model.specs.OneHistory.{IsAmong, OneHistory}
 use Rattle.qolb_model.specs.Sound.{Continues}
-use Rattle.qolb_model.specs.Meeting.{longer}
+use Rattle.qolb_model.specs.Meeting.{longer, Meets}
 use Rattle.qolb_model.proofs.Prefixes.{prefix_self, prefix_get, prefix_length, prefix_shorter, prefix_whole}
 use Rattle.qolb_model.proofs.Requests.{has_left, place_of_request, has_at}
 use Rattle.qolb_model.proofs.Agreeing.{among_first, among_second, among_two, history_of_some}
@@ -24,11 +24,12 @@ use Rattle.ring_line.specs.declared.entry.Entry.{Entry}
 use Rattle.ring_line.specs.declared.rule.Setup.{Setup}
 use Rattle.ring_line.specs.declared.rule.Parcel.{Parcel}
 use Rattle.ring_line.specs.Ring.{At, Past, NodeOk, Member, PastOk, RingRule, has_line}
-use Rattle.ring_line.specs.Steps.{Contents, informed, informed_view, met, parked}
+use Rattle.ring_line.specs.Steps.{Contents, informed, informed_view, met, parked, sole}
 use Rattle.ring_line.proofs.Lists.{at_one, at_none, at_either, has_prefix}
 use Rattle.ring_line.proofs.Nodes.{passed_goes, put, put_here, put_else}
 use Rattle.ring_line.proofs.Histories.{one_history, continues}
 use Rattle.ring_line.proofs.Keeping.{St}
+use Rattle.std.proofs.lemmas.List.Folds.{list_any-append}
 
 module _ {A : Type 0} where
   longer_cases : (ls ms : List A) → ((length ls ≤ length ms) × (longer ls ms ≡ ms)) ⊎ ((length ms ≤ length ls) × (longer ls ms ≡ ls))
@@ -59,52 +60,58 @@ either_has xs ys r h = let (p, e) = place_of_request (xs ++ ys) r h in
 module _ (good : List ℕ → Type 0) (allows : List ℕ → List ℕ → Type 0) (about : Setup) where
   informed_ok : (x : Past) (n m : ℕ) (v u : Entry) → NodeOk about x n v → NodeOk about x m u → NodeOk about x n (informed v u)
   informed_ok x n m v u ok other = record {
-    node = ok.node;
-    label = ok.label;
-    nodes = ok.nodes;
-    opening = ok.opening;
-    orders = longer_begins x.order v.view.order u.view.order ok.orders other.orders;
-    endings = longer_begins x.ends v.view.ends u.view.ends ok.endings other.endings;
-    clears = longer_begins x.clear v.view.clear u.view.clear ok.clears other.clears;
-    counts = ok.counts;
-    asked = ok.asked;
-    placed = λ c. prefix_get v.view.order (longer v.view.order u.view.order) v.place (own v.view) orders (ok.placed c);
-    last_open = ok.last_open;
-    idle = λ e c. let h = ok.idle e c in (h.0, has_prefix v.view.clear (longer v.view.clear u.view.clear) (own v.view) clears h.1);
-    queued = ok.queued;
-    holding = ok.holding;
-    walking = ok.walking;
-    freeing = ok.freeing;
-    unmarked = ok.unmarked;
-    unclear = ok.unclear;
-    rolled = ok.rolled;
-    holds = λ e. let h = ok.holds e in (longer_whole x.ends v.view.ends u.view.ends h.0 other.endings, h.1, h.2);
-    lacks = ok.lacks;
-    holder = ok.holder;
-    passed = λ i p at. let h = ok.passed i p at in passed_goes x x n v (informed v u) p h h.in_release refl (omega arith) h.marked orders h.unclear;
-    passed_once = ok.passed_once;
-    own_ends = λ p r end at mine en kind. let a = ok.own_ends p r end at mine en kind in let b = prefix_length v.view.ends (longer v.view.ends u.view.ends) (begins_longer x.ends v.view.ends u.view.ends ok.endings other.endings) in omega arith;
-    own_marks = λ p r at mine h. has_left v.view.marked u.view.marked r (ok.own_marks p r at mine h);
-    marked_last = ok.marked_last;
-    own_flag = ok.own_flag;
-    no_flag = ok.no_flag;
-    own_joined = λ p r at mine. has_left v.view.joined u.view.joined r (ok.own_joined p r at mine);
-    all_joined = λ r h. ⊎_elim (λ t. ok.all_joined r t) (λ t. other.all_joined r t) (either_has v.view.joined u.view.joined r h);
-    all_marked = λ r h. ⊎_elim (λ t. ok.all_marked r t) (λ t. other.all_marked r t) (either_has v.view.marked u.view.marked r h);
-    freed_clear = λ r h. ⊎_elim (λ t. has_prefix v.view.clear (longer v.view.clear u.view.clear) r clears (ok.freed_clear r t))
-        (λ t. has_prefix u.view.clear (longer v.view.clear u.view.clear) r (begins_longer_too x.clear v.view.clear u.view.clear ok.clears other.clears) (other.freed_clear r t)) (either_has v.view.freed u.view.freed r h);
+    who = record { node = ok.who.node; label = ok.who.label; terms = ok.who.terms };
+    knows = record {
+      orders = longer_begins x.order v.view.order u.view.order ok.knows.orders other.knows.orders;
+      endings = longer_begins x.ends v.view.ends u.view.ends ok.knows.endings other.knows.endings;
+      clears = longer_begins x.clear v.view.clear u.view.clear ok.knows.clears other.knows.clears;
+      counts = ok.knows.counts;
+      own_ends = λ p r end at mine en kind. let a = ok.knows.own_ends p r end at mine en kind in let b = prefix_length v.view.ends (longer v.view.ends u.view.ends) (begins_longer x.ends v.view.ends u.view.ends ok.knows.endings other.knows.endings) in omega arith;
+      freed_clear = λ r h. ⊎_elim (λ t. has_prefix v.view.clear (longer v.view.clear u.view.clear) r clears (ok.knows.freed_clear r t))
+          (λ t. has_prefix u.view.clear (longer v.view.clear u.view.clear) r (begins_longer_too x.clear v.view.clear u.view.clear ok.knows.clears other.knows.clears) (other.knows.freed_clear r t)) (either_has v.view.freed u.view.freed r h);
+    };
+    stance = record {
+      asked = ok.stance.asked;
+      placed = λ c. prefix_get v.view.order (longer v.view.order u.view.order) v.place (own v.view) orders (ok.stance.placed c);
+      last_open = ok.stance.last_open;
+      idle = λ e c. let h = ok.stance.idle e c in (h.0, has_prefix v.view.clear (longer v.view.clear u.view.clear) (own v.view) clears h.1);
+      queued = ok.stance.queued;
+      holding = ok.stance.holding;
+      freeing = ok.stance.freeing;
+      waits = ok.stance.waits;
+    };
+    hand = record { holds = λ e. let h = ok.hand.holds e in (longer_whole x.ends v.view.ends u.view.ends h.0 other.knows.endings, h.1, h.2); lacks = ok.hand.lacks; holder = ok.hand.holder };
+    passes = record {
+      walking = ok.passes.walking;
+      freeing = ok.passes.freeing;
+      passed = λ i p at. let h = ok.passes.passed i p at in passed_goes n p v (informed v u) (length x.ends) (length x.ends) x.clear x.clear x.marks x.marks x.passer x.passer h h.in_release refl (omega arith) h.marked orders h.unclear;
+      once = ok.passes.once;
+    };
+    marks = record {
+      unmarked = ok.marks.unmarked;
+      unclear = ok.marks.unclear;
+      rolled = ok.marks.rolled;
+      known = λ p r at mine h. has_left v.view.marked u.view.marked r (ok.marks.known p r at mine h);
+      last = ok.marks.last;
+      all = λ r h. ⊎_elim (λ t. ok.marks.all r t) (λ t. other.marks.all r t) (either_has v.view.marked u.view.marked r h);
+    };
+    flag = record { rolled = ok.flag.rolled; not_rolled = ok.flag.not_rolled };
+    joins = record {
+      known = λ p r at mine. has_left v.view.joined u.view.joined r (ok.joins.known p r at mine);
+      all = λ r h. ⊎_elim (λ t. ok.joins.all r t) (λ t. other.joins.all r t) (either_has v.view.joined u.view.joined r h);
+    };
   }
     where
       orders : IsPrefix v.view.order (longer v.view.order u.view.order)
-      orders = begins_longer x.order v.view.order u.view.order ok.orders other.orders
+      orders = begins_longer x.order v.view.order u.view.order ok.knows.orders other.knows.orders
 
       clears : IsPrefix v.view.clear (longer v.view.clear u.view.clear)
-      clears = begins_longer x.clear v.view.clear u.view.clear ok.clears other.clears
+      clears = begins_longer x.clear v.view.clear u.view.clear ok.knows.clears other.knows.clears
 
   -- a node goes on knowing what another knows
   informed_goes : (x : Past) → PastOk good allows about x → (n m : ℕ) (v u : Entry) → NodeOk about x n v → NodeOk about x m u → Continues allows v.view (informed_view v.view u.view)
   informed_goes x f n m v u ok other = continues good allows about x x f n n v (informed v u) ok (informed_ok x n m v u ok other) refl
-      (begins_longer x.order v.view.order u.view.order ok.orders other.orders) (begins_longer x.ends v.view.ends u.view.ends ok.endings other.endings) (begins_longer x.clear v.view.clear u.view.clear ok.clears other.clears)
+      (begins_longer x.order v.view.order u.view.order ok.knows.orders other.knows.orders) (begins_longer x.ends v.view.ends u.view.ends ok.knows.endings other.knows.endings) (begins_longer x.clear v.view.clear u.view.clear ok.knows.clears other.knows.clears)
       (λ r h. has_left v.view.joined u.view.joined r h) (λ r h. has_left v.view.marked u.view.marked r h) (λ r h. has_left v.view.freed u.view.freed r h)
 
   pair_history : (x : Past) → PastOk good allows about x → (n m : ℕ) (v u : Entry) → NodeOk about x n v → NodeOk about x m u → OneHistory (v.view ∷ u.view ∷ [])
@@ -118,10 +125,10 @@ module _ (good : List ℕ → Type 0) (allows : List ℕ → List ℕ → Type 0
 
   -- the entries that a seat has are told apart
   module _ (s : St) (r : Rule s) (me : ℕ) (v u : Entry) (at : get_elem? s.views me ≡ some (v ∷ u ∷ [])) where
-    of_first : Member about.nodes r.who r.owner me 0 v
+    of_first : Member about.terms.nodes r.who r.owner me 0 v
     of_first = r.members me 0 (v ∷ u ∷ []) v at refl
 
-    of_second : Member about.nodes r.who r.owner me 1 u
+    of_second : Member about.terms.nodes r.who r.owner me 1 u
     of_second = r.members me 1 (v ∷ u ∷ []) u at refl
 
     first_ok : NodeOk about r.past v.view.node v
@@ -134,7 +141,7 @@ module _ (good : List ℕ → Type 0) (allows : List ℕ → List ℕ → Type 0
     differ e = two_places me (r.owner v.view.node) of_first.at (ap r.owner e ∙ of_second.at)
 
     not_both : ¬ ((v.point ≡ Holding) × (u.point ≡ Holding))
-    not_both h = differ (sym (first_ok.holds (ap has_line h.0)).1 ∙ (second_ok.holds (ap has_line h.1)).1)
+    not_both h = differ (sym (first_ok.hand.holds (ap has_line h.0)).1 ∙ (second_ok.hand.holds (ap has_line h.1)).1)
 
     -- two entries of the seat become two of the same nodes
     module _ (v' u' : Entry) (same : v'.view.node ≡ v.view.node) (same' : u'.view.node ≡ u.view.node) (ok : NodeOk about r.past v.view.node v') (ok' : NodeOk about r.past u.view.node u') where
@@ -150,23 +157,23 @@ module _ (good : List ℕ → Type 0) (allows : List ℕ → List ℕ → Type 0
       at_else : (n : ℕ) → n ≢ v.view.node → n ≢ u.view.node → who' n ≡ r.who n
       at_else n a b = put_else (put r.who v.view.node v') u.view.node u' n b ∙ put_else r.who v.view.node v' n a
 
-      each' : (n : ℕ) → 0 < n → n ≤ about.nodes → NodeOk about r.past n (who' n)
+      each' : (n : ℕ) → 0 < n → n ≤ about.terms.nodes → NodeOk about r.past n (who' n)
       each' n a b = dite (ℕ_discrete n v.view.node)
           (λ e. subst (λ (z : ℕ × Entry). NodeOk about r.past z.0 z.1) (λ i. (sym e i, (sym at_first ∙ ap who' (sym e)) i)) ok)
           (λ ne. dite (ℕ_discrete n u.view.node)
           (λ e. subst (λ (z : ℕ × Entry). NodeOk about r.past z.0 z.1) (λ i. (sym e i, (sym at_second ∙ ap who' (sym e)) i)) ok')
           (λ ne'. subst (NodeOk about r.past n) (sym (at_else n ne ne')) (r.each n a b)))
 
-      mine : (i : ℕ) (w : Entry) → At (v' ∷ u' ∷ []) i w → Member about.nodes who' r.owner me i w
-      mine zero w e = subst (Member about.nodes who' r.owner me 0) (at_one v' w 0 e)
-          record { low = subst (λ q. 0 < q) (sym same) of_first.low; high = subst (λ q. q ≤ about.nodes) (sym same) of_first.high; is = ap who' same ∙ at_first; at = ap r.owner same ∙ of_first.at }
-      mine (suc zero) w e = subst (Member about.nodes who' r.owner me 1) (at_one u' w 0 e)
-          record { low = subst (λ q. 0 < q) (sym same') of_second.low; high = subst (λ q. q ≤ about.nodes) (sym same') of_second.high; is = ap who' same' ∙ at_second; at = ap r.owner same' ∙ of_second.at }
+      mine : (i : ℕ) (w : Entry) → At (v' ∷ u' ∷ []) i w → Member about.terms.nodes who' r.owner me i w
+      mine zero w e = subst (Member about.terms.nodes who' r.owner me 0) (at_one v' w 0 e)
+          record { low = subst (λ q. 0 < q) (sym same) of_first.low; high = subst (λ q. q ≤ about.terms.nodes) (sym same) of_first.high; is = ap who' same ∙ at_first; at = ap r.owner same ∙ of_first.at }
+      mine (suc zero) w e = subst (Member about.terms.nodes who' r.owner me 1) (at_one u' w 0 e)
+          record { low = subst (λ q. 0 < q) (sym same') of_second.low; high = subst (λ q. q ≤ about.terms.nodes) (sym same') of_second.high; is = ap who' same' ∙ at_second; at = ap r.owner same' ∙ of_second.at }
       mine (suc (suc i)) w e = absurd (at_none i w e)
 
-      all : (j i : ℕ) (vs : List Entry) (w : Entry) → get_elem? (set s.views me (v' ∷ u' ∷ [])) j ≡ some vs → At vs i w → Member about.nodes who' r.owner j i w
+      all : (j i : ℕ) (vs : List Entry) (w : Entry) → get_elem? (set s.views me (v' ∷ u' ∷ [])) j ≡ some vs → At vs i w → Member about.terms.nodes who' r.owner j i w
       all j i vs w there here = ⊎_elim
-          (λ (t : (j ≡ me) × (v' ∷ u' ∷ [] ≡ vs)). subst (λ q. Member about.nodes who' r.owner q i w) (sym t.0) (mine i w (subst (λ z. At z i w) (sym t.1) here)))
+          (λ (t : (j ≡ me) × (v' ∷ u' ∷ [] ≡ vs)). subst (λ q. Member about.terms.nodes who' r.owner q i w) (sym t.0) (mine i w (subst (λ z. At z i w) (sym t.1) here)))
           (λ (t : (j ≢ me) × (get_elem? s.views j ≡ some vs)). let m = r.members j i vs w t.1 here in
           record { low = m.low; high = m.high; is = at_else w.view.node (apart m.at t.0 v.view.node 0 of_first.at) (apart m.at t.0 u.view.node 1 of_second.at) ∙ m.is; at = m.at })
           (at_set s.views me j (v' ∷ u' ∷ []) vs there)
@@ -175,7 +182,7 @@ module _ (good : List ℕ → Type 0) (allows : List ℕ → List ℕ → Type 0
           apart o ne n l p e = ne (ap (λ (z : ℕ × ℕ). z.0) (sym o ∙ ap r.owner e ∙ p))
 
       pair_rule : Rule record { words = s.words; homes = s.homes; views = set s.views me (v' ∷ u' ∷ []) }
-      pair_rule = record { past = r.past; who = who'; owner = r.owner; few = r.few; line = r.line; fine = r.fine; shown = r.shown; each = each'; members = all }
+      pair_rule = record { past = r.past; who = who'; owner = r.owner; may_open = r.may_open; line = r.line; fine = r.fine; shown = r.shown; each = each'; members = all }
 
   pub meets_next : (me slots i : ℕ) (m : Contents) (v u : Entry) → m.0 ≡ v ∷ u ∷ [] → Allows Rule slots me m i (λ n. n) (met allows (step slots i 0 0 none) m)
   meets_next me slots i m v u is s r deep at small =
@@ -189,13 +196,14 @@ module _ (good : List ℕ → Type 0) (allows : List ℕ → List ℕ → Type 0
             (pair_rule s r me v u at' (informed v u) (informed u v) refl refl a' b'),
         subst (λ (vs : List Entry). met allows (step slots i 0 0 none) (vs, m.1) (slice_index s.words i) (informed v u ∷ informed u v ∷ [], m.1)) (sym is) (
           refl,
+          differ s r me v u at',
           pair_history r.past r.fine v.view.node u.view.node v u a b,
           pair_history r.past r.fine v.view.node u.view.node (informed v u) (informed u v) a' b',
           informed_goes r.past r.fine v.view.node u.view.node v u a b,
           informed_goes r.past r.fine u.view.node v.view.node u v b a,
           not_both s r me v u at',
-          (λ h. let w = (a.holds (ap has_line h)).0 in longer_whole r.past.ends v.view.ends u.view.ends w b.endings ∙ sym w),
-          (λ h. let w = (b.holds (ap has_line h)).0 in longer_whole r.past.ends u.view.ends v.view.ends w a.endings ∙ sym w),
+          (λ h. let w = (a.hand.holds (ap has_line h)).0 in longer_whole r.past.ends v.view.ends u.view.ends w b.knows.endings ∙ sym w),
+          (λ h. let w = (b.hand.holds (ap has_line h)).0 in longer_whole r.past.ends u.view.ends v.view.ends w a.knows.endings ∙ sym w),
         ),
       )
 
@@ -205,7 +213,7 @@ module _ (good : List ℕ → Type 0) (allows : List ℕ → List ℕ → Type 0
       let at' : get_elem? s.views me ≡ some (v ∷ []) = at ∙ ap some is in
       let mb = r.members me 0 (v ∷ []) v at' refl in
       let ok : NodeOk about r.past v.view.node v = subst (NodeOk about r.past v.view.node) mb.is (r.each v.view.node mb.low mb.high) in
-      let mine = (ok.holds (ap has_line holding)).1 in
+      let mine = (ok.hand.holds (ap has_line holding)).1 in
       let low = mb.low in (
         m.0,
         gives,
@@ -216,7 +224,7 @@ module _ (good : List ℕ → Type 0) (allows : List ℕ → List ℕ → Type 0
               past = r.past;
               who = r.who;
               owner = r.owner;
-              few = r.few;
+              may_open = r.may_open;
               line = r.line;
               fine = r.fine;
               shown = record { wide = r.shown.wide; deep = length-set s.homes 0 (some y) ∙ r.shown.deep; ticket = r.shown.ticket; cleared = r.shown.cleared; granted = r.shown.granted; later = r.shown.later; flags = r.shown.flags; home = λ e. let l = mine in absurd (omega arith) };
@@ -232,3 +240,19 @@ swapped v u h = history_of_some (v ∷ u ∷ []) (u ∷ v ∷ []) h (λ w i. eli
   | inl e ↦ subst (IsAmong (v ∷ u ∷ [])) (sym e) (among_second v u [])
   | inr e ↦ subst (IsAmong (v ∷ u ∷ [])) (sym e) (among_first v (u ∷ []))
 ])
+
+-- each of two ports that met knows what both knew
+meets_view : (v u : View) → Meets v u (informed_view v u)
+meets_view v u = record {
+  order = refl;
+  ends = refl;
+  clear = refl;
+  joined = λ r. list_any-append (is_same r) v.joined u.joined;
+  marked = λ r. list_any-append (is_same r) v.marked u.marked;
+  freed = λ r. list_any-append (is_same r) v.freed u.freed;
+  state = refl;
+  count = refl;
+}
+
+pub has_met : (v u : Entry) (p q : View) (es : List Entry) → v.view ≡ p → u.view ≡ q → es ≡ informed v u ∷ [] → Meets p q (sole es).view
+has_met v u p q es a b is = subst (λ (z : View × View × List Entry). Meets z.0 z.1 (sole z.2).view) (λ i. (a i, b i, sym is i)) (meets_view v.view u.view)

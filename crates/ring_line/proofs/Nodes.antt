@@ -22,8 +22,11 @@ use Rattle.ring_line.specs.declared.entry.Point.{Point}
 use Rattle.ring_line.specs.declared.entry.Point.TheVariants.{Idle, Queued, Rolled}
 use Rattle.ring_line.specs.declared.entry.Entry.{Entry}
 use Rattle.ring_line.specs.declared.rule.Setup.{Setup}
-use Rattle.ring_line.specs.Ring.{At, has_line, lets_go, is_kept, Past, HasPassed, NodeOk, Member}
-use Rattle.ring_line.proofs.Lists.{at_same, at_one, at_longer, prefix_more, has_prefix, has_push_other, lacks_push, lacked_push}
+use Rattle.qolb_model.specs.PortStates.{may_ask}
+use Rattle.qolb_model.specs.Requests.{count_of}
+use Rattle.ring_line.specs.Ring.{At, has_line, lets_go, is_kept, Past, HasPassed, Knowing, Hand, Walking, NodeOk, Member}
+use Rattle.ring_line.proofs.Lists.{at_same, at_one, at_none, at_longer, prefix_more, has_prefix, has_push_other, lacks_push, lacked_push}
+use Rattle.qolb_model.specs.declared.view.View.{View}
 
 abbrev pub pick : {P A : Type 0} → Dec P → A → A → A
 pick (yes _) a b = a
@@ -57,11 +60,12 @@ clash_at f a k e no_a = never k (ap f e ∙ no_a)
 pub kept_asked : (q : Point) → is_kept q ≡ true → q ≢ Idle
 kept_asked q k e = clash_at is_kept Idle k e refl
 
-pub passed_goes : (x x' : Past) (n : ℕ) (v w : Entry) (p : ℕ) (h : HasPassed x n v p) → lets_go w.point ≡ true → x'.passer p ≡ x.passer p → length x.ends ≤ length x'.ends → 0 < x'.marks p → IsPrefix v.view.order w.view.order → Lacks x'.clear h.request
-    → HasPassed x' n w p
-passed_goes x x' n v w p h going passer longer marked orders unclear = record {
+-- what was passed stays so, as long as the release goes on
+pub passed_goes : (n p : ℕ) (v w : Entry) (ended ended' : ℕ) (clear clear' : List Request) (marks marks' passer passer' : ℕ → ℕ) (h : HasPassed ended clear marks passer n v p) → lets_go w.point ≡ true → passer' p ≡ passer p → ended ≤ ended' → 0 < marks' p → IsPrefix v.view.order w.view.order
+    → Lacks clear' h.request → HasPassed ended' clear' marks' passer' n w p
+passed_goes n p v w ended ended' clear clear' marks marks' passer passer' h going same longer marked orders unclear = record {
   in_release = going;
-  passer = passer ∙ h.passer;
+  passer_is = same ∙ h.passer_is;
   within = let a = h.within in omega arith;
   marked = marked;
   request = h.request;
@@ -69,55 +73,87 @@ passed_goes x x' n v w p h going passer longer marked orders unclear = record {
   unclear = unclear;
 }
 
-module _ (about : Setup) (x : Past) (n : ℕ) (v : Entry) (ok : NodeOk about x n v) where
-  -- the node's last request stands in the order
-  pub placed_at : 0 < v.view.count → At x.order v.place (own v.view)
-  placed_at c = prefix_get v.view.order x.order v.place (own v.view) ok.orders (ok.placed c)
-
-  -- outside a release nothing is passed
-  pub none_passed : lets_go v.point ≡ false → v.passed ≡ []
-  none_passed idle = go v.passed refl
+-- outside a release nothing is passed
+module _ {n : ℕ} {v : Entry} {ended : ℕ} {clear : List Request} {marks passer : ℕ → ℕ} (ok : Walking ended clear marks passer n v) (idle : lets_go v.point ≡ false) where
+  pub none_passed : v.passed ≡ []
+  none_passed = go v.passed refl
     where
       go : (l : List ℕ) → v.passed ≡ l → v.passed ≡ []
       go [] e = e
       go (p ∷ ps) e = absurd (never (ok.passed 0 p (subst (λ (z : List ℕ). At z 0 p) (sym e) refl)).in_release idle)
 
-  -- a request that another node adds
-  pub others_ask : (q : Request) → length x.ends ≤ length x.order → q.node ≢ n → NodeOk about (record x { order = x.order ++ q ∷ [] }) n v
-  others_ask q fits other = record {
-    node = ok.node;
-    label = ok.label;
-    nodes = ok.nodes;
-    opening = ok.opening;
-    orders = prefix_more v.view.order x.order (q ∷ []) ok.orders;
-    endings = ok.endings;
-    clears = ok.clears;
-    counts = count_of-push_other n x.order q other ∙ ok.counts;
-    asked = ok.asked;
-    placed = ok.placed;
-    last_open = λ p r at mine h. ok.last_open p r (old p r at mine) mine h;
-    idle = ok.idle;
-    queued = ok.queued;
-    holding = ok.holding;
-    walking = ok.walking;
-    freeing = ok.freeing;
-    unmarked = ok.unmarked;
-    unclear = ok.unclear;
-    rolled = ok.rolled;
-    holds = ok.holds;
-    lacks = ok.lacks;
-    holder = ok.holder;
-    passed = λ i p at. let h = ok.passed i p at in passed_goes x (record x { order = x.order ++ q ∷ [] }) n v v p h h.in_release refl (omega arith) h.marked (prefix_self v.view.order) h.unclear;
-    passed_once = ok.passed_once;
-    own_ends = λ p r end at mine en kind. ok.own_ends p r end (old p r at mine) mine en kind;
-    own_marks = λ p r at mine h. ok.own_marks p r (old p r at mine) mine h;
-    marked_last = λ p r at mine h lacks. ok.marked_last p r (old p r at mine) mine h lacks;
-    own_flag = ok.own_flag;
-    no_flag = ok.no_flag;
-    own_joined = λ p r at mine. ok.own_joined p r (old p r at mine) mine;
-    all_joined = λ r h. has_left x.order (q ∷ []) r (ok.all_joined r h);
-    all_marked = λ r h. let k = ok.all_marked r h in (k.0, at_longer x.order (q ∷ []) k.0 r k.1, k.2);
-    freed_clear = ok.freed_clear;
+  pub passes_none : (w : Entry) (ended' : ℕ) (clear' : List Request) (marks' passer' : ℕ → ℕ) → w.passed ≡ v.passed → lets_go w.point ≡ false → Walking ended' clear' marks' passer' n w
+  passes_none w ended' clear' marks' passer' same idle' = record {
+    walking = λ going. absurd (never going idle');
+    freeing = λ e i p at. absurd (none i p at);
+    passed = λ i p at. absurd (none i p at);
+    once = λ i j p at. absurd (none i p at);
+  }
+    where
+      none : (i p : ℕ) → At w.passed i p → ⊥
+      none i p at = at_none i p (subst (λ (z : List ℕ). At z i p) (same ∙ none_passed) at)
+
+-- the node does not have the line
+pub hand_none : (ends : List End) (hand : ℕ) (cleared : Bool) (n : ℕ) (w : Entry) → has_line w.point ≡ false → hand ≢ n → w.view.state ≢ shows.Holding → Hand ends hand cleared n w
+hand_none ends hand cleared n w none other idle = record { holds = λ e. absurd (never e none); lacks = λ _. other; holder = λ e. absurd (idle e) }
+
+-- it knows the whole history
+pub knows_whole : (order : List Request) (ends : List End) (clear : List Request) (n : ℕ) (w : View) → w.order ≡ order → w.ends ≡ ends → w.clear ≡ clear → count_of n order ≡ w.count → ((r : Request) → Has w.freed r → Has clear r) → Knowing order ends clear n w
+knows_whole order ends clear n w a b c count freed = record {
+  orders = subst (IsPrefix w.order) a (prefix_self w.order);
+  endings = subst (IsPrefix w.ends) b (prefix_self w.ends);
+  clears = subst (IsPrefix w.clear) c (prefix_self w.clear);
+  counts = count;
+  own_ends = λ p r end _ _ en _. subst (λ es. p < length es) (sym b) (slice_get_within ends p end en);
+  freed_clear = λ r h. subst (λ rs. Has rs r) (sym c) (freed r h);
+}
+
+module _ (about : Setup) (x : Past) (n : ℕ) (v : Entry) (ok : NodeOk about x n v) where
+  -- the node's last request stands in the order
+  pub placed_at : 0 < v.view.count → At x.order v.place (own v.view)
+  placed_at c = prefix_get v.view.order x.order v.place (own v.view) ok.knows.orders (ok.stance.placed c)
+
+  -- what it had freed is clear
+  pub freed_so : (r : Request) → Has v.view.freed r → Has x.clear r
+  freed_so r h = has_prefix v.view.clear x.clear r ok.knows.clears (ok.knows.freed_clear r h)
+
+  -- another node asks
+  pub others_ask : (q : Request) → q.node ≢ n → NodeOk about (record x { order = x.order ++ q ∷ [] }) n v
+  others_ask q other = record {
+    who = ok.who;
+    knows = record {
+      orders = prefix_more v.view.order x.order (q ∷ []) ok.knows.orders;
+      endings = ok.knows.endings;
+      clears = ok.knows.clears;
+      counts = count_of-push_other n x.order q other ∙ ok.knows.counts;
+      own_ends = λ p r end at mine en kind. ok.knows.own_ends p r end (old p r at mine) mine en kind;
+      freed_clear = ok.knows.freed_clear;
+    };
+    stance = record {
+      asked = ok.stance.asked;
+      placed = ok.stance.placed;
+      last_open = λ p r at mine h. ok.stance.last_open p r (old p r at mine) mine h;
+      idle = ok.stance.idle;
+      queued = ok.stance.queued;
+      holding = ok.stance.holding;
+      freeing = ok.stance.freeing;
+      waits = ok.stance.waits;
+    };
+    hand = ok.hand;
+    passes = ok.passes;
+    marks = record {
+      unmarked = ok.marks.unmarked;
+      unclear = ok.marks.unclear;
+      rolled = ok.marks.rolled;
+      known = λ p r at mine h. ok.marks.known p r (old p r at mine) mine h;
+      last = λ p r at mine h lacks. ok.marks.last p r (old p r at mine) mine h lacks;
+      all = λ r h. let k = ok.marks.all r h in (k.0, at_longer x.order (q ∷ []) k.0 r k.1, k.2);
+    };
+    flag = ok.flag;
+    joins = record {
+      known = λ p r at mine. ok.joins.known p r (old p r at mine) mine;
+      all = λ r h. has_left x.order (q ∷ []) r (ok.joins.all r h);
+    };
   }
     where
       old : (p : ℕ) (r : Request) → At (x.order ++ q ∷ []) p r → r.node ≡ n → At x.order p r
@@ -126,171 +162,126 @@ module _ (about : Setup) (x : Past) (n : ℕ) (v : Entry) (ok : NodeOk about x n
   -- the line comes into another hand, or the cell at its turn is cleared
   pub others_hand : (hand : ℕ) (cleared : Bool) → x.hand ≢ n → hand ≢ n → NodeOk about (record x { hand = hand; cleared = cleared }) n v
   others_hand hand cleared was is = record {
-    node = ok.node;
-    label = ok.label;
-    nodes = ok.nodes;
-    opening = ok.opening;
-    orders = ok.orders;
-    endings = ok.endings;
-    clears = ok.clears;
-    counts = ok.counts;
-    asked = ok.asked;
-    placed = ok.placed;
-    last_open = ok.last_open;
-    idle = ok.idle;
-    queued = ok.queued;
-    holding = ok.holding;
-    walking = ok.walking;
-    freeing = ok.freeing;
-    unmarked = ok.unmarked;
-    unclear = ok.unclear;
-    rolled = ok.rolled;
-    holds = λ e. absurd (was (ok.holds e).1);
-    lacks = λ _. is;
-    holder = ok.holder;
-    passed = λ i p at. let h = ok.passed i p at in passed_goes x (record x { hand = hand; cleared = cleared }) n v v p h h.in_release refl (omega arith) h.marked (prefix_self v.view.order) h.unclear;
-    passed_once = ok.passed_once;
-    own_ends = ok.own_ends;
-    own_marks = ok.own_marks;
-    marked_last = ok.marked_last;
-    own_flag = ok.own_flag;
-    no_flag = ok.no_flag;
-    own_joined = ok.own_joined;
-    all_joined = ok.all_joined;
-    all_marked = ok.all_marked;
-    freed_clear = ok.freed_clear;
+    who = ok.who;
+    knows = ok.knows;
+    stance = ok.stance;
+    hand = record { holds = λ e. absurd (was (ok.hand.holds e).1); lacks = λ _. is; holder = ok.hand.holder };
+    passes = ok.passes;
+    marks = ok.marks;
+    flag = ok.flag;
+    joins = ok.joins;
   }
 
   -- the request t at its turn ends, by a step of m, which has the line: it is m's own, or it is withdrawn and ends so
   pub others_end : (m : ℕ) (t : Request) (e : End) (passer : ℕ → ℕ) → At x.order (length x.ends) t → (t.node ≡ m) ⊎ (0 < x.marks (length x.ends)) → (0 < x.marks (length x.ends) → is_gone e ≡ true) → n ≢ m → x.hand ≡ m
       → ((p : ℕ) → p ≤ length x.ends → passer p ≡ x.passer p) → NodeOk about (record x { ends = x.ends ++ e ∷ []; cleared = false; passer = passer }) n v
-  others_end m t e passer turn whose gone other had passes = record {
-    node = ok.node;
-    label = ok.label;
-    nodes = ok.nodes;
-    opening = ok.opening;
-    orders = ok.orders;
-    endings = prefix_more v.view.ends x.ends (e ∷ []) ok.endings;
-    clears = ok.clears;
-    counts = ok.counts;
-    asked = ok.asked;
-    placed = ok.placed;
-    last_open = λ p r at mine h. ok.last_open p r at mine (let l = longer in omega arith);
-    idle = λ i c. let h = ok.idle i c in ((let l = longer in let a = h.0 in omega arith), h.1);
-    queued = λ i. let h = ok.queued i in let q = not_turn i in let l = longer in omega arith;
-    holding = λ i. absurd (no_line (ap has_line i));
-    walking = λ _ l. absurd (no_line l);
-    freeing = λ i. let h = ok.freeing i in ((let l = longer in let a = h.0 in omega arith), (λ j p at. let l = longer in let a = h.1 j p at in omega arith));
-    unmarked = ok.unmarked;
-    unclear = ok.unclear;
-    rolled = ok.rolled;
-    holds = λ l. absurd (no_line l);
-    lacks = ok.lacks;
-    holder = λ h. absurd (no_line (ok.holder h).0);
-    passed = λ i p at. let h = ok.passed i p at in passed_goes x (record x { ends = x.ends ++ e ∷ []; cleared = false; passer = passer }) n v v p h h.in_release (passes p h.within) (let l = longer in omega arith) h.marked (prefix_self v.view.order) h.unclear;
-    passed_once = ok.passed_once;
-    own_ends = λ p r end at mine en kind. ⊎_elim (λ z. ok.own_ends p r end at mine z.1 kind)
-        (λ z. absurd (never (ap is_gone z.1 ∙ gone (marked_turn r (subst (λ q. At x.order q r) z.0 at) mine)) kind)) (push_cases x.ends e p end en);
-    own_marks = ok.own_marks;
-    marked_last = ok.marked_last;
-    own_flag = ok.own_flag;
-    no_flag = ok.no_flag;
-    own_joined = ok.own_joined;
-    all_joined = ok.all_joined;
-    all_marked = ok.all_marked;
-    freed_clear = ok.freed_clear;
+  others_end m t e passer turn whose gone other had same = record {
+    who = ok.who;
+    knows = record {
+      orders = ok.knows.orders;
+      endings = prefix_more v.view.ends x.ends (e ∷ []) ok.knows.endings;
+      clears = ok.knows.clears;
+      counts = ok.knows.counts;
+      own_ends = λ p r end at mine en kind. ⊎_elim (λ z. ok.knows.own_ends p r end at mine z.1 kind)
+          (λ z. absurd (never (ap is_gone z.1 ∙ gone (marked_turn r (subst (λ q. At x.order q r) z.0 at) mine)) kind)) (push_cases x.ends e p end en);
+      freed_clear = ok.knows.freed_clear;
+    };
+    stance = record {
+      asked = ok.stance.asked;
+      placed = ok.stance.placed;
+      last_open = λ p r at mine h. ok.stance.last_open p r at mine (let l = longer in omega arith);
+      idle = λ i c. let h = ok.stance.idle i c in ((let l = longer in let a = h.0 in omega arith), h.1);
+      queued = λ i. let h = ok.stance.queued i in let q = not_turn i in let l = longer in omega arith;
+      holding = λ i. absurd (no_line (ap has_line i));
+      freeing = λ i. let h = ok.stance.freeing i in let l = longer in omega arith;
+      waits = λ k h. ok.stance.waits k (let l = longer in omega arith);
+    };
+    hand = record { holds = λ l. absurd (no_line l); lacks = ok.hand.lacks; holder = λ h. absurd (no_line (ok.hand.holder h).0) };
+    passes = record {
+      walking = λ _ l. absurd (no_line l);
+      freeing = λ i j p at. let h = ok.passes.freeing i j p at in let l = longer in omega arith;
+      passed = λ i p at. let h = ok.passes.passed i p at in passed_goes n p v v (length x.ends) (length (x.ends ++ e ∷ [])) x.clear x.clear x.marks x.marks x.passer passer h h.in_release (same p h.within) (let l = longer in omega arith) h.marked (prefix_self v.view.order) h.unclear;
+      once = ok.passes.once;
+    };
+    marks = ok.marks;
+    flag = ok.flag;
+    joins = ok.joins;
   }
     where
       longer : length (x.ends ++ e ∷ []) ≡ length x.ends + 1
       longer = length-append x.ends (e ∷ [])
 
       no_line : has_line v.point ≡ true → ⊥
-      no_line l = other (sym (ok.holds l).1 ∙ had)
+      no_line l = other (sym (ok.hand.holds l).1 ∙ had)
 
       -- a request of n at its turn is withdrawn
       marked_turn : (r : Request) → At x.order (length x.ends) r → r.node ≡ n → 0 < x.marks (length x.ends)
       marked_turn r at mine = ⊎_elim (λ own_end. absurd (other (sym mine ∙ ap (λ (q : Request). q.node) (at_same x.order (length x.ends) r t at turn) ∙ own_end))) (λ h. h) whose
 
       not_turn : v.point ≡ Queued → v.place ≢ length x.ends
-      not_turn i z = let k = marked_turn (own v.view) (subst (λ q. At x.order q (own v.view)) z (placed_at (ok.asked (λ idle. cc)))) ok.node in
-          let w : x.marks (length x.ends) ≡ 0 = ap x.marks (sym z) ∙ ok.unmarked (ap is_kept i) in omega arith
+      not_turn i z = let k = marked_turn (own v.view) (subst (λ q. At x.order q (own v.view)) z (placed_at (ok.stance.asked (λ idle. cc)))) ok.who.node in
+          let w : x.marks (length x.ends) ≡ 0 = ap x.marks (sym z) ∙ ok.marks.unmarked (ap is_kept i) in omega arith
 
   -- another node's request, which is not withdrawn, goes on the clear list
-  pub others_clear : (q : Request) (place : ℕ) → q.node ≢ n → At x.order place q → x.marks place ≡ 0 → IsLegal x.order x.ends → NodeOk about (record x { clear = x.clear ++ q ∷ [] }) n v
+  pub others_clear : (q : Request) (place : ℕ) → q.node ≢ n → At x.order place q → x.marks place ≡ 0 → IsLegal about.terms.lease x.order x.ends → NodeOk about (record x { clear = x.clear ++ q ∷ [] }) n v
   others_clear q place other there unmarked legal = record {
-    node = ok.node;
-    label = ok.label;
-    nodes = ok.nodes;
-    opening = ok.opening;
-    orders = ok.orders;
-    endings = ok.endings;
-    clears = prefix_more v.view.clear x.clear (q ∷ []) ok.clears;
-    counts = ok.counts;
-    asked = ok.asked;
-    placed = ok.placed;
-    last_open = ok.last_open;
-    idle = ok.idle;
-    queued = ok.queued;
-    holding = ok.holding;
-    walking = ok.walking;
-    freeing = ok.freeing;
-    unmarked = ok.unmarked;
-    unclear = λ k. lacks_push x.clear q (own v.view) (λ e. other (sym (ap (λ (z : Request). z.node) e) ∙ ok.node)) (ok.unclear k);
-    rolled = ok.rolled;
-    holds = ok.holds;
-    lacks = ok.lacks;
-    holder = ok.holder;
-    passed = λ i p at. let h = ok.passed i p at in passed_goes x (record x { clear = x.clear ++ q ∷ [] }) n v v p h h.in_release refl (omega arith) h.marked (prefix_self v.view.order)
-        (lacks_push x.clear q h.request (λ e. let s = same_place x.order legal.numbered p place h.request (prefix_get v.view.order x.order p h.request ok.orders h.at) (subst (At x.order place) (sym e) there) in
-        let w : x.marks p ≡ 0 = ap x.marks s ∙ unmarked in let m = h.marked in omega arith) h.unclear);
-    passed_once = ok.passed_once;
-    own_ends = ok.own_ends;
-    own_marks = ok.own_marks;
-    marked_last = λ p r at mine h lacks. ok.marked_last p r at mine h (lacked_push x.clear q r lacks);
-    own_flag = λ i. ok.own_flag i ∙ ap (λ b. if b then 1 else 0) (sym (has_push_other x.clear q (own v.view) (λ e. other (sym (ap (λ (z : Request). z.node) e) ∙ ok.node))));
-    no_flag = ok.no_flag;
-    own_joined = ok.own_joined;
-    all_joined = ok.all_joined;
-    all_marked = ok.all_marked;
-    freed_clear = ok.freed_clear;
+    who = ok.who;
+    knows = record {
+      orders = ok.knows.orders;
+      endings = ok.knows.endings;
+      clears = prefix_more v.view.clear x.clear (q ∷ []) ok.knows.clears;
+      counts = ok.knows.counts;
+      own_ends = ok.knows.own_ends;
+      freed_clear = ok.knows.freed_clear;
+    };
+    stance = ok.stance;
+    hand = ok.hand;
+    passes = record {
+      walking = ok.passes.walking;
+      freeing = ok.passes.freeing;
+      passed = λ i p at. let h = ok.passes.passed i p at in passed_goes n p v v (length x.ends) (length x.ends) x.clear (x.clear ++ q ∷ []) x.marks x.marks x.passer x.passer h h.in_release refl (omega arith) h.marked (prefix_self v.view.order)
+          (lacks_push x.clear q h.request (λ e. let s = same_place x.order legal.numbered p place h.request (prefix_get v.view.order x.order p h.request ok.knows.orders h.at) (subst (At x.order place) (sym e) there) in
+          let w : x.marks p ≡ 0 = ap x.marks s ∙ unmarked in let m = h.marked in omega arith) h.unclear);
+      once = ok.passes.once;
+    };
+    marks = record {
+      unmarked = ok.marks.unmarked;
+      unclear = λ k. lacks_push x.clear q (own v.view) not_own (ok.marks.unclear k);
+      rolled = ok.marks.rolled;
+      known = ok.marks.known;
+      last = λ p r at mine h lacks. ok.marks.last p r at mine h (lacked_push x.clear q r lacks);
+      all = ok.marks.all;
+    };
+    flag = record { rolled = λ i. ok.flag.rolled i ∙ ap (λ b. if b then 1 else 0) (sym (has_push_other x.clear q (own v.view) not_own)); not_rolled = ok.flag.not_rolled };
+    joins = ok.joins;
   }
+    where
+      not_own : own v.view ≢ q
+      not_own e = other (sym (ap (λ (z : Request). z.node) e) ∙ ok.who.node)
 
   -- the node m withdraws its request, which is at the place q
   pub others_roll : (m q : ℕ) (r : Request) → At x.order q r → r.node ≡ m → 0 < m → n ≢ m → NodeOk about (record x { marks = put x.marks q m }) n v
   others_roll m q r asked mine low other = record {
-    node = ok.node;
-    label = ok.label;
-    nodes = ok.nodes;
-    opening = ok.opening;
-    orders = ok.orders;
-    endings = ok.endings;
-    clears = ok.clears;
-    counts = ok.counts;
-    asked = ok.asked;
-    placed = ok.placed;
-    last_open = ok.last_open;
-    idle = ok.idle;
-    queued = ok.queued;
-    holding = ok.holding;
-    walking = λ a l. ⊎_elim (λ z. inl z) (λ z. inr (z.0, more (length x.ends) z.1, z.2)) (ok.walking a l);
-    freeing = ok.freeing;
-    unmarked = λ k. own_place (ok.asked (kept_asked v.point k)) ∙ ok.unmarked k;
-    unclear = ok.unclear;
-    rolled = λ i. own_place (ok.asked (λ e. cc)) ∙ ok.rolled i;
-    holds = ok.holds;
-    lacks = ok.lacks;
-    holder = ok.holder;
-    passed = λ i p at. let h = ok.passed i p at in passed_goes x (record x { marks = put x.marks q m }) n v v p h h.in_release refl (omega arith) (more p h.marked) (prefix_self v.view.order) h.unclear;
-    passed_once = ok.passed_once;
-    own_ends = ok.own_ends;
-    own_marks = λ p s at is h. ok.own_marks p s at is (subst (λ z. 0 < z) (place_else p s at is) h);
-    marked_last = λ p s at is h lacks. ok.marked_last p s at is (subst (λ z. 0 < z) (place_else p s at is) h) lacks;
-    own_flag = ok.own_flag;
-    no_flag = ok.no_flag;
-    own_joined = ok.own_joined;
-    all_joined = ok.all_joined;
-    all_marked = λ s h. let k = ok.all_marked s h in (k.0, k.1, more k.0 k.2);
-    freed_clear = ok.freed_clear;
+    who = ok.who;
+    knows = ok.knows;
+    stance = ok.stance;
+    hand = ok.hand;
+    passes = record {
+      walking = λ a l. ⊎_elim (λ z. inl z) (λ z. inr (z.0, more (length x.ends) z.1, z.2)) (ok.passes.walking a l);
+      freeing = ok.passes.freeing;
+      passed = λ i p at. let h = ok.passes.passed i p at in passed_goes n p v v (length x.ends) (length x.ends) x.clear x.clear x.marks (put x.marks q m) x.passer x.passer h h.in_release refl (omega arith) (more p h.marked) (prefix_self v.view.order) h.unclear;
+      once = ok.passes.once;
+    };
+    marks = record {
+      unmarked = λ k. own_place (ok.stance.asked (kept_asked v.point k)) ∙ ok.marks.unmarked k;
+      unclear = ok.marks.unclear;
+      rolled = λ i. own_place (ok.stance.asked (λ e. cc)) ∙ ok.marks.rolled i;
+      known = λ p s at is h. ok.marks.known p s at is (subst (λ z. 0 < z) (place_else p s at is) h);
+      last = λ p s at is h lacks. ok.marks.last p s at is (subst (λ z. 0 < z) (place_else p s at is) h) lacks;
+      all = λ s h. let k = ok.marks.all s h in (k.0, k.1, more k.0 k.2);
+    };
+    flag = ok.flag;
+    joins = ok.joins;
   }
     where
       -- marks only grow
@@ -301,132 +292,88 @@ module _ (about : Setup) (x : Past) (n : ℕ) (v : Entry) (ok : NodeOk about x n
       place_else p s at is = put_else x.marks q m p (λ e. other (sym is ∙ ap (λ (z : Request). z.node) (at_same x.order q s r (subst (λ k. At x.order k s) e at) asked) ∙ mine))
 
       own_place : 0 < v.view.count → put x.marks q m v.place ≡ x.marks v.place
-      own_place c = place_else v.place (own v.view) (placed_at c) ok.node
+      own_place c = place_else v.place (own v.view) (placed_at c) ok.who.node
 
   -- the release of m frees the node of the request r, at the place q, which it passed
-  pub others_free : (m q : ℕ) (r : Request) → At x.order q r → x.passer q ≡ m → 0 < x.marks q → Lacks x.clear r → n ≢ m → IsLegal x.order x.ends → NodeOk about (record x { clear = x.clear ++ r ∷ []; flags = put x.flags r.node 1 }) n v
+  pub others_free : (m q : ℕ) (r : Request) → At x.order q r → x.passer q ≡ m → 0 < x.marks q → Lacks x.clear r → n ≢ m → IsLegal about.terms.lease x.order x.ends → NodeOk about (record x { clear = x.clear ++ r ∷ []; flags = put x.flags r.node 1 }) n v
   others_free m q r asked passer marked unclear other legal = record {
-    node = ok.node;
-    label = ok.label;
-    nodes = ok.nodes;
-    opening = ok.opening;
-    orders = ok.orders;
-    endings = ok.endings;
-    clears = prefix_more v.view.clear x.clear (r ∷ []) ok.clears;
-    counts = ok.counts;
-    asked = ok.asked;
-    placed = ok.placed;
-    last_open = ok.last_open;
-    idle = ok.idle;
-    queued = ok.queued;
-    holding = ok.holding;
-    walking = ok.walking;
-    freeing = ok.freeing;
-    unmarked = ok.unmarked;
-    unclear = λ k. lacks_push x.clear r (own v.view) (λ e. clash_at is_kept Rolled k (last (sym (ap (λ (z : Request). z.node) e) ∙ ok.node)).0 refl) (ok.unclear k);
-    rolled = ok.rolled;
-    holds = ok.holds;
-    lacks = ok.lacks;
-    holder = ok.holder;
-    passed = λ i p at. let h = ok.passed i p at in passed_goes x (record x { clear = x.clear ++ r ∷ []; flags = put x.flags r.node 1 }) n v v p h h.in_release refl (omega arith) h.marked (prefix_self v.view.order)
-        (lacks_push x.clear r h.request (λ e. other (sym h.passer ∙ ap x.passer (same_place x.order legal.numbered p q h.request (prefix_get v.view.order x.order p h.request ok.orders h.at) (subst (At x.order q) (sym e) asked)) ∙ passer)) h.unclear);
-    passed_once = ok.passed_once;
-    own_ends = ok.own_ends;
-    own_marks = ok.own_marks;
-    marked_last = λ p s at is h lacks. ok.marked_last p s at is h (lacked_push x.clear r s lacks);
-    own_flag = λ i. dite (ℕ_discrete n r.node)
-        (λ e. ap (put x.flags r.node 1) e ∙ put_here x.flags r.node 1 ∙ ap (λ b. if b then 1 else 0) (sym (subst (Has (x.clear ++ r ∷ [])) (is_own i e) (has_last x.clear r))))
-        (λ ne. put_else x.flags r.node 1 n ne ∙ ok.own_flag i ∙ ap (λ b. if b then 1 else 0) (sym (has_push_other x.clear r (own v.view) (λ e. ne (sym ok.node ∙ ap (λ (z : Request). z.node) e)))));
-    no_flag = λ i. dite (ℕ_discrete n r.node) (λ e. absurd (i (last (sym e)).0)) (λ ne. put_else x.flags r.node 1 n ne ∙ ok.no_flag i);
-    own_joined = ok.own_joined;
-    all_joined = ok.all_joined;
-    all_marked = ok.all_marked;
-    freed_clear = ok.freed_clear;
+    who = ok.who;
+    knows = record {
+      orders = ok.knows.orders;
+      endings = ok.knows.endings;
+      clears = prefix_more v.view.clear x.clear (r ∷ []) ok.knows.clears;
+      counts = ok.knows.counts;
+      own_ends = ok.knows.own_ends;
+      freed_clear = ok.knows.freed_clear;
+    };
+    stance = ok.stance;
+    hand = ok.hand;
+    passes = record {
+      walking = ok.passes.walking;
+      freeing = ok.passes.freeing;
+      passed = λ i p at. let h = ok.passes.passed i p at in passed_goes n p v v (length x.ends) (length x.ends) x.clear (x.clear ++ r ∷ []) x.marks x.marks x.passer x.passer h h.in_release refl (omega arith) h.marked (prefix_self v.view.order)
+          (lacks_push x.clear r h.request (λ e. other (sym h.passer_is ∙ ap x.passer (same_place x.order legal.numbered p q h.request (prefix_get v.view.order x.order p h.request ok.knows.orders h.at) (subst (At x.order q) (sym e) asked)) ∙ passer)) h.unclear);
+      once = ok.passes.once;
+    };
+    marks = record {
+      unmarked = ok.marks.unmarked;
+      unclear = λ k. lacks_push x.clear r (own v.view) (λ e. clash_at is_kept Rolled k (last (sym (ap (λ (z : Request). z.node) e) ∙ ok.who.node)).0 refl) (ok.marks.unclear k);
+      rolled = ok.marks.rolled;
+      known = ok.marks.known;
+      last = λ p s at is h lacks. ok.marks.last p s at is h (lacked_push x.clear r s lacks);
+      all = ok.marks.all;
+    };
+    flag = record {
+      rolled = λ i. dite (ℕ_discrete n r.node)
+          (λ e. ap (put x.flags r.node 1) e ∙ put_here x.flags r.node 1 ∙ ap (λ b. if b then 1 else 0) (sym (subst (Has (x.clear ++ r ∷ [])) (is_own i e) (has_last x.clear r))))
+          (λ ne. put_else x.flags r.node 1 n ne ∙ ok.flag.rolled i ∙ ap (λ b. if b then 1 else 0) (sym (has_push_other x.clear r (own v.view) (λ e. ne (sym ok.who.node ∙ ap (λ (z : Request). z.node) e)))));
+      not_rolled = λ i. dite (ℕ_discrete n r.node) (λ e. absurd (i (last (sym e)).0)) (λ ne. put_else x.flags r.node 1 n ne ∙ ok.flag.not_rolled i);
+    };
+    joins = ok.joins;
   }
     where
       last : r.node ≡ n → (v.point ≡ Rolled) × (v.place ≡ q)
-      last e = ok.marked_last q r asked e marked unclear
+      last e = ok.marks.last q r asked e marked unclear
 
       is_own : v.point ≡ Rolled → n ≡ r.node → r ≡ own v.view
-      is_own i e = at_same x.order q r (own v.view) asked (subst (λ k. At x.order k (own v.view)) (last (sym e)).1 (placed_at (ok.asked (λ z. cc))))
+      is_own i e = at_same x.order q r (own v.view) asked (subst (λ k. At x.order k (own v.view)) (last (sym e)).1 (placed_at (ok.stance.asked (λ z. cc))))
 
   -- another node clears its own word
   pub others_reset : (m : ℕ) → n ≢ m → NodeOk about (record x { flags = put x.flags m 0 }) n v
   others_reset m other = record {
-    node = ok.node;
-    label = ok.label;
-    nodes = ok.nodes;
-    opening = ok.opening;
-    orders = ok.orders;
-    endings = ok.endings;
-    clears = ok.clears;
-    counts = ok.counts;
-    asked = ok.asked;
-    placed = ok.placed;
-    last_open = ok.last_open;
-    idle = ok.idle;
-    queued = ok.queued;
-    holding = ok.holding;
-    walking = ok.walking;
-    freeing = ok.freeing;
-    unmarked = ok.unmarked;
-    unclear = ok.unclear;
-    rolled = ok.rolled;
-    holds = ok.holds;
-    lacks = ok.lacks;
-    holder = ok.holder;
-    passed = λ i p at. let h = ok.passed i p at in passed_goes x (record x { flags = put x.flags m 0 }) n v v p h h.in_release refl (omega arith) h.marked (prefix_self v.view.order) h.unclear;
-    passed_once = ok.passed_once;
-    own_ends = ok.own_ends;
-    own_marks = ok.own_marks;
-    marked_last = ok.marked_last;
-    own_flag = λ i. put_else x.flags m 0 n other ∙ ok.own_flag i;
-    no_flag = λ i. put_else x.flags m 0 n other ∙ ok.no_flag i;
-    own_joined = ok.own_joined;
-    all_joined = ok.all_joined;
-    all_marked = ok.all_marked;
-    freed_clear = ok.freed_clear;
+    who = ok.who;
+    knows = ok.knows;
+    stance = ok.stance;
+    hand = ok.hand;
+    passes = ok.passes;
+    marks = ok.marks;
+    flag = record { rolled = λ i. put_else x.flags m 0 n other ∙ ok.flag.rolled i; not_rolled = λ i. put_else x.flags m 0 n other ∙ ok.flag.not_rolled i };
+    joins = ok.joins;
   }
 
-  -- the node learns the whole history, and shows the state
+  -- the node learns the whole history by a step, and stands where it stood
   abbrev pub fresh : PortState → Entry
-  fresh state = record v { view = record v.view { state = state; order = x.order; ends = x.ends; clear = x.clear } }
+  fresh state = record v { view = record v.view { state = state; order = x.order; ends = x.ends; clear = x.clear }; steps = v.steps + 1 }
 
-  pub fresh_ok : (state : PortState) → (state ≡ shows.Holding → (has_line v.point ≡ true) × (v.place ≡ length x.ends)) → NodeOk about x n (fresh state)
-  fresh_ok state holder = record {
-    node = ok.node;
-    label = ok.label;
-    nodes = ok.nodes;
-    opening = ok.opening;
-    orders = prefix_self x.order;
-    endings = prefix_self x.ends;
-    clears = prefix_self x.clear;
-    counts = ok.counts;
-    asked = ok.asked;
-    placed = placed_at;
-    last_open = ok.last_open;
-    idle = λ i c. let h = ok.idle i c in (h.0, has_prefix v.view.clear x.clear (own v.view) ok.clears h.1);
-    queued = ok.queued;
-    holding = ok.holding;
-    walking = ok.walking;
-    freeing = ok.freeing;
-    unmarked = ok.unmarked;
-    unclear = ok.unclear;
-    rolled = ok.rolled;
-    holds = λ l. let h = ok.holds l in (refl, h.1, h.2);
-    lacks = ok.lacks;
-    holder = holder;
-    passed = λ i p at. let h = ok.passed i p at in passed_goes x x n v (fresh state) p h h.in_release refl (omega arith) h.marked ok.orders h.unclear;
-    passed_once = ok.passed_once;
-    own_ends = λ p r end _ _ en _. slice_get_within x.ends p end en;
-    own_marks = ok.own_marks;
-    marked_last = ok.marked_last;
-    own_flag = ok.own_flag;
-    no_flag = ok.no_flag;
-    own_joined = ok.own_joined;
-    all_joined = ok.all_joined;
-    all_marked = ok.all_marked;
-    freed_clear = λ r h. has_prefix v.view.clear x.clear r ok.clears (ok.freed_clear r h);
+  pub fresh_ok : (state : PortState) → state ≢ shows.Holding → lets_go v.point ≡ false → has_line v.point ≡ false → (is_kept v.point ≡ true → may_ask state ≡ false) → NodeOk about x n (fresh state)
+  fresh_ok state idle resting without waits = record {
+    who = record { node = ok.who.node; label = ok.who.label; terms = ok.who.terms };
+    knows = knows_whole x.order x.ends x.clear n (fresh state).view refl refl refl ok.knows.counts freed_so;
+    stance = record {
+      asked = ok.stance.asked;
+      placed = placed_at;
+      last_open = ok.stance.last_open;
+      idle = λ i c. let h = ok.stance.idle i c in (h.0, has_prefix v.view.clear x.clear (own v.view) ok.knows.clears h.1);
+      queued = ok.stance.queued;
+      holding = ok.stance.holding;
+      freeing = ok.stance.freeing;
+      waits = λ k _. waits k;
+    };
+    hand = hand_none x.ends x.hand x.cleared n (fresh state) without (ok.hand.lacks without) idle;
+    passes = passes_none ok.passes resting (fresh state) (length x.ends) x.clear x.marks x.passer refl resting;
+    marks = record { unmarked = ok.marks.unmarked; unclear = ok.marks.unclear; rolled = ok.marks.rolled; known = ok.marks.known; last = ok.marks.last; all = ok.marks.all };
+    flag = record { rolled = ok.flag.rolled; not_rolled = ok.flag.not_rolled };
+    joins = ok.joins;
   }
 
 -- the seat j with the entry v alone gets the entry w of the same node

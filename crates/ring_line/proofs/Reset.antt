@@ -1,5 +1,5 @@
 -- A node whose withdrawn request was passed reads its own word, and clears it before it asks again.
-use Rattle.std.proofs.Common.{◌≡◌, ◌≢◌, ℕ, ◌+◌, ◌%◌, ◌<◌, ◌≤◌, List, [], ◌∷◌, length, set, slice_index, get_or, Bool, true, false, if◌then◌else◌, sym, refl, ap, ◌∙◌, subst, arith, length-set, get_or-set_same, get_or-set_other}
+use Rattle.std.proofs.Common.{◌≡◌, ◌≢◌, ℕ, ◌+◌, ◌<◌, ◌≤◌, List, [], ◌∷◌, length, set, slice_index, get_or, Bool, true, false, if◌then◌else◌, sym, refl, ap, ◌∙◌, subst, arith, length-set, get_or-set_same, get_or-set_other}
 use mathlib.Core.Logic.{dite}
 use mathlib.Core.Option.{none, some}
 use native.Mathlib.Decide.{ℕ_discrete}
@@ -11,17 +11,18 @@ use Rattle.qolb_model.specs.Views.{own}
 use Rattle.qolb_model.specs.Sound.{Continues}
 use Rattle.qolb_model.proofs.Requests.{same_place}
 use Rattle.qolb_model.proofs.Lists.{never}
-use Rattle.ring_line.specs.declared.words.TheConstants.{MOST_NODES}
-use Rattle.ring_line.specs.declared.entry.Point.TheVariants.{Idle, Rolled}
+use Rattle.qolb_model.specs.declared.terms.TheConstants.{MOST_NODES}
+use Rattle.ring_line.specs.declared.entry.Point.TheVariants.{Rolled}
 use Rattle.ring_line.specs.declared.entry.Entry.{Entry}
 use Rattle.ring_line.specs.declared.rule.Setup.{Setup}
 use Rattle.ring_line.specs.Words.{ticket_at, cell_at, node_at, cell_of}
-use Rattle.ring_line.specs.Ring.{At, Past, NodeOk, PastOk, Shown, RingRule, has_line, lets_go}
-use Rattle.ring_line.specs.Steps.{sole, Contents, IsStill, loaded_node, reset}
+use Rattle.ring_line.specs.Ring.{At, Past, NodeOk, PastOk, Shown, RingRule, has_line, lets_go, is_kept}
+use Rattle.ring_line.specs.Steps.{sole, Contents, IsStill, loaded_node, reset, after_reset}
 use Rattle.ring_line.proofs.Lists.{at_same, cleared_ended, has_prefix}
-use Rattle.ring_line.proofs.Nodes.{clash_at, put, put_here, put_else, placed_at, others_reset, fresh, fresh_ok}
+use Rattle.ring_line.proofs.Nodes.{clash_at, put, put_here, put_else, placed_at, others_reset, fresh, fresh_ok, hand_none, passes_none}
 use Rattle.ring_line.proofs.Histories.{continues}
 use Rattle.ring_line.proofs.Keeping.{St, Homes, rule_step, mine_ok, mine_low}
+use Rattle.ring_line.proofs.Turning.{goes_step}
 
 -- the word of a node that withdrew: 1 where its request is clear
 abbrev word_of : Bool → ℕ
@@ -39,14 +40,14 @@ module _ (good : List ℕ → Type 0) (allows : List ℕ → List ℕ → Type 0
     still_entry = fresh about r.past v.view.node v ok v.view.state
 
     still_ok : NodeOk about r.past v.view.node still_entry
-    still_ok = fresh_ok about r.past v.view.node v ok v.view.state ok.holder
+    still_ok = fresh_ok about r.past v.view.node v ok v.view.state (λ e. clash_at has_line Rolled (ok.hand.holder e).0 rolled refl) (ap lets_go rolled) (ap has_line rolled) (λ k. absurd (clash_at is_kept Rolled k rolled refl))
 
     still_rule : Rule record { words = set s.words i (slice_index s.words i); homes = s.homes; views = set s.views me (still_entry ∷ []) }
     still_rule = subst (λ ws. Rule record { words = ws; homes = s.homes; views = set s.views me (still_entry ∷ []) }) (sym (set-get_or s.words i 0))
         (rule_step good allows about s r me v still_entry r.past s.words s.homes at refl r.fine r.shown still_ok (λ n a b ne. r.each n a b))
 
     found : slice_index s.words i ≡ (if has r.past.clear (own v.view) then 1 else 0)
-    found = let l = mine_low good allows about s r me v at in let f = r.few in let low = l.0 in let high = l.1 in ap (slice_index s.words) word ∙ r.shown.flags v.view.node low (omega arith) ∙ ok.own_flag rolled
+    found = let l = mine_low good allows about s r me v at in let f = r.may_open.nodes.few in let low = l.0 in let high = l.1 in ap (slice_index s.words) word ∙ r.shown.flags v.view.node low (omega arith) ∙ ok.flag.rolled rolled
 
     is_still : IsStill v (slice_index s.words i) still_entry
     is_still = record {
@@ -69,7 +70,7 @@ module _ (good : List ℕ → Type 0) (allows : List ℕ → List ℕ → Type 0
         one false ne = absurd (ne refl)
 
     learns_still : Continues allows v.view still_entry.view
-    learns_still = continues good allows about r.past r.past r.fine v.view.node v.view.node v still_entry ok still_ok refl ok.orders ok.endings ok.clears (λ q h. h) (λ q h. h) (λ q h. h)
+    learns_still = continues good allows about r.past r.past r.fine v.view.node v.view.node v still_entry ok still_ok refl ok.knows.orders ok.knows.endings ok.knows.clears (λ q h. h) (λ q h. h) (λ q h. h)
 
   pub loads_node_next : (me slots i : ℕ) (m : Contents) → m.0 ≡ v ∷ [] → i ≡ node_at v.view.node → Allows Rule slots me m i (λ n. n) (loaded_node allows (step slots i 0 0 none) m)
   loads_node_next me slots i m is word s r deep at small = let at' : get_elem? s.views me ≡ some (v ∷ []) = at ∙ ap some is in (
@@ -79,60 +80,53 @@ module _ (good : List ℕ → Type 0) (allows : List ℕ → List ℕ → Type 0
     still_rule s r me i at' word,
     (
       refl,
-      refl,
-      subst (λ u. Continues allows (sole u).view (still_entry s r me i at' word).view) (sym is) (learns_still s r me i at' word),
+      goes_step allows m v (still_entry s r me i at' word) m.1 is (learns_still s r me i at' word) refl,
       subst (λ u. IsStill (sole u) (slice_index s.words i) (still_entry s r me i at' word)) (sym is) (is_still s r me i at' word),
     ),
   )
 
   module _ (clear : Has v.view.clear (own v.view)) where
     abbrev reset_entry : Entry
-    reset_entry = record v { point = Idle }
+    reset_entry = after_reset v
 
     abbrev reset_past : Past → Past
     reset_past x = record x { flags = put x.flags v.view.node 0 }
 
     reset_node : (x : Past) → PastOk good allows about x → NodeOk about x v.view.node v → NodeOk about (reset_past x) v.view.node reset_entry
     reset_node x f ok = record {
-      node = refl;
-      label = ok.label;
-      nodes = ok.nodes;
-      opening = ok.opening;
-      orders = ok.orders;
-      endings = ok.endings;
-      clears = ok.clears;
-      counts = ok.counts;
-      asked = λ ne. absurd (ne refl);
-      placed = ok.placed;
-      last_open = ok.last_open;
-      idle = λ _ c. (ended c, clear);
-      queued = λ e. cc;
-      holding = λ e. cc;
-      walking = λ e. cc;
-      freeing = λ e. cc;
-      unmarked = λ e. cc;
-      unclear = λ e. cc;
-      rolled = λ e. cc;
-      holds = λ e. cc;
-      lacks = λ _. ok.lacks (ap has_line rolled);
-      holder = λ e. absurd (clash_at has_line Rolled (ok.holder e).0 rolled refl);
-      passed = λ i p at. absurd (clash_at lets_go Rolled (ok.passed i p at).in_release rolled refl);
-      passed_once = ok.passed_once;
-      own_ends = ok.own_ends;
-      own_marks = ok.own_marks;
-      marked_last = λ p r at mine h lacks. absurd (let k = ok.marked_last p r at mine h lacks in
-          let same : r ≡ own v.view = at_same x.order p r (own v.view) at (subst (λ q. At x.order q (own v.view)) k.1 (placed_at about x v.view.node v ok (ok.asked (λ e. let q = rolled in cc)))) in
-          never (subst (Has x.clear) (sym same) (has_prefix v.view.clear x.clear (own v.view) ok.clears clear)) lacks);
-      own_flag = λ e. cc;
-      no_flag = λ _. put_here x.flags v.view.node 0;
-      own_joined = ok.own_joined;
-      all_joined = ok.all_joined;
-      all_marked = ok.all_marked;
-      freed_clear = ok.freed_clear;
+      who = ok.who;
+      knows = ok.knows;
+      stance = record {
+        asked = λ ne. absurd (ne refl);
+        placed = ok.stance.placed;
+        last_open = ok.stance.last_open;
+        idle = λ _ c. (ended c, clear);
+        queued = λ e. cc;
+        holding = λ e. cc;
+        freeing = λ e. cc;
+        waits = λ e. cc;
+      };
+      hand = hand_none x.ends x.hand x.cleared v.view.node reset_entry refl (ok.hand.lacks (ap has_line rolled)) (λ e. clash_at has_line Rolled (ok.hand.holder e).0 rolled refl);
+      passes = passes_none ok.passes (ap lets_go rolled) reset_entry (length x.ends) x.clear x.marks x.passer refl refl;
+      marks = record {
+        unmarked = λ e. cc;
+        unclear = λ e. cc;
+        rolled = λ e. cc;
+        known = ok.marks.known;
+        last = λ p r at mine h lacks. absurd (let k = ok.marks.last p r at mine h lacks in
+            let same : r ≡ own v.view = at_same x.order p r (own v.view) at (subst (λ q. At x.order q (own v.view)) k.1 (placed_at about x v.view.node v ok (ok.stance.asked (λ e. let q = rolled in cc)))) in
+            never (subst (Has x.clear) (sym same) (has_prefix v.view.clear x.clear (own v.view) ok.knows.clears clear)) lacks);
+        all = ok.marks.all;
+      };
+      flag = record {
+        rolled = λ e. cc;
+        not_rolled = λ _. put_here x.flags v.view.node 0;
+      };
+      joins = ok.joins;
     }
       where
         ended : 0 < v.view.count → v.place < length x.ends
-        ended c = let o = cleared_ended x.order (length x.ends) x.clear f.cleared (own v.view) (has_prefix v.view.clear x.clear (own v.view) ok.clears clear) in
+        ended c = let o = cleared_ended x.order (length x.ends) x.clear f.cleared (own v.view) (has_prefix v.view.clear x.clear (own v.view) ok.knows.clears clear) in
             subst (λ q. q < length x.ends) (same_place x.order f.legal.numbered o.0 v.place (own v.view) o.2 (placed_at about x v.view.node v ok c)) o.1
 
     reset_shown : (x : Past) (words : List ℕ) (homes : Homes) (i : ℕ) → i ≡ node_at v.view.node → 0 < v.view.node → v.view.node ≤ MOST_NODES → Shown good allows about x words homes → Shown good allows about (reset_past x) (set words i 0) homes
@@ -156,14 +150,14 @@ module _ (good : List ℕ → Type 0) (allows : List ℕ → List ℕ → Type 0
       tt,
       rule_step good allows about s r me v reset_entry (reset_past r.past) (set s.words i 0) s.homes at' refl
           (record { legal = r.fine.legal; nodes = r.fine.nodes; kept = r.fine.kept; sound = r.fine.sound; within = r.fine.within; cleared = r.fine.cleared; nobody = r.fine.nobody; settled = r.fine.settled; marked = r.fine.marked; gone = r.fine.gone })
-          (reset_shown r.past s.words s.homes i word low.0 (let l = low.1 in let f = r.few in omega arith) r.shown)
+          (reset_shown r.past s.words s.homes i word low.0 (let l = low.1 in let f = r.may_open.nodes.few in omega arith) r.shown)
           (reset_node r.past r.fine (mine_ok good allows about s r me v at'))
           (λ n a b ne. others_reset about r.past n (r.who n) (r.each n a b) v.view.node ne),
-      (λ j. (record (sole (sym is j)) { point = Idle } ∷ [], m.1)),
+      (λ j. (after_reset (sole (sym is j)) ∷ [], m.1)),
     )
       where
         at' : get_elem? s.views me ≡ some (v ∷ [])
         at' = at ∙ ap some is
 
-        low : (0 < v.view.node) × (v.view.node ≤ about.nodes)
+        low : (0 < v.view.node) × (v.view.node ≤ about.terms.nodes)
         low = mine_low good allows about s r me v at'

@@ -11,20 +11,21 @@ use Rattle.qolb_model.specs.declared.answer.PortState.TheVariants as shows
 use Rattle.qolb_model.specs.Requests.{Has}
 use Rattle.qolb_model.specs.Views.{own}
 use Rattle.qolb_model.specs.Sound.{Continues}
-use Rattle.qolb_model.proofs.Prefixes.{prefix_self}
 use Rattle.qolb_model.proofs.Requests.{has_left, has_last, has_push}
-use Rattle.ring_line.specs.declared.words.TheConstants.{CELLS, WITHDRAWN, MOST_NODES}
+use Rattle.qolb_model.specs.declared.terms.TheConstants.{MOST_NODES}
+use Rattle.ring_line.specs.declared.words.TheConstants.{CELLS, WITHDRAWN}
 use Rattle.ring_line.specs.declared.entry.Point.TheVariants.{Queued, Rolled}
 use Rattle.ring_line.specs.declared.entry.Entry.{Entry}
 use Rattle.ring_line.specs.declared.rule.Setup.{Setup}
 use Rattle.ring_line.specs.Words.{ticket_at, cell_at, node_at, cell_of}
 use Rattle.ring_line.specs.Ring.{At, Past, NodeOk, PastOk, Shown, RingRule, has_line, lets_go, is_kept}
 use Rattle.ring_line.specs.Steps.{sole, Contents, IsRolled, Comes, rolled}
-use Rattle.ring_line.proofs.Lists.{at_same, has_prefix}
-use Rattle.ring_line.proofs.Nodes.{clash_at, put, put_here, put_else, others_roll}
+use Rattle.ring_line.proofs.Lists.{at_same}
+use Rattle.ring_line.proofs.Nodes.{put, put_here, put_else, others_roll, knows_whole, hand_none, passes_none, freed_so}
 use Rattle.ring_line.proofs.Histories.{continues}
 use Rattle.ring_line.proofs.Keeping.{St, Homes, rule_step, mine_ok, mine_low}
 use Rattle.ring_line.proofs.Taking.{take_entry, asked_at, near, home, finds_grant, finds_blank, takes_rule, comes, learns_take}
+use Rattle.ring_line.proofs.Turning.{goes_step}
 
 module _ (good : List ℕ → Type 0) (allows : List ℕ → List ℕ → Type 0) (about : Setup) (v : Entry) (queued : v.point ≡ Queued) where
   abbrev Rule : St → Type 0
@@ -34,7 +35,7 @@ module _ (good : List ℕ → Type 0) (allows : List ℕ → List ℕ → Type 0
   roll_past x = record x { marks = put x.marks v.place v.view.node }
 
   abbrev roll_entry : Past → Entry
-  roll_entry x = record v { view = record v.view { state = shows.Rolled; order = x.order; ends = x.ends; clear = x.clear; marked = v.view.marked ++ own v.view ∷ [] }; point = Rolled }
+  roll_entry x = record v { view = record v.view { state = shows.Rolled; order = x.order; ends = x.ends; clear = x.clear; marked = v.view.marked ++ own v.view ∷ [] }; point = Rolled; steps = v.steps + 1 }
 
   module _ (x : Past) (fine : PastOk good allows about x) (ok : NodeOk about x v.view.node v) (low : 0 < v.view.node) (later : length x.ends < v.place) where
     here : put x.marks v.place v.view.node v.place ≡ v.view.node
@@ -52,42 +53,36 @@ module _ (good : List ℕ → Type 0) (allows : List ℕ → List ℕ → Type 0
 
     roll_node : NodeOk about (roll_past x) v.view.node (roll_entry x)
     roll_node = record {
-      node = refl;
-      label = ok.label;
-      nodes = ok.nodes;
-      opening = ok.opening;
-      orders = prefix_self x.order;
-      endings = prefix_self x.ends;
-      clears = prefix_self x.clear;
-      counts = ok.counts;
-      asked = λ _. ok.asked (λ e. let q = queued in cc);
-      placed = λ _. placed;
-      last_open = ok.last_open;
-      idle = λ e. cc;
-      queued = λ e. cc;
-      holding = λ e. cc;
-      walking = λ e. cc;
-      freeing = λ e. cc;
-      unmarked = λ e. cc;
-      unclear = λ e. cc;
-      rolled = λ _. here;
-      holds = λ e. cc;
-      lacks = λ _. ok.lacks (ap has_line queued);
-      holder = λ e. cc;
-      passed = λ i p at. absurd (clash_at lets_go Queued (ok.passed i p at).in_release queued refl);
-      passed_once = ok.passed_once;
-      own_ends = λ p r end _ _ en _. slice_get_within x.ends p end en;
-      own_marks = λ p r at mine h. dite (ℕ_discrete p v.place)
-          (λ e. subst (Has (v.view.marked ++ own v.view ∷ [])) (at_same x.order v.place (own v.view) r placed (subst (λ q. At x.order q r) e at)) (has_last v.view.marked (own v.view)))
-          (λ ne. has_left v.view.marked (own v.view ∷ []) r (ok.own_marks p r at mine (subst (λ q. 0 < q) (elsewhere p ne) h)));
-      marked_last = λ p r at mine h lacks. dite (ℕ_discrete p v.place) (λ e. (refl, sym e))
-          (λ ne. let k = (ok.marked_last p r at mine (subst (λ q. 0 < q) (elsewhere p ne) h) lacks).0 in let q = queued in absurd (cc));
-      own_flag = λ _. ok.no_flag (λ e. let q = queued in cc) ∙ ap (λ b. if b then 1 else 0) (sym (ok.unclear (ap is_kept queued)));
-      no_flag = λ ne. absurd (ne refl);
-      own_joined = ok.own_joined;
-      all_joined = ok.all_joined;
-      all_marked = λ r h. ⊎_elim (λ z. let k = ok.all_marked r z in (k.0, k.1, more k.0 k.2)) (λ z. (v.place, subst (At x.order v.place) (sym z) placed, subst (λ q. 0 < q) (sym here) low)) (has_push v.view.marked (own v.view) r h);
-      freed_clear = λ r h. has_prefix v.view.clear x.clear r ok.clears (ok.freed_clear r h);
+      who = record { node = refl; label = ok.who.label; terms = ok.who.terms };
+      knows = knows_whole x.order x.ends x.clear v.view.node (roll_entry x).view refl refl refl ok.knows.counts (freed_so about x v.view.node v ok);
+      stance = record {
+        asked = λ _. ok.stance.asked (λ e. let q = queued in cc);
+        placed = λ _. placed;
+        last_open = ok.stance.last_open;
+        idle = λ e. cc;
+        queued = λ e. cc;
+        holding = λ e. cc;
+        freeing = λ e. cc;
+        waits = λ e. cc;
+      };
+      hand = hand_none x.ends x.hand x.cleared v.view.node (roll_entry x) refl (ok.hand.lacks (ap has_line queued)) (λ e. cc);
+      passes = passes_none ok.passes (ap lets_go queued) (roll_entry x) (length x.ends) x.clear (put x.marks v.place v.view.node) x.passer refl refl;
+      marks = record {
+        unmarked = λ e. cc;
+        unclear = λ e. cc;
+        rolled = λ _. here;
+        known = λ p r at mine h. dite (ℕ_discrete p v.place)
+            (λ e. subst (Has (v.view.marked ++ own v.view ∷ [])) (at_same x.order v.place (own v.view) r placed (subst (λ q. At x.order q r) e at)) (has_last v.view.marked (own v.view)))
+            (λ ne. has_left v.view.marked (own v.view ∷ []) r (ok.marks.known p r at mine (subst (λ q. 0 < q) (elsewhere p ne) h)));
+        last = λ p r at mine h lacks. dite (ℕ_discrete p v.place) (λ e. (refl, sym e))
+            (λ ne. let k = (ok.marks.last p r at mine (subst (λ q. 0 < q) (elsewhere p ne) h) lacks).0 in let q = queued in absurd (cc));
+        all = λ r h. ⊎_elim (λ z. let k = ok.marks.all r z in (k.0, k.1, more k.0 k.2)) (λ z. (v.place, subst (At x.order v.place) (sym z) placed, subst (λ q. 0 < q) (sym here) low)) (has_push v.view.marked (own v.view) r h);
+      };
+      flag = record {
+        rolled = λ _. ok.flag.not_rolled (λ e. let q = queued in cc) ∙ ap (λ b. if b then 1 else 0) (sym (ok.marks.unclear (ap is_kept queued)));
+        not_rolled = λ ne. absurd (ne refl);
+      };
+      joins = ok.joins;
     }
 
     roll_fine : PastOk good allows about (roll_past x)
@@ -136,20 +131,20 @@ module _ (good : List ℕ → Type 0) (allows : List ℕ → List ℕ → Type 0
     low = (mine_low good allows about s r me v at).0
 
     behind : length r.past.ends < v.place
-    behind = let q = ok.queued queued in omega arith
+    behind = let q = ok.stance.queued queued in omega arith
 
     blank : slice_index s.words i ≡ 0
     blank = finds_blank good allows about v queued s r me i at word later
 
     rolls_rule : Rule record { words = set s.words i ((slice_index s.words i + d) % 2 ^ 64); homes = s.homes; views = set s.views me (roll_entry r.past ∷ []) }
-    rolls_rule = let h = (mine_low good allows about s r me v at).1 in let f = r.few in
+    rolls_rule = let h = (mine_low good allows about s r me v at).1 in let f = r.may_open.nodes.few in
         rule_step good allows about s r me v (roll_entry r.past) (roll_past r.past) (set s.words i ((slice_index s.words i + d) % 2 ^ 64)) s.homes at refl (roll_fine r.past r.fine ok low behind)
         (roll_shown r.past r.fine ok low behind s.words s.homes i d word (near good allows about v queued s r me i at word) add (omega arith) blank r.shown) (roll_node r.past r.fine ok low behind)
         (λ n a b ne. others_roll about r.past n (r.who n) (r.each n a b) v.view.node v.place (own v.view) (asked_at good allows about v queued r.past ok) refl low ne)
 
     learns_roll : Continues allows v.view (roll_entry r.past).view
     learns_roll = continues good allows about r.past (roll_past r.past) (roll_fine r.past r.fine ok low behind) v.view.node v.view.node v (roll_entry r.past) ok (roll_node r.past r.fine ok low behind) refl
-        ok.orders ok.endings ok.clears (λ q h. h) (λ q h. has_left v.view.marked (own v.view ∷ []) q h) (λ q h. h)
+        ok.knows.orders ok.knows.endings ok.knows.clears (λ q h. h) (λ q h. has_left v.view.marked (own v.view ∷ []) q h) (λ q h. h)
 
     is_rolled : IsRolled v (roll_entry r.past)
     is_rolled = record {
@@ -170,8 +165,7 @@ module _ (good : List ℕ → Type 0) (allows : List ℕ → List ℕ → Type 0
         y.1,
         takes_rule good allows about v queued s r me i at' word here ((slice_index s.words i + d) % 2 ^ 64),
         (
-          refl,
-          subst (λ u. Continues allows (sole u).view (take_entry good allows about v queued r.past).view) (sym is) (learns_take good allows about v queued s r me i at' word here),
+          goes_step allows m v (take_entry good allows about v queued r.past) ((0, y.0) ∷ m.1) is (learns_take good allows about v queued s r me i at' word here) refl,
           (λ z. absurd (finds_grant good allows about v queued s r me i at' word here z)),
           (λ _. (y.0, refl, subst (λ u. Comes (sole u) (take_entry good allows about v queued r.past) y.0) (sym is) (comes good allows about v queued s r me i at' word here))),
         ),
@@ -182,8 +176,7 @@ module _ (good : List ℕ → Type 0) (allows : List ℕ → List ℕ → Type 0
         tt,
         rolls_rule s r me i d at' word add later,
         (
-          refl,
-          subst (λ u. Continues allows (sole u).view (roll_entry r.past).view) (sym is) (learns_roll s r me i d at' word add later),
+          goes_step allows m v (roll_entry r.past) m.1 is (learns_roll s r me i d at' word add later) refl,
           (λ _. (refl, subst (λ u. IsRolled (sole u) (roll_entry r.past)) (sym is) (is_rolled s r me i d at' word add later))),
           (λ ne. absurd (ne (blank s r me i d at' word add later))),
         ),

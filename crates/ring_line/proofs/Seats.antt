@@ -1,5 +1,5 @@
 -- How seats begin, are cut and are joined.
-use Rattle.std.proofs.Common.{◌≡◌, ◌≢◌, ◌⊎◌, ℕ, zero, suc, ◌+◌, ◌-◌, ◌%◌, ◌<◌, ◌≤◌, List, [], ◌∷◌, ◌++◌, length, set, slice_index, sym, refl, ap, ◌∙◌, subst, inl, inr, ⊎_elim, arith, length-set, false}
+use Rattle.std.proofs.Common.{◌≡◌, ◌≢◌, ◌⊎◌, ℕ, zero, suc, ◌+◌, ◌-◌, ◌<◌, List, [], ◌∷◌, ◌++◌, length, set, slice_index, sym, refl, ap, ◌∙◌, subst, inl, inr, ⊎_elim, arith, length-set, false}
 use mathlib.Core.Option.{some, some-injective, some-ne-none}
 use native.Mathlib.Decide.{ℕ_discrete}
 use lib.ListN.{get_elem?}
@@ -7,7 +7,7 @@ use Rattle.atomic_table.specs.Table.{Splits, Joins, opening}
 use Rattle.atomic_table.proofs.Lists.{at_set, set_again}
 use Rattle.qolb_model.specs.Histories.{none}
 use Rattle.qolb_model.proofs.Lists.{same_some}
-use Rattle.ring_line.specs.declared.words.TheConstants.{CELLS, MOST_NODES}
+use Rattle.ring_line.specs.declared.words.TheConstants.{CELLS}
 use Rattle.ring_line.specs.declared.entry.Entry.{Entry}
 use Rattle.ring_line.specs.declared.rule.Setup.{Setup}
 use Rattle.ring_line.specs.declared.rule.Parcel.{Parcel}
@@ -15,8 +15,10 @@ use Rattle.ring_line.specs.Words.{word_count, ticket_at, cell_at, node_at, cell_
 use Rattle.ring_line.specs.Ring.{At, newcomer, newcomers_from, newcomers, Member, RingRule}
 use Rattle.ring_line.specs.Steps.{front, behind}
 use Rattle.ring_line.proofs.Lists.{at_none, at_either}
-use Rattle.ring_line.proofs.Nodes.{pick}
+use Rattle.qolb_model.proofs.Leases.{turns_left-none}
+use Rattle.ring_line.proofs.Nodes.{pick, knows_whole, hand_none}
 use Rattle.ring_line.proofs.Keeping.{St}
+use Rattle.qolb_model.specs.Opening.{MayOpen}
 
 -- a seat of a table with one more is an old one, or the new one
 seat_more : {A : Type 0} (xs : List A) (x y : A) (p : ℕ) → get_elem? (xs ++ x ∷ []) p ≡ some y → (get_elem? xs p ≡ some y) ⊎ ((p ≡ length xs) × (x ≡ y))
@@ -39,12 +41,12 @@ module _ (good : List ℕ → Type 0) (allows : List ℕ → List ℕ → Type 0
 
   -- the same entries in other seats
   reseated : (s : St) (r : Rule s) (views : List (List Entry)) (owner : ℕ → ℕ × ℕ)
-      → ((j i : ℕ) (vs : List Entry) (v : Entry) → get_elem? views j ≡ some vs → At vs i v → Member about.nodes r.who owner j i v) → Rule record { words = s.words; homes = s.homes; views = views }
+      → ((j i : ℕ) (vs : List Entry) (v : Entry) → get_elem? views j ≡ some vs → At vs i v → Member about.terms.nodes r.who owner j i v) → Rule record { words = s.words; homes = s.homes; views = views }
   reseated s r views owner all = record {
     past = r.past;
     who = r.who;
     owner = owner;
-    few = r.few;
+    may_open = r.may_open;
     line = r.line;
     fine = r.fine;
     shown = r.shown;
@@ -82,33 +84,33 @@ module _ (good : List ℕ → Type 0) (allows : List ℕ → List ℕ → Type 0
       moved : ℕ → ℕ × ℕ
       moved n = cut_place me (length s.views) (r.owner n)
 
-      old : (j i : ℕ) (us : List Entry) (v : Entry) → get_elem? s.views j ≡ some us → At us i v → j ≢ me → Member about.nodes r.who moved j i v
-      old j i us v a b ne = let m = r.members j i us v a b in moves_to about.nodes r.who r.owner moved j i j i v m (ap (cut_place me (length s.views)) m.at ∙ cut_else me (length s.views) j i ne)
+      old : (j i : ℕ) (us : List Entry) (v : Entry) → get_elem? s.views j ≡ some us → At us i v → j ≢ me → Member about.terms.nodes r.who moved j i v
+      old j i us v a b ne = let m = r.members j i us v a b in moves_to about.terms.nodes r.who r.owner moved j i j i v m (ap (cut_place me (length s.views)) m.at ∙ cut_else me (length s.views) j i ne)
 
-      first : (us : List Entry) (i : ℕ) (v : Entry) → get_elem? s.views me ≡ some us → At (front us) i v → Member about.nodes r.who moved me i v
+      first : (us : List Entry) (i : ℕ) (v : Entry) → get_elem? s.views me ≡ some us → At (front us) i v → Member about.terms.nodes r.who moved me i v
       first [] i v a e = absurd (at_none i v e)
-      first (u ∷ us) zero v a e = let m = r.members me 0 (u ∷ us) v a e in moves_to about.nodes r.who r.owner moved me 0 me 0 v m (ap (cut_place me (length s.views)) m.at)
+      first (u ∷ us) zero v a e = let m = r.members me 0 (u ∷ us) v a e in moves_to about.terms.nodes r.who r.owner moved me 0 me 0 v m (ap (cut_place me (length s.views)) m.at)
       first (u ∷ us) (suc i) v a e = absurd (at_none i v e)
 
-      later : (us : List Entry) (i : ℕ) (v : Entry) → get_elem? s.views me ≡ some us → At (behind us) i v → Member about.nodes r.who moved (length s.views) i v
+      later : (us : List Entry) (i : ℕ) (v : Entry) → get_elem? s.views me ≡ some us → At (behind us) i v → Member about.terms.nodes r.who moved (length s.views) i v
       later [] i v a e = absurd (at_none i v e)
       later (u ∷ us) i v a e = let m = r.members me (suc i) (u ∷ us) v a e in
-          moves_to about.nodes r.who r.owner moved me (suc i) (length s.views) i v m (ap (cut_place me (length s.views)) m.at ∙ cut_here me (length s.views) i)
+          moves_to about.terms.nodes r.who r.owner moved me (suc i) (length s.views) i v m (ap (cut_place me (length s.views)) m.at ∙ cut_here me (length s.views) i)
 
-      all : (j i : ℕ) (us : List Entry) (v : Entry) → get_elem? (set s.views me (front vs) ++ behind vs ∷ []) j ≡ some us → At us i v → Member about.nodes r.who moved j i v
+      all : (j i : ℕ) (us : List Entry) (v : Entry) → get_elem? (set s.views me (front vs) ++ behind vs ∷ []) j ≡ some us → At us i v → Member about.terms.nodes r.who moved j i v
       all j i us v a b = ⊎_elim
           (λ t. ⊎_elim
-          (λ (c : (j ≡ me) × (front vs ≡ us)). subst (λ q. Member about.nodes r.who moved q i v) (sym c.0) (first vs i v at (subst (λ z. At z i v) (sym c.1) b)))
+          (λ (c : (j ≡ me) × (front vs ≡ us)). subst (λ q. Member about.terms.nodes r.who moved q i v) (sym c.0) (first vs i v at (subst (λ z. At z i v) (sym c.1) b)))
           (λ (c : (j ≢ me) × (get_elem? s.views j ≡ some us)). old j i us v c.1 b c.0)
           (at_set s.views me j (front vs) us t))
-          (λ t. subst (λ q. Member about.nodes r.who moved q i v) (sym (t.0 ∙ length-set s.views me (front vs))) (later vs i v at (subst (λ z. At z i v) (sym t.1) b)))
+          (λ t. subst (λ q. Member about.terms.nodes r.who moved q i v) (sym (t.0 ∙ length-set s.views me (front vs))) (later vs i v at (subst (λ z. At z i v) (sym t.1) b)))
           (seat_more (set s.views me (front vs)) (behind vs) us j a)
 
   -- a new seat with no entry
   pub blanks : (me : ℕ) (vs : List Entry) → Splits Rule me vs vs []
   blanks me vs s r at = reseated s r (set s.views me vs ++ [] ∷ []) r.owner all
     where
-      all : (j i : ℕ) (us : List Entry) (v : Entry) → get_elem? (set s.views me vs ++ [] ∷ []) j ≡ some us → At us i v → Member about.nodes r.who r.owner j i v
+      all : (j i : ℕ) (us : List Entry) (v : Entry) → get_elem? (set s.views me vs ++ [] ∷ []) j ≡ some us → At us i v → Member about.terms.nodes r.who r.owner j i v
       all j i us v a b = ⊎_elim
           (λ t. r.members j i us v (subst (λ (l : List (List Entry)). get_elem? l j ≡ some us) (set_again s.views me vs at) t) b)
           (λ t. absurd (at_none i v (subst (λ z. At z i v) (sym t.1) b)))
@@ -142,33 +144,33 @@ module _ (good : List ℕ → Type 0) (allows : List ℕ → List ℕ → Type 0
       theirs : get_elem? s.views other ≡ some ws
       theirs = ⊎_elim (λ (t : (other ≡ me) × (vs ++ ws ≡ ws)). absurd (apart t.0)) (λ (t : (other ≢ me) × (get_elem? s.views other ≡ some ws)). t.1) (at_set s.views me other (vs ++ ws) ws there)
 
-      stays : (j i : ℕ) (us : List Entry) (v : Entry) → get_elem? s.views j ≡ some us → At us i v → j ≢ other → Member about.nodes r.who moved j i v
-      stays j i us v a b ne = let m = r.members j i us v a b in moves_to about.nodes r.who r.owner moved j i j i v m (ap (join_place me other (length vs)) m.at ∙ join_else me other (length vs) j i ne)
+      stays : (j i : ℕ) (us : List Entry) (v : Entry) → get_elem? s.views j ≡ some us → At us i v → j ≢ other → Member about.terms.nodes r.who moved j i v
+      stays j i us v a b ne = let m = r.members j i us v a b in moves_to about.terms.nodes r.who r.owner moved j i j i v m (ap (join_place me other (length vs)) m.at ∙ join_else me other (length vs) j i ne)
 
-      comes : (i : ℕ) (v : Entry) → At ws i v → Member about.nodes r.who moved me (length vs + i) v
-      comes i v b = let m = r.members other i ws v theirs b in moves_to about.nodes r.who r.owner moved other i me (length vs + i) v m (ap (join_place me other (length vs)) m.at ∙ join_here me other (length vs) i)
+      comes : (i : ℕ) (v : Entry) → At ws i v → Member about.terms.nodes r.who moved me (length vs + i) v
+      comes i v b = let m = r.members other i ws v theirs b in moves_to about.terms.nodes r.who r.owner moved other i me (length vs + i) v m (ap (join_place me other (length vs)) m.at ∙ join_here me other (length vs) i)
 
-      both : (i : ℕ) (v : Entry) → At (vs ++ ws) i v → Member about.nodes r.who moved me i v
+      both : (i : ℕ) (v : Entry) → At (vs ++ ws) i v → Member about.terms.nodes r.who moved me i v
       both i v b = ⊎_elim (λ t. stays me i vs v at t (λ e. apart (sym e)))
-          (λ (t : (k : ℕ) × (i ≡ length vs + k) × At ws k v). subst (λ q. Member about.nodes r.who moved me q v) (sym t.1) (comes t.0 v t.2))
+          (λ (t : (k : ℕ) × (i ≡ length vs + k) × At ws k v). subst (λ q. Member about.terms.nodes r.who moved me q v) (sym t.1) (comes t.0 v t.2))
           (at_either vs ws i v b)
 
-      all : (j i : ℕ) (us : List Entry) (v : Entry) → get_elem? (set (set s.views me (vs ++ ws)) other []) j ≡ some us → At us i v → Member about.nodes r.who moved j i v
+      all : (j i : ℕ) (us : List Entry) (v : Entry) → get_elem? (set (set s.views me (vs ++ ws)) other []) j ≡ some us → At us i v → Member about.terms.nodes r.who moved j i v
       all j i us v a b = ⊎_elim
           (λ (t : (j ≡ other) × ([] ≡ us)). absurd (at_none i v (subst (λ z. At z i v) (sym t.1) b)))
           (λ (t : (j ≢ other) × (get_elem? (set s.views me (vs ++ ws)) j ≡ some us)). ⊎_elim
-          (λ (c : (j ≡ me) × (vs ++ ws ≡ us)). subst (λ q. Member about.nodes r.who moved q i v) (sym c.0) (both i v (subst (λ z. At z i v) (sym c.1) b)))
+          (λ (c : (j ≡ me) × (vs ++ ws ≡ us)). subst (λ q. Member about.terms.nodes r.who moved q i v) (sym c.0) (both i v (subst (λ z. At z i v) (sym c.1) b)))
           (λ (c : (j ≢ me) × (get_elem? s.views j ≡ some us)). stays j i us v c.1 b t.0)
           (at_set s.views me j (vs ++ ws) us t.1))
           (at_set (set s.views me (vs ++ ws)) other j [] us a)
 
-  pub starts : (words : List ℕ) (y : Parcel) → about.nodes ≤ MOST_NODES → length about.opening.bytes ≡ 64 → good about.opening.bytes → length words ≡ word_count → slice_index words (cell_at 0) ≡ 1
-      → ((c : ℕ) → c < word_count → c ≢ cell_at 0 → slice_index words c ≡ 0) → y.bytes.bytes ≡ about.opening.bytes → y.closed ≡ false → Rule (opening words (y ∷ []) (newcomers about))
-  starts words y few line fine wide first cleared same unclosed = record {
+  pub starts : (words : List ℕ) (y : Parcel) → MayOpen about.terms → length about.terms.opening.bytes ≡ 64 → good about.terms.opening.bytes → length words ≡ word_count → slice_index words (cell_at 0) ≡ 1
+      → ((c : ℕ) → c < word_count → c ≢ cell_at 0 → slice_index words c ≡ 0) → y.bytes.bytes ≡ about.terms.opening.bytes → y.closed ≡ false → y.turns_left ≡ about.terms.lease → Rule (opening words (y ∷ []) (newcomers about))
+  starts words y may line fine wide first cleared same unclosed left = record {
     past = record { order = []; ends = []; clear = []; hand = 0; cleared = false; marks = λ _. 0; passer = λ _. 0; flags = λ _. 0 };
     who = newcomer about;
     owner = λ n. (0, n - 1);
-    few = few;
+    may_open = may;
     line = line;
     fine = record {
       legal = record { numbered = λ p q e. absurd (at_none p q e); ended = omega arith; closing = λ p e at. absurd (at_none p e at) };
@@ -182,41 +184,32 @@ module _ (good : List ℕ → Type 0) (allows : List ℕ → List ℕ → Type 0
       marked = λ p h. absurd (omega arith);
       gone = λ p e at. absurd (at_none p e at);
     };
-    shown = record { wide = wide; deep = refl; ticket = cleared ticket_at (omega arith) (λ e. omega arith); cleared = λ e. absurd (cc e); granted = λ _. first; later = λ k a b. later_blank k a b; flags = λ n a b. cleared (node_at n) (omega arith) (λ e. omega arith); home = λ _. (y, refl, same, unclosed) };
+    shown = record { wide = wide; deep = refl; ticket = cleared ticket_at (omega arith) (λ e. omega arith); cleared = λ e. absurd (cc e); granted = λ _. first; later = λ k a b. later_blank k a b; flags = λ n a b. cleared (node_at n) (omega arith) (λ e. omega arith); home = λ _. (y, refl, same, unclosed, left ∙ turns_left-none about.terms.lease) };
     each = λ n a b. record {
-      node = refl;
-      label = refl;
-      nodes = refl;
-      opening = refl;
-      orders = ([], refl);
-      endings = ([], refl);
-      clears = ([], refl);
-      counts = refl;
-      asked = λ ne. absurd (ne refl);
-      placed = λ z. absurd (omega arith);
-      last_open = λ p q e. absurd (at_none p q e);
-      idle = λ _ z. absurd (omega arith);
-      queued = λ e. cc;
-      holding = λ e. cc;
-      walking = λ e. cc;
-      freeing = λ e. cc;
-      unmarked = λ e. cc;
-      unclear = λ e. cc;
-      rolled = λ e. cc;
-      holds = λ e. cc;
-      lacks = λ _ e. omega arith;
-      holder = λ e. cc;
-      passed = λ i p at. absurd (at_none i p at);
-      passed_once = λ i j p at. absurd (at_none i p at);
-      own_ends = λ p q end e. absurd (at_none p q e);
-      own_marks = λ p q e. absurd (at_none p q e);
-      marked_last = λ p q e. absurd (at_none p q e);
-      own_flag = λ e. cc;
-      no_flag = λ _. refl;
-      own_joined = λ p q e. absurd (at_none p q e);
-      all_joined = λ q h. absurd (cc h);
-      all_marked = λ q h. absurd (cc h);
-      freed_clear = λ q h. absurd (cc h);
+      who = record { node = refl; label = refl; terms = refl };
+      knows = knows_whole [] [] [] n (newcomer about n).view refl refl refl refl (λ q h. absurd (cc h));
+      stance = record {
+        asked = λ ne. absurd (ne refl);
+        placed = λ z. absurd (omega arith);
+        last_open = λ p q e. absurd (at_none p q e);
+        idle = λ _ z. absurd (omega arith);
+        queued = λ e. cc;
+        holding = λ e. cc;
+        freeing = λ e. cc;
+        waits = λ e. cc;
+      };
+      hand = hand_none [] 0 false n (newcomer about n) refl (λ e. omega arith) (λ e. cc);
+      passes = record { walking = λ e. cc; freeing = λ e. cc; passed = λ i p at. absurd (at_none i p at); once = λ i j p at. absurd (at_none i p at) };
+      marks = record {
+        unmarked = λ e. cc;
+        unclear = λ e. cc;
+        rolled = λ e. cc;
+        known = λ p q e. absurd (at_none p q e);
+        last = λ p q e. absurd (at_none p q e);
+        all = λ q h. absurd (cc h);
+      };
+      flag = record { rolled = λ e. cc; not_rolled = λ _. refl };
+      joins = record { known = λ p q e. absurd (at_none p q e); all = λ q h. absurd (cc h) };
     };
     members = all;
   }
@@ -224,13 +217,13 @@ module _ (good : List ℕ → Type 0) (allows : List ℕ → List ℕ → Type 0
       later_blank : (k : ℕ) → 0 < k → k < CELLS → slice_index words (cell_at (cell_of (0 + k))) ≡ 0
       later_blank k a b = let same : cell_of (0 + k) ≡ k = omega arith in cleared (cell_at (cell_of (0 + k))) (omega arith) (λ e. omega arith)
 
-      one : (i : ℕ) (v : Entry) → At (newcomers about) i v → Member about.nodes (newcomer about) (λ n. (0, n - 1)) 0 i v
-      one i v e = let h = newcomer_at about 0 about.nodes i v e in let l = h.1 in subst (λ (u : Entry). Member about.nodes (newcomer about) (λ n. (0, n - 1)) 0 i u) (sym h.0)
+      one : (i : ℕ) (v : Entry) → At (newcomers about) i v → Member about.terms.nodes (newcomer about) (λ n. (0, n - 1)) 0 i v
+      one i v e = let h = newcomer_at about 0 about.terms.nodes i v e in let l = h.1 in subst (λ (u : Entry). Member about.terms.nodes (newcomer about) (λ n. (0, n - 1)) 0 i u) (sym h.0)
           record { low = omega arith; high = omega arith; is = refl; at = λ j. (0, back i j) }
         where
           back : (k : ℕ) → 0 + k + 1 - 1 ≡ k
           back k = omega arith
 
-      all : (j i : ℕ) (vs : List Entry) (v : Entry) → get_elem? (newcomers about ∷ []) j ≡ some vs → At vs i v → Member about.nodes (newcomer about) (λ n. (0, n - 1)) j i v
+      all : (j i : ℕ) (vs : List Entry) (v : Entry) → get_elem? (newcomers about ∷ []) j ≡ some vs → At vs i v → Member about.terms.nodes (newcomer about) (λ n. (0, n - 1)) j i v
       all zero i vs v a b = one i v (subst (λ z. At z i v) (sym (some-injective (newcomers about) vs a)) b)
       all (suc j) i vs v a b = absurd (some-ne-none vs (sym a))

@@ -1,18 +1,18 @@
 -- The line comes to a node that has asked: it is at home, and the request at its turn is the node's.
-use Rattle.std.proofs.Common.{◌≡◌, ◌≢◌, ◌⊎◌, ℕ, ◌+◌, ◌-◌, ◌*◌, ◌%◌, ◌<◌, ◌≤◌, List, [], ◌∷◌, length, set, slice_index, Bool, true, false, sym, refl, ap, ◌∙◌, subst, inl, inr, ⊎_elim, arith, length-set, mod-lt, get_or-set_other}
+use Rattle.std.proofs.Common.{◌≡◌, ◌≢◌, ◌⊎◌, ℕ, ◌+◌, ◌-◌, ◌*◌, ◌<◌, ◌≤◌, List, [], ◌∷◌, length, set, slice_index, Bool, true, false, sym, refl, ap, ◌∙◌, subst, inl, inr, ⊎_elim, arith, length-set, mod-lt, get_or-set_other}
 use mathlib.Core.Logic.{dite}
 use mathlib.Core.Option.{none, some}
 use native.Mathlib.Decide.{ℕ_discrete}
 use lib.ListN.{get_elem?}
 use Rattle.std.proofs.lemmas.Option.{slice_get_within}
 use Rattle.atomic_table.proofs.Lists.{one_turn}
-use Rattle.line_lanes.specs.declared.line.Line64.{Line64}
+use Rattle.qolb_model.specs.declared.terms.Terms.{Terms}
+use Rattle.qolb_model.specs.Leases.{turns_left}
 use Rattle.qolb_model.specs.declared.answer.PortState.TheVariants as shows
 use Rattle.qolb_model.specs.declared.request.Request.{Request}
 use Rattle.qolb_model.specs.Ends.{is_closed, bytes_after}
 use Rattle.qolb_model.specs.Views.{own}
 use Rattle.qolb_model.specs.Sound.{Continues}
-use Rattle.qolb_model.proofs.Prefixes.{prefix_self}
 use Rattle.qolb_model.proofs.Agreed.{length-bytes_after}
 use Rattle.ring_line.specs.declared.words.TheConstants.{CELLS, WITHDRAWN}
 use Rattle.ring_line.specs.declared.entry.Point.{Point}
@@ -23,10 +23,11 @@ use Rattle.ring_line.specs.declared.rule.Parcel.{Parcel}
 use Rattle.ring_line.specs.Words.{ticket_at, cell_at, node_at, cell_of}
 use Rattle.ring_line.specs.Ring.{At, Past, NodeOk, PastOk, Shown, RingRule, has_line, lets_go, is_kept}
 use Rattle.ring_line.specs.Steps.{Comes}
-use Rattle.ring_line.proofs.Lists.{at_same, has_prefix}
-use Rattle.ring_line.proofs.Nodes.{clash_at, placed_at, none_passed, others_hand}
+use Rattle.ring_line.proofs.Lists.{at_same}
+use Rattle.ring_line.proofs.Nodes.{clash_at, placed_at, none_passed, others_hand, knows_whole, passes_none, freed_so}
 use Rattle.ring_line.proofs.Histories.{not_withdrawn, continues}
 use Rattle.ring_line.proofs.Keeping.{St, rule_step, mine_ok, mine_low, window}
+use Rattle.qolb_model.proofs.Leases.{open_has_turns}
 
 -- the cells behind one are others
 pub cells_apart : (m k : ℕ) → 0 < k → k < CELLS → cell_of (m + k) ≢ cell_of m
@@ -37,12 +38,12 @@ pub at_turn : (about : Setup) (x : Past) (n : ℕ) (v : Entry) → NodeOk about 
 at_turn about x n v ok l = go v.point refl
   where
     walks : lets_go v.point ≡ true → (v.place ≡ length x.ends) ⊎ (0 < x.marks (length x.ends))
-    walks g = ⊎_elim (λ z. inl z.0) (λ z. inr z.1) (ok.walking g l)
+    walks g = ⊎_elim (λ z. inl z.0) (λ z. inr z.1) (ok.passes.walking g l)
 
     go : (q : Point) → v.point ≡ q → (v.place ≡ length x.ends) ⊎ (0 < x.marks (length x.ends))
     go Idle e = absurd (clash_at has_line Idle l e refl)
     go Queued e = absurd (clash_at has_line Queued l e refl)
-    go Holding e = inl (ok.holding e)
+    go Holding e = inl (ok.stance.holding e)
     go Passing e = walks (ap lets_go e)
     go Cleared e = walks (ap lets_go e)
     go Freeing e = absurd (clash_at has_line Freeing l e refl)
@@ -53,68 +54,66 @@ module _ (good : List ℕ → Type 0) (allows : List ℕ → List ℕ → Type 0
   Rule = RingRule good allows about
 
   abbrev pub take_entry : Past → Entry
-  take_entry x = record v { view = record v.view { state = shows.Holding; order = x.order; ends = x.ends; clear = x.clear }; point = Holding }
+  take_entry x = record v { view = record v.view { state = shows.Holding; order = x.order; ends = x.ends; clear = x.clear }; point = Holding; steps = v.steps + 1 }
 
   abbrev pub take_past : Past → Past
   take_past x = record x { hand = v.view.node; cleared = false }
 
   pub asked_at : (x : Past) → NodeOk about x v.view.node v → At x.order v.place (own v.view)
-  asked_at x ok = placed_at about x v.view.node v ok (ok.asked (λ e. let q = queued in cc))
+  asked_at x ok = placed_at about x v.view.node v ok (ok.stance.asked (λ e. let q = queued in cc))
 
   pub nothing_passed : (x : Past) → NodeOk about x v.view.node v → v.passed ≡ []
-  nothing_passed x ok = none_passed about x v.view.node v ok (ap lets_go queued)
+  nothing_passed x ok = none_passed ok.passes (ap lets_go queued)
 
   take_node : (x : Past) → v.place ≡ length x.ends → NodeOk about x v.view.node v → NodeOk about (take_past x) v.view.node (take_entry x)
   take_node x here ok = record {
-    node = refl;
-    label = ok.label;
-    nodes = ok.nodes;
-    opening = ok.opening;
-    orders = prefix_self x.order;
-    endings = prefix_self x.ends;
-    clears = prefix_self x.clear;
-    counts = ok.counts;
-    asked = λ _. ok.asked (λ e. let q = queued in cc);
-    placed = λ _. asked_at x ok;
-    last_open = ok.last_open;
-    idle = λ e. cc;
-    queued = λ e. cc;
-    holding = λ _. here;
-    walking = λ e. cc;
-    freeing = λ e. cc;
-    unmarked = λ _. ok.unmarked (ap is_kept queued);
-    unclear = λ _. ok.unclear (ap is_kept queued);
-    rolled = λ e. cc;
-    holds = λ _. (refl, refl, refl);
-    lacks = λ e. cc;
-    holder = λ _. (refl, here);
-    passed = λ i p at. absurd (clash_at lets_go Queued (ok.passed i p at).in_release queued refl);
-    passed_once = ok.passed_once;
-    own_ends = λ p r end _ _ en _. slice_get_within x.ends p end en;
-    own_marks = ok.own_marks;
-    marked_last = λ p r at mine h lacks. let k = (ok.marked_last p r at mine h lacks).0 in let q = queued in absurd (cc);
-    own_flag = λ e. cc;
-    no_flag = λ _. ok.no_flag (λ e. let q = queued in cc);
-    own_joined = ok.own_joined;
-    all_joined = ok.all_joined;
-    all_marked = ok.all_marked;
-    freed_clear = λ r h. has_prefix v.view.clear x.clear r ok.clears (ok.freed_clear r h);
+    who = record { node = refl; label = ok.who.label; terms = ok.who.terms };
+    knows = knows_whole x.order x.ends x.clear v.view.node (take_entry x).view refl refl refl ok.knows.counts (freed_so about x v.view.node v ok);
+    stance = record {
+      asked = λ _. ok.stance.asked (λ e. let q = queued in cc);
+      placed = λ _. asked_at x ok;
+      last_open = ok.stance.last_open;
+      idle = λ e. cc;
+      queued = λ e. cc;
+      holding = λ _. here;
+      freeing = λ e. cc;
+      waits = λ _ _. refl;
+    };
+    hand = record {
+      holds = λ _. (refl, refl, refl);
+      lacks = λ e. cc;
+      holder = λ _. (refl, here);
+    };
+    passes = passes_none ok.passes (ap lets_go queued) (take_entry x) (length x.ends) x.clear x.marks x.passer refl refl;
+    marks = record {
+      unmarked = λ _. ok.marks.unmarked (ap is_kept queued);
+      unclear = λ _. ok.marks.unclear (ap is_kept queued);
+      rolled = λ e. cc;
+      known = ok.marks.known;
+      last = λ p r at mine h lacks. let k = (ok.marks.last p r at mine h lacks).0 in let q = queued in absurd (cc);
+      all = ok.marks.all;
+    };
+    flag = record {
+      rolled = λ e. cc;
+      not_rolled = λ _. ok.flag.not_rolled (λ e. let q = queued in cc);
+    };
+    joins = ok.joins;
   }
 
   -- nobody has the line where the request at its turn waits
-  pub at_home : (x : Past) → PastOk good allows about x → ((n : ℕ) → 0 < n → n ≤ about.nodes → (u : Entry) × NodeOk about x n u) → NodeOk about x v.view.node v → v.place ≡ length x.ends → x.hand ≡ 0
+  pub at_home : (x : Past) → PastOk good allows about x → ((n : ℕ) → 0 < n → n ≤ about.terms.nodes → (u : Entry) × NodeOk about x n u) → NodeOk about x v.view.node v → v.place ≡ length x.ends → x.hand ≡ 0
   at_home x f each ok here = dite (ℕ_discrete x.hand 0) (λ e. e) (λ ne. let k = each x.hand (omega arith) f.within in absurd (go k.0 k.1 (has_line k.0.point) refl))
     where
       turn : At x.order (length x.ends) (own v.view)
       turn = subst (λ q. At x.order q (own v.view)) here (asked_at x ok)
 
       other : (u : Entry) → NodeOk about x x.hand u → has_line u.point ≡ true → u.place ≡ length x.ends → ⊥
-      other u k l there = ok.lacks (ap has_line queued) (sym k.node ∙ ap (λ (q : Request). q.node) (at_same x.order (length x.ends) (own u.view) (own v.view)
-          (subst (λ q. At x.order q (own u.view)) there (placed_at about x x.hand u k (k.asked (λ i. clash_at has_line Idle l i refl)))) turn) ∙ ok.node)
+      other u k l there = ok.hand.lacks (ap has_line queued) (sym k.who.node ∙ ap (λ (q : Request). q.node) (at_same x.order (length x.ends) (own u.view) (own v.view)
+          (subst (λ q. At x.order q (own u.view)) there (placed_at about x x.hand u k (k.stance.asked (λ i. clash_at has_line Idle l i refl)))) turn) ∙ ok.who.node)
 
       go : (u : Entry) → NodeOk about x x.hand u → (b : Bool) → has_line u.point ≡ b → ⊥
-      go u k false e = k.lacks e refl
-      go u k true e = ⊎_elim (λ z. other u k e z) (λ z. let m : x.marks (length x.ends) ≡ 0 = ap x.marks (sym here) ∙ ok.unmarked (ap is_kept queued) in omega arith) (at_turn about x x.hand u k e)
+      go u k false e = k.hand.lacks e refl
+      go u k true e = ⊎_elim (λ z. other u k e z) (λ z. let m : x.marks (length x.ends) ≡ 0 = ap x.marks (sym here) ∙ ok.marks.unmarked (ap is_kept queued) in omega arith) (at_turn about x x.hand u k e)
 
   -- the state s, whose seat `me` has the entry v alone, at the word i of its cell
   module _ (s : St) (r : Rule s) (me i : ℕ) (at : get_elem? s.views me ≡ some (v ∷ [])) (word : i ≡ cell_at (cell_of v.place)) where
@@ -122,20 +121,20 @@ module _ (good : List ℕ → Type 0) (allows : List ℕ → List ℕ → Type 0
     ok = mine_ok good allows about s r me v at
 
     pub near : v.place < length r.past.ends + CELLS
-    near = let few = r.few in let high = slice_get_within r.past.order v.place (own v.view) (asked_at r.past ok) in let all = window good allows about s r in omega arith
+    near = let few = r.may_open.nodes.few in let high = slice_get_within r.past.order v.place (own v.view) (asked_at r.past ok) in let all = window good allows about s r in omega arith
 
     -- where the request is not at its turn, its cell is blank
     pub finds_blank : v.place ≢ length r.past.ends → slice_index s.words i ≡ 0
-    finds_blank later = let l = ok.queued queued in let b = near in
+    finds_blank later = let l = ok.stance.queued queued in let b = near in
         let k : length r.past.ends + (v.place - length r.past.ends) ≡ v.place = omega arith in
-        let m : WITHDRAWN * r.past.marks v.place ≡ 0 = ap (λ q. WITHDRAWN * q) (ok.unmarked (ap is_kept queued)) in
+        let m : WITHDRAWN * r.past.marks v.place ≡ 0 = ap (λ q. WITHDRAWN * q) (ok.marks.unmarked (ap is_kept queued)) in
         ap (slice_index s.words) (word ∙ ap (λ q. cell_at (cell_of q)) (sym k)) ∙ r.shown.later (v.place - length r.past.ends) (omega arith) (omega arith) ∙ ap (λ q. WITHDRAWN * r.past.marks q) k ∙ m
 
     module _ (here : v.place ≡ length r.past.ends) where
       hand : r.past.hand ≡ 0
       hand = at_home r.past r.fine (λ n a b. (r.who n, r.each n a b)) ok here
 
-      pub home : (y : Parcel) × (get_elem? s.homes 0 ≡ some (some y)) × (y.bytes.bytes ≡ bytes_after about.opening.bytes r.past.ends) × (y.closed ≡ is_closed r.past.ends)
+      pub home : (y : Parcel) × (get_elem? s.homes 0 ≡ some (some y)) × (y.bytes.bytes ≡ bytes_after about.terms.opening.bytes r.past.ends) × (y.closed ≡ is_closed r.past.ends) × (y.turns_left ≡ turns_left about.terms.lease r.past.ends)
       home = r.shown.home hand
 
       cell_is : i ≡ cell_at (cell_of (length r.past.ends))
@@ -186,10 +185,12 @@ module _ (good : List ℕ → Type 0) (allows : List ℕ → List ℕ → Type 0
         turn = subst (λ q. At r.past.order q (own v.view)) here (asked_at r.past ok);
         unmarked = not_withdrawn good allows about r.past r.fine v.view.node v ok (ap is_kept queued);
         clear = λ p q e before a b kind. r.fine.settled hand p q e before a b kind;
-        bytes = home.2 ∙ ap (λ (l : Line64). bytes_after l.bytes r.past.ends) (sym ok.opening);
+        bytes = home.2 ∙ ap (λ (t : Terms). bytes_after t.opening.bytes r.past.ends) (sym ok.who.terms);
         closed = home.3;
-        line = ap length home.2 ∙ length-bytes_after about.opening.bytes r.past.ends r.line;
+        turns = home.4 ∙ ap (λ (t : Terms). turns_left t.lease r.past.ends) (sym ok.who.terms);
+        some_left = λ unclosed left. open_has_turns about.terms.lease r.past.order r.past.ends r.may_open.lease r.fine.legal unclosed (sym home.4 ∙ left);
+        line = ap length home.2 ∙ length-bytes_after about.terms.opening.bytes r.past.ends r.line;
       }
 
       pub learns_take : Continues allows v.view (take_entry r.past).view
-      learns_take = continues good allows about r.past (take_past r.past) take_fine v.view.node v.view.node v (take_entry r.past) ok (take_node r.past here ok) refl ok.orders ok.endings ok.clears (λ q h. h) (λ q h. h) (λ q h. h)
+      learns_take = continues good allows about r.past (take_past r.past) take_fine v.view.node v.view.node v (take_entry r.past) ok (take_node r.past here ok) refl ok.knows.orders ok.knows.endings ok.knows.clears (λ q h. h) (λ q h. h) (λ q h. h)

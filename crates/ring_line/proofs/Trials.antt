@@ -23,5 +23,5 @@ theirs_put false key table_id ports new p e h own = subst (AreTheirs key table_i
 pub theirs_written : (key : Setup) (table_id : TableId) (p q : Standing) → IsTheirs key table_id p → q.table ≡ p.table → q.view ≡ p.view → IsTheirs key table_id q
 theirs_written key table_id p q h t v = λ l. let own = h (ap (λ (w : View). w.label) (sym v) ∙ l) in record {
   table_is = t ∙ own.table_is;
-  sound = subst (IsSound (λ _. Unit {0}) (λ _ _. Unit {0}) key.label key.nodes key.opening.bytes) (sym v) own.sound;
+  sound = subst (IsSound (λ _. Unit {0}) (λ _ _. Unit {0}) key.label key.terms) (sym v) own.sound;
 }

@@ -1,17 +1,19 @@
 -- A walk over withdrawn requests, and the freeing of their nodes.
-use Rattle.std.proofs.Common.{◌≡◌, ◌≢◌, ℕ, zero, suc, ◌+◌, ◌-◌, ◌/◌, ◌%◌, ◌≤◌, ◌<◌, ◌⊎◌, inl, inr, Bool, false, ◌||◌, length, drop, List, [], ◌∷◌, ◌++◌, sym, refl, ap, ◌∙◌, subst, Some, None, get_or, slice_get, arith, replicate, append-nil, append_assoc, length-append}
+use Rattle.std.proofs.Common.{◌≡◌, ◌≢◌, ℕ, zero, suc, ◌+◌, ◌-◌, ◌*◌, ◌≤◌, ◌<◌, ◌⊎◌, inl, inr, Bool, false, ◌||◌, length, drop, List, [], ◌∷◌, ◌++◌, sym, refl, ap, ◌∙◌, subst, Some, None, get_or, slice_get, arith, replicate, append-nil, append_assoc, length-append}
 use Rattle.std.proofs.Math.Bool.{or-false}
 use Rattle.qolb_model.specs.Kept.{AreAllowed}
 use Rattle.qolb_model.specs.Views.{bytes_of}
 use Rattle.std.proofs.lemmas.Option.{slice_get_within, slice_get-get_or}
 use Rattle.std.proofs.lemmas.List.{length-replicate}
 use Rattle.qolb_model.specs.declared.request.Request.{Request}
-use Rattle.line_lanes.specs.declared.line.Line64.{Line64}
+use Rattle.qolb_model.specs.declared.terms.Terms.{Terms}
+use Rattle.qolb_model.specs.PortStates.{left_by}
+use Rattle.qolb_model.specs.Leases.{served, turns_left, is_last_turn}
+use Rattle.qolb_model.proofs.Leases.{turns_left-same}
 use Rattle.qolb_model.specs.declared.end.End.{End}
 use Rattle.qolb_model.specs.declared.end.End.TheVariants.{Gone}
-use Rattle.qolb_model.specs.declared.view.View.{View}
 use Rattle.qolb_model.specs.Requests.{Has, Lacks}
-use Rattle.qolb_model.specs.Ends.{is_closed, bytes_after}
+use Rattle.qolb_model.specs.Ends.{is_closed, bytes_after, MayEnd}
 use Rattle.qolb_model.specs.Histories.{turn_of}
 use Rattle.qolb_model.specs.Views.{own, Extends}
 use Rattle.qolb_model.proofs.Lists.{element_at, drop_with, push_cases, same_some}
@@ -19,16 +21,15 @@ use Rattle.qolb_model.proofs.Prefixes.{prefix_get}
 use Rattle.qolb_model.proofs.Histories.{bytes_after-append, is_closed-append}
 use Rattle.qolb_model.proofs.Writes.{bytes_after-passed}
 use Rattle.ring_line.specs.Words.{cell_of, withdrawn_by}
-use Rattle.ring_line.specs.declared.words.TheConstants.{MOST_NODES}
-use Rattle.ring_line.specs.declared.entry.Point.TheVariants.{Passing, Cleared, Freeing}
+use Rattle.qolb_model.specs.declared.terms.TheConstants.{MOST_NODES}
+use Rattle.ring_line.specs.declared.entry.Point.TheVariants.{Passing, Freeing}
 use Rattle.ring_line.specs.declared.entry.Entry.{Entry}
 use Rattle.ring_line.specs.declared.rule.Parcel.{Parcel}
 use Rattle.ring_line.specs.Ring.{At}
-use Rattle.qolb_model.specs.Sound.{Continues}
-use Rattle.ring_line.specs.Steps.{RingSeat, Alone, entry_of, sole, left_by, after_walk, end_of, next_end, Carries, Ended, GoesHome, Passes, Frees}
+use Rattle.ring_line.specs.Steps.{RingSeat, entry_of, sole, after_walk, end_of, next_end, Carries, Ended, GoesHome, Passes, Frees, GoesOn, SameSeat, HasSlot, HasNoSlot, turn_cell, after_clear}
 use Rattle.ring_line.specs.Releases.{IsBare, WalksOn, AreNodesAt, FreesAll}
 use Rattle.ring_line.proofs.Lists.{has_prefix}
-use Rattle.ring_line.proofs.Turning.{continues_trans}
+use Rattle.ring_line.proofs.Turning.{goes_trans, goes_clear}
 
 -- the first of the requests that were passed are freed
 pub record FreesFirst (v : Entry) (i : ℕ) (w : Entry) : Type 0 where
@@ -134,39 +135,39 @@ frees_all v w i f le = let none : drop i v.passed ≡ [] = past i v.passed le in
 
 -- what the freeing of the nodes of all passed requests has done so far, from the seat s on
 pub record IsFreeing (allows : List ℕ → List ℕ → Type 0) (s : RingSeat) (i : ℕ) (t : RingSeat) : Type 0 where
-  pub table : t.table_id ≡ s.table_id
-  pub id : t.id ≡ s.id
+  pub same : SameSeat s t
   pub carried : t.me.1 ≡ s.me.1
-  pub alone : Alone t.me
-  pub continues : (v : View) → Continues allows v (entry_of s).view → Continues allows v (entry_of t).view
+  pub goes_on : GoesOn allows s.me t.me i
+  pub within : i ≤ length (entry_of s).passed
   pub frees : FreesFirst (entry_of s) i (entry_of t)
 
-pub freeing_which : {allows : List ℕ → List ℕ → Type 0} (s t : RingSeat) (nodes : List ℕ) (i : ℕ) → IsFreeing allows s i t → (length nodes ≡ length (entry_of s).passed) × AreNodesAt (entry_of s).view.order (entry_of s).passed nodes → i < length nodes
+pub freeing_which : {allows : List ℕ → List ℕ → Type 0} (s t : RingSeat) (nodes : List ℕ) (i : ℕ) → IsFreeing allows s i t → length nodes ≡ length (entry_of s).passed → AreNodesAt (entry_of s).view.order (entry_of s).passed nodes → i < length nodes
     → ((entry_of t).point ≡ Freeing) × (get_or nodes i 0 ≤ MOST_NODES) × ((q : ℕ) × (ps : List ℕ) × (r : Request) × ((entry_of t).passed ≡ q ∷ ps) × At (entry_of t).view.order q r × (r.node ≡ get_or nodes i 0))
-freeing_which s t nodes i f all lt = frees_which (entry_of s) (entry_of t) nodes i (get_or nodes i 0) f.frees all.0 all.1 (slice_get-get_or nodes i 0 lt)
+freeing_which s t nodes i f many are lt = frees_which (entry_of s) (entry_of t) nodes i (get_or nodes i 0) f.frees many are (slice_get-get_or nodes i 0 lt)
 
-pub freeing_next : (allows : List ℕ → List ℕ → Type 0) (s t u : RingSeat) (nodes : List ℕ) (i : ℕ) → IsFreeing allows s i t → (length nodes ≡ length (entry_of s).passed) × AreNodesAt (entry_of s).view.order (entry_of s).passed nodes → i < length nodes
-    → (u.table_id ≡ t.table_id) × (u.id ≡ t.id) × (u.me.1 ≡ t.me.1) × Alone u.me → Continues allows (entry_of t).view (entry_of u).view
+pub freeing_next : (allows : List ℕ → List ℕ → Type 0) (s t u : RingSeat) (nodes : List ℕ) (i : ℕ) → IsFreeing allows s i t → length nodes ≡ length (entry_of s).passed → AreNodesAt (entry_of s).view.order (entry_of s).passed nodes → i < length nodes
+    → SameSeat t u → u.me.1 ≡ t.me.1 → GoesOn allows t.me u.me 1
     → ((q : ℕ) (ps : List ℕ) (r : Request) → (entry_of t).passed ≡ q ∷ ps → At (entry_of t).view.order q r → Frees (entry_of t) ps r (entry_of u)) → IsFreeing allows s (i + 1) u
-freeing_next allows s t u nodes i f all lt seat went frees = record {
-  table = seat.0 ∙ f.table;
-  id = seat.1 ∙ f.id;
-  carried = seat.2 ∙ f.carried;
-  alone = seat.3;
-  continues = λ v had. continues_trans allows v (entry_of t).view (entry_of u).view (f.continues v had) went;
-  frees = frees_next (entry_of s) (entry_of t) (entry_of u) nodes i (get_or nodes i 0) f.frees all.0 all.1 (slice_get-get_or nodes i 0 lt) went.extends frees;
+freeing_next allows s t u nodes i f many are lt same slot went frees = record {
+  same = (same.0 ∙ f.same.0, same.1 ∙ f.same.1);
+  carried = slot ∙ f.carried;
+  goes_on = goes_trans allows s.me t.me u.me i 1 f.goes_on went;
+  within = omega (arith, many, lt);
+  frees = frees_next (entry_of s) (entry_of t) (entry_of u) nodes i (get_or nodes i 0) f.frees many are (slice_get-get_or nodes i 0 lt) went.extends frees;
 }
+
+pub freed_steps : (allows : List ℕ → List ℕ → Type 0) (s t : RingSeat) (nodes : List ℕ) (i : ℕ) → IsFreeing allows s i t → length nodes ≡ length (entry_of s).passed → length nodes ≤ i → GoesOn allows s.me t.me (length nodes)
+freed_steps allows s t nodes i f many all = let is : i ≡ length nodes = omega (arith, many, f.within) in subst (GoesOn allows s.me t.me) is f.goes_on
 
 -- a walk that began at v has passed the requests of these nodes
 pub record Walked (v : Entry) (nodes : List ℕ) (w : Entry) : Type 0 where
-  pub opening : w.view.opening ≡ v.view.opening
-  pub nodes_are : w.view.nodes ≡ v.view.nodes
+  pub terms : w.view.terms ≡ v.view.terms
   pub state : w.view.state ≡ v.view.state
   pub count : w.view.count ≡ v.view.count
   pub ends : w.view.ends ≡ v.view.ends ++ replicate (length nodes) Gone
   pub run : (i p : ℕ) → At w.passed i p → p ≡ length v.view.ends + i
   pub made : AreNodesAt w.view.order w.passed nodes
-  pub few : length w.passed + 1 ≤ v.view.nodes
+  pub few : length w.passed + 1 ≤ v.view.terms.nodes
 
 -- it stands at one more withdrawn request, that of the node which the last grant found
 pub record StandsAt (nodes : List ℕ) (found : ℕ) (w : Entry) : Type 0 where
@@ -175,7 +176,7 @@ pub record StandsAt (nodes : List ℕ) (found : ℕ) (w : Entry) : Type 0 where
   pub request : Request
   pub at : At w.view.order (length w.view.ends) request
   pub node : request.node ≡ withdrawn_by found
-  pub high : request.node ≤ w.view.nodes
+  pub high : request.node ≤ w.view.terms.nodes
 
 -- the line is home
 pub record IsHome (nodes : List ℕ) (w : Entry) : Type 0 where
@@ -186,10 +187,9 @@ pub record IsHome (nodes : List ℕ) (w : Entry) : Type 0 where
   pub unmarked : (r : Request) → turn_of w.view.order w.view.ends ≡ Some r → Lacks w.view.marked r
 
 -- so it begins
-pub walk_begins : (v : Entry) → v.passed ≡ length v.view.ends ∷ [] → 2 ≤ v.view.nodes → Walked v [] v
+pub walk_begins : (v : Entry) → v.passed ≡ length v.view.ends ∷ [] → 2 ≤ v.view.terms.nodes → Walked v [] v
 walk_begins v passed two = record {
-  opening = refl;
-  nodes_are = refl;
+  terms = refl;
   state = refl;
   count = refl;
   ends = sym (append-nil v.view.ends);
@@ -202,7 +202,7 @@ walk_begins v passed two = record {
     by f zero p at = omega (arith, same_some at)
     by f (suc i) p at = absurd (let h : None ≡ Some p = at in cc h)
 
-pub stands_first : (v : Entry) (found : ℕ) → v.point ≡ Passing → v.passed ≡ length v.view.ends ∷ [] → (r : Request) × At v.view.order (length v.view.ends) r × (r.node ≡ withdrawn_by found) × (r.node ≤ v.view.nodes) → StandsAt [] found v
+pub stands_first : (v : Entry) (found : ℕ) → v.point ≡ Passing → v.passed ≡ length v.view.ends ∷ [] → (r : Request) × At v.view.order (length v.view.ends) r × (r.node ≡ withdrawn_by found) × (r.node ≤ v.view.terms.nodes) → StandsAt [] found v
 stands_first v found passing passed first = record { point = passing; many = omega (arith, ap length passed); request = first.0; at = first.1; node = first.2; high = first.3 }
 
 -- who has passed one ends a withdrawn request next
@@ -210,18 +210,24 @@ ends_gone : (ps : List ℕ) (closed : Bool) (y : Parcel) (k : ℕ) → length ps
 ends_gone [] closed y k e = absurd (omega (arith, e))
 ends_gone (p ∷ ps) closed y k e = refl
 
-pub carries_gone : (allows : List ℕ → List ℕ → Type 0) (v w : Entry) (nodes : List ℕ) (found : ℕ) (y : Parcel) → Walked v nodes w → StandsAt nodes found w → IsBare v y → Carries allows (record w { point = Cleared }) y
+pub carries_gone : (allows : List ℕ → List ℕ → Type 0) (v w : Entry) (nodes : List ℕ) (found : ℕ) (y : Parcel) → Walked v nodes w → StandsAt nodes found w → IsBare v y → Carries allows (after_clear w) y
 carries_gone allows v w nodes found y k s b =
-    let gone : next_end (record w { point = Cleared }) y ≡ Gone = ends_gone w.passed (is_closed w.view.ends) y (length nodes) s.many in
-    let opened : w.view.opening.bytes ≡ v.view.opening.bytes = ap (λ (l : Line64). l.bytes) k.opening in
-    let bytes : bytes_after w.view.opening.bytes w.view.ends ≡ y.bytes.bytes = (λ i. bytes_after (opened i) (k.ends i)) ∙ (bytes_after-append v.view.opening.bytes v.view.ends (replicate (length nodes) Gone) ∙ (bytes_after-passed (bytes_after v.view.opening.bytes v.view.ends) (length nodes) ∙ b.bytes)) in
+    let gone : next_end (after_clear w) y ≡ Gone = ends_gone w.passed (is_closed w.view.ends) y (length nodes) s.many in
+    let bytes : bytes_after w.view.terms.opening.bytes w.view.ends ≡ y.bytes.bytes = (λ i. bytes_after (k.terms i).opening.bytes (k.ends i)) ∙ (bytes_after-append v.view.terms.opening.bytes v.view.ends (replicate (length nodes) Gone) ∙ (bytes_after-passed (bytes_after v.view.terms.opening.bytes v.view.ends) (length nodes) ∙ b.bytes)) in
+    let left : turns_left w.view.terms.lease w.view.ends ≡ y.turns_left = (λ i. turns_left (k.terms i).lease (k.ends i)) ∙ (turns_left-same v.view.terms.lease v.view.ends (replicate (length nodes) Gone) (served-gone (length nodes)) ∙ b.turns) in
     let closed : is_closed w.view.ends ≡ y.closed = ap is_closed k.ends ∙ (is_closed-append v.view.ends (replicate (length nodes) Gone) ∙ (ap (λ c. is_closed v.view.ends || c) (is_closed-passed (length nodes)) ∙ (or-false (is_closed v.view.ends) ∙ b.closed))) in
     record {
-      bytes = ap (λ e. bytes_after w.view.opening.bytes (w.view.ends ++ e ∷ [])) gone ∙ (bytes_after-append w.view.opening.bytes w.view.ends (Gone ∷ []) ∙ bytes);
+      bytes = ap (λ e. bytes_after w.view.terms.opening.bytes (w.view.ends ++ e ∷ [])) gone ∙ (bytes_after-append w.view.terms.opening.bytes w.view.ends (Gone ∷ []) ∙ bytes);
       closed = ap (λ e. is_closed (w.view.ends ++ e ∷ [])) gone ∙ (is_closed-append w.view.ends (Gone ∷ []) ∙ (or-false (is_closed w.view.ends) ∙ closed));
+      turns = ap (λ e. turns_left w.view.terms.lease (w.view.ends ++ e ∷ [])) gone ∙ (turns_left-same w.view.terms.lease w.view.ends (Gone ∷ []) refl ∙ left);
+      may_end = subst (MayEnd (is_closed w.view.ends) (is_last_turn w.view.terms.lease w.view.ends)) (sym gone) tt;
       allowed = subst (λ e. AreAllowed allows (bytes_of w.view) (e ∷ [])) (sym gone) tt;
     }
   where
+    served-gone : (n : ℕ) → served (replicate n Gone) ≡ 0
+    served-gone zero = refl
+    served-gone (suc n) = served-gone n
+
     is_closed-passed : (n : ℕ) → is_closed (replicate n Gone) ≡ false
     is_closed-passed zero = refl
     is_closed-passed (suc n) = is_closed-passed n
@@ -230,14 +236,14 @@ carries_gone allows v w nodes found y k s b =
 record Grows (w x : Entry) (first : ℕ) : Type 0 where
   run : (i p : ℕ) → At x.passed i p → p ≡ first + i
   front : (i p : ℕ) → i < length w.passed → At x.passed i p → At w.passed i p
-  few : length x.passed + 1 ≤ w.view.nodes
+  few : length x.passed + 1 ≤ w.view.terms.nodes
 
-grows : (v w x : Entry) (nodes : List ℕ) (found next : ℕ) (y : Parcel) → Walked v nodes w → StandsAt nodes found w → length x.view.ends ≡ length v.view.ends + (length nodes + 1) → x.view.nodes ≡ w.view.nodes
-    → (next ≡ 0 → GoesHome (record w { point = Cleared }) x) → (next ≢ 0 → Passes (record w { point = Cleared }) next x) → Grows w x (length v.view.ends)
+grows : (v w x : Entry) (nodes : List ℕ) (found next : ℕ) (y : Parcel) → Walked v nodes w → StandsAt nodes found w → length x.view.ends ≡ length v.view.ends + (length nodes + 1) → x.view.terms.nodes ≡ w.view.terms.nodes
+    → (next ≡ 0 → GoesHome (after_clear w) x) → (next ≢ 0 → Passes (after_clear w) next x) → Grows w x (length v.view.ends)
 grows v w x nodes found zero y k s many n home passes = let h = home refl in record {
   run = λ i p at. k.run i p (subst (λ ps. At ps i p) h.passed at);
   front = λ i p lt at. subst (λ ps. At ps i p) h.passed at;
-  few = omega (arith, ap length h.passed, k.few, k.nodes_are);
+  few = omega (arith, ap length h.passed, k.few, ap (λ (t : Terms). t.nodes) k.terms);
 }
 grows v w x nodes found (suc next) y k s many n home passes = let h = passes (λ e. let f : suc next ≡ 0 = e in omega (arith, f)) in record {
   run = λ i p at. elim (push_cases w.passed (length x.view.ends) i p (subst (λ ps. At ps i p) h.passed at)) [
@@ -256,19 +262,18 @@ replicate-push zero e = refl
 replicate-push (suc n) e = ap (λ es. e ∷ es) (replicate-push n e)
 
 -- a grant ends one more withdrawn request
-pub walked_on : (v w x : Entry) (nodes : List ℕ) (found next : ℕ) (y : Parcel) → v.view.nodes ≤ MOST_NODES → Walked v nodes w → StandsAt nodes found w → Ended (record w { point = Cleared }) x y → Extends w.view x.view → x.view.state ≡ w.view.state
-    → (next ≡ 0 → GoesHome (record w { point = Cleared }) x) → (next ≢ 0 → Passes (record w { point = Cleared }) next x) → Walked v (nodes ++ withdrawn_by found ∷ []) x
+pub walked_on : (v w x : Entry) (nodes : List ℕ) (found next : ℕ) (y : Parcel) → v.view.terms.nodes ≤ MOST_NODES → Walked v nodes w → StandsAt nodes found w → Ended (after_clear w) x y → Extends w.view x.view → x.view.state ≡ w.view.state
+    → (next ≡ 0 → GoesHome (after_clear w) x) → (next ≢ 0 → Passes (after_clear w) next x) → Walked v (nodes ++ withdrawn_by found ∷ []) x
 walked_on v w x nodes found next y low k s e more stays home passes =
-    let gone : next_end (record w { point = Cleared }) y ≡ Gone = ends_gone w.passed (is_closed w.view.ends) y (length nodes) s.many in
+    let gone : next_end (after_clear w) y ≡ Gone = ends_gone w.passed (is_closed w.view.ends) y (length nodes) s.many in
     let pushed : length (nodes ++ withdrawn_by found ∷ []) ≡ suc (length nodes) = omega (arith, length-append nodes (withdrawn_by found ∷ [])) in
     let ends : x.view.ends ≡ v.view.ends ++ replicate (length (nodes ++ withdrawn_by found ∷ [])) Gone =
     e.ends ∙ ((λ i. k.ends i ++ gone i ∷ []) ∙ (append_assoc v.view.ends (replicate (length nodes) Gone) (Gone ∷ []) ∙ (ap (λ es. v.view.ends ++ es) (replicate-push (length nodes) Gone) ∙ ap (λ n. v.view.ends ++ replicate n Gone) (sym pushed)))) in
     let before : length w.view.ends ≡ length v.view.ends + length nodes = ap length k.ends ∙ omega (arith, length-append v.view.ends (replicate (length nodes) Gone), length-replicate (length nodes) Gone) in
     let many : length x.view.ends ≡ length v.view.ends + (length nodes + 1) = ap length ends ∙ omega (arith, pushed, length-append v.view.ends (replicate (length (nodes ++ withdrawn_by found ∷ [])) Gone), length-replicate (length (nodes ++ withdrawn_by found ∷ [])) Gone) in
-    let g = grows v w x nodes found next y k s many more.nodes home passes in
+    let g = grows v w x nodes found next y k s many (ap (λ (t : Terms). t.nodes) more.terms) home passes in
     record {
-      opening = more.opening ∙ k.opening;
-      nodes_are = more.nodes ∙ k.nodes_are;
+      terms = more.terms ∙ k.terms;
       state = stays ∙ k.state;
       count = e.count ∙ k.count;
       ends = ends;
@@ -278,13 +283,13 @@ walked_on v w x nodes found next y low k s e more stays home passes =
           | inl old ↦ let one = k.made.each j p n (g.front j p (omega (arith, old.0, s.many)) at) old.1 in (one.0, prefix_get w.view.order x.view.order p one.0 more.order one.1, one.2, one.3)
           | inr last ↦
               let place : length w.view.ends ≡ p = omega (arith, before, g.run j p at, last.0) in
-              (s.request, prefix_get w.view.order x.view.order p s.request more.order (subst (λ q. At w.view.order q s.request) place s.at), s.node ∙ sym last.1, omega (arith, last.1, s.node, s.high, k.nodes_are, low))
+              (s.request, prefix_get w.view.order x.view.order p s.request more.order (subst (λ q. At w.view.order q s.request) place s.at), s.node ∙ sym last.1, omega (arith, last.1, s.node, s.high, ap (λ (t : Terms). t.nodes) k.terms, low))
         ];
       };
-      few = omega (arith, g.few, k.nodes_are);
+      few = omega (arith, g.few, ap (λ (t : Terms). t.nodes) k.terms);
     }
 
-pub stands_next : (w x : Entry) (nodes : List ℕ) (found next : ℕ) → StandsAt nodes found w → Passes (record w { point = Cleared }) next x → StandsAt (nodes ++ withdrawn_by found ∷ []) next x
+pub stands_next : (w x : Entry) (nodes : List ℕ) (found next : ℕ) → StandsAt nodes found w → Passes (after_clear w) next x → StandsAt (nodes ++ withdrawn_by found ∷ []) next x
 stands_next w x nodes found next s p = record {
   point = p.point;
   many = omega (arith, ap length p.passed, length-append w.passed (length x.view.ends ∷ []), length-append nodes (withdrawn_by found ∷ []), s.many);
@@ -294,7 +299,7 @@ stands_next w x nodes found next s p = record {
   high = p.high;
 }
 
-pub is_home : (w x : Entry) (nodes : List ℕ) (found : ℕ) (y : Parcel) → StandsAt nodes found w → Ended (record w { point = Cleared }) x y → GoesHome (record w { point = Cleared }) x → IsHome (nodes ++ withdrawn_by found ∷ []) x
+pub is_home : (w x : Entry) (nodes : List ℕ) (found : ℕ) (y : Parcel) → StandsAt nodes found w → Ended (after_clear w) x y → GoesHome (after_clear w) x → IsHome (nodes ++ withdrawn_by found ∷ []) x
 is_home w x nodes found y s e h = record {
   point = h.point ∙ by w.passed (length nodes) s.many;
   many = omega (arith, ap length h.passed, length-append nodes (withdrawn_by found ∷ []), s.many);
@@ -341,54 +346,55 @@ walk_over v w x nodes k h f =
 
 -- what a walk that began at the seat s has done so far
 pub record IsWalking (allows : List ℕ → List ℕ → Type 0) (s : RingSeat) (nodes : List ℕ) (cell found : ℕ) (t : RingSeat) : Type 0 where
-  pub table : t.table_id ≡ s.table_id
-  pub id : t.id ≡ s.id
-  pub alone : Alone t.me
-  pub cell_is : cell ≡ cell_of (length (entry_of t).view.ends)
-  pub continues : (v : View) → Continues allows v (entry_of s).view → Continues allows v (entry_of t).view
+  pub same : SameSeat s t
+  pub goes_on : GoesOn allows s.me t.me (2 * length nodes)
+  pub cell_is : cell ≡ turn_cell t
   pub walked : Walked (entry_of s) nodes (entry_of t)
   pub stands : found ≢ 0 → (t.me.1 ≡ s.me.1) × StandsAt nodes found (entry_of t)
-  pub home : found ≡ 0 → (t.me.1 ≡ []) × IsHome nodes (entry_of t)
+  pub home : found ≡ 0 → HasNoSlot t × IsHome nodes (entry_of t)
 
--- the seat once the cell is cleared
+-- what the seat has once the cell is cleared
 abbrev pub IsCleared : RingSeat → RingSeat → Type 0
-IsCleared t d = (d.table_id ≡ t.table_id) × (d.id ≡ t.id) × (d.me ≡ (record (entry_of t) { point = Cleared } ∷ [], t.me.1))
+IsCleared t d = d.me ≡ (after_clear (entry_of t) ∷ [], t.me.1)
 
-pub cleared_entry : (t d : RingSeat) → IsCleared t d → entry_of d ≡ record (entry_of t) { point = Cleared }
-cleared_entry t d e = ap (λ m. sole m.0) e.2
+pub cleared_entry : (t d : RingSeat) → IsCleared t d → entry_of d ≡ after_clear (entry_of t)
+cleared_entry t d e = ap (λ m. sole m.0) e
 
 pub cleared_slot : (t d : RingSeat) → IsCleared t d → d.me.1 ≡ t.me.1
-cleared_slot t d e = ap (λ m. m.1) e.2
+cleared_slot t d e = ap (λ m. m.1) e
 
 -- what the next grant asks
-pub walk_carries : (allows : List ℕ → List ℕ → Type 0) (s t d : RingSeat) (nodes : List ℕ) (cell found : ℕ) (y : Parcel) → IsWalking allows s nodes cell found t → found ≢ 0 → IsCleared t d → s.me.1 ≡ (0, y) ∷ [] → IsBare (entry_of s) y
-    → (d.me.1 ≡ (0, y) ∷ []) × Carries allows (entry_of d) y
+pub walk_carries : (allows : List ℕ → List ℕ → Type 0) (s t d : RingSeat) (nodes : List ℕ) (cell found : ℕ) (y : Parcel) → IsWalking allows s nodes cell found t → found ≢ 0 → IsCleared t d → HasSlot s y → IsBare (entry_of s) y
+    → HasSlot d y × Carries allows (entry_of d) y
 walk_carries allows s t d nodes cell found y k more cleared slot bare =
     let here = k.stands more in (
-      ap (λ m. m.1) cleared.2 ∙ (here.0 ∙ slot),
+      cleared_slot t d cleared ∙ (here.0 ∙ slot),
       subst (λ e. Carries allows e y) (sym (cleared_entry t d cleared)) (carries_gone allows (entry_of s) (entry_of t) nodes found y k.walked here.1 bare),
     )
 
 -- and what the walk has done after it
-pub walk_step : (allows : List ℕ → List ℕ → Type 0) (s t d u : RingSeat) (nodes : List ℕ) (cell found after next : ℕ) (y : Parcel) → IsWalking allows s nodes cell found t → found ≢ 0 → (entry_of s).view.nodes ≤ MOST_NODES → IsCleared t d
-    → s.me.1 ≡ (0, y) ∷ [] → (entry_of s).view.state ≡ left_by y.closed → (u.table_id ≡ d.table_id) × (u.id ≡ d.id) × Alone u.me → Continues allows (entry_of d).view (entry_of u).view → ((x : Parcel) → d.me.1 ≡ (0, x) ∷ [] → Ended (entry_of d) (entry_of u) x)
-    → (next ≡ 0 → (u.me.1 ≡ []) × GoesHome (entry_of d) (entry_of u)) → (next ≢ 0 → (u.me.1 ≡ d.me.1) × Passes (entry_of d) next (entry_of u)) → after ≡ cell_of (cell + 1)
+pub walk_step : (allows : List ℕ → List ℕ → Type 0) (s t d u : RingSeat) (nodes : List ℕ) (cell found after next : ℕ) (y : Parcel) → IsWalking allows s nodes cell found t → found ≢ 0 → (entry_of s).view.terms.nodes ≤ MOST_NODES → SameSeat t d → IsCleared t d
+    → HasSlot s y → (entry_of s).view.state ≡ left_by y.closed → SameSeat d u → GoesOn allows d.me u.me 1 → ((x : Parcel) → HasSlot d x → Ended (entry_of d) (entry_of u) x)
+    → (next ≡ 0 → HasNoSlot u × GoesHome (entry_of d) (entry_of u)) → (next ≢ 0 → (u.me.1 ≡ d.me.1) × Passes (entry_of d) next (entry_of u)) → after ≡ cell_of (cell + 1)
     → IsWalking allows s (nodes ++ withdrawn_by found ∷ []) after next u
-walk_step allows s t d u nodes cell found after next y k more low cleared slot state seat went end home passes step =
+walk_step allows s t d u nodes cell found after next y k more low same cleared slot state same' went end home passes step =
     let here = k.stands more in
     let entry = cleared_entry t d cleared in
-    let goes : Continues allows (entry_of t).view (entry_of u).view = subst (λ (e : Entry). Continues allows e.view (entry_of u).view) entry went in
-    let ended : Ended (record (entry_of t) { point = Cleared }) (entry_of u) y = subst (λ e. Ended e (entry_of u) y) entry (end y (ap (λ m. m.1) cleared.2 ∙ (here.0 ∙ slot))) in
-    let homes : next ≡ 0 → GoesHome (record (entry_of t) { point = Cleared }) (entry_of u) = λ z. subst (λ e. GoesHome e (entry_of u)) entry (home z).1 in
-    let passed : next ≢ 0 → Passes (record (entry_of t) { point = Cleared }) next (entry_of u) = λ z. subst (λ e. Passes e next (entry_of u)) entry (passes z).1 in
-    let longer : length (entry_of u).view.ends ≡ length (entry_of t).view.ends + 1 = omega (arith, ap length ended.ends, length-append (entry_of t).view.ends (next_end (record (entry_of t) { point = Cleared }) y ∷ [])) in
+    let goes : GoesOn allows t.me u.me 2 = goes_trans allows t.me d.me u.me 1 1 (goes_clear allows t.me d.me cleared) went in
+    let ended : Ended (after_clear (entry_of t)) (entry_of u) y = subst (λ e. Ended e (entry_of u) y) entry (end y (cleared_slot t d cleared ∙ (here.0 ∙ slot))) in
+    let homes : next ≡ 0 → GoesHome (after_clear (entry_of t)) (entry_of u) = λ z. subst (λ e. GoesHome e (entry_of u)) entry (home z).1 in
+    let passed : next ≢ 0 → Passes (after_clear (entry_of t)) next (entry_of u) = λ z. subst (λ e. Passes e next (entry_of u)) entry (passes z).1 in
+    let longer : length (entry_of u).view.ends ≡ length (entry_of t).view.ends + 1 = omega (arith, ap length ended.ends, length-append (entry_of t).view.ends (next_end (after_clear (entry_of t)) y ∷ [])) in
+    let twice : 2 * length nodes + 2 ≡ 2 * length (nodes ++ withdrawn_by found ∷ []) = omega (arith, length-append nodes (withdrawn_by found ∷ [])) in
     record {
-      table = seat.0 ∙ (cleared.0 ∙ k.table);
-      id = seat.1 ∙ (cleared.1 ∙ k.id);
-      alone = seat.2;
+      same = (same'.0 ∙ (same.0 ∙ k.same.0), same'.1 ∙ (same.1 ∙ k.same.1));
+      goes_on = subst (GoesOn allows s.me u.me) twice (goes_trans allows s.me t.me u.me (2 * length nodes) 2 k.goes_on goes);
       cell_is = omega (arith, step, k.cell_is, longer);
-      continues = λ v had. continues_trans allows v (entry_of t).view (entry_of u).view (k.continues v had) goes;
       walked = walked_on (entry_of s) (entry_of t) (entry_of u) nodes found next y low k.walked here.1 ended goes.extends (ended.state ∙ (sym state ∙ sym k.walked.state)) homes passed;
-      stands = λ z. ((passes z).0 ∙ (ap (λ m. m.1) cleared.2 ∙ here.0), stands_next (entry_of t) (entry_of u) nodes found next here.1 (passed z));
+      stands = λ z. ((passes z).0 ∙ (cleared_slot t d cleared ∙ here.0), stands_next (entry_of t) (entry_of u) nodes found next here.1 (passed z));
       home = λ z. ((home z).0, is_home (entry_of t) (entry_of u) nodes found y here.1 ended (homes z));
     }
+
+-- all its steps: two for each request that it passes, and one to free its node
+pub walked_steps : (allows : List ℕ → List ℕ → Type 0) (s t u : RingSeat) (nodes : List ℕ) (cell found freed steps : ℕ) → IsWalking allows s nodes cell found t → GoesOn allows t.me u.me freed → freed ≡ length nodes → steps ≡ 3 * length nodes → GoesOn allows s.me u.me steps
+walked_steps allows s t u nodes cell found freed steps k went each is = let all : 2 * length nodes + freed ≡ steps = omega arith in subst (GoesOn allows s.me u.me) all (goes_trans allows s.me t.me u.me (2 * length nodes) freed k.goes_on went)

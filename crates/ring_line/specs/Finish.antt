@@ -2,16 +2,11 @@
 use Rattle.std.specs.Prelude.{◌≡◌, ℕ, List, ◌++◌, map, true}
 use Rattle.std.specs.List.{All}
 use Rattle.atomic_table.specs.Seated.{TableId}
-use Rattle.qolb_model.specs.declared.view.View.{View}
-use Rattle.qolb_model.specs.Finishing.{is_quiet, AreOfLine, EachNode, IsThere, IsQuiet}
 use Rattle.ring_line.specs.Steps.{RingSeat}
 use Rattle.ring_line.specs.declared.entry.Entry.{Entry}
 use Rattle.ring_line.specs.Ring.{At}
 use Rattle.ring_line.specs.Ports.{Standing, is_at_rest}
-
--- with these ports nothing but want of memory is in the way: they are of the line, each node has one, and none waits or holds
-abbrev pub MayFinish : ℕ → ℕ → List View → Type 0
-MayFinish label nodes views = AreOfLine label views × EachNode nodes (IsThere views) × EachNode nodes (IsQuiet views)
+use Rattle.qolb_model.specs.PortStates.{may_ask}
 
 -- the seat has the entries of these ports, each at rest
 pub record IsGathered (table_id : TableId) (ports : List Standing) (whole : RingSeat) : Type 0 where
@@ -25,4 +20,4 @@ pub record Gathers (table_id : TableId) (ports rest : List Standing) (whole : Ri
   pub views : map (λ (e : Entry). e.view) whole.me.0 ++ map (λ (p : Standing). p.view) rest ≡ map (λ (p : Standing). p.view) ports
   pub at_rest : (i : ℕ) (e : Entry) → At whole.me.0 i e → is_at_rest e.point ≡ true
   pub tables : All (λ (p : Standing). p.table ≡ table_id) rest
-  pub quiet : All (λ (p : Standing). is_quiet p.view.state ≡ true) rest
+  pub quiet : All (λ (p : Standing). may_ask p.view.state ≡ true) rest

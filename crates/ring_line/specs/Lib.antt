@@ -3,5 +3,6 @@ pub mod Ring
 pub mod Steps
 pub mod Releases
 pub mod Ports
+pub mod Line
 pub mod Finish
 pub mod Trial

@@ -12,10 +12,14 @@ use Rattle.qolb_model.specs.Requests.{Has, Lacks, has, count_of}
 use Rattle.qolb_model.specs.Ends.{is_closed, bytes_after}
 use Rattle.qolb_model.specs.EndKinds.{is_gone}
 use Rattle.qolb_model.specs.Histories.{IsLegal, Clears}
+use Rattle.qolb_model.specs.declared.view.View.{View}
+use Rattle.qolb_model.specs.PortStates.{may_ask}
+use Rattle.qolb_model.specs.Leases.{turns_left}
 use Rattle.qolb_model.specs.Views.{own}
 use Rattle.qolb_model.specs.Kept.{AreAllowed}
-use Rattle.qolb_model.specs.Opening.{new_view}
-use Rattle.ring_line.specs.declared.words.TheConstants.{CELLS, WITHDRAWN, MOST_NODES}
+use Rattle.qolb_model.specs.Opening.{new_view, MayOpen}
+use Rattle.qolb_model.specs.declared.terms.TheConstants.{MOST_NODES}
+use Rattle.ring_line.specs.declared.words.TheConstants.{CELLS, WITHDRAWN}
 use Rattle.ring_line.specs.declared.entry.Point.{Point}
 use Rattle.ring_line.specs.declared.entry.Point.TheVariants.{Idle, Queued, Holding, Passing, Cleared, Freeing, Rolled}
 use Rattle.ring_line.specs.declared.entry.Entry.{Entry}
@@ -28,7 +32,7 @@ abbrev pub At : {A : Type 0} → List A → ℕ → A → Type 0
 At xs p x = slice_get xs p ≡ Some x
 
 abbrev pub newcomer : Setup → ℕ → Entry
-newcomer about n = record { view = new_view about.label about.nodes about.opening.bytes n; point = Idle; place = 0; passed = [] }
+newcomer about n = record { view = new_view about.label about.terms n; point = Idle; place = 0; passed = []; steps = 0 }
 
 -- the nodes n+1 .. n+k
 abbrev pub newcomers_from : Setup → ℕ → ℕ → List Entry
@@ -36,7 +40,7 @@ newcomers_from about n zero = []
 newcomers_from about n (suc k) = newcomer about (suc n) ∷ newcomers_from about (suc n) k
 
 abbrev pub newcomers : Setup → List Entry
-newcomers about = newcomers_from about 0 about.nodes
+newcomers about = newcomers_from about 0 about.terms.nodes
 
 -- the node has the line
 abbrev pub has_line : Point → Bool
@@ -89,57 +93,91 @@ pub record Past : Type 0 where
   pub passer : ℕ → ℕ
   pub flags : ℕ → ℕ
 
--- The node n, whose entry is e, has passed the request at the place p and has not freed its node. (Each request has one passer,
--- so the lists of different releases share no place.)
-pub record HasPassed (x : Past) (n : ℕ) (e : Entry) (p : ℕ) : Type 0 where
+-- What holds of the node n, whose entry is e, in parts, each over what it reads of the history.
+
+-- The node has passed the request at the place p and has not freed its node. (Each request has one passer, so the lists of different
+-- releases share no place.)
+pub record HasPassed (ended : ℕ) (clear : List Request) (marks passer : ℕ → ℕ) (n : ℕ) (e : Entry) (p : ℕ) : Type 0 where
   pub in_release : lets_go e.point ≡ true
-  pub passer : x.passer p ≡ n
-  pub within : p ≤ length x.ends
-  pub marked : 0 < x.marks p
+  pub passer_is : passer p ≡ n
+  pub within : p ≤ ended
+  pub marked : 0 < marks p
   pub request : Request
   pub at : At e.view.order p request
-  pub unclear : Lacks x.clear request
+  pub unclear : Lacks clear request
 
--- In a release with the line, the request at its turn is the node's own and nothing was passed, or it is withdrawn and passed.
-abbrev pub Walks : Past → Entry → Type 0
-Walks x e = ((e.place ≡ length x.ends) × (e.passed ≡ [])) ⊎ ((e.place < length x.ends) × (0 < x.marks (length x.ends)) × (e.passed ≢ []))
+-- in a release with the line, the request at its turn is the node's own and nothing was passed, or it is withdrawn and passed
+abbrev pub Walks : ℕ → (ℕ → ℕ) → Entry → Type 0
+Walks ended marks e = ((e.place ≡ ended) × (e.passed ≡ [])) ⊎ ((e.place < ended) × (0 < marks ended) × (e.passed ≢ []))
 
--- what holds of the node n, whose entry is e
-pub record NodeOk (about : Setup) (x : Past) (n : ℕ) (e : Entry) : Type 0 where
-  pub node : e.view.node ≡ n
-  pub label : e.view.label ≡ about.label
-  pub nodes : e.view.nodes ≡ about.nodes
-  pub opening : e.view.opening ≡ about.opening
-  pub orders : IsPrefix e.view.order x.order
-  pub endings : IsPrefix e.view.ends x.ends
-  pub clears : IsPrefix e.view.clear x.clear
-  pub counts : count_of n x.order ≡ e.view.count
+-- who it is
+pub record Identity (about : Setup) (n : ℕ) (v : View) : Type 0 where
+  pub node : v.node ≡ n
+  pub label : v.label ≡ about.label
+  pub terms : v.terms ≡ about.terms
+
+-- it knows beginnings of the history's lists, and of its own requests each end by service or by telling
+pub record Knowing (order : List Request) (ends : List End) (clear : List Request) (n : ℕ) (v : View) : Type 0 where
+  pub orders : IsPrefix v.order order
+  pub endings : IsPrefix v.ends ends
+  pub clears : IsPrefix v.clear clear
+  pub counts : count_of n order ≡ v.count
+  pub own_ends : (p : ℕ) (r : Request) (end : End) → At order p r → r.node ≡ n → At ends p end → is_gone end ≡ false → p < length v.ends
+  pub freed_clear : (r : Request) → Has v.freed r → Has v.clear r
+
+-- where its last request stands: no other one of it is open
+pub record Stance (order : List Request) (ended n : ℕ) (e : Entry) : Type 0 where
   pub asked : e.point ≢ Idle → 0 < e.view.count
   pub placed : 0 < e.view.count → At e.view.order e.place (own e.view)
-  pub last_open : (p : ℕ) (r : Request) → At x.order p r → r.node ≡ n → length x.ends ≤ p → (0 < e.view.count) × (p ≡ e.place)
-  pub idle : e.point ≡ Idle → 0 < e.view.count → (e.place < length x.ends) × Has e.view.clear (own e.view)
-  pub queued : e.point ≡ Queued → length x.ends ≤ e.place
-  pub holding : e.point ≡ Holding → e.place ≡ length x.ends
-  pub walking : lets_go e.point ≡ true → has_line e.point ≡ true → Walks x e
-  pub freeing : e.point ≡ Freeing → (e.place < length x.ends) × ((i p : ℕ) → At e.passed i p → p < length x.ends)
-  pub unmarked : is_kept e.point ≡ true → x.marks e.place ≡ 0
-  pub unclear : is_kept e.point ≡ true → Lacks x.clear (own e.view)
-  pub rolled : e.point ≡ Rolled → x.marks e.place ≡ n
-  pub holds : has_line e.point ≡ true → (e.view.ends ≡ x.ends) × (x.hand ≡ n) × (x.cleared ≡ is_cleared e.point)
-  pub lacks : has_line e.point ≡ false → x.hand ≢ n
-  pub holder : e.view.state ≡ shows.Holding → (has_line e.point ≡ true) × (e.place ≡ length x.ends)
-  pub passed : (i p : ℕ) → At e.passed i p → HasPassed x n e p
-  pub passed_once : (i j p : ℕ) → At e.passed i p → At e.passed j p → i ≡ j
-  pub own_ends : (p : ℕ) (r : Request) (end : End) → At x.order p r → r.node ≡ n → At x.ends p end → is_gone end ≡ false → p < length e.view.ends
-  pub own_marks : (p : ℕ) (r : Request) → At x.order p r → r.node ≡ n → 0 < x.marks p → Has e.view.marked r
-  -- a withdrawn request that is not clear is its node's last
-  pub marked_last : (p : ℕ) (r : Request) → At x.order p r → r.node ≡ n → 0 < x.marks p → Lacks x.clear r → (e.point ≡ Rolled) × (e.place ≡ p)
-  pub own_flag : e.point ≡ Rolled → x.flags n ≡ (if has x.clear (own e.view) then 1 else 0)
-  pub no_flag : e.point ≢ Rolled → x.flags n ≡ 0
-  pub own_joined : (p : ℕ) (r : Request) → At x.order p r → r.node ≡ n → Has e.view.joined r
-  pub all_joined : (r : Request) → Has e.view.joined r → Has x.order r
-  pub all_marked : (r : Request) → Has e.view.marked r → (p : ℕ) × At x.order p r × (0 < x.marks p)
-  pub freed_clear : (r : Request) → Has e.view.freed r → Has e.view.clear r
+  pub last_open : (p : ℕ) (r : Request) → At order p r → r.node ≡ n → ended ≤ p → (0 < e.view.count) × (p ≡ e.place)
+  pub idle : e.point ≡ Idle → 0 < e.view.count → (e.place < ended) × Has e.view.clear (own e.view)
+  pub queued : e.point ≡ Queued → ended ≤ e.place
+  pub holding : e.point ≡ Holding → e.place ≡ ended
+  pub freeing : e.point ≡ Freeing → e.place < ended
+  pub waits : is_kept e.point ≡ true → ended ≤ e.place → may_ask e.view.state ≡ false
+
+-- whether it has the line
+pub record Hand (ends : List End) (hand : ℕ) (cleared : Bool) (n : ℕ) (e : Entry) : Type 0 where
+  pub holds : has_line e.point ≡ true → (e.view.ends ≡ ends) × (hand ≡ n) × (cleared ≡ is_cleared e.point)
+  pub lacks : has_line e.point ≡ false → hand ≢ n
+  pub holder : e.view.state ≡ shows.Holding → (has_line e.point ≡ true) × (e.place ≡ length ends)
+
+-- the requests that its release passed
+pub record Walking (ended : ℕ) (clear : List Request) (marks passer : ℕ → ℕ) (n : ℕ) (e : Entry) : Type 0 where
+  pub walking : lets_go e.point ≡ true → has_line e.point ≡ true → Walks ended marks e
+  pub freeing : e.point ≡ Freeing → (i p : ℕ) → At e.passed i p → p < ended
+  pub passed : (i p : ℕ) → At e.passed i p → HasPassed ended clear marks passer n e p
+  pub once : (i j p : ℕ) → At e.passed i p → At e.passed j p → i ≡ j
+
+-- which of its requests are withdrawn: one that is not clear is its last
+pub record Marking (order clear : List Request) (marks : ℕ → ℕ) (n : ℕ) (e : Entry) : Type 0 where
+  pub unmarked : is_kept e.point ≡ true → marks e.place ≡ 0
+  pub unclear : is_kept e.point ≡ true → Lacks clear (own e.view)
+  pub rolled : e.point ≡ Rolled → marks e.place ≡ n
+  pub known : (p : ℕ) (r : Request) → At order p r → r.node ≡ n → 0 < marks p → Has e.view.marked r
+  pub last : (p : ℕ) (r : Request) → At order p r → r.node ≡ n → 0 < marks p → Lacks clear r → (e.point ≡ Rolled) × (e.place ≡ p)
+  pub all : (r : Request) → Has e.view.marked r → (p : ℕ) × At order p r × (0 < marks p)
+
+-- its own word
+pub record Flag (clear : List Request) (flags : ℕ → ℕ) (n : ℕ) (e : Entry) : Type 0 where
+  pub rolled : e.point ≡ Rolled → flags n ≡ (if has clear (own e.view) then 1 else 0)
+  pub not_rolled : e.point ≢ Rolled → flags n ≡ 0
+
+-- the requests that it knows to be joined
+pub record Joining (order : List Request) (n : ℕ) (joined : List Request) : Type 0 where
+  pub known : (p : ℕ) (r : Request) → At order p r → r.node ≡ n → Has joined r
+  pub all : (r : Request) → Has joined r → Has order r
+
+-- all of it
+pub record NodeOk (about : Setup) (x : Past) (n : ℕ) (e : Entry) : Type 0 where
+  pub who : Identity about n e.view
+  pub knows : Knowing x.order x.ends x.clear n e.view
+  pub stance : Stance x.order (length x.ends) n e
+  pub hand : Hand x.ends x.hand x.cleared n e
+  pub passes : Walking (length x.ends) x.clear x.marks x.passer n e
+  pub marks : Marking x.order x.clear x.marks n e
+  pub flag : Flag x.clear x.flags n e
+  pub joins : Joining x.order n e.view.joined
 
 -- the entry at the i-th place of the seat j
 pub record Member (nodes : ℕ) (who : ℕ → Entry) (owner : ℕ → ℕ × ℕ) (j i : ℕ) (e : Entry) : Type 0 where
@@ -151,11 +189,11 @@ pub record Member (nodes : ℕ) (who : ℕ → Entry) (owner : ℕ → ℕ × �
 module _ (good : List ℕ → Type 0) (allows : List ℕ → List ℕ → Type 0) (about : Setup) where
   -- what holds of the history alone
   pub record PastOk (x : Past) : Type 0 where
-    pub legal : IsLegal x.order x.ends
-    pub nodes : (p : ℕ) (r : Request) → At x.order p r → (0 < r.node) × (r.node ≤ about.nodes)
-    pub kept : AreAllowed allows about.opening.bytes x.ends
-    pub sound : good (bytes_after about.opening.bytes x.ends)
-    pub within : x.hand ≤ about.nodes
+    pub legal : IsLegal about.terms.lease x.order x.ends
+    pub nodes : (p : ℕ) (r : Request) → At x.order p r → (0 < r.node) × (r.node ≤ about.terms.nodes)
+    pub kept : AreAllowed allows about.terms.opening.bytes x.ends
+    pub sound : good (bytes_after about.terms.opening.bytes x.ends)
+    pub within : x.hand ≤ about.terms.nodes
     pub cleared : Clears x.order (length x.ends) [] x.clear
     -- where nobody has the line, the cell at its turn is granted, the request there is not withdrawn, and the one before is settled
     pub nobody : x.hand ≡ 0 → (x.cleared ≡ false) × (x.marks (length x.ends) ≡ 0)
@@ -172,15 +210,15 @@ module _ (good : List ℕ → Type 0) (allows : List ℕ → List ℕ → Type 0
     pub granted : x.hand ≡ 0 → slice_index words (cell_at (cell_of (length x.ends))) ≡ 1
     pub later : (k : ℕ) → 0 < k → k < CELLS → slice_index words (cell_at (cell_of (length x.ends + k))) ≡ WITHDRAWN * x.marks (length x.ends + k)
     pub flags : (n : ℕ) → 0 < n → n ≤ MOST_NODES → slice_index words (node_at n) ≡ x.flags n
-    pub home : x.hand ≡ 0 → (y : Parcel) × (get_elem? homes 0 ≡ some (some y)) × (y.bytes.bytes ≡ bytes_after about.opening.bytes x.ends) × (y.closed ≡ is_closed x.ends)
+    pub home : x.hand ≡ 0 → (y : Parcel) × (get_elem? homes 0 ≡ some (some y)) × (y.bytes.bytes ≡ bytes_after about.terms.opening.bytes x.ends) × (y.closed ≡ is_closed x.ends) × (y.turns_left ≡ turns_left about.terms.lease x.ends)
 
   pub record RingRule (s : State Parcel (List Entry)) : Type 0 where
     pub past : Past
     pub who : ℕ → Entry
     pub owner : ℕ → ℕ × ℕ
-    pub few : about.nodes ≤ MOST_NODES
-    pub line : length about.opening.bytes ≡ 64
+    pub may_open : MayOpen about.terms
+    pub line : length about.terms.opening.bytes ≡ 64
     pub fine : PastOk past
     pub shown : Shown past s.words s.homes
-    pub each : (n : ℕ) → 0 < n → n ≤ about.nodes → NodeOk about past n (who n)
-    pub members : (j i : ℕ) (es : List Entry) (e : Entry) → get_elem? s.views j ≡ some es → At es i e → Member about.nodes who owner j i e
+    pub each : (n : ℕ) → 0 < n → n ≤ about.terms.nodes → NodeOk about past n (who n)
+    pub members : (j i : ℕ) (es : List Entry) (e : Entry) → get_elem? s.views j ≡ some es → At es i e → Member about.terms.nodes who owner j i e

@@ -1,6 +1,7 @@
 -- Where the words of a table lie: the ticket, a word for each node, and the cells, each apart from the others.
 use Rattle.std.specs.Prelude.{ℕ, ◌+◌, ◌*◌, ◌/◌, ◌%◌}
-use Rattle.ring_line.specs.declared.words.TheConstants.{MOST_NODES, CELLS, NODE_STRIDE, CELL_STRIDE, WITHDRAWN}
+use Rattle.qolb_model.specs.declared.terms.TheConstants.{MOST_NODES}
+use Rattle.ring_line.specs.declared.words.TheConstants.{CELLS, NODE_STRIDE, CELL_STRIDE, WITHDRAWN}
 
 abbrev pub ticket_at : ℕ
 ticket_at = NODE_STRIDE

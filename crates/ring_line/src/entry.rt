@@ -29,4 +29,6 @@ pub struct Entry {
     pub place: u64,
     /// The places of the withdrawn requests that the node has passed, and whose nodes it has not freed yet.
     pub passed: LinkedList<u64>,
+    /// How many word steps it has taken in its calls: each kind of them counts itself.
+    pub steps: u64,
 }

@@ -1,6 +1,7 @@
 //! A queued line over atomic words: nodes draw tickets, and each waits at a cell of its own.
 #![tactic(auto)]
 
+mod calls;
 mod entry;
 mod finish;
 mod line;

@@ -1,10 +1,9 @@
 //! Seats that are cut and joined.
-ghost use Rattle.std.specs.Prelude.{◌≡◌, ◌≢◌, ℕ, [], ◌∷◌};
+ghost use Rattle.std.specs.Prelude.{◌≡◌, ◌≢◌, [], ◌∷◌};
 ghost use Rattle.qolb_model.specs.OneHistory.{OneHistory};
 ghost use Rattle.qolb_model.specs.Sound.{Continues};
 ghost use Rattle.qolb_model.specs.Meeting.{longer};
-ghost use Rattle.ring_line.specs.Words.{word_count};
-ghost use Rattle.ring_line.specs.Steps.{Alone, entry_of, informed};
+ghost use Rattle.ring_line.specs.Steps.{IsSeatOf, HasNoSlot, Alone, entry_of, informed};
 ghost use Rattle.ring_line.specs.declared.entry.Point.TheVariants.{Holding};
 
 use crate::plays::{Blank, Cut, Glue, Meet};
@@ -13,13 +12,18 @@ use qolb_model::Keep;
 use std::mem;
 
 /// Two seats with an entry each, of which the first may hold the slot, learn what the other knows.
+///
+/// A step compares entries of one seat only, so the second seat is joined into the first and split off again. What stands in its place
+/// meanwhile is a blank seat, since a `&mut` can't be empty.
 pub(crate) fn meet_seats<K: Keep>(ground: &Ground<K>, a: &mut RingSeat, b: &mut RingSeat)
-    requires table { (a.old.table_id ≡ ground.now.table_id) × (b.old.table_id ≡ ground.now.table_id) × (ground.now.table_id.words ≡ word_count) }
+    requires table_a { IsSeatOf ground.now.table_id a.old }
+    requires table_b { IsSeatOf ground.now.table_id b.old }
     requires ready { Alone a.old.me × Alone b.old.me }
-    requires slot { b.old.me.1 ≡ [] }
+    requires slot { HasNoSlot b.old }
     ensures tables { (a.new.table_id ≡ a.old.table_id) × (b.new.table_id ≡ b.old.table_id) }
     ensures first { a.new.me ≡ (informed (entry_of a.old) (entry_of b.old) ∷ [], a.old.me.1) }
     ensures second { b.new.me ≡ (informed (entry_of b.old) (entry_of a.old) ∷ [], []) }
+    ensures apart { (entry_of a.old).view.node ≢ (entry_of b.old).view.node }
     ensures before { OneHistory ((entry_of a.old).view ∷ (entry_of b.old).view ∷ []) }
     ensures after { OneHistory ((entry_of a.new).view ∷ (entry_of b.new).view ∷ []) }
     ensures continues_a { Continues K.allows (entry_of a.old).view (entry_of a.new).view }

@@ -1,19 +1,18 @@
 //! How a line is opened.
-ghost use Rattle.std.specs.Prelude.{◌≡◌, ◌≢◌, ℕ, ◌<◌, ◌≤◌, [], length, map, slice_get, slice_index, Some, IfOk, IfErr};
-ghost use Rattle.qolb_model.specs.Opening.{AreNew};
-ghost use Rattle.ring_line.specs.declared.words.TheConstants.{MOST_NODES};
+ghost use Rattle.std.specs.Prelude.{◌≡◌, ◌≢◌, ℕ, ◌<◌, ◌≤◌, [], length, slice_index, Some, None, All, IfOk, IfErr};
+ghost use Rattle.qolb_model.specs.Opening.{MayOpen, MayNotOpen};
 ghost use Rattle.ring_line.specs.Words.{word_count, cell_at};
 ghost use Rattle.ring_line.specs.Ring.{newcomers};
-ghost use Rattle.ring_line.specs.Ports.{Standing, AreSplit, BelongsTo, MayNotOpen};
+ghost use Rattle.ring_line.specs.Ports.{AreSplit, IsOpened, AreUnused};
 
 use crate::line::RingLine;
 use crate::plays::Cut;
 use crate::port::Port;
 use crate::rule::{Ground, Parcel, RingSeat, Setup};
-use crate::words::{MOST_NODES, WORDS, cell_word};
+use crate::words::{WORDS, cell_word};
 use atomic_table::Table;
 use line_lanes::{Line64, Mask};
-use qolb_model::{Keep, OpenError, PortState};
+use qolb_model::{Keep, OpenError, PortState, Terms};
 use std::alloc::{AllocError, Global};
 use std::mem;
 
@@ -26,21 +25,55 @@ impl<K: Keep> RingLine<K> {
         opening: Line64,
     ) -> Result<(RingLine<K>, Vec<Port>), OpenError>
         requires { K.good opening.bytes }
-        ensures key { IfOk result (λ r. r.0.table.shared.key ≡ record { label = label; nodes = nodes; opening = opening }) }
-        ensures few { IfOk result (λ r. (1 ≤ nodes) × (nodes ≤ MOST_NODES)) }
-        ensures new { IfOk result (λ r. AreNew label nodes opening.bytes (map (λ port. port.view) r.1.items)) }
-        ensures belong { IfOk result (λ r. (i : ℕ) (port : Standing) → slice_get r.1.items i ≡ Some port → BelongsTo K.good K.allows r.0.table.shared.key r.0.table.shared.table_id port) }
-        ensures unused { IfOk result (λ r. (i : ℕ) (port : Standing) → slice_get r.1.items i ≡ Some port → port.steps ≡ 0) }
-        ensures why { IfErr result (λ error. MayNotOpen nodes error) }
+        ensures opens { IfOk result (λ r. IsOpened K.good K.allows r.0.table.shared.key r.0.table.shared.table_id label (record { nodes = nodes; opening = opening; lease = None }) r.1.items) }
+        ensures unused { IfOk result (λ r. AreUnused r.1.items) }
+        ensures may_open { IfOk result (λ r. MayOpen (record { nodes = nodes; opening = opening; lease = None })) }
+        ensures why { IfErr result (λ error. MayNotOpen (record { nodes = nodes; opening = opening; lease = None }) error) }
     {
-        if nodes < 1 || nodes > MOST_NODES {
-            return Err(OpenError::Nodes);
-        }
-        let setup = Setup {
-            label,
+        let terms = Terms {
             nodes,
             opening,
+            lease: None,
         };
+        RingLine::<K>::open_with(alloc, label, terms)
+    }
+
+    /// As `open`, for so many served turns: the last of them closes the line.
+    pub fn open_leased(
+        alloc: Global,
+        label: u64,
+        nodes: u64,
+        opening: Line64,
+        lease: u64,
+    ) -> Result<(RingLine<K>, Vec<Port>), OpenError>
+        requires { K.good opening.bytes }
+        ensures opens { IfOk result (λ r. IsOpened K.good K.allows r.0.table.shared.key r.0.table.shared.table_id label (record { nodes = nodes; opening = opening; lease = Some lease }) r.1.items) }
+        ensures unused { IfOk result (λ r. AreUnused r.1.items) }
+        ensures may_open { IfOk result (λ r. MayOpen (record { nodes = nodes; opening = opening; lease = Some lease })) }
+        ensures why { IfErr result (λ error. MayNotOpen (record { nodes = nodes; opening = opening; lease = Some lease }) error) }
+    {
+        let terms = Terms {
+            nodes,
+            opening,
+            lease: Some(lease),
+        };
+        RingLine::<K>::open_with(alloc, label, terms)
+    }
+
+    /// A line on these terms, and a port for each node.
+    fn open_with(
+        alloc: Global,
+        label: u64,
+        terms: Terms,
+    ) -> Result<(RingLine<K>, Vec<Port>), OpenError>
+        requires { K.good terms.opening.bytes }
+        ensures opens { IfOk result (λ r. IsOpened K.good K.allows r.0.table.shared.key r.0.table.shared.table_id label terms r.1.items) }
+        ensures unused { IfOk result (λ r. AreUnused r.1.items) }
+        ensures may_open { IfOk result (λ r. MayOpen terms) }
+        ensures why { IfErr result (λ error. MayNotOpen terms error) }
+    {
+        terms.check()?;
+        let setup = Setup { label, terms };
         let Ok((line, rest)) = RingLine::<K>::new_table(alloc, &setup) else {
             return Err(OpenError::Memory);
         };
@@ -52,21 +85,17 @@ impl<K: Keep> RingLine<K> {
 
     /// The line, and one seat for all nodes.
     fn new_table(alloc: Global, setup: &Setup) -> Result<(RingLine<K>, RingSeat), AllocError>
-        requires some_nodes { 1 ≤ setup.now.nodes }
-        requires nodes { setup.now.nodes ≤ MOST_NODES }
-        requires line { length setup.now.opening.bytes ≡ 64 }
-        requires good { K.good setup.now.opening.bytes }
+        requires terms { MayOpen setup.now.terms }
+        requires line { length setup.now.terms.opening.bytes ≡ 64 }
+        requires good { K.good setup.now.terms.opening.bytes }
         ensures { IfOk result (λ t. (t.1.table_id ≡ t.0.table.shared.table_id) × (t.0.table.shared.key ≡ setup.now) × (t.1.me ≡ (newcomers setup.now, []))) }
     {
-        let Setup {
-            label,
-            nodes,
-            opening,
-        } = *setup;
+        let Setup { label, terms } = *setup;
         let words = first_words(alloc, WORDS)?;
         let parcel = Parcel {
-            bytes: opening,
+            bytes: terms.opening,
             mask: Mask(0),
+            turns_left: terms.lease,
             closed: false,
         };
         let slots = Vec::from_array(alloc, [parcel])?;
@@ -75,7 +104,7 @@ impl<K: Keep> RingLine<K> {
                 RingLine {
                     table,
                     label,
-                    nodes,
+                    nodes: terms.nodes,
                 },
                 seat,
             )),
@@ -103,19 +132,21 @@ fn split_ports<K: Keep>(
     rest: RingSeat,
     setup: &Setup,
 ) -> Result<Vec<Port>, AllocError>
-    requires table { (rest.table_id ≡ ground.now.table_id) × (0 < ground.now.table_id.words) × (setup.now.nodes ≤ MOST_NODES) }
+    requires table { (rest.table_id ≡ ground.now.table_id) × (0 < ground.now.table_id.words) }
+    requires terms { MayOpen setup.now.terms }
     requires whole { rest.me ≡ (newcomers setup.now, []) }
-    ensures { IfOk result (λ ports. AreSplit ground.now.table_id setup.now setup.now.nodes ports.items) }
+    ensures { IfOk result (λ ports. AreSplit ground.now.table_id setup.now setup.now.terms.nodes ports.items) }
 {
     let mut rest = rest;
     let label = setup.label;
     let parcel = Parcel {
         bytes: Line64::zero(),
         mask: Mask(0),
+        turns_left: None,
         closed: false,
     };
-    let mut ports = Vec::with_capacity(alloc, setup.nodes as usize)?;
-    for done in 0..setup.nodes {
+    let mut ports = Vec::with_capacity(alloc, setup.terms.nodes as usize)?;
+    for done in 0..setup.terms.nodes {
         let others = ground.split_seat::<Cut>(&mut rest);
         let seat = mem::replace(&mut rest, others);
         ports.push(Port {

@@ -1,6 +1,6 @@
 //! The port of a node.
 ghost use Rattle.std.specs.Prelude.{◌≡◌, ◌↔◌, IsTrue};
-ghost use Rattle.qolb_model.specs.Finishing.{is_quiet};
+ghost use Rattle.qolb_model.specs.PortStates.{may_ask};
 
 use crate::rule::{Parcel, RingSeat};
 use qolb_model::PortState;
@@ -8,7 +8,8 @@ use std::marker::Model;
 
 /// A node's end of the line.
 ///
-/// `parcel` is the line where the port holds it, and else what it last was.
+/// `parcel` is the line where the port holds it, and else what it last was. It stands first, so that its bytes are copied from an even
+/// place, and the state last.
 #[derive(Drop)]
 pub struct Port {
     pub(crate) parcel: Parcel,
@@ -47,14 +48,11 @@ impl Port {
         self.node
     }
 
-    /// Whether the port has no request that waits or holds.
-    pub(crate) fn is_quiet(&self) -> bool
-        ensures { result ≡ is_quiet self.now.view.state }
+    /// Whether the port has no request that waits or holds, so that its node may ask.
+    pub(crate) fn may_ask(&self) -> bool
+        ensures { result ≡ may_ask self.now.view.state }
     {
-        !matches!(
-            self.state,
-            PortState::Linking | PortState::Queued | PortState::Holding
-        )
+        self.state.may_ask()
     }
 
     /// Whether the port holds the line.

@@ -1,13 +1,12 @@
 //! How a line is let go.
-ghost use Rattle.std.specs.Prelude.{◌≡◌, ◌≢◌, ℕ, ◌+◌, ◌/◌, ◌*◌, ◌%◌, ◌<◌, ◌≤◌, [], ◌∷◌, length, true};
+ghost use Rattle.std.specs.Prelude.{◌≡◌, ◌≢◌, ℕ, ◌+◌, ◌*◌, ◌≤◌, [], ◌∷◌, length, true};
 ghost use Rattle.qolb_model.specs.declared.request.Request.{Request};
-ghost use Rattle.qolb_model.specs.declared.view.View.{View};
-ghost use Rattle.qolb_model.specs.Sound.{Continues};
-ghost use Rattle.ring_line.specs.declared.words.TheConstants.{MOST_NODES};
-ghost use Rattle.ring_line.specs.Words.{word_count, cell_of, withdrawn_by};
+ghost use Rattle.qolb_model.specs.declared.terms.TheConstants.{MOST_NODES};
+ghost use Rattle.ring_line.specs.Words as layout;
 ghost use Rattle.ring_line.specs.Ring.{At};
-ghost use Rattle.ring_line.specs.Steps.{Alone, entry_of, Comes, Carries, left_by};
-ghost use Rattle.ring_line.specs.Releases.{IsRenewed, IsBare, LetsLineGo, WalksOn, IsPassedOn, AreNodesAt, FreesAll};
+ghost use Rattle.ring_line.specs.Steps.{SameSeat, IsSeatOf, IsAt, HasSlot, HasNoSlot, IsOwnNode, own_cell, turn_cell, Alone, entry_of, GoesOn, Comes, Carries};
+ghost use Rattle.qolb_model.specs.PortStates.{left_by};
+ghost use Rattle.ring_line.specs.Releases.{IsRenewed, steps_to_renew, IsBare, LetsLineGo, WalksOn, IsPassedOn, AreNodesAt, FreesAll};
 ghost use Rattle.ring_line.specs.Ports.{Arrived};
 ghost use Rattle.ring_line.specs.declared.entry.Entry.{Entry};
 ghost use Rattle.ring_line.specs.declared.rule.Parcel.{Parcel};
@@ -16,9 +15,9 @@ ghost use Rattle.ring_line.specs.declared.entry.Point.TheVariants.{Idle, Holding
 use crate::rule::{Ground, Parcel, RingSeat};
 use crate::slot::take;
 use crate::steps::{clear, free, grant, load_node, reset};
-use crate::words::{MOST_NODES, WITHDRAWN, cell_after};
+use crate::words::{cell_after, is_freed, is_withdrawn, withdrawn_by};
 use arrayvec::ArrayVec;
-use qolb_model::{Keep, PortState};
+use qolb_model::{Keep, MOST_NODES, PortState};
 
 /// The most requests that a release passes: those of all nodes but its own.
 const MOST_PASSED: usize = MOST_NODES as usize - 1;
@@ -32,45 +31,52 @@ pub(crate) fn renew<K: Keep>(
     node: u64,
     state: PortState,
 ) -> Option<u64>
-    requires table { (seat.old.table_id ≡ ground.now.table_id) × (ground.now.table_id.words ≡ word_count) }
-    requires ready { Alone seat.old.me × (state ≡ PortState.Rolled → (entry_of seat.old).point ≡ Rolled) × (state ≢ PortState.Rolled → (entry_of seat.old).point ≡ Idle) }
-    requires own { (node ≡ (entry_of seat.old).view.node) × (node ≤ MOST_NODES) }
-    ensures seat { (seat.new.table_id ≡ seat.old.table_id) × (seat.new.id ≡ seat.old.id) × (seat.new.me.1 ≡ seat.old.me.1) × Alone seat.new.me }
-    ensures continues { (v : View) → Continues K.allows v (entry_of seat.old).view → Continues K.allows v (entry_of seat.new).view }
-    ensures count { (entry_of seat.new).view.count ≡ (entry_of seat.old).view.count }
+    requires table { IsSeatOf ground.now.table_id seat.old }
+    requires rolled { state ≡ PortState.Rolled → IsAt Rolled seat.old }
+    requires idle { state ≢ PortState.Rolled → IsAt Idle seat.old }
+    requires own { IsOwnNode node seat.old }
+    ensures same { SameSeat seat.old seat.new }
+    ensures slot { seat.new.me.1 ≡ seat.old.me.1 }
+    ensures goes_on { GoesOn K.allows seat.old.me seat.new.me (steps_to_renew result) }
     ensures renewed { IsRenewed state (entry_of seat.old) (entry_of seat.new) result }
 {
     if state != PortState::Rolled {
         return Some(0);
     }
-    if !load_node(ground, seat, node) {
+    if !is_freed(load_node(ground, seat, node)) {
         return None;
     }
     reset(ground, seat, node);
     Some(2)
 }
 
-/// Takes in the line that has come to its turn. A closed one is passed on at once: then returns how many word steps that took.
+/// Takes in the line that has come to its turn, and returns the state that the port is then in: it holds. A closed line is passed on
+/// at once, in so many more steps.
 #[inline]
 pub(crate) fn arrive<K: Keep>(
     ground: &Ground<K>,
     seat: &mut RingSeat,
     parcel: &mut Parcel,
+    steps: &mut u64,
     cell: u64,
-) -> Option<u64>
-    requires table { (seat.old.table_id ≡ ground.now.table_id) × (ground.now.table_id.words ≡ word_count) }
-    requires ready { Alone seat.old.me × (cell ≡ cell_of (entry_of seat.old).place) × (1 ≤ (entry_of seat.old).view.nodes) }
-    requires comes { (v : Entry) × (y : Parcel) × (seat.old.me.1 ≡ (0, y) ∷ []) × Comes v (entry_of seat.old) y }
-    ensures seat { (seat.new.table_id ≡ seat.old.table_id) × (seat.new.id ≡ seat.old.id) × Alone seat.new.me }
-    ensures continues { (v : View) → Continues K.allows v (entry_of seat.old).view → Continues K.allows v (entry_of seat.new).view }
+) -> PortState
+    requires table { IsSeatOf ground.now.table_id seat.old }
+    requires alone { Alone seat.old.me }
+    requires cell { cell ≡ own_cell seat.old }
+    requires nodes { (1 ≤ (entry_of seat.old).view.terms.nodes) × ((entry_of seat.old).view.terms.nodes ≤ MOST_NODES) }
+    requires few { steps.old ≤ 4 }
+    requires comes { (v : Entry) × (y : Parcel) × HasSlot seat.old y × Comes v (entry_of seat.old) y }
+    ensures same { SameSeat seat.old seat.new }
+    ensures goes_on { (n : ℕ) × (steps.new ≡ steps.old + n) × GoesOn K.allows seat.old.me seat.new.me n }
     ensures count { (entry_of seat.new).view.count ≡ (entry_of seat.old).view.count }
-    ensures arrived { Arrived seat.new parcel.new cell result }
+    ensures arrived { Arrived seat.new parcel.new cell steps.old steps.new result }
 {
     take(ground, seat, parcel);
     if parcel.closed {
-        Some(pass_on(ground, seat, cell))
+        *steps += pass_on(ground, seat, cell);
+        PortState::Shut
     } else {
-        None
+        PortState::Holding
     }
 }
 
@@ -78,13 +84,16 @@ pub(crate) fn arrive<K: Keep>(
 #[cold]
 #[inline(never)]
 fn pass_on<K: Keep>(ground: &Ground<K>, seat: &mut RingSeat, cell: u64) -> u64
-    requires table { (seat.old.table_id ≡ ground.now.table_id) × (ground.now.table_id.words ≡ word_count) }
-    requires ready { Alone seat.old.me × (cell ≡ cell_of (entry_of seat.old).place) × (1 ≤ (entry_of seat.old).view.nodes) }
-    requires comes { (v : Entry) × (y : Parcel) × (seat.old.me.1 ≡ (0, y) ∷ []) × Comes v (entry_of seat.old) y × (y.closed ≡ true) }
-    ensures seat { (seat.new.table_id ≡ seat.old.table_id) × (seat.new.id ≡ seat.old.id) × Alone seat.new.me }
-    ensures continues { Continues K.allows (entry_of seat.old).view (entry_of seat.new).view }
-    ensures told { (seat.new.me.1 ≡ []) × IsPassedOn (entry_of seat.old) (entry_of seat.new) }
-    ensures bound { result + 1 ≤ 3 * (entry_of seat.old).view.nodes }
+    requires table { IsSeatOf ground.now.table_id seat.old }
+    requires alone { Alone seat.old.me }
+    requires cell { cell ≡ own_cell seat.old }
+    requires nodes { 1 ≤ (entry_of seat.old).view.terms.nodes }
+    requires comes { (v : Entry) × (y : Parcel) × HasSlot seat.old y × Comes v (entry_of seat.old) y × (y.closed ≡ true) }
+    ensures same { SameSeat seat.old seat.new }
+    ensures slot { HasNoSlot seat.new }
+    ensures goes_on { GoesOn K.allows seat.old.me seat.new.me result }
+    ensures told { IsPassedOn (entry_of seat.old) (entry_of seat.new) }
+    ensures bound { result + 1 ≤ 3 * (entry_of seat.old).view.terms.nodes }
 {
     release(ground, seat, cell)
 }
@@ -92,60 +101,74 @@ fn pass_on<K: Keep>(ground: &Ground<K>, seat: &mut RingSeat, cell: u64) -> u64
 /// Lets the line go that lies in the slot, and returns how many word steps that took.
 #[inline]
 pub(crate) fn release<K: Keep>(ground: &Ground<K>, seat: &mut RingSeat, cell: u64) -> u64
-    requires table { (seat.old.table_id ≡ ground.now.table_id) × (ground.now.table_id.words ≡ word_count) }
-    requires ready { Alone seat.old.me × ((entry_of seat.old).point ≡ Holding) × ((entry_of seat.old).passed ≡ []) × (cell ≡ cell_of (length (entry_of seat.old).view.ends)) }
-    requires nodes { 1 ≤ (entry_of seat.old).view.nodes }
-    requires parcel { (y : Parcel) × (seat.old.me.1 ≡ (0, y) ∷ []) × Carries K.allows (entry_of seat.old) y }
-    ensures seat { (seat.new.table_id ≡ seat.old.table_id) × (seat.new.id ≡ seat.old.id) × Alone seat.new.me × (seat.new.me.1 ≡ []) }
-    ensures continues { Continues K.allows (entry_of seat.old).view (entry_of seat.new).view }
-    ensures lets_go { (y : Parcel) → seat.old.me.1 ≡ (0, y) ∷ [] → LetsLineGo (entry_of seat.old) y (entry_of seat.new) }
+    requires table { IsSeatOf ground.now.table_id seat.old }
+    requires ready { IsAt Holding seat.old }
+    requires none_passed { (entry_of seat.old).passed ≡ [] }
+    requires cell { cell ≡ turn_cell seat.old }
+    requires nodes { 1 ≤ (entry_of seat.old).view.terms.nodes }
+    requires parcel { (y : Parcel) × HasSlot seat.old y × Carries K.allows (entry_of seat.old) y }
+    ensures same { SameSeat seat.old seat.new }
+    ensures slot { HasNoSlot seat.new }
+    ensures goes_on { GoesOn K.allows seat.old.me seat.new.me result }
+    ensures lets_go { (y : Parcel) → HasSlot seat.old y → LetsLineGo (entry_of seat.old) y (entry_of seat.new) }
     ensures counted { result + 1 + 3 * length (entry_of seat.old).view.ends ≡ 3 * length (entry_of seat.new).view.ends }
-    ensures bound { result + 1 ≤ 3 * (entry_of seat.old).view.nodes }
+    ensures bound { result + 1 ≤ 3 * (entry_of seat.old).view.terms.nodes }
 {
+    // The own cell is cleared before the next is granted: once that is done, others may come round to this cell.
     clear(ground, seat, cell);
     let found = grant(ground, seat, cell);
-    if found == 0 {
-        2
-    } else {
+    if is_withdrawn(found) {
         2 + walk(ground, seat, cell_after(cell), found)
+    } else {
+        2
     }
 }
 
 /// Passes withdrawn requests, up to one that is not, and frees their nodes. Returns how many word steps that took.
+///
+/// It is apart, and cold: room for the passed nodes is cleared at its entry, which a release that meets no withdrawn request need not pay.
 #[cold]
 #[inline(never)]
 fn walk<K: Keep>(ground: &Ground<K>, seat: &mut RingSeat, cell: u64, found: u64) -> u64
-    requires table { (seat.old.table_id ≡ ground.now.table_id) × (ground.now.table_id.words ≡ word_count) }
-    requires ready { Alone seat.old.me × ((entry_of seat.old).point ≡ Passing) × (cell ≡ cell_of (length (entry_of seat.old).view.ends)) × (found ≢ 0) }
-    requires first { ((entry_of seat.old).passed ≡ length (entry_of seat.old).view.ends ∷ []) × ((r : Request) × At (entry_of seat.old).view.order (length (entry_of seat.old).view.ends) r × (r.node ≡ withdrawn_by found) × (r.node ≤ (entry_of seat.old).view.nodes)) }
-    requires nodes { (2 ≤ (entry_of seat.old).view.nodes) × ((entry_of seat.old).view.nodes ≤ MOST_NODES) }
-    requires parcel { (y : Parcel) × (seat.old.me.1 ≡ (0, y) ∷ []) × IsBare (entry_of seat.old) y × ((entry_of seat.old).view.state ≡ left_by y.closed) }
-    ensures seat { (seat.new.table_id ≡ seat.old.table_id) × (seat.new.id ≡ seat.old.id) × Alone seat.new.me × (seat.new.me.1 ≡ []) }
-    ensures continues { (v : View) → Continues K.allows v (entry_of seat.old).view → Continues K.allows v (entry_of seat.new).view }
+    requires table { IsSeatOf ground.now.table_id seat.old }
+    requires ready { IsAt Passing seat.old }
+    requires cell { cell ≡ turn_cell seat.old }
+    requires found { found ≢ 0 }
+    requires passed { (entry_of seat.old).passed ≡ length (entry_of seat.old).view.ends ∷ [] }
+    requires first { (r : Request) × At (entry_of seat.old).view.order (length (entry_of seat.old).view.ends) r × (r.node ≡ layout.withdrawn_by found) × (r.node ≤ (entry_of seat.old).view.terms.nodes) }
+    requires nodes { (2 ≤ (entry_of seat.old).view.terms.nodes) × ((entry_of seat.old).view.terms.nodes ≤ MOST_NODES) }
+    requires parcel { (y : Parcel) × HasSlot seat.old y × IsBare (entry_of seat.old) y × ((entry_of seat.old).view.state ≡ left_by y.closed) }
+    ensures same { SameSeat seat.old seat.new }
+    ensures slot { HasNoSlot seat.new }
+    ensures goes_on { GoesOn K.allows seat.old.me seat.new.me result }
     ensures walks_on { WalksOn (entry_of seat.old) (entry_of seat.new) }
     ensures counted { result + 3 * length (entry_of seat.old).view.ends ≡ 3 * length (entry_of seat.new).view.ends }
-    ensures bound { result + 3 ≤ 3 * (entry_of seat.old).view.nodes }
+    ensures bound { result + 3 ≤ 3 * (entry_of seat.old).view.terms.nodes }
 {
     let mut passed = ArrayVec::<u64, MOST_PASSED>::new();
     let mut cell = cell;
     let mut found = found;
-    while found != 0 {
-        passed.push(found / WITHDRAWN);
+    while is_withdrawn(found) {
+        passed.push(withdrawn_by(found));
         clear(ground, seat, cell);
         found = grant(ground, seat, cell);
         cell = cell_after(cell);
     }
+    // Freed only now: a node that is freed may ask, and its new request must not be passed by this walk.
     free_passed(ground, seat, &passed);
     3 * passed.len() as u64
 }
 
 /// Frees the nodes of all requests that were passed, in their order.
 fn free_passed<K: Keep>(ground: &Ground<K>, seat: &mut RingSeat, nodes: &[u64])
-    requires table { (seat.old.table_id ≡ ground.now.table_id) × (ground.now.table_id.words ≡ word_count) }
-    requires ready { Alone seat.old.me × ((entry_of seat.old).point ≡ Freeing) × ((entry_of seat.old).passed ≢ []) }
-    requires nodes { (length nodes.now ≡ length (entry_of seat.old).passed) × AreNodesAt (entry_of seat.old).view.order (entry_of seat.old).passed nodes.now }
-    ensures seat { (seat.new.table_id ≡ seat.old.table_id) × (seat.new.id ≡ seat.old.id) × (seat.new.me.1 ≡ seat.old.me.1) × Alone seat.new.me }
-    ensures continues { (v : View) → Continues K.allows v (entry_of seat.old).view → Continues K.allows v (entry_of seat.new).view }
+    requires table { IsSeatOf ground.now.table_id seat.old }
+    requires ready { IsAt Freeing seat.old }
+    requires some { (entry_of seat.old).passed ≢ [] }
+    requires many { length nodes.now ≡ length (entry_of seat.old).passed }
+    requires nodes { AreNodesAt (entry_of seat.old).view.order (entry_of seat.old).passed nodes.now }
+    ensures same { SameSeat seat.old seat.new }
+    ensures slot { seat.new.me.1 ≡ seat.old.me.1 }
+    ensures goes_on { GoesOn K.allows seat.old.me seat.new.me (length nodes.now) }
     ensures frees { FreesAll (entry_of seat.old) (entry_of seat.new) }
 {
     for node in nodes {

@@ -2,7 +2,7 @@
 use crate::entry::Entry;
 use atomic_table::{Seat, Shared, TableRule};
 use line_lanes::{Line64, Mask};
-use qolb_model::Keep;
+use qolb_model::{Keep, Terms};
 use std::collections::LinkedList;
 use std::marker::PhantomData;
 
@@ -10,15 +10,17 @@ use std::marker::PhantomData;
 #[derive(Drop)]
 pub struct Setup {
     pub label: u64,
-    pub nodes: u64,
-    pub opening: Line64,
+    pub terms: Terms,
 }
 
-/// The line, with the mask of what its holder has written in this turn, and whether it is closed.
+/// The line, with the mask of what its holder has written in this turn, how many turns are left of its lease, and whether it is closed.
+///
+/// The bytes stand first and the flag last, so that the bytes are copied from an even place.
 #[derive(Clone, Copy)]
 pub struct Parcel {
     pub bytes: Line64,
     pub mask: Mask,
+    pub turns_left: Option<u64>,
     pub closed: bool,
 }
 

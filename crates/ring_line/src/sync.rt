@@ -1,7 +1,7 @@
 //! The line as one that many nodes share.
 ghost use Rattle.std.specs.Prelude.{◌≡◌, map, All, IfOk, IfErr};
 ghost use Rattle.qolb_model.specs.Finishing.{MayRefuse, IsFinished};
-ghost use Rattle.ring_line.specs.Ports.{BelongsTo};
+ghost use Rattle.ring_line.specs.Line.{IsPortOf};
 
 use crate::line::RingLine;
 use crate::port::Port;
@@ -16,13 +16,11 @@ impl<K: Keep> LineSync<K> for RingLine<K> {
 
     ghost turn = { λ port. port.turn };
 
-    ghost belongs = { λ line port. BelongsTo K.good K.allows line.table.shared.key line.table.shared.table_id port };
+    ghost belongs = { λ line port. IsPortOf K.good K.allows line port };
 
     ghost label_of = { λ line. line.table.shared.key.label };
 
-    ghost nodes_of = { λ line. line.table.shared.key.nodes };
-
-    ghost opening_of = { λ line. line.table.shared.key.opening.bytes };
+    ghost terms_of = { λ line. line.table.shared.key.terms };
 
     fn label(&self) -> u64 {
         RingLine::<K>::label(self)
@@ -46,6 +44,10 @@ impl<K: Keep> LineSync<K> for RingLine<K> {
 
     fn bytes(port: &Port) -> &Line64 {
         RingLine::<K>::bytes(port)
+    }
+
+    fn turns_left(&self, port: &Port) -> Option<u64> {
+        RingLine::<K>::turns_left(self, port)
     }
 
     fn write(port: &mut Port, mask: Mask, bytes: &Line64) {
@@ -81,9 +83,9 @@ impl<K: Keep> LineSync<K> for RingLine<K> {
         alloc: Global,
         ports: Vec<Port>,
     ) -> Result<Line64, Unfinished<RingLine<K>, Port>>
-        requires belong { All (λ port. port.view.label ≡ self.table.shared.key.label → BelongsTo K.good K.allows self.table.shared.key self.table.shared.table_id port) ports.items }
-        ensures finished { IfOk result (λ line. IsFinished self.table.shared.key.label self.table.shared.key.nodes self.table.shared.key.opening.bytes (map (λ port. port.view) ports.items) line.bytes) }
-        ensures why { IfErr result (λ back. MayRefuse self.table.shared.key.label self.table.shared.key.nodes (map (λ port. port.view) ports.items) back.why) }
+        requires belong { All (λ port. port.view.label ≡ self.table.shared.key.label → IsPortOf K.good K.allows self port) ports.items }
+        ensures finished { IfOk result (λ line. IsFinished K.good K.allows self.table.shared.key.label self.table.shared.key.terms (map (λ port. port.view) ports.items) line.bytes) }
+        ensures why { IfErr result (λ back. MayRefuse self.table.shared.key.label self.table.shared.key.terms.nodes (map (λ port. port.view) ports.items) back.why) }
         ensures line { IfErr result (λ back. back.line ≡ self) }
         ensures ports { IfErr result (λ back. back.ports.items ≡ ports.items) }
     {

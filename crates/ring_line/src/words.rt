@@ -1,10 +1,10 @@
 //! Where the words of a table lie, and what they say. Those that nodes poll stand apart, so that they share no cache line.
-ghost use Rattle.std.specs.Prelude.{◌≡◌, ◌≢◌, ◌↔◌, ◌+◌, ◌<◌, ◌≤◌, IsTrue};
-ghost use Rattle.ring_line.specs.declared.words.TheConstants.{MOST_NODES, CELLS};
-ghost use Rattle.ring_line.specs.Words.{node_at, cell_at, cell_of, withdrawn_by};
+ghost use Rattle.std.specs.Prelude.{◌≡◌, ◌≢◌, ◌+◌, ◌<◌, ◌≤◌, MatchBool};
+ghost use Rattle.qolb_model.specs.declared.terms.TheConstants.{MOST_NODES};
+ghost use Rattle.ring_line.specs.declared.words.TheConstants.{CELLS};
+ghost use Rattle.ring_line.specs.Words as layout;
 
-/// The most nodes that a line has.
-pub(crate) const MOST_NODES: u64 = 200;
+use qolb_model::MOST_NODES;
 
 /// How many cells there are. There are more than nodes, so a cell is cleared before it is drawn again; and they divide 2^64, so
 /// that the tickets may wrap.
@@ -35,7 +35,7 @@ pub(crate) const WORDS: usize = FIRST_CELL + CELLS as usize * CELL_STRIDE;
 #[inline]
 pub(crate) fn cell_word(cell: u64) -> usize
     requires { cell < CELLS }
-    ensures { result ≡ cell_at cell }
+    ensures { result ≡ layout.cell_at cell }
 {
     FIRST_CELL + cell as usize * CELL_STRIDE
 }
@@ -44,15 +44,15 @@ pub(crate) fn cell_word(cell: u64) -> usize
 #[inline]
 pub(crate) fn node_word(node: u64) -> usize
     requires { node ≤ MOST_NODES }
-    ensures { result ≡ node_at node }
+    ensures { result ≡ layout.node_at node }
 {
     NODE_STRIDE + NODE_STRIDE * node as usize
 }
 
 /// The cell of a ticket.
 #[inline]
-pub(crate) fn cell_of_ticket(ticket: u64) -> u64
-    ensures { result ≡ cell_of ticket }
+pub(crate) fn cell_of(ticket: u64) -> u64
+    ensures { result ≡ layout.cell_of ticket }
 {
     ticket % CELLS
 }
@@ -61,7 +61,7 @@ pub(crate) fn cell_of_ticket(ticket: u64) -> u64
 #[inline]
 pub(crate) fn cell_after(cell: u64) -> u64
     requires { cell < CELLS }
-    ensures { result ≡ cell_of (cell + 1) }
+    ensures { result ≡ layout.cell_of (cell + 1) }
 {
     (cell + 1) % CELLS
 }
@@ -69,7 +69,7 @@ pub(crate) fn cell_after(cell: u64) -> u64
 /// Whether a cell with this word has been granted, if nobody has withdrawn there.
 #[inline]
 pub(crate) fn is_granted(word: u64) -> bool
-    ensures { IsTrue result ↔ (word ≢ 0) }
+    ensures { MatchBool result (word ≢ 0) (word ≡ 0) }
 {
     word != 0
 }
@@ -77,7 +77,15 @@ pub(crate) fn is_granted(word: u64) -> bool
 /// Whether somebody had withdrawn at a cell with this word, before it was granted.
 #[inline]
 pub(crate) fn is_withdrawn(word: u64) -> bool
-    ensures { IsTrue result ↔ (word ≢ 0) }
+    ensures { MatchBool result (word ≢ 0) (word ≡ 0) }
+{
+    word != 0
+}
+
+/// Whether a node's word says that its withdrawn request was passed.
+#[inline]
+pub(crate) fn is_freed(word: u64) -> bool
+    ensures { MatchBool result (word ≢ 0) (word ≡ 0) }
 {
     word != 0
 }
@@ -85,7 +93,7 @@ pub(crate) fn is_withdrawn(word: u64) -> bool
 /// The node that had withdrawn at a cell with this word.
 #[inline]
 pub(crate) fn withdrawn_by(word: u64) -> u64
-    ensures { result ≡ withdrawn_by word }
+    ensures { result ≡ layout.withdrawn_by word }
 {
     word / WITHDRAWN
 }

@@ -1,6 +1,5 @@
 //! A line with ports, which a test calls by node.
 ghost use Rattle.std.specs.Prelude.{◌≡◌, IfSome};
-ghost use Rattle.qolb_model.specs.Plain as spec;
 ghost use Rattle.ring_line.specs.Trial.{IsTheirs, AreTheirs};
 
 use super::super::*;
@@ -78,7 +77,7 @@ impl Row {
     /// Asks for the node, if its port may ask.
     pub(super) fn ask(&mut self, node: u64) -> Option<Enq> {
         let mut port = self.take(node)?;
-        let answer = if self.owns(&port) && may_ask(RingLine::<Free>::state(&port)) {
+        let answer = if self.owns(&port) && RingLine::<Free>::state(&port).may_ask() {
             Some(self.line.enqolb(&mut port))
         } else {
             None
@@ -211,16 +210,6 @@ impl Row {
         self.put(two);
         handed
     }
-}
-
-/// Whether a port in this state may ask.
-fn may_ask(state: PortState) -> bool
-    ensures { result ≡ spec.may_ask state }
-{
-    !matches!(
-        state,
-        PortState::Linking | PortState::Queued | PortState::Holding
-    )
 }
 
 /// Calls `raise_often` for each port, in a thread of its own.

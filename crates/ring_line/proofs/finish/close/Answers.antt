@@ -9,4 +9,4 @@ pub returns : goal.returns
 returns g c =
     let f = final_line g.K.Keep.good g.K.Keep.allows c.args.line.table.shared.key c.args.seat.me.0 c.requires.at_rest _ _ _ c.close_with-closed.ensures.values.2 in
     let parcel : f.0 ≡ c.take-parcel.result = sym (some-injective _ _ (sym c.take-parcel.ensures.value ∙ f.1)) in
-    subst (λ (p : Parcel). IsLast c.args.line.table.shared.key.opening.bytes c.args.seat.me.0 p.bytes.bytes) parcel f.2
+    subst (λ (p : Parcel). IsLast g.K.Keep.good g.K.Keep.allows c.args.line.table.shared.key.terms c.args.seat.me.0 p.bytes.bytes) parcel f.2

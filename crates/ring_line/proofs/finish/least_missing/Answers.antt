@@ -1,5 +1,6 @@
 use Rattle.qolb_model.specs.Finishing.{IsThere}
-use Rattle.ring_line.proofs.Finishing.{views, each_more}
+use Rattle.qolb_model.proofs.Finishing.{each_more}
+use Rattle.ring_line.proofs.Finishing.{views}
 use Rattle.ring_line.proofs.finish.least_missing.Goals as goal
 
 pub loop-node-preserved : goal.loop-node-preserved

@@ -7,4 +7,4 @@ release-requires-clause-parcel g c = let y = c.requires.comes in (y.1, y.2, carr
 
 pub returns-clause-told : goal.returns-clause-told
 returns-clause-told g c = let y = c.requires.comes in
-    (c.release.ensures.seat.3, told_by y.0 (entry_of c.args.seat.now) (entry_of c.release.new.seat) y.1 y.3 y.4 c.release.ensures.continues.extends (c.release.ensures.lets_go y.1 y.2))
+    told_by y.0 (entry_of c.args.seat.now) (entry_of c.release.new.seat) y.1 y.3 y.4 c.release.ensures.goes_on.extends (c.release.ensures.lets_go y.1 y.2)

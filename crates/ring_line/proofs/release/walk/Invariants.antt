@@ -1,10 +1,10 @@
 use Rattle.std.proofs.Common.{◌-◌, length}
-use Rattle.ring_line.specs.declared.words.TheConstants.{MOST_NODES}
+use Rattle.qolb_model.specs.declared.terms.TheConstants.{MOST_NODES}
 use Rattle.ring_line.proofs.Walking.{IsWalking}
 use Rattle.ring_line.proofs.release.walk.Given as goal
 
-abbrev pub invariant-loop-found : goal.invariant-loop-found
-invariant-loop-found g l = IsWalking g.K.Keep.allows l.initial.seat l.passed.items l.cell l.found l.seat
+abbrev pub invariant-loop-passed : goal.invariant-loop-passed
+invariant-loop-passed g l = IsWalking g.K.Keep.allows l.initial.seat l.passed.items l.cell l.found l.seat
 
-abbrev pub decreases-loop-found : goal.decreases-loop-found
-decreases-loop-found g l = MOST_NODES - length l.passed.items
+abbrev pub decreases-loop-passed : goal.decreases-loop-passed
+decreases-loop-passed g l = MOST_NODES - length l.passed.items

@@ -5,4 +5,4 @@ use Rattle.ring_line.proofs.Load.{loads_next}
 use Rattle.ring_line.proofs.steps.load.Goals as goal
 
 pub load-requires : goal.load-requires
-load-requires g c = (search rules, omega arith, loads_next g.K.Keep.good g.K.Keep.allows c.args.ground.now.key (entry_of c.args.seat.now) c.requires.ready.2 _ _ _ c.args.seat.now.me c.requires.ready.0 (c.cell_word.ensures ∙ ap cell_at c.requires.ready.3))
+load-requires g c = (search rules, omega arith, loads_next g.K.Keep.good g.K.Keep.allows c.args.ground.now.key (entry_of c.args.seat.now) c.requires.ready.1 _ _ _ c.args.seat.now.me c.requires.ready.0 (c.cell_word.ensures ∙ ap cell_at c.requires.cell))

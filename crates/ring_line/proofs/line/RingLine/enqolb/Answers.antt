@@ -1,78 +1,51 @@
-use Rattle.std.proofs.Common.{arith, ◌∙◌, ◌+◌, sym, ap, ◌%◌}
-use Rattle.ring_line.specs.Words.{cell_of}
+use Rattle.std.proofs.Common.{rules, ◌≡◌, ◌≢◌, ◌+◌, ◌∙◌}
+use Rattle.qolb_model.specs.declared.answer.PortState.TheVariants as shows
 use Rattle.ring_line.specs.Steps.{entry_of}
-use Rattle.ring_line.proofs.Turning.{continues_trans, joined_goes}
-use Rattle.ring_line.proofs.Calling.{own_state, continues_from, continues_open, belongs_after, some_nodes, arrived_steps, asking_asks, holds_port, told_port, queued_port, busy_port}
+use Rattle.ring_line.proofs.Turning.{goes_trans, joined_goes}
+use Rattle.qolb_model.proofs.Agreeing.{extends_trans}
+use Rattle.ring_line.proofs.Calling.{call_continues, call_belongs, asking_asks, early_waits, granted_of, told_of, is_busy, enqueues_busy, enqueues_queued, enqueues_granted, enqueues_told}
 use Rattle.ring_line.proofs.line.RingLine.enqolb.Goals as goal
 
-pub invariant_of-port : goal.invariant_of-port
-invariant_of-port g c = busy_port c.port.inside c.renew.new.seat c.port.invariant (c.renew.ensures.continues _ (continues_open c.port.inside c.requires.belongs c.port.view_is)) c.renew.ensures.seat.3 c.renew.ensures.seat.2 c.in_default.ensures.renewed
-
 pub returns-in_default-clause-belongs : goal.returns-in_default-clause-belongs
-returns-in_default-clause-belongs g c = belongs_after c.port.inside c.renew.new.seat c.port.inside.parcel 1 c.requires.belongs c.port.view_is c.renew.ensures.seat.0 (c.renew.ensures.continues _ (continues_open c.port.inside c.requires.belongs c.port.view_is))
+returns-in_default-clause-belongs g c = call_belongs c.port.inside c.requires.belongs c.port.view_is c.renew.new.seat 1 c.renew.ensures.same c.in_default.ensures.goes_on c.port.inside.parcel 1
 
-pub returns-in_default-clause-continues : goal.returns-in_default-clause-continues
-returns-in_default-clause-continues g c = continues_from c.port.inside c.port.view_is (c.renew.ensures.continues _ (continues_open c.port.inside c.requires.belongs c.port.view_is))
-
-pub invariant_of-port-then-not-load : goal.invariant_of-port-then-not-load
-invariant_of-port-then-not-load g c = queued_port c.port.inside c.load.new.seat c.ask-port-inside.result c.port.invariant (continues_trans _ _ _ _ (continues_trans _ _ _ _ (c.renew.ensures.continues _ (continues_open c.port.inside c.requires.belongs c.port.view_is)) c.ask-port-inside.ensures.continues) c.load.ensures.continues) c.load.ensures.seat.2 (c.load.ensures.waits c.if-not-load.true) c.ask-port-inside.ensures.cell
+pub returns-in_default-clause-enqueues : goal.returns-in_default-clause-enqueues
+returns-in_default-clause-enqueues g c = enqueues_busy (call_continues c.port.inside c.requires.belongs c.port.view_is c.renew.new.seat 1 c.renew.ensures.same c.in_default.ensures.goes_on) (is_busy c.port.inside c.renew.new.seat c.port.invariant c.port.view_is c.in_default.ensures.renewed)
 
 pub returns-then-not-load-clause-belongs : goal.returns-then-not-load-clause-belongs
-returns-then-not-load-clause-belongs g c = belongs_after c.port.inside c.load.new.seat c.port.inside.parcel (c.in-Some.renewing + 2) c.requires.belongs c.port.view_is (c.load.ensures.seat.0 ∙ (c.ask-port-inside.ensures.seat.0 ∙ c.renew.ensures.seat.0)) (continues_trans _ _ _ _ (continues_trans _ _ _ _ (c.renew.ensures.continues _ (continues_open c.port.inside c.requires.belongs c.port.view_is)) c.ask-port-inside.ensures.continues) c.load.ensures.continues)
+returns-then-not-load-clause-belongs g c = call_belongs c.port.inside c.requires.belongs c.port.view_is c.load.new.seat _ (c.load.ensures.same.0 ∙ (c.ask-port-inside.ensures.same.0 ∙ c.renew.ensures.same.0), c.load.ensures.same.1 ∙ (c.ask-port-inside.ensures.same.1 ∙ c.renew.ensures.same.1)) (goes_trans g.K.Keep.allows c.port.inside.seat.me c.ask-port-inside.new.seat.me c.load.new.seat.me (c.in-Some.renewing + 1) 1 (goes_trans g.K.Keep.allows c.port.inside.seat.me c.renew.new.seat.me c.ask-port-inside.new.seat.me c.in-Some.renewing 1 c.in-Some.ensures.goes_on c.ask-port-inside.ensures.goes_on) c.load.ensures.goes_on) c.port.inside.parcel (c.in-Some.renewing + 2)
 
-pub returns-then-not-load-clause-continues : goal.returns-then-not-load-clause-continues
-returns-then-not-load-clause-continues g c = continues_from c.port.inside c.port.view_is (continues_trans _ _ _ _ (continues_trans _ _ _ _ (c.renew.ensures.continues _ (continues_open c.port.inside c.requires.belongs c.port.view_is)) c.ask-port-inside.ensures.continues) c.load.ensures.continues)
+pub returns-then-not-load-clause-enqueues : goal.returns-then-not-load-clause-enqueues
+returns-then-not-load-clause-enqueues g c = let early = (c.load.ensures.waits c.if-not-load.true).1 in let asked = c.ask-port-inside.ensures.asked in
+    enqueues_queued (call_continues c.port.inside c.requires.belongs c.port.view_is c.load.new.seat _ (c.load.ensures.same.0 ∙ (c.ask-port-inside.ensures.same.0 ∙ c.renew.ensures.same.0), c.load.ensures.same.1 ∙ (c.ask-port-inside.ensures.same.1 ∙ c.renew.ensures.same.1)) (goes_trans g.K.Keep.allows c.port.inside.seat.me c.ask-port-inside.new.seat.me c.load.new.seat.me (c.in-Some.renewing + 1) 1 (goes_trans g.K.Keep.allows c.port.inside.seat.me c.renew.new.seat.me c.ask-port-inside.new.seat.me c.in-Some.renewing 1 c.in-Some.ensures.goes_on c.ask-port-inside.ensures.goes_on) c.load.ensures.goes_on))
+    (asking_asks c.port.inside c.port.view_is c.in-Some.ensures.goes_on.extends c.in-Some.ensures.renewed.1 asked.asks c.load.ensures.goes_on.extends early.count)
+    (joined_goes (entry_of c.ask-port-inside.new.seat).view (entry_of c.load.new.seat).view asked.joined c.load.ensures.goes_on.extends early.count)
+    (early_waits (entry_of c.ask-port-inside.new.seat) (entry_of c.load.new.seat) early)
 
-pub returns-then-not-load-clause-asks : goal.returns-then-not-load-clause-asks
-returns-then-not-load-clause-asks g c _ = asking_asks c.port.inside c.port.view_is (c.renew.ensures.continues _ (continues_open c.port.inside c.requires.belongs c.port.view_is)) c.renew.ensures.count c.ask-port-inside.ensures.asked.asks c.load.ensures.continues (c.load.ensures.waits c.if-not-load.true).1.count
+pub returns-then-holds-clause-belongs : goal.returns-then-holds-clause-belongs
+returns-then-holds-clause-belongs g c = let on = c.arrive-port-inside.ensures.goes_on in
+    call_belongs c.port.inside c.requires.belongs c.port.view_is c.arrive-port-inside.new.seat _ (c.arrive-port-inside.ensures.same.0 ∙ (c.load.ensures.same.0 ∙ (c.ask-port-inside.ensures.same.0 ∙ c.renew.ensures.same.0)), c.arrive-port-inside.ensures.same.1 ∙ (c.load.ensures.same.1 ∙ (c.ask-port-inside.ensures.same.1 ∙ c.renew.ensures.same.1))) (goes_trans g.K.Keep.allows c.port.inside.seat.me c.load.new.seat.me c.arrive-port-inside.new.seat.me (c.in-Some.renewing + 1 + 1) on.0 (goes_trans g.K.Keep.allows c.port.inside.seat.me c.ask-port-inside.new.seat.me c.load.new.seat.me (c.in-Some.renewing + 1) 1 (goes_trans g.K.Keep.allows c.port.inside.seat.me c.renew.new.seat.me c.ask-port-inside.new.seat.me c.in-Some.renewing 1 c.in-Some.ensures.goes_on c.ask-port-inside.ensures.goes_on) c.load.ensures.goes_on) on.2) c.arrive-port-inside.new.parcel c.arrive-port-inside.new.steps
 
-pub arrive-requires-clause-ready : goal.arrive-requires-clause-ready
-arrive-requires-clause-ready g c = (c.load.ensures.seat.2, c.ask-port-inside.ensures.cell ∙ ap cell_of (sym (c.load.ensures.comes c.if-not-load.false).2.place), some_nodes c.port.inside c.requires.belongs c.port.view_is (continues_trans _ _ _ _ (continues_trans _ _ _ _ (c.renew.ensures.continues _ (continues_open c.port.inside c.requires.belongs c.port.view_is)) c.ask-port-inside.ensures.continues) c.load.ensures.continues))
+pub returns-else-holds-clause-belongs : goal.returns-else-holds-clause-belongs
+returns-else-holds-clause-belongs g c = let on = c.arrive-port-inside.ensures.goes_on in
+    call_belongs c.port.inside c.requires.belongs c.port.view_is c.arrive-port-inside.new.seat _ (c.arrive-port-inside.ensures.same.0 ∙ (c.load.ensures.same.0 ∙ (c.ask-port-inside.ensures.same.0 ∙ c.renew.ensures.same.0)), c.arrive-port-inside.ensures.same.1 ∙ (c.load.ensures.same.1 ∙ (c.ask-port-inside.ensures.same.1 ∙ c.renew.ensures.same.1))) (goes_trans g.K.Keep.allows c.port.inside.seat.me c.load.new.seat.me c.arrive-port-inside.new.seat.me (c.in-Some.renewing + 1 + 1) on.0 (goes_trans g.K.Keep.allows c.port.inside.seat.me c.ask-port-inside.new.seat.me c.load.new.seat.me (c.in-Some.renewing + 1) 1 (goes_trans g.K.Keep.allows c.port.inside.seat.me c.renew.new.seat.me c.ask-port-inside.new.seat.me c.in-Some.renewing 1 c.in-Some.ensures.goes_on c.ask-port-inside.ensures.goes_on) c.load.ensures.goes_on) on.2) c.arrive-port-inside.new.parcel c.arrive-port-inside.new.steps
 
-pub invariant_of-port-in-None : goal.invariant_of-port-in-None
-invariant_of-port-in-None g c = holds_port c.port.inside c.arrive.new.seat c.arrive.new.parcel c.ask-port-inside.result c.port.invariant (c.arrive.ensures.continues _ (continues_trans _ _ _ _ (continues_trans _ _ _ _ (c.renew.ensures.continues _ (continues_open c.port.inside c.requires.belongs c.port.view_is)) c.ask-port-inside.ensures.continues) c.load.ensures.continues)) c.arrive.ensures.seat.2 c.in-None.ensures.arrived
+pub returns-then-holds-clause-enqueues : goal.returns-then-holds-clause-enqueues
+returns-then-holds-clause-enqueues g c = let on = c.arrive-port-inside.ensures.goes_on in let asked = c.ask-port-inside.ensures.asked in
+    let came : c.arrive-port-inside.result ≡ shows.Holding = search rules in
+    let count = c.arrive-port-inside.ensures.count ∙ (c.load.ensures.comes c.if-not-load.false).2.count in
+    let later = extends_trans (entry_of c.ask-port-inside.new.seat).view (entry_of c.load.new.seat).view (entry_of c.arrive-port-inside.new.seat).view c.load.ensures.goes_on.extends on.2.extends in
+    enqueues_granted (call_continues c.port.inside c.requires.belongs c.port.view_is c.arrive-port-inside.new.seat _ (c.arrive-port-inside.ensures.same.0 ∙ (c.load.ensures.same.0 ∙ (c.ask-port-inside.ensures.same.0 ∙ c.renew.ensures.same.0)), c.arrive-port-inside.ensures.same.1 ∙ (c.load.ensures.same.1 ∙ (c.ask-port-inside.ensures.same.1 ∙ c.renew.ensures.same.1))) (goes_trans g.K.Keep.allows c.port.inside.seat.me c.load.new.seat.me c.arrive-port-inside.new.seat.me (c.in-Some.renewing + 1 + 1) on.0 (goes_trans g.K.Keep.allows c.port.inside.seat.me c.ask-port-inside.new.seat.me c.load.new.seat.me (c.in-Some.renewing + 1) 1 (goes_trans g.K.Keep.allows c.port.inside.seat.me c.renew.new.seat.me c.ask-port-inside.new.seat.me c.in-Some.renewing 1 c.in-Some.ensures.goes_on c.ask-port-inside.ensures.goes_on) c.load.ensures.goes_on) on.2))
+    (asking_asks c.port.inside c.port.view_is c.in-Some.ensures.goes_on.extends c.in-Some.ensures.renewed.1 asked.asks later count)
+    (joined_goes (entry_of c.ask-port-inside.new.seat).view (entry_of c.arrive-port-inside.new.seat).view asked.joined later count)
+    (granted_of c.arrive-port-inside.new.seat c.arrive-port-inside.new.parcel c.ask-port-inside.result (c.in-Some.renewing + 2) c.arrive-port-inside.new.steps c.arrive-port-inside.result c.arrive-port-inside.ensures.arrived came).0
 
-pub invariant_of-port-in-Some-arrive : goal.invariant_of-port-in-Some-arrive
-invariant_of-port-in-Some-arrive g c = told_port c.port.inside c.arrive.new.seat c.arrive.new.parcel c.ask-port-inside.result c.in-Some-arrive.steps c.port.invariant (c.arrive.ensures.continues _ (continues_trans _ _ _ _ (continues_trans _ _ _ _ (c.renew.ensures.continues _ (continues_open c.port.inside c.requires.belongs c.port.view_is)) c.ask-port-inside.ensures.continues) c.load.ensures.continues)) c.arrive.ensures.seat.2 c.in-Some-arrive.ensures.arrived
-
-pub overflow_add-port-in-Some-arrive : goal.overflow_add-port-in-Some-arrive
-overflow_add-port-in-Some-arrive g c = omega (arith, c.args.self.now.few_nodes, c.args.self.now.counted, c.in-Some.ensures.renewed.1, arrived_steps c.port.inside c.arrive.new.seat c.arrive.new.parcel c.ask-port-inside.result c.in-Some-arrive.steps c.requires.belongs c.port.view_is (c.arrive.ensures.continues _ (continues_trans _ _ _ _ (continues_trans _ _ _ _ (c.renew.ensures.continues _ (continues_open c.port.inside c.requires.belongs c.port.view_is)) c.ask-port-inside.ensures.continues) c.load.ensures.continues)) c.in-Some-arrive.ensures.arrived)
-
-pub returns-in-Some-arrive-clause-bound : goal.returns-in-Some-arrive-clause-bound
-returns-in-Some-arrive-clause-bound g c = omega (arith, c.in-Some.ensures.renewed.1, arrived_steps c.port.inside c.arrive.new.seat c.arrive.new.parcel c.ask-port-inside.result c.in-Some-arrive.steps c.requires.belongs c.port.view_is (c.arrive.ensures.continues _ (continues_trans _ _ _ _ (continues_trans _ _ _ _ (c.renew.ensures.continues _ (continues_open c.port.inside c.requires.belongs c.port.view_is)) c.ask-port-inside.ensures.continues) c.load.ensures.continues)) c.in-Some-arrive.ensures.arrived)
-
-pub returns-in-None-clause-belongs : goal.returns-in-None-clause-belongs
-returns-in-None-clause-belongs g c = belongs_after c.port.inside c.arrive.new.seat c.arrive.new.parcel (c.in-Some.renewing + 2) c.requires.belongs c.port.view_is (c.arrive.ensures.seat.0 ∙ (c.load.ensures.seat.0 ∙ (c.ask-port-inside.ensures.seat.0 ∙ c.renew.ensures.seat.0))) (c.arrive.ensures.continues _ (continues_trans _ _ _ _ (continues_trans _ _ _ _ (c.renew.ensures.continues _ (continues_open c.port.inside c.requires.belongs c.port.view_is)) c.ask-port-inside.ensures.continues) c.load.ensures.continues))
-
-pub returns-in-None-clause-continues : goal.returns-in-None-clause-continues
-returns-in-None-clause-continues g c = continues_from c.port.inside c.port.view_is (c.arrive.ensures.continues _ (continues_trans _ _ _ _ (continues_trans _ _ _ _ (c.renew.ensures.continues _ (continues_open c.port.inside c.requires.belongs c.port.view_is)) c.ask-port-inside.ensures.continues) c.load.ensures.continues))
-
-pub returns-in-None-clause-asks : goal.returns-in-None-clause-asks
-returns-in-None-clause-asks g c _ = asking_asks c.port.inside c.port.view_is (c.renew.ensures.continues _ (continues_open c.port.inside c.requires.belongs c.port.view_is)) c.renew.ensures.count c.ask-port-inside.ensures.asked.asks (c.arrive.ensures.continues _ c.load.ensures.continues) (c.arrive.ensures.count ∙ (c.load.ensures.comes c.if-not-load.false).2.count)
-
-pub returns-in-None-clause-joined : goal.returns-in-None-clause-joined
-returns-in-None-clause-joined g c _ = let on = (c.arrive.ensures.continues _ c.load.ensures.continues) in joined_goes (entry_of c.ask-port-inside.new.seat).view (entry_of c.arrive.new.seat).view c.ask-port-inside.ensures.asked.joined on.extends (c.arrive.ensures.count ∙ (c.load.ensures.comes c.if-not-load.false).2.count)
-
-pub returns-in-Some-arrive-clause-belongs : goal.returns-in-Some-arrive-clause-belongs
-returns-in-Some-arrive-clause-belongs g c = belongs_after c.port.inside c.arrive.new.seat c.arrive.new.parcel (c.in-Some.renewing + 2 + c.in-Some-arrive.steps) c.requires.belongs c.port.view_is (c.arrive.ensures.seat.0 ∙ (c.load.ensures.seat.0 ∙ (c.ask-port-inside.ensures.seat.0 ∙ c.renew.ensures.seat.0))) (c.arrive.ensures.continues _ (continues_trans _ _ _ _ (continues_trans _ _ _ _ (c.renew.ensures.continues _ (continues_open c.port.inside c.requires.belongs c.port.view_is)) c.ask-port-inside.ensures.continues) c.load.ensures.continues))
-
-pub returns-in-Some-arrive-clause-continues : goal.returns-in-Some-arrive-clause-continues
-returns-in-Some-arrive-clause-continues g c = continues_from c.port.inside c.port.view_is (c.arrive.ensures.continues _ (continues_trans _ _ _ _ (continues_trans _ _ _ _ (c.renew.ensures.continues _ (continues_open c.port.inside c.requires.belongs c.port.view_is)) c.ask-port-inside.ensures.continues) c.load.ensures.continues))
-
-pub returns-in-Some-arrive-clause-asks : goal.returns-in-Some-arrive-clause-asks
-returns-in-Some-arrive-clause-asks g c _ = asking_asks c.port.inside c.port.view_is (c.renew.ensures.continues _ (continues_open c.port.inside c.requires.belongs c.port.view_is)) c.renew.ensures.count c.ask-port-inside.ensures.asked.asks (c.arrive.ensures.continues _ c.load.ensures.continues) (c.arrive.ensures.count ∙ (c.load.ensures.comes c.if-not-load.false).2.count)
-
-pub returns-in-Some-arrive-clause-joined : goal.returns-in-Some-arrive-clause-joined
-returns-in-Some-arrive-clause-joined g c _ = let on = (c.arrive.ensures.continues _ c.load.ensures.continues) in joined_goes (entry_of c.ask-port-inside.new.seat).view (entry_of c.arrive.new.seat).view c.ask-port-inside.ensures.asked.joined on.extends (c.arrive.ensures.count ∙ (c.load.ensures.comes c.if-not-load.false).2.count)
-
-pub returns-then-not-load-clause-counted : goal.returns-then-not-load-clause-counted
-returns-then-not-load-clause-counted g c _ fresh = omega (arith, c.in-Some.ensures.renewed.2 (λ e. fresh (own_state c.port.inside c.port.invariant c.port.view_is ∙ e)))
-
-pub returns-then-not-load-clause-counted_anew : goal.returns-then-not-load-clause-counted_anew
-returns-then-not-load-clause-counted_anew g c _ again = omega (arith, c.in-Some.ensures.renewed.3 (sym (own_state c.port.inside c.port.invariant c.port.view_is) ∙ again))
-
-pub returns-in-None-clause-counted : goal.returns-in-None-clause-counted
-returns-in-None-clause-counted g c _ fresh = omega (arith, c.in-Some.ensures.renewed.2 (λ e. fresh (own_state c.port.inside c.port.invariant c.port.view_is ∙ e)))
-
-pub returns-in-None-clause-counted_anew : goal.returns-in-None-clause-counted_anew
-returns-in-None-clause-counted_anew g c _ again = omega (arith, c.in-Some.ensures.renewed.3 (sym (own_state c.port.inside c.port.invariant c.port.view_is) ∙ again))
+pub returns-else-holds-clause-enqueues : goal.returns-else-holds-clause-enqueues
+returns-else-holds-clause-enqueues g c = let on = c.arrive-port-inside.ensures.goes_on in let asked = c.ask-port-inside.ensures.asked in
+    let came : c.arrive-port-inside.result ≢ shows.Holding = search rules in
+    let count = c.arrive-port-inside.ensures.count ∙ (c.load.ensures.comes c.if-not-load.false).2.count in
+    let later = extends_trans (entry_of c.ask-port-inside.new.seat).view (entry_of c.load.new.seat).view (entry_of c.arrive-port-inside.new.seat).view c.load.ensures.goes_on.extends on.2.extends in
+    enqueues_told (call_continues c.port.inside c.requires.belongs c.port.view_is c.arrive-port-inside.new.seat _ (c.arrive-port-inside.ensures.same.0 ∙ (c.load.ensures.same.0 ∙ (c.ask-port-inside.ensures.same.0 ∙ c.renew.ensures.same.0)), c.arrive-port-inside.ensures.same.1 ∙ (c.load.ensures.same.1 ∙ (c.ask-port-inside.ensures.same.1 ∙ c.renew.ensures.same.1))) (goes_trans g.K.Keep.allows c.port.inside.seat.me c.load.new.seat.me c.arrive-port-inside.new.seat.me (c.in-Some.renewing + 1 + 1) on.0 (goes_trans g.K.Keep.allows c.port.inside.seat.me c.ask-port-inside.new.seat.me c.load.new.seat.me (c.in-Some.renewing + 1) 1 (goes_trans g.K.Keep.allows c.port.inside.seat.me c.renew.new.seat.me c.ask-port-inside.new.seat.me c.in-Some.renewing 1 c.in-Some.ensures.goes_on c.ask-port-inside.ensures.goes_on) c.load.ensures.goes_on) on.2))
+    (asking_asks c.port.inside c.port.view_is c.in-Some.ensures.goes_on.extends c.in-Some.ensures.renewed.1 asked.asks later count)
+    (joined_goes (entry_of c.ask-port-inside.new.seat).view (entry_of c.arrive-port-inside.new.seat).view asked.joined later count)
+    (told_of c.arrive-port-inside.new.seat c.arrive-port-inside.new.parcel c.ask-port-inside.result (c.in-Some.renewing + 2) c.arrive-port-inside.new.steps c.arrive-port-inside.result c.arrive-port-inside.ensures.arrived came).0

@@ -1,27 +1,35 @@
-use Rattle.std.proofs.Common.{arith, ◌∙◌, ◌+◌}
-use Rattle.ring_line.proofs.Calling.{continues_from, belongs_after, holds_port, told_port, arrived_steps}
+use Rattle.std.proofs.Common.{rules, ◌≡◌, ◌≢◌, ◌∙◌}
+use Rattle.qolb_model.specs.declared.answer.PortState.TheVariants as shows
+use Rattle.ring_line.specs.Steps.{entry_of}
+use Rattle.ring_line.proofs.Turning.{goes_trans}
+use Rattle.ring_line.proofs.Calling.{call_continues, call_belongs, same_count, rolled_withdrawn, granted_of, told_of, withdraws_withdrawn, withdraws_granted, withdraws_told}
 use Rattle.ring_line.proofs.line.RingLine.withdraw.Goals as goal
 
-pub invariant_of-port-in-None : goal.invariant_of-port-in-None
-invariant_of-port-in-None g c = holds_port c.port.inside c.arrive.new.seat c.arrive.new.parcel c.port.inside.cell c.port.invariant (c.arrive.ensures.continues _ c.roll.ensures.continues) c.arrive.ensures.seat.2 c.in-None.ensures.arrived
+pub returns-then-not-roll-clause-belongs : goal.returns-then-not-roll-clause-belongs
+returns-then-not-roll-clause-belongs g c = call_belongs c.port.inside c.requires.belongs c.port.view_is c.roll.new.seat 1 c.roll.ensures.same c.roll.ensures.goes_on c.port.inside.parcel 1
 
-pub invariant_of-port-in-Some : goal.invariant_of-port-in-Some
-invariant_of-port-in-Some g c = told_port c.port.inside c.arrive.new.seat c.arrive.new.parcel c.port.inside.cell c.in-Some.steps c.port.invariant (c.arrive.ensures.continues _ c.roll.ensures.continues) c.arrive.ensures.seat.2 c.in-Some.ensures.arrived
+pub returns-then-not-roll-clause-withdraws : goal.returns-then-not-roll-clause-withdraws
+returns-then-not-roll-clause-withdraws g c = let rolled = (c.roll.ensures.withdrawn c.if-not-roll.true).1 in
+    withdraws_withdrawn (call_continues c.port.inside c.requires.belongs c.port.view_is c.roll.new.seat 1 c.roll.ensures.same c.roll.ensures.goes_on) (same_count (entry_of c.roll.new.seat).view c.port.inside c.port.view_is rolled.count) (rolled_withdrawn (entry_of c.port.inside.seat) (entry_of c.roll.new.seat) rolled)
 
-pub overflow_add-port : goal.overflow_add-port
-overflow_add-port g c = omega (arith, c.args.self.now.few_nodes, c.args.self.now.counted, arrived_steps c.port.inside c.arrive.new.seat c.arrive.new.parcel c.port.inside.cell c.in-Some.steps c.requires.belongs c.port.view_is (c.arrive.ensures.continues _ c.roll.ensures.continues) c.in-Some.ensures.arrived)
+pub returns-then-holds-clause-belongs : goal.returns-then-holds-clause-belongs
+returns-then-holds-clause-belongs g c = let on = c.arrive-port-inside.ensures.goes_on in
+    call_belongs c.port.inside c.requires.belongs c.port.view_is c.arrive-port-inside.new.seat _ (c.arrive-port-inside.ensures.same.0 ∙ c.roll.ensures.same.0, c.arrive-port-inside.ensures.same.1 ∙ c.roll.ensures.same.1) (goes_trans g.K.Keep.allows c.port.inside.seat.me c.roll.new.seat.me c.arrive-port-inside.new.seat.me 1 on.0 c.roll.ensures.goes_on on.2) c.arrive-port-inside.new.parcel c.arrive-port-inside.new.steps
 
-pub returns-in-None-clause-belongs : goal.returns-in-None-clause-belongs
-returns-in-None-clause-belongs g c = belongs_after c.port.inside c.arrive.new.seat c.arrive.new.parcel 1 c.requires.belongs c.port.view_is (c.arrive.ensures.seat.0 ∙ c.roll.ensures.seat.0) (c.arrive.ensures.continues _ c.roll.ensures.continues)
+pub returns-else-holds-clause-belongs : goal.returns-else-holds-clause-belongs
+returns-else-holds-clause-belongs g c = let on = c.arrive-port-inside.ensures.goes_on in
+    call_belongs c.port.inside c.requires.belongs c.port.view_is c.arrive-port-inside.new.seat _ (c.arrive-port-inside.ensures.same.0 ∙ c.roll.ensures.same.0, c.arrive-port-inside.ensures.same.1 ∙ c.roll.ensures.same.1) (goes_trans g.K.Keep.allows c.port.inside.seat.me c.roll.new.seat.me c.arrive-port-inside.new.seat.me 1 on.0 c.roll.ensures.goes_on on.2) c.arrive-port-inside.new.parcel c.arrive-port-inside.new.steps
 
-pub returns-in-None-clause-continues : goal.returns-in-None-clause-continues
-returns-in-None-clause-continues g c = continues_from c.port.inside c.port.view_is (c.arrive.ensures.continues _ c.roll.ensures.continues)
+pub returns-then-holds-clause-withdraws : goal.returns-then-holds-clause-withdraws
+returns-then-holds-clause-withdraws g c = let on = c.arrive-port-inside.ensures.goes_on in
+    let came : c.arrive-port-inside.result ≡ shows.Holding = search rules in
+    withdraws_granted (call_continues c.port.inside c.requires.belongs c.port.view_is c.arrive-port-inside.new.seat _ (c.arrive-port-inside.ensures.same.0 ∙ c.roll.ensures.same.0, c.arrive-port-inside.ensures.same.1 ∙ c.roll.ensures.same.1) (goes_trans g.K.Keep.allows c.port.inside.seat.me c.roll.new.seat.me c.arrive-port-inside.new.seat.me 1 on.0 c.roll.ensures.goes_on on.2))
+    (same_count (entry_of c.arrive-port-inside.new.seat).view c.port.inside c.port.view_is (c.arrive-port-inside.ensures.count ∙ (c.roll.ensures.comes c.if-not-roll.false).2.count))
+    (granted_of c.arrive-port-inside.new.seat c.arrive-port-inside.new.parcel c.port.inside.cell 1 c.arrive-port-inside.new.steps c.arrive-port-inside.result c.arrive-port-inside.ensures.arrived came).0
 
-pub returns-in-Some-clause-belongs : goal.returns-in-Some-clause-belongs
-returns-in-Some-clause-belongs g c = belongs_after c.port.inside c.arrive.new.seat c.arrive.new.parcel (1 + c.in-Some.steps) c.requires.belongs c.port.view_is (c.arrive.ensures.seat.0 ∙ c.roll.ensures.seat.0) (c.arrive.ensures.continues _ c.roll.ensures.continues)
-
-pub returns-in-Some-clause-continues : goal.returns-in-Some-clause-continues
-returns-in-Some-clause-continues g c = continues_from c.port.inside c.port.view_is (c.arrive.ensures.continues _ c.roll.ensures.continues)
-
-pub returns-in-Some-clause-bound : goal.returns-in-Some-clause-bound
-returns-in-Some-clause-bound g c = omega (arith, arrived_steps c.port.inside c.arrive.new.seat c.arrive.new.parcel c.port.inside.cell c.in-Some.steps c.requires.belongs c.port.view_is (c.arrive.ensures.continues _ c.roll.ensures.continues) c.in-Some.ensures.arrived)
+pub returns-else-holds-clause-withdraws : goal.returns-else-holds-clause-withdraws
+returns-else-holds-clause-withdraws g c = let on = c.arrive-port-inside.ensures.goes_on in
+    let came : c.arrive-port-inside.result ≢ shows.Holding = search rules in
+    withdraws_told (call_continues c.port.inside c.requires.belongs c.port.view_is c.arrive-port-inside.new.seat _ (c.arrive-port-inside.ensures.same.0 ∙ c.roll.ensures.same.0, c.arrive-port-inside.ensures.same.1 ∙ c.roll.ensures.same.1) (goes_trans g.K.Keep.allows c.port.inside.seat.me c.roll.new.seat.me c.arrive-port-inside.new.seat.me 1 on.0 c.roll.ensures.goes_on on.2))
+    (same_count (entry_of c.arrive-port-inside.new.seat).view c.port.inside c.port.view_is (c.arrive-port-inside.ensures.count ∙ (c.roll.ensures.comes c.if-not-roll.false).2.count))
+    (told_of c.arrive-port-inside.new.seat c.arrive-port-inside.new.parcel c.port.inside.cell 1 c.arrive-port-inside.new.steps c.arrive-port-inside.result c.arrive-port-inside.ensures.arrived came).0
