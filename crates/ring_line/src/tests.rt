@@ -3,15 +3,15 @@ mod raising;
 mod row;
 
 use super::*;
-use line_lanes::{Line64, Mask, placed, with_lane};
+use line_lanes::{Line64, Mask, changed, lane, placed, with_lane};
 use linked_list_allocator::LocalHeap;
-use qolb_model::{Enq, FinishError, Free, OpenError, Out, Poll};
+use qolb_model::{Enq, FinishError, Free, OpenError, Out, Poll, PortState};
 use row::Row;
 use std::test::Fail;
 
 #[test]
-fn lines_have_one_to_32_nodes(rt: HostRuntime) {
-    for (nodes, opens) in [(0, false), (1, true), (32, true), (33, false)] {
+fn lines_have_one_to_200_nodes(rt: HostRuntime) {
+    for (nodes, opens) in [(0, false), (1, true), (33, true), (200, true), (201, false)] {
         let refused = RingLine::<Free>::open(rt.alloc(), 7, nodes, Line64::zero()).err();
         let want = if opens { None } else { Some(OpenError::Nodes) };
         assert_eq!(rt; refused, want, "{nodes} nodes");
@@ -73,6 +73,87 @@ fn all_are_told_of_a_closed_line(rt: HostRuntime) -> Result<(), Fail> {
     assert_eq!(rt; row.ask(1), Some(Enq::Closed));
     assert_eq!(rt; row.ask(2), Some(Enq::Closed));
     assert!(rt; row.finish(rt.alloc()).is_ok());
+    Ok(())
+}
+
+#[test]
+fn a_lease_needs_nodes_and_turns(rt: HostRuntime) {
+    for (nodes, lease, want) in [
+        (0, 0, Some(OpenError::Nodes)),
+        (1, 0, Some(OpenError::Lease)),
+        (201, 1, Some(OpenError::Nodes)),
+        (1, 1, None),
+    ] {
+        let refused = RingLine::<Free>::open_leased(
+            rt.alloc(),
+            7,
+            nodes,
+            Line64::zero(),
+            lease,
+        ).err();
+        assert_eq!(rt; refused, want, "{nodes} nodes, a lease of {lease}");
+    }
+}
+
+#[test]
+fn the_last_turn_of_a_lease_closes_the_line(rt: HostRuntime) -> Result<(), Fail> {
+    let mut row = Row::open_leased(rt.alloc(), 7, 2, Line64::zero(), 2)?;
+    assert_eq!(rt; row.ask(1), Some(Enq::Granted));
+    assert_eq!(rt; row.turns_left(1), Some(Some(2)));
+    let (mask, bytes) = placed(0, &[7]).ok_or("no place")?;
+    assert_eq!(rt; row.write(1, mask, &bytes), Some(true));
+    assert_eq!(rt; row.ask(2), Some(Enq::Queued));
+    assert_eq!(rt; row.release(1), Some(true));
+    assert_eq!(rt; row.state(1), Some(PortState::Idle));
+    assert_eq!(rt; row.poll(2), Some(Poll::Granted));
+    assert_eq!(rt; row.turns_left(2), Some(Some(1)));
+    assert_eq!(rt; row.ask(1), Some(Enq::Queued));
+    assert_eq!(rt; row.release(2), Some(true));
+    assert_eq!(rt; row.state(2), Some(PortState::Shut));
+    assert_eq!(rt; row.poll(1), Some(Poll::Closed));
+    assert_eq!(rt; row.ask(2), Some(Enq::Closed));
+    let line = row.finish(rt.alloc()).ok().ok_or("no end")?;
+    let mut want = [0; 64];
+    want[0] = 7;
+    assert_eq!(rt; line.to_bytes(), want);
+    Ok(())
+}
+
+#[test]
+fn a_line_without_a_lease_counts_no_turns(rt: HostRuntime) -> Result<(), Fail> {
+    let mut row = Row::open(rt.alloc(), 7, 1, Line64::zero())?;
+    assert_eq!(rt; row.ask(1), Some(Enq::Granted));
+    assert_eq!(rt; row.turns_left(1), Some(None));
+    Ok(())
+}
+
+#[test]
+fn tickets_go_round_the_cells(rt: HostRuntime) -> Result<(), Fail> {
+    let mut row = Row::open(rt.alloc(), 7, 1, Line64::zero())?;
+    for round in 0..300u32 {
+        assert_eq!(rt; row.ask(1), Some(Enq::Granted), "round {round}");
+        let held = Line64::from_bytes(row.bytes(1).ok_or("not held")?);
+        let raised = with_lane(&held, 0, lane(&held, 0).wrapping_add(1));
+        assert_eq!(rt; row.write(1, changed(&held, &raised), &raised), Some(true));
+        assert_eq!(rt; row.release(1), Some(true));
+    }
+    let line = row.finish(rt.alloc()).ok().ok_or("no end")?;
+    assert_eq!(rt; lane(&line, 0), 300);
+    Ok(())
+}
+
+#[test]
+fn a_release_passes_all_other_nodes_of_200(rt: HostRuntime) -> Result<(), Fail> {
+    let mut row = Row::open(rt.alloc(), 7, 200, Line64::zero())?;
+    assert_eq!(rt; row.ask(1), Some(Enq::Granted));
+    for node in 2..201u64 {
+        assert_eq!(rt; row.ask(node), Some(Enq::Queued), "node {node}");
+    }
+    for node in 2..201u64 {
+        assert_eq!(rt; row.withdraw(node), Some(Out::Withdrawn), "node {node}");
+    }
+    assert_eq!(rt; row.release(1), Some(true));
+    assert_eq!(rt; row.steps(1), Some(599));
     Ok(())
 }
 
@@ -215,7 +296,7 @@ fn any_line_is_handed_over(rt: HostRuntime) -> Result<(), Fail> {
 #[test]
 fn want_of_memory_is_answered(rt: HostRuntime) -> Result<(), Fail> {
     let bytes = Line64::from_bytes([3; 64]);
-    let row = match Row::open(rt.alloc(), 7, 32, bytes) {
+    let row = match Row::open(rt.alloc(), 7, 200, bytes) {
         Ok(row) => row,
         Err(why) => {
             assert_eq!(rt; why, OpenError::Memory);

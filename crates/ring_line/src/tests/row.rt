@@ -47,6 +47,18 @@ impl Row {
         Ok(Row { line, ports })
     }
 
+    /// A new leased line and all its ports.
+    pub(super) fn open_leased(
+        alloc: Global,
+        label: u64,
+        nodes: u64,
+        opening: Line64,
+        lease: u64,
+    ) -> Result<Row, OpenError> {
+        let (line, ports) = RingLine::<Free>::open_leased(alloc, label, nodes, opening, lease)?;
+        Ok(Row { line, ports })
+    }
+
     /// Takes the node's port out.
     pub(super) fn take(&mut self, node: u64) -> Option<Port>
         ensures same { self.new ≡ self.old }
@@ -117,6 +129,27 @@ impl Row {
             .iter()
             .find(|port| RingLine::<Free>::node(port) == node)?;
         Some(self.line.steps(port))
+    }
+
+    /// How many turns are left of the lease, if the node's port holds the line.
+    pub(super) fn turns_left(&mut self, node: u64) -> Option<Option<u64>> {
+        let port = self.take(node)?;
+        let answer = if self.owns(&port) && RingLine::<Free>::state(&port) == PortState::Holding {
+            Some(self.line.turns_left(&port))
+        } else {
+            None
+        };
+        self.put(port);
+        answer
+    }
+
+    /// What the node's last call left.
+    pub(super) fn state(&self, node: u64) -> Option<PortState> {
+        let port = self
+            .ports
+            .iter()
+            .find(|port| RingLine::<Free>::node(port) == node)?;
+        Some(RingLine::<Free>::state(port))
     }
 
     /// Releases for the node, and says whether its port held the line.
