@@ -1,5 +1,5 @@
 -- Ports in tests.
-use Rattle.std.proofs.Common.{◌≡◌, ℕ, List, [], ◌∷◌, ◌++◌, Bool, true, false, if◌then◌else◌, sym, ap, ◌∙◌, subst, Some, slice_get}
+use Rattle.std.proofs.Common.{◌≡◌, ℕ, List, [], ◌∷◌, ◌++◌, Bool, true, false, if◌then◌else◌, suc, ◌<◌, length, arith, sym, ap, ◌∙◌, subst, get_or}
 use Rattle.std.proofs.lemmas.Option.{get_or_from_slice_get}
 use Rattle.std.proofs.lemmas.List.Elements.{All-push}
 use Rattle.atomic_table.specs.Seated.{TableId}
@@ -9,10 +9,18 @@ use Rattle.qolb_model.proofs.Lists.{element_at}
 use Rattle.ring_line.specs.declared.rule.Setup.{Setup}
 use Rattle.ring_line.specs.Ports.{Standing}
 use Rattle.ring_line.specs.Trial.{IsOwn, IsTheirs, AreTheirs}
+use Rattle.std.specs.List.{All, swap_remove}
+use Rattle.std.proofs.lemmas.List.Sorted.{IsPermutation-swap_remove, All-permutation}
 
 -- the ports of a new line
-pub theirs_opened : (key : Setup) (table_id : TableId) (ports : List Standing) → ((i : ℕ) (p : Standing) → slice_get ports i ≡ Some p → IsOwn key table_id p) → AreTheirs key table_id ports
-theirs_opened key table_id ports h = λ k d l _. let at = element_at ports k l in subst (IsOwn key table_id) (sym (get_or_from_slice_get ports k at.0 d at.1)) (h k at.0 at.1)
+pub theirs_opened : (key : Setup) (table_id : TableId) (ports : List Standing) → All (IsOwn key table_id) ports → AreTheirs key table_id ports
+theirs_opened key table_id ports own = λ k d l _. own k d l
+
+-- a port fewer
+pub theirs_taken : (key : Setup) (table_id : TableId) (ports new : List Standing) (i : ℕ) (p : Standing) → new ≡ swap_remove ports i p → i < length ports → p ≡ get_or ports i p → AreTheirs key table_id ports → AreTheirs key table_id new
+theirs_taken key table_id ports new i p e within is h =
+    let all : All (IsTheirs key table_id) (p ∷ swap_remove ports i p) = All-permutation (IsTheirs key table_id) ports (p ∷ swap_remove ports i p) (IsPermutation-swap_remove ports i p within is) h in
+    subst (AreTheirs key table_id) (sym e) (λ k d l. all (suc k) d (omega arith))
 
 -- a port more
 pub theirs_put : (r : Bool) (key : Setup) (table_id : TableId) (ports new : List Standing) (p : Standing) → new ≡ (if r then ports ++ p ∷ [] else ports) → AreTheirs key table_id ports → IsTheirs key table_id p → AreTheirs key table_id new
