@@ -1,5 +1,5 @@
 -- What the ports handed to `finish` are found to be, and how their seats are joined.
-use Rattle.std.proofs.Common.{◌≡◌, ℕ, suc, ◌<◌, ◌≤◌, List, [], ◌∷◌, ◌++◌, length, map, true, false, sym, refl, ap, ◌∙◌, subst, ⊎_elim, arith, append_assoc, append-nil}
+use Rattle.std.proofs.Common.{◌≡◌, ℕ, suc, ◌<◌, ◌≤◌, List, [], ◌∷◌, ◌++◌, length, map, true, false, sym, refl, ap, ◌∙◌, subst, ⊎_elim, arith, append_assoc}
 use Rattle.std.specs.List.{All}
 use Rattle.std.specs.List.Sorted.{IsPermutation}
 use Rattle.std.proofs.lemmas.List.{map-append}
@@ -105,10 +105,6 @@ gathers_start label node s y cell steps state p is ok table_id ports items rest 
     subst (λ l. Gathers table_id ports l s) (sym c)
     (gathers_head label node s y cell steps state p is ok (all_first (λ (q : Standing). may_ask q.view.state ≡ true) p rest (subst (All (λ (q : Standing). may_ask q.view.state ≡ true)) e quiets)) table_id ports rest e tables quiets)
 
--- all seats are joined
-pub gathers_all : (table_id : TableId) (ports : List Standing) (whole : RingSeat) → Gathers table_id ports [] whole → IsGathered table_id ports whole
-gathers_all table_id ports whole h = record { table = h.table; views = sym (append-nil (map (λ (e : Entry). e.view) whole.me.0)) ∙ h.views; at_rest = h.at_rest }
-
 module _ (good : List ℕ → Type 0) (allows : List ℕ → List ℕ → Type 0) (label : ℕ) (terms : Terms) (ports laid : List Standing) (table_id : TableId) (whole : RingSeat) (other : IsPermutation ports laid) (all : IsGathered table_id laid whole) (may : MayFinish label terms.nodes (views ports)) where
   same_views : IsPermutation (views ports) (map (λ (e : Entry). e.view) whole.me.0)
   same_views = subst (IsPermutation (views ports)) (sym all.views) (IsPermutation-map (λ (p : Standing). p.view) ports laid other)
@@ -120,6 +116,7 @@ module _ (good : List ℕ → Type 0) (allows : List ℕ → List ℕ → Type 0
   pub is_finished : (bytes : List ℕ) → IsLast good allows terms whole.me.0 bytes → IsFinished good allows label terms (views ports) bytes
   is_finished bytes last = record {
     of_line = may.0;
+    may_open = last.may_open;
     there = may.1;
     once = once_other (views ports) (map (λ (e : Entry). e.view) whole.me.0) same_views last.once;
     quiet = may.2;
