@@ -14,8 +14,8 @@ use Rattle.qolb_model.specs.Requests.{Has, count_of, next_of}
 use Rattle.qolb_model.specs.Views.{own}
 use Rattle.qolb_model.specs.Sound.{Continues}
 use Rattle.qolb_model.proofs.Lists.{slice_get-push, push_cases}
-use Rattle.qolb_model.proofs.Prefixes.{prefix_length}
-use Rattle.qolb_model.proofs.Requests.{count_of-push_same, has_left, has_last, has_push, lacks_from, same_place}
+use Rattle.qolb_model.proofs.Prefixes.{prefix_length, prefix_append}
+use Rattle.qolb_model.proofs.Requests.{count_of-push_same, has_left, has_last, has_push, lacks_from, same_place, has_prefix}
 use Rattle.qolb_model.proofs.Histories.{legal_ask}
 use Rattle.ring_line.specs.declared.entry.Point.TheVariants.{Idle, Queued}
 use Rattle.ring_line.specs.declared.entry.Entry.{Entry}
@@ -23,11 +23,12 @@ use Rattle.ring_line.specs.declared.rule.Setup.{Setup}
 use Rattle.ring_line.specs.Words.{ticket_at, cell_at, node_at, cell_of}
 use Rattle.ring_line.specs.Ring.{At, Past, NodeOk, PastOk, Shown, RingRule, has_line, lets_go}
 use Rattle.ring_line.specs.Steps.{sole, Contents, Asked, asked}
-use Rattle.ring_line.proofs.Lists.{at_longer, prefix_more, has_prefix, cleared_ended, clears_wider}
+use Rattle.ring_line.proofs.Lists.{at_longer, prefix_more}
 use Rattle.ring_line.proofs.Nodes.{others_ask, knows_whole, hand_none, passes_none, freed_so}
 use Rattle.ring_line.proofs.Histories.{continues}
 use Rattle.ring_line.proofs.Keeping.{Homes, rule_step, mine_ok, mine_low}
 use Rattle.ring_line.proofs.Turning.{goes_step}
+use Rattle.qolb_model.proofs.Clearing.{clears_ended, clears_later}
 
 module _ (good : List ℕ → Type 0) (allows : List ℕ → List ℕ → Type 0) (about : Setup) (v : Entry) (idle : v.point ≡ Idle) where
   abbrev new : Past → Request
@@ -84,7 +85,7 @@ module _ (good : List ℕ → Type 0) (allows : List ℕ → List ℕ → Type 0
 
       -- the new request stands at one place
       fresh_request : Has x.clear (new x) → ⊥
-      fresh_request h = let o = cleared_ended x.order (length x.ends) x.clear f.cleared (new x) h in let l = legal_ask about.terms.lease x.order x.ends v.view.node f.legal in
+      fresh_request h = let o = clears_ended f.cleared (new x) h in let l = legal_ask about.terms.lease x.order x.ends v.view.node f.legal in
           let q = same_place (x.order ++ new x ∷ []) l.numbered o.0 (length x.order) (new x) (at_longer x.order (new x ∷ []) o.0 (new x) o.2) (slice_get-push x.order (new x)) in
           let b = o.1 in let e = f.legal.ended in omega arith
 
@@ -99,7 +100,7 @@ module _ (good : List ℕ → Type 0) (allows : List ℕ → List ℕ → Type 0
     kept = f.kept;
     sound = f.sound;
     within = f.within;
-    cleared = clears_wider x.order (new x ∷ []) (length x.ends) (length x.ends) [] x.clear (omega arith) f.cleared;
+    cleared = clears_later (prefix_append x.order (new x ∷ [])) (omega arith) f.cleared;
     nobody = f.nobody;
     settled = λ h p r end before at en kind. ⊎_elim (λ t. f.settled h p r end before t.1 en kind) (λ t. let l = f.legal.ended in let e = t.0 in absurd (omega arith)) (push_cases x.order (new x) p r at);
     marked = λ p h. let k = f.marked p h in (k.0, at_longer x.order (new x ∷ []) p k.0 k.1, k.2);

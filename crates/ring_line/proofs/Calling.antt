@@ -1,9 +1,7 @@
 -- What a port's fields, and what its contract shows of them, are after a call.
-use Rattle.std.proofs.Common.{◌≡◌, ◌≢◌, ℕ, ◌+◌, ◌*◌, ◌≤◌, inr, List, [], ◌∷◌, true, false, sym, refl, ap, ◌∙◌, subst, Some, None, Bool, ◌||◌, arith, bit_or}
+use Rattle.std.proofs.Common.{◌≡◌, ◌≢◌, ℕ, ◌+◌, ◌*◌, ◌≤◌, inr, List, sym, refl, ap, ◌∙◌, subst, Some, None, Bool, ◌||◌, bit_or}
 use Rattle.line_lanes.specs.Line.{merged}
 use Rattle.atomic_table.specs.Seated.{TableId}
-use Rattle.qolb_model.specs.declared.terms.TheConstants.{MOST_NODES}
-use Rattle.qolb_model.specs.declared.terms.Terms.{Terms}
 use Rattle.qolb_model.specs.declared.answer.Enq.TheVariants as enq
 use Rattle.qolb_model.specs.declared.answer.Poll.TheVariants as poll
 use Rattle.qolb_model.specs.declared.answer.Out.TheVariants as out
@@ -13,7 +11,7 @@ use Rattle.qolb_model.specs.declared.end.End.TheVariants.{Served}
 use Rattle.qolb_model.specs.declared.view.View.{View}
 use Rattle.qolb_model.specs.declared.write.Write.{Write}
 use Rattle.qolb_model.specs.PortStates.{left_by}
-use Rattle.qolb_model.specs.Leases.{turns_left, closes}
+use Rattle.qolb_model.specs.Leases.{closes}
 use Rattle.qolb_model.specs.Steps.{is_one}
 use Rattle.qolb_model.specs.Ends.{is_closed, bytes_after, written}
 use Rattle.qolb_model.specs.Views.{bytes_of, Extends}
@@ -25,13 +23,11 @@ use Rattle.qolb_model.specs.LettingGo.{IsTold, EndsTurn}
 use Rattle.qolb_model.specs.Calls.{Enqueues, Polls, Withdraws, Releases}
 use Rattle.qolb_model.proofs.Leases.{last-is_one}
 use Rattle.qolb_model.proofs.Writes.{bytes_after-release}
-use Rattle.ring_line.specs.Words.{cell_of}
-use Rattle.ring_line.specs.declared.entry.Point.TheVariants.{Holding}
 use Rattle.ring_line.specs.declared.entry.Entry.{Entry}
 use Rattle.ring_line.specs.declared.port.Port.TheInside.{Inside}
 use Rattle.ring_line.specs.declared.rule.Parcel.{Parcel}
 use Rattle.ring_line.specs.declared.rule.Setup.{Setup}
-use Rattle.ring_line.specs.Steps.{RingSeat, SameSeat, HasSlot, HasNoSlot, Alone, entry_of, sole, GoesOn, write_of, own_end, Carries, IsEarly, IsRolled}
+use Rattle.ring_line.specs.Steps.{RingSeat, SameSeat, HasSlot, entry_of, sole, GoesOn, write_of, own_end, Carries, IsEarly, IsRolled}
 use Rattle.ring_line.specs.Releases.{IsRenewed, IsPutBack, LetsLineGo}
 use Rattle.ring_line.specs.Ports.{Standing, standing, Holds, Stands, IsPort, BelongsTo, Arrived}
 use Rattle.ring_line.proofs.Turning.{continues_sound, sound_goes, asks_goes, asks_from}
@@ -60,41 +56,10 @@ module _ {good : List ℕ → Type 0} {allows : List ℕ → List ℕ → Type 0
     sound = sound_goes good allows key.label key.terms p.view (entry_of t).view b.sound call_continues;
   }
 
-  -- and has counted its steps
-  pub call_taken : (steps : ℕ) → steps ≡ n → (entry_of t).steps ≡ p.taken + steps
-  call_taken steps e = omega (arith, goes.counted, ap (λ (x : Standing). x.taken) is)
-
-  -- the line has a node, and not too many
-  pub call_nodes : (1 ≤ (entry_of t).view.terms.nodes) × ((entry_of t).view.terms.nodes ≤ MOST_NODES)
-  call_nodes = let terms = ap (λ (x : Terms). x.nodes) (call_continues.extends.terms ∙ b.sound.terms_are) in let may = b.sound.may_open.nodes in (omega (arith, terms, may.some), omega (arith, terms, may.few))
-
-  pub call_terms : (entry_of t).view.terms.nodes ≡ key.terms.nodes
-  call_terms = ap (λ (x : Terms). x.nodes) (call_continues.extends.terms ∙ b.sound.terms_are)
-
-  -- the port after the call, where its state is this
-  pub call_port : {state : PortState} (z : Parcel) (cell : ℕ) → IsBetween q → Stands t z cell state → (entry_of t).view.state ≡ state → IsPort q.label q.node t z cell state
-  call_port z cell between stands shown = record {
-    alone = goes.alone;
-    stands = stands;
-    shows_state = shown;
-    label_is = goes.extends.label ∙ between.label_is;
-    node_is = goes.extends.node ∙ between.node_is;
-  }
-
 -- a node that was made ready, asked and loaded its cell has asked
 pub asking_asks : {p : Standing} {r a l : View} (q : Inside) → seen q ≡ p → Extends (known q) r → r.count ≡ (known q).count → Asks r a → Extends a l → l.count ≡ a.count → Asks p.view l
 asking_asks {r = r} {a = a} {l = l} q is ready same asks later count =
     subst (λ (x : Standing). Asks x.view l) is (asks_goes (known q) a l (asks_from (known q) r a ready same asks) later count)
-
--- where the line arrived, the port holds it, or was told that it is closed
-pub arrived_stands : (t : RingSeat) (z : Parcel) (cell before steps : ℕ) (state : PortState) → Arrived t z cell before steps state → Stands t z cell state × ((entry_of t).view.state ≡ state)
-arrived_stands t z cell before steps shows.Idle a = absurd a
-arrived_stands t z cell before steps shows.Linking a = absurd a
-arrived_stands t z cell before steps shows.Queued a = absurd a
-arrived_stands t z cell before steps shows.Holding a = (a.0, a.1)
-arrived_stands t z cell before steps shows.Left a = absurd a
-arrived_stands t z cell before steps shows.Rolled a = absurd a
-arrived_stands t z cell before steps shows.Shut a = ((a.0, a.1), a.2)
 
 pub granted_of : (t : RingSeat) (z : Parcel) (cell before steps : ℕ) (state : PortState) → Arrived t z cell before steps state → state ≡ shows.Holding → IsGranted (entry_of t).view (write_of z) × (steps ≡ before)
 granted_of t z cell before steps shows.Idle a h = absurd a
@@ -154,19 +119,9 @@ early_waits v w e = record { state = e.state; waits = (w.place, e.early, e.place
 pub rolled_withdrawn : (v w : Entry) → IsRolled v w → IsWithdrawn w.view
 rolled_withdrawn v w e = record { state = e.state; waits = (w.place, e.early, e.placed); marked = e.marked }
 
-pub early_stands : (v : Entry) (t : RingSeat) (z : Parcel) (cell : ℕ) → HasNoSlot t × IsEarly v (entry_of t) → cell ≡ cell_of v.place → Stands t z cell shows.Queued
-early_stands v t z cell e is = (e.1.point, e.0, is ∙ ap cell_of (sym e.1.place))
-
 -- the count of a port's requests, as its contract shows it
 pub same_count : {p : Standing} (w : View) (q : Inside) → seen q ≡ p → w.count ≡ (known q).count → w.count ≡ p.view.count
 same_count w q is e = e ∙ ap (λ (x : Standing). x.view.count) is
-
--- its node is busy, and stays withdrawn
-pub busy_stands : (q : Inside) (t : RingSeat) → IsBetween q → t.me.1 ≡ q.seat.me.1 → IsRenewed q.state (entry_of q.seat) (entry_of t) None → Stands t q.parcel q.cell q.state × ((entry_of t).view.state ≡ q.state)
-busy_stands q t between slot busy = (
-  subst (Stands t q.parcel q.cell) (sym busy.0) (busy.1, slot ∙ (subst (Stands q.seat q.parcel q.cell) busy.0 between.stands).1),
-  busy.2 ∙ between.shows_state,
-)
 
 -- the state that a port shows is its own
 pub own_state : {p : Standing} (q : Inside) → IsBetween q → seen q ≡ p → p.view.state ≡ q.state
@@ -187,16 +142,6 @@ shown_state q between is held = sym between.shows_state ∙ (ap (λ (x : Standin
 pub holds_of : {p : Standing} (q : Inside) → IsBetween q → seen q ≡ p → p.view.state ≡ shows.Holding → Holds q.seat q.parcel q.cell
 holds_of q between is held = subst (Stands q.seat q.parcel q.cell) (shown_state q between is held) between.stands
 
--- no port is ever Left or Linking
-pub never_linked : (label node : ℕ) (s : RingSeat) (y : Parcel) (cell : ℕ) (state : PortState) → IsPort label node s y cell state → (state ≢ shows.Left) × (state ≢ shows.Linking)
-never_linked label node s y cell shows.Idle p = ((λ e. cc e), (λ e. cc e))
-never_linked label node s y cell shows.Linking p = absurd p.stands
-never_linked label node s y cell shows.Queued p = ((λ e. cc e), (λ e. cc e))
-never_linked label node s y cell shows.Holding p = ((λ e. cc e), (λ e. cc e))
-never_linked label node s y cell shows.Left p = absurd p.stands
-never_linked label node s y cell shows.Rolled p = ((λ e. cc e), (λ e. cc e))
-never_linked label node s y cell shows.Shut p = ((λ e. cc e), (λ e. cc e))
-
 -- it writes
 pub written_port : {p : Standing} (q : Inside) (z : Parcel) (mask : ℕ) (bytes : List ℕ) → IsBetween q → seen q ≡ p → p.view.state ≡ shows.Holding → z.bytes.bytes ≡ merged q.parcel.bytes.bytes bytes mask → z.mask.0 ≡ bit_or q.parcel.mask.0 mask → z.turns_left ≡ q.parcel.turns_left
     → IsPort q.label q.node q.seat z q.cell q.state
@@ -213,23 +158,13 @@ module _ {good : List ℕ → Type 0} {allows : List ℕ → List ℕ → Type 0
   its : Holds q.seat q.parcel q.cell
   its = holds_of q between is held
 
-  pub left_of : q.parcel.turns_left ≡ turns_left key.terms.lease p.view.ends
-  left_of = its.turns ∙ ap (λ (x : Standing). turns_left x.view.terms.lease x.view.ends) is ∙ ap (λ (t : Terms). turns_left t.lease p.view.ends) b.sound.terms_are
-
   pub some_left : q.parcel.turns_left ≢ Some 0
   some_left = its.some_left
-
-  -- its slot is open, and says so too
-  pub slot_of : (y : Parcel) × HasSlot q.seat y × (y.closed ≡ false) × (y.turns_left ≡ q.parcel.turns_left)
-  slot_of = (its.slot, its.carried, its.slot_open, its.slot_turns)
 
   -- the line is put back into it, closed or not
   module _ (shut closed : Bool) (is_shut : closed ≡ (shut || is_one q.parcel.turns_left)) (u : RingSeat) (same : SameSeat q.seat u) (entries : u.me.0 ≡ q.seat.me.0) (back : (y : Parcel) × HasSlot u y × IsPutBack q.parcel closed y) where
     entry : entry_of u ≡ entry_of q.seat
     entry = ap sole entries
-
-    pub put_at : (entry_of u).point ≡ Holding
-    put_at = ap (λ (e : Entry). e.point) entry ∙ its.point
 
     pub put_closes : closed ≡ closes (known q).terms.lease (known q).ends shut
     put_closes = is_shut ∙ ap (λ b. shut || b) (ap is_one its.turns ∙ last-is_one (known q).terms.lease (known q).ends)
@@ -241,9 +176,6 @@ module _ {good : List ℕ → Type 0} {allows : List ℕ → List ℕ → Type 0
       subst (λ e. Carries allows e back.0) (sym entry)
           (carries_served allows (entry_of q.seat) q.parcel back.0 shut its.none_passed its.is_open its.turns its.merged (subst (λ (x : Standing). MayRelease allows x.view x.turn) (sym is) may) (subst (λ c. IsPutBack q.parcel c back.0) put_closes back.2)),
     )
-
-    pub put_goes : Alone u.me
-    put_goes = entries ∙ (between.alone ∙ ap (λ es. sole es ∷ []) (sym entries))
 
     -- and let go
     pub let_go_releases : (t : RingSeat) (n : ℕ) → GoesOn allows q.seat.me t.me n → SameSeat q.seat t → LetsLineGo (entry_of u) back.0 (entry_of t) → Releases allows shut p.view (entry_of t).view p.turn
@@ -272,11 +204,3 @@ module _ {good : List ℕ → Type 0} {allows : List ℕ → List ℕ → Type 0
         ends = subst (λ (x : Standing). EndsTurn x.view (Served x.turn (closes x.view.terms.lease x.view.ends shut)) (left_by (closes x.view.terms.lease x.view.ends shut)) (entry_of t).view) is
             (subst (λ e. EndsTurn (known q) e (left_by (closes (known q).terms.lease (known q).ends shut)) (entry_of t).view) what
             (subst (λ k. EndsTurn (known q) (own_end (is_closed (known q).ends) back.0) k (entry_of t).view) leaves here.ends_turn))
-
-    -- the state that this leaves
-    pub let_go_stands : (t : RingSeat) (z : Parcel) (cell : ℕ) → HasNoSlot t → LetsLineGo (entry_of u) back.0 (entry_of t) → Stands t z cell (left_by closed) × ((entry_of t).view.state ≡ left_by closed)
-    let_go_stands t z cell slot l = (by closed, l.state ∙ ap left_by back.2.closed_is)
-      where
-        by : (k : Bool) → Stands t z cell (left_by k)
-        by true = (l.point, slot)
-        by false = (l.point, slot)

@@ -17,7 +17,8 @@ use Rattle.ring_line.specs.declared.rule.Setup.{Setup}
 use Rattle.ring_line.specs.declared.rule.Parcel.{Parcel}
 use Rattle.ring_line.specs.Ring.{At, Past, PastOk}
 use Rattle.ring_line.specs.Steps.{end_of}
-use Rattle.ring_line.proofs.Lists.{clears_later}
+use Rattle.qolb_model.proofs.Clearing.{clears_later}
+use Rattle.qolb_model.proofs.Prefixes.{prefix_self}
 
 pub not_holding : (b : Bool) → left_by b ≢ shows.Holding
 not_holding false e = cc
@@ -48,7 +49,7 @@ module _ (good : List ℕ → Type 0) (allows : List ℕ → List ℕ → Type 0
     kept = allowed-append allows about.terms.opening.bytes x.ends (e ∷ []) f.kept allowed;
     sound = subst good (sym (bytes_after-append about.terms.opening.bytes x.ends (e ∷ []))) (sound_end goes (bytes_after about.terms.opening.bytes x.ends) e f.sound allowed);
     within = f.within;
-    cleared = clears_later x.order (length x.ends) (length (x.ends ++ e ∷ [])) [] x.clear (let l = length-append x.ends (e ∷ []) in omega arith) f.cleared;
+    cleared = clears_later (prefix_self x.order) (let l = length-append x.ends (e ∷ []) in omega arith) f.cleared;
     nobody = λ h. absurd (held h);
     settled = λ h. absurd (held h);
     marked = f.marked;

@@ -1,5 +1,5 @@
 -- What the ports handed to `finish` are found to be, and how their seats are joined.
-use Rattle.std.proofs.Common.{◌≡◌, ℕ, suc, ◌<◌, ◌≤◌, List, [], ◌∷◌, ◌++◌, length, map, true, false, sym, refl, ap, ◌∙◌, subst, ⊎_elim, arith, append_assoc, append-nil}
+use Rattle.std.proofs.Common.{◌≡◌, ℕ, suc, ◌<◌, ◌≤◌, List, [], ◌∷◌, ◌++◌, length, map, true, false, sym, refl, ap, ◌∙◌, subst, ⊎_elim, arith, append_assoc}
 use Rattle.std.specs.List.{All}
 use Rattle.std.specs.List.Sorted.{IsPermutation}
 use Rattle.std.proofs.lemmas.List.{map-append}
@@ -10,7 +10,6 @@ use Rattle.qolb_model.specs.declared.view.View.{View}
 use Rattle.qolb_model.specs.declared.unfinished.FinishError.{FinishError}
 use Rattle.qolb_model.specs.OneHistory.{IsAmong}
 use Rattle.qolb_model.specs.declared.terms.Terms.{Terms}
-use Rattle.qolb_model.specs.Opening.{MayOpen}
 use Rattle.qolb_model.specs.PortStates.{may_ask}
 use Rattle.qolb_model.specs.Finishing.{MayFinish, MayRefuse, IsFinished}
 use Rattle.qolb_model.proofs.Finishing.{among_other, once_other}
@@ -106,10 +105,6 @@ gathers_start label node s y cell steps state p is ok table_id ports items rest 
     subst (λ l. Gathers table_id ports l s) (sym c)
     (gathers_head label node s y cell steps state p is ok (all_first (λ (q : Standing). may_ask q.view.state ≡ true) p rest (subst (All (λ (q : Standing). may_ask q.view.state ≡ true)) e quiets)) table_id ports rest e tables quiets)
 
--- all seats are joined
-pub gathers_all : (table_id : TableId) (ports : List Standing) (whole : RingSeat) → Gathers table_id ports [] whole → IsGathered table_id ports whole
-gathers_all table_id ports whole h = record { table = h.table; views = sym (append-nil (map (λ (e : Entry). e.view) whole.me.0)) ∙ h.views; at_rest = h.at_rest }
-
 module _ (good : List ℕ → Type 0) (allows : List ℕ → List ℕ → Type 0) (label : ℕ) (terms : Terms) (ports laid : List Standing) (table_id : TableId) (whole : RingSeat) (other : IsPermutation ports laid) (all : IsGathered table_id laid whole) (may : MayFinish label terms.nodes (views ports)) where
   same_views : IsPermutation (views ports) (map (λ (e : Entry). e.view) whole.me.0)
   same_views = subst (IsPermutation (views ports)) (sym all.views) (IsPermutation-map (λ (p : Standing). p.view) ports laid other)
@@ -118,10 +113,10 @@ module _ (good : List ℕ → Type 0) (allows : List ℕ → List ℕ → Type 0
   all_at_rest n a b = let v = may.1 n a b in let e = among_map_port (λ (e : Entry). e.view) whole.me.0 v.0 (among_other (views ports) (map (λ (e : Entry). e.view) whole.me.0) same_views v.0 v.1) in
       (e.0, e.1, e.2, ap (λ (w : View). w.node) (sym e.3) ∙ v.2, all.at_rest e.0 e.1 e.2)
 
-  pub is_finished : (bytes : List ℕ) → MayOpen terms → IsLast good allows terms whole.me.0 bytes → IsFinished good allows label terms (views ports) bytes
-  is_finished bytes may_open last = record {
+  pub is_finished : (bytes : List ℕ) → IsLast good allows terms whole.me.0 bytes → IsFinished good allows label terms (views ports) bytes
+  is_finished bytes last = record {
     of_line = may.0;
-    may_open = may_open;
+    may_open = last.may_open;
     there = may.1;
     once = once_other (views ports) (map (λ (e : Entry). e.view) whole.me.0) same_views last.once;
     quiet = may.2;
@@ -160,11 +155,6 @@ module _ (good : List ℕ → Type 0) (allows : List ℕ → List ℕ → Type 0
   pub all_quiet : All (λ (p : Standing). may_ask p.view.state ≡ true) laid
   all_quiet = each_is (λ (p : Standing). may_ask p.view.state ≡ true) (λ k p at. let s = (each_belongs k p at).sound in
       may.2 p.view.node s.first_node s.last_node p.view (among_map (λ (p : Standing). p.view) ports k p at) refl)
-
-  -- a line with a port was lawfully opened
-  pub opened_so : 1 ≤ key.terms.nodes → MayOpen key.terms
-  opened_so few = let v = may.1 1 (omega arith) few in let p = among_map_port (λ (p : Standing). p.view) ports v.0 v.1 in
-      (each_belongs p.0 p.1 p.2).sound.may_open
 
   pub some_port : 1 ≤ key.terms.nodes → 0 < length laid
   some_port few = let v = may.1 1 (omega arith) few in let p = among_map_port (λ (p : Standing). p.view) ports v.0 v.1 in

@@ -28,7 +28,7 @@ use Rattle.ring_line.specs.declared.rule.Parcel.{Parcel}
 use Rattle.ring_line.specs.Words.{ticket_at, cell_at, node_at, cell_of, withdrawn_by}
 use Rattle.ring_line.specs.Ring.{At, Past, HasPassed, Walks, NodeOk, PastOk, Shown, RingRule, has_line, lets_go, is_kept, is_cleared}
 use Rattle.ring_line.specs.Steps.{Contents, next_end, after_walk, Carries, Ended, GoesHome, Passes, granted}
-use Rattle.ring_line.proofs.Lists.{elem_within, at_same, prefix_more, cleared_ended}
+use Rattle.ring_line.proofs.Lists.{elem_within, at_same, prefix_more}
 use Rattle.ring_line.proofs.Nodes.{passed_goes, put, put_here, put_else, placed_at, others_end, others_clear, others_hand, knows_whole, hand_none, freed_so}
 use Rattle.ring_line.proofs.Histories.{marked_at, continues}
 use Rattle.ring_line.proofs.Keeping.{St, Homes, rule_step, mine_ok, mine_low, blank}
@@ -40,6 +40,7 @@ use Rattle.ring_line.proofs.Turning.{goes_step}
 use Rattle.qolb_model.specs.Leases.{turns_left, is_last_turn}
 use Rattle.qolb_model.specs.declared.terms.Terms.{Terms}
 use Rattle.qolb_model.specs.PortStates.{left_by}
+use Rattle.qolb_model.proofs.Clearing.{clears_ended}
 
 abbrev pub carried_parcel : Parcel → List (ℕ × Parcel) → Parcel
 carried_parcel d [] = d
@@ -193,7 +194,7 @@ module _ (good : List ℕ → Type 0) (allows : List ℕ → List ℕ → Type 0
           marked = rolled;
           request = passed_request.0;
           at = passed_request.1;
-          unclear = lacks_from x.clear passed_request.0 (λ h. let o = cleared_ended x.order (length x.ends) x.clear f.cleared passed_request.0 h in
+          unclear = lacks_from x.clear passed_request.0 (λ h. let o = clears_ended f.cleared passed_request.0 h in
               let s = same_place x.order f.legal.numbered o.0 (length (x.ends ++ e ∷ [])) passed_request.0 o.2 passed_request.1 in let b = o.1 in let l = longer in omega arith);
         }
 

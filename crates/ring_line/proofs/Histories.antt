@@ -14,7 +14,7 @@ use Rattle.qolb_model.specs.declared.terms.Terms.{Terms}
 use Rattle.qolb_model.specs.declared.end.End.{End}
 use Rattle.std.proofs.lemmas.Bool.{cases_lt}
 use Rattle.ring_line.specs.declared.entry.Point.{Point}
-use Rattle.qolb_model.proofs.Lists.{element_at}
+use Rattle.qolb_model.proofs.Lists.{element_at, same_test}
 use Rattle.qolb_model.proofs.Prefixes.{prefix_get}
 use Rattle.qolb_model.proofs.Requests.{place_of_request, same_place, lacks_from}
 use Rattle.qolb_model.proofs.Writes.{allowed-begins}
@@ -23,7 +23,7 @@ use Rattle.ring_line.specs.declared.entry.Point.TheVariants.{Idle, Queued, Holdi
 use Rattle.ring_line.specs.declared.entry.Entry.{Entry}
 use Rattle.ring_line.specs.declared.rule.Setup.{Setup}
 use Rattle.ring_line.specs.Ring.{At, Past, NodeOk, PastOk, has_line, is_kept}
-use Rattle.ring_line.proofs.Lists.{at_same, same_bool}
+use Rattle.ring_line.proofs.Lists.{at_same}
 use Rattle.ring_line.proofs.Nodes.{placed_at, clash_at, kept_asked}
 
 module _ (good : List ℕ → Type 0) (allows : List ℕ → List ℕ → Type 0) (about : Setup) where
@@ -46,7 +46,7 @@ module _ (good : List ℕ → Type 0) (allows : List ℕ → List ℕ → Type 0
     own_ends = λ p r e at en mine gone.
         let here = element_at v.view.ends p (ok.knows.own_ends p r e at (mine ∙ ok.who.node) en gone) in
         here.1 ∙ ap Some (at_same x.ends p here.0 e (prefix_get v.view.ends x.ends p here.0 ok.knows.endings here.1) en);
-    own_marks = λ p r e at en mine. same_bool (has v.view.marked r) (is_gone e) (λ h. (f.gone p e en).1 (marked_at x f n v ok p r at h)) (λ g. ok.marks.known p r at (mine ∙ ok.who.node) ((f.gone p e en).0 g));
+    own_marks = λ p r e at en mine. same_test (has v.view.marked r) (is_gone e) (λ h. (f.gone p e en).1 (marked_at x f n v ok p r at h)) (λ g. ok.marks.known p r at (mine ∙ ok.who.node) ((f.gone p e en).0 g));
     holder = λ e. let h = ok.hand.holder e in subst (λ q. At x.order q (own v.view)) h.1 (placed_at about x n v ok (ok.stance.asked (λ i. clash_at has_line Idle h.0 i refl)));
   }
 

@@ -72,6 +72,7 @@ module _ (good : List ℕ → Type 0) (allows : List ℕ → List ℕ → Type 0
       y.0,
       y.1,
       record {
+        may_open = r.may_open;
         once = once;
         history = one_history good allows about r.past r.fine (map (λ (e : Entry). e.view) entries) among;
         terms_are = refl;

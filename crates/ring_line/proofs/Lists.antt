@@ -1,5 +1,5 @@
 -- Lists of requests and ends.
-use Rattle.std.proofs.Common.{◌≡◌, ◌≢◌, ◌⊎◌, ℕ, zero, suc, ◌+◌, ◌<◌, ◌≤◌, List, [], ◌∷◌, ◌++◌, length, drop, Bool, true, false, cond, eqb, sym, refl, ap, ◌∙◌, inl, inr, ⊎_elim, subst, arith, zero-add, eq-eqb, ne_eqb, Some, None}
+use Rattle.std.proofs.Common.{◌≡◌, ◌≢◌, ◌⊎◌, ℕ, zero, suc, ◌+◌, ◌<◌, ◌≤◌, List, [], ◌∷◌, ◌++◌, length, drop, Bool, cond, eqb, sym, refl, ap, ◌∙◌, inl, inr, ⊎_elim, arith, zero-add, eq-eqb, ne_eqb, Some, None}
 use mathlib.Core.Logic.{dite}
 use mathlib.Core.List.{IsPrefix}
 use mathlib.Core.Option.{some, some-ne-none}
@@ -7,9 +7,8 @@ use native.Mathlib.Decide.{ℕ_discrete}
 use lib.ListN.{get_elem?}
 use Rattle.std.proofs.lemmas.Option.{slice_get_within}
 use Rattle.qolb_model.specs.declared.request.Request.{Request}
-use Rattle.qolb_model.specs.Requests.{Has, Lacks, has, count_of}
-use Rattle.qolb_model.specs.Histories.{Clears, none, more}
-use Rattle.qolb_model.proofs.Lists.{never, same_some, slice_get-append_left, slice_get-drop}
+use Rattle.qolb_model.specs.Requests.{Lacks, has, count_of}
+use Rattle.qolb_model.proofs.Lists.{never, same_some, slice_get-append_left, slice_get-drop, same_test}
 use Rattle.qolb_model.proofs.Prefixes.{prefix_append, prefix_trans}
 use Rattle.qolb_model.proofs.Requests.{count_of-append, count_of-push_same, count_of-push_other, lacks_from, has_left, has_push}
 use Rattle.ring_line.specs.Ring.{At}
@@ -41,10 +40,6 @@ module _ {A : Type 0} where
   pub at_none : (i : ℕ) (y : A) → At [] i y → ⊥
   at_none i y e = let h : None ≡ Some y = e in cc h
 
--- one request alone
-pub count_of-one : (n k m : ℕ) → n ≡ m → count_of m (record { node = n; number = k } ∷ []) ≡ 1
-count_of-one n k m e = count_of-push_same m [] (record { node = n; number = k }) e
-
 pub count_of-cons_other : (n : ℕ) (r : Request) (xs : List Request) → r.node ≢ n → count_of n (r ∷ xs) ≡ count_of n xs
 count_of-cons_other n r xs other = let a = count_of-append n (r ∷ []) xs in let b : count_of n (r ∷ []) ≡ count_of n [] = count_of-push_other n [] r other in
     let c : count_of n [] ≡ 0 = refl in omega arith
@@ -52,26 +47,6 @@ count_of-cons_other n r xs other = let a = count_of-append n (r ∷ []) xs in le
 pub count_of-cons_same : (n : ℕ) (r : Request) (xs : List Request) → r.node ≡ n → count_of n (r ∷ xs) ≡ 1 + count_of n xs
 count_of-cons_same n r xs same = let a = count_of-append n (r ∷ []) xs in let b : count_of n (r ∷ []) ≡ count_of n [] + 1 = count_of-push_same n [] r same in
     let c : count_of n [] ≡ 0 = refl in omega arith
-
--- a request on the clear list has ended
-cleared_since : (order : List Request) (ended : ℕ) (a b : List Request) → Clears order ended a b → (r : Request) → Has b r → Has a r ⊎ ((p : ℕ) × (p < ended) × At order p r)
-cleared_since order ended a b none r h = inl h
-cleared_since order ended a b (more p q c l at new) r h = elim (has_push _ q r h) [
-  | inl was ↦ cleared_since order ended a _ c r was
-  | inr is ↦ inr (p, l, at ∙ ap Some (sym is))
-]
-
-pub cleared_ended : (order : List Request) (ended : ℕ) (clear : List Request) → Clears order ended [] clear → (r : Request) → Has clear r → (p : ℕ) × (p < ended) × At order p r
-cleared_ended order ended clear c r h = elim (cleared_since order ended [] clear c r h) [ inl was ↦ absurd (let e : false ≡ true = was in cc e) | inr is ↦ is ]
-
--- the order grows, and the number of ends
-pub clears_wider : (order more_order : List Request) (ended later : ℕ) (a b : List Request) → ended ≤ later → Clears order ended a b → Clears (order ++ more_order) later a b
-clears_wider order ms ended later a b le none = none
-clears_wider order ms ended later a b le (more p q c l at new) = more p q (clears_wider order ms ended later a _ le c) (omega arith) (at_longer order ms p q at) new
-
-pub clears_later : (order : List Request) (ended later : ℕ) (a b : List Request) → ended ≤ later → Clears order ended a b → Clears order later a b
-clears_later order ended later a b le none = none
-clears_later order ended later a b le (more p q c l at new) = more p q (clears_later order ended later a _ le c) (omega arith) at new
 
 -- Nodes that stand at most once each are not more than there are nodes
 pub sum_to : (ℕ → ℕ) → ℕ → ℕ
@@ -135,23 +110,15 @@ count_once k (x ∷ xs) h = dite (ℕ_discrete x.node k)
     back : (i j : ℕ) → suc i ≡ suc j → i ≡ j
     back i j e = omega arith
 
-pub same_bool : (a b : Bool) → (a ≡ true → b ≡ true) → (b ≡ true → a ≡ true) → a ≡ b
-same_bool true b f g = sym (f refl)
-same_bool false true f g = g refl
-same_bool false false f g = refl
-
 -- a request that is not pushed
 pub has_push_other : (xs : List Request) (x r : Request) → r ≢ x → has (xs ++ x ∷ []) r ≡ has xs r
-has_push_other xs x r ne = same_bool (has (xs ++ x ∷ []) r) (has xs r) (λ h. ⊎_elim (λ t. t) (λ t. absurd (ne t)) (has_push xs x r h)) (λ h. has_left xs (x ∷ []) r h)
+has_push_other xs x r ne = same_test (has (xs ++ x ∷ []) r) (has xs r) (λ h. ⊎_elim (λ t. t) (λ t. absurd (ne t)) (has_push xs x r h)) (λ h. has_left xs (x ∷ []) r h)
 
 pub lacks_push : (xs : List Request) (x r : Request) → r ≢ x → Lacks xs r → Lacks (xs ++ x ∷ []) r
 lacks_push xs x r ne h = has_push_other xs x r ne ∙ h
 
 pub lacked_push : (xs : List Request) (x r : Request) → Lacks (xs ++ x ∷ []) r → Lacks xs r
 lacked_push xs x r h = lacks_from xs r (λ was. never (has_left xs (x ∷ []) r was) h)
-
-pub has_prefix : (xs ys : List Request) (r : Request) → IsPrefix xs ys → Has xs r → Has ys r
-has_prefix xs ys r p h = subst (λ z. Has z r) p.1 (has_left xs p.0 r h)
 
 pub elem_within : {A : Type 0} (xs : List A) (p : ℕ) (x : A) → get_elem? xs p ≡ some x → p < length xs
 elem_within [] p x e = absurd (some-ne-none x (sym e))

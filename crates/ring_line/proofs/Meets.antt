@@ -1,12 +1,11 @@
 -- What two entries in one seat say.
-use Rattle.std.proofs.Common.{◌≡◌, ◌≢◌, ◌⊎◌, ℕ, zero, suc, ◌+◌, ◌<◌, ◌≤◌, List, [], ◌∷◌, ◌++◌, length, set, slice_index, Bool, true, false, if◌then◌else◌, sym, refl, ap, ◌∙◌, subst, inl, inr, ⊎_elim, arith, length-set, nat_lt}
+use Rattle.std.proofs.Common.{◌≡◌, ◌≢◌, ◌⊎◌, ℕ, zero, suc, ◌+◌, ◌<◌, ◌≤◌, List, [], ◌∷◌, ◌++◌, length, set, slice_index, sym, refl, ap, ◌∙◌, subst, inl, inr, ⊎_elim, arith, length-set}
 use mathlib.Core.Logic.{dite}
 use mathlib.Core.List.{IsPrefix}
 use mathlib.Core.Option.{none, some}
 use native.Mathlib.Decide.{ℕ_discrete}
 use lib.ListN.{get_elem?}
 use lib.Seq.{set-get_or}
-use Rattle.std.proofs.lemmas.Bool.{ltb-true, ltb-false}
 use Rattle.atomic_table.specs.Table.{step, keeps, gives, put_back, rest, Allows}
 use Rattle.atomic_table.proofs.Lists.{at_set, set_again}
 use Rattle.qolb_model.specs.declared.request.Request.{Request}
@@ -16,8 +15,8 @@ use Rattle.qolb_model.specs.Views.{own}
 use Rattle.qolb_model.specs.OneHistory.{IsAmong, OneHistory}
 use Rattle.qolb_model.specs.Sound.{Continues}
 use Rattle.qolb_model.specs.Meeting.{longer, Meets}
-use Rattle.qolb_model.proofs.Prefixes.{prefix_self, prefix_get, prefix_length, prefix_shorter, prefix_whole}
-use Rattle.qolb_model.proofs.Requests.{has_left, place_of_request, has_at}
+use Rattle.qolb_model.proofs.Prefixes.{prefix_get, prefix_length}
+use Rattle.qolb_model.proofs.Requests.{has_left, place_of_request, has_at, has_prefix}
 use Rattle.qolb_model.proofs.Agreeing.{among_first, among_second, among_two, history_of_some}
 use Rattle.ring_line.specs.declared.entry.Point.TheVariants.{Holding}
 use Rattle.ring_line.specs.declared.entry.Entry.{Entry}
@@ -25,32 +24,12 @@ use Rattle.ring_line.specs.declared.rule.Setup.{Setup}
 use Rattle.ring_line.specs.declared.rule.Parcel.{Parcel}
 use Rattle.ring_line.specs.Ring.{At, Past, NodeOk, Member, PastOk, RingRule, has_line}
 use Rattle.ring_line.specs.Steps.{Contents, informed, informed_view, met, parked, sole}
-use Rattle.ring_line.proofs.Lists.{at_one, at_none, at_either, has_prefix}
+use Rattle.ring_line.proofs.Lists.{at_one, at_none, at_either}
 use Rattle.ring_line.proofs.Nodes.{passed_goes, put, put_here, put_else}
 use Rattle.ring_line.proofs.Histories.{one_history, continues}
 use Rattle.ring_line.proofs.Keeping.{St}
 use Rattle.std.proofs.lemmas.List.Folds.{list_any-append}
-
-module _ {A : Type 0} where
-  longer_cases : (ls ms : List A) → ((length ls ≤ length ms) × (longer ls ms ≡ ms)) ⊎ ((length ms ≤ length ls) × (longer ls ms ≡ ls))
-  longer_cases ls ms = go (nat_lt (length ls) (length ms)) refl
-    where
-      go : (t : Bool) → nat_lt (length ls) (length ms) ≡ t → ((length ls ≤ length ms) × (longer ls ms ≡ ms)) ⊎ ((length ms ≤ length ls) × (longer ls ms ≡ ls))
-      go true e = inl (let l = ltb-true (length ls) (length ms) e in omega arith, ap (λ c. if c then ms else ls) e)
-      go false e = inr (let l = ltb-false (length ls) (length ms) e in omega arith, ap (λ c. if c then ms else ls) e)
-
-  longer_begins : (xs ls ms : List A) → IsPrefix ls xs → IsPrefix ms xs → IsPrefix (longer ls ms) xs
-  longer_begins xs ls ms p q = ⊎_elim (λ t. subst (λ z. IsPrefix z xs) (sym t.1) q) (λ t. subst (λ z. IsPrefix z xs) (sym t.1) p) (longer_cases ls ms)
-
-  begins_longer : (xs ls ms : List A) → IsPrefix ls xs → IsPrefix ms xs → IsPrefix ls (longer ls ms)
-  begins_longer xs ls ms p q = ⊎_elim (λ t. subst (IsPrefix ls) (sym t.1) (prefix_shorter ls ms xs p q t.0)) (λ t. subst (IsPrefix ls) (sym t.1) (prefix_self ls)) (longer_cases ls ms)
-
-  begins_longer_too : (xs ls ms : List A) → IsPrefix ls xs → IsPrefix ms xs → IsPrefix ms (longer ls ms)
-  begins_longer_too xs ls ms p q = ⊎_elim (λ t. subst (IsPrefix ms) (sym t.1) (prefix_self ms)) (λ t. subst (IsPrefix ms) (sym t.1) (prefix_shorter ms ls xs q p t.0)) (longer_cases ls ms)
-
-  -- the whole list is the longer
-  longer_whole : (xs ls ms : List A) → ls ≡ xs → IsPrefix ms xs → longer ls ms ≡ xs
-  longer_whole xs ls ms e q = ⊎_elim (λ t. t.1 ∙ prefix_whole ms xs q (subst (λ l. length l ≤ length ms) e t.0)) (λ t. t.1 ∙ e) (longer_cases ls ms)
+use Rattle.qolb_model.proofs.Longer.{longer_begins, begins_longer, begins_longer_too, longer_whole}
 
 -- a request of two lists, one after the other
 either_has : (xs ys : List Request) (r : Request) → Has (xs ++ ys) r → Has xs r ⊎ Has ys r
@@ -62,13 +41,13 @@ module _ (good : List ℕ → Type 0) (allows : List ℕ → List ℕ → Type 0
   informed_ok x n m v u ok other = record {
     who = record { node = ok.who.node; label = ok.who.label; terms = ok.who.terms };
     knows = record {
-      orders = longer_begins x.order v.view.order u.view.order ok.knows.orders other.knows.orders;
-      endings = longer_begins x.ends v.view.ends u.view.ends ok.knows.endings other.knows.endings;
-      clears = longer_begins x.clear v.view.clear u.view.clear ok.knows.clears other.knows.clears;
+      orders = longer_begins v.view.order u.view.order x.order ok.knows.orders other.knows.orders;
+      endings = longer_begins v.view.ends u.view.ends x.ends ok.knows.endings other.knows.endings;
+      clears = longer_begins v.view.clear u.view.clear x.clear ok.knows.clears other.knows.clears;
       counts = ok.knows.counts;
-      own_ends = λ p r end at mine en kind. let a = ok.knows.own_ends p r end at mine en kind in let b = prefix_length v.view.ends (longer v.view.ends u.view.ends) (begins_longer x.ends v.view.ends u.view.ends ok.knows.endings other.knows.endings) in omega arith;
+      own_ends = λ p r end at mine en kind. let a = ok.knows.own_ends p r end at mine en kind in let b = prefix_length v.view.ends (longer v.view.ends u.view.ends) (begins_longer v.view.ends u.view.ends x.ends ok.knows.endings other.knows.endings) in omega arith;
       freed_clear = λ r h. ⊎_elim (λ t. has_prefix v.view.clear (longer v.view.clear u.view.clear) r clears (ok.knows.freed_clear r t))
-          (λ t. has_prefix u.view.clear (longer v.view.clear u.view.clear) r (begins_longer_too x.clear v.view.clear u.view.clear ok.knows.clears other.knows.clears) (other.knows.freed_clear r t)) (either_has v.view.freed u.view.freed r h);
+          (λ t. has_prefix u.view.clear (longer v.view.clear u.view.clear) r (begins_longer_too v.view.clear u.view.clear x.clear ok.knows.clears other.knows.clears) (other.knows.freed_clear r t)) (either_has v.view.freed u.view.freed r h);
     };
     stance = record {
       asked = ok.stance.asked;
@@ -80,7 +59,7 @@ module _ (good : List ℕ → Type 0) (allows : List ℕ → List ℕ → Type 0
       freeing = ok.stance.freeing;
       waits = ok.stance.waits;
     };
-    hand = record { holds = λ e. let h = ok.hand.holds e in (longer_whole x.ends v.view.ends u.view.ends h.0 other.knows.endings, h.1, h.2); lacks = ok.hand.lacks; holder = ok.hand.holder };
+    hand = record { holds = λ e. let h = ok.hand.holds e in (longer_whole v.view.ends u.view.ends x.ends h.0 other.knows.endings, h.1, h.2); lacks = ok.hand.lacks; holder = ok.hand.holder };
     passes = record {
       walking = ok.passes.walking;
       freeing = ok.passes.freeing;
@@ -103,15 +82,15 @@ module _ (good : List ℕ → Type 0) (allows : List ℕ → List ℕ → Type 0
   }
     where
       orders : IsPrefix v.view.order (longer v.view.order u.view.order)
-      orders = begins_longer x.order v.view.order u.view.order ok.knows.orders other.knows.orders
+      orders = begins_longer v.view.order u.view.order x.order ok.knows.orders other.knows.orders
 
       clears : IsPrefix v.view.clear (longer v.view.clear u.view.clear)
-      clears = begins_longer x.clear v.view.clear u.view.clear ok.knows.clears other.knows.clears
+      clears = begins_longer v.view.clear u.view.clear x.clear ok.knows.clears other.knows.clears
 
   -- a node goes on knowing what another knows
   informed_goes : (x : Past) → PastOk good allows about x → (n m : ℕ) (v u : Entry) → NodeOk about x n v → NodeOk about x m u → Continues allows v.view (informed_view v.view u.view)
   informed_goes x f n m v u ok other = continues good allows about x x f n n v (informed v u) ok (informed_ok x n m v u ok other) refl
-      (begins_longer x.order v.view.order u.view.order ok.knows.orders other.knows.orders) (begins_longer x.ends v.view.ends u.view.ends ok.knows.endings other.knows.endings) (begins_longer x.clear v.view.clear u.view.clear ok.knows.clears other.knows.clears)
+      (begins_longer v.view.order u.view.order x.order ok.knows.orders other.knows.orders) (begins_longer v.view.ends u.view.ends x.ends ok.knows.endings other.knows.endings) (begins_longer v.view.clear u.view.clear x.clear ok.knows.clears other.knows.clears)
       (λ r h. has_left v.view.joined u.view.joined r h) (λ r h. has_left v.view.marked u.view.marked r h) (λ r h. has_left v.view.freed u.view.freed r h)
 
   pair_history : (x : Past) → PastOk good allows about x → (n m : ℕ) (v u : Entry) → NodeOk about x n v → NodeOk about x m u → OneHistory (v.view ∷ u.view ∷ [])
@@ -202,8 +181,8 @@ module _ (good : List ℕ → Type 0) (allows : List ℕ → List ℕ → Type 0
           informed_goes r.past r.fine v.view.node u.view.node v u a b,
           informed_goes r.past r.fine u.view.node v.view.node u v b a,
           not_both s r me v u at',
-          (λ h. let w = (a.hand.holds (ap has_line h)).0 in longer_whole r.past.ends v.view.ends u.view.ends w b.knows.endings ∙ sym w),
-          (λ h. let w = (b.hand.holds (ap has_line h)).0 in longer_whole r.past.ends u.view.ends v.view.ends w a.knows.endings ∙ sym w),
+          (λ h. let w = (a.hand.holds (ap has_line h)).0 in longer_whole v.view.ends u.view.ends r.past.ends w b.knows.endings ∙ sym w),
+          (λ h. let w = (b.hand.holds (ap has_line h)).0 in longer_whole u.view.ends v.view.ends r.past.ends w a.knows.endings ∙ sym w),
         ),
       )
 

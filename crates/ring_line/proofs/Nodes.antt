@@ -17,7 +17,7 @@ use Rattle.qolb_model.specs.Histories.{IsLegal}
 use Rattle.qolb_model.specs.Views.{own}
 use Rattle.qolb_model.proofs.Lists.{never, push_cases}
 use Rattle.qolb_model.proofs.Prefixes.{prefix_get, prefix_self}
-use Rattle.qolb_model.proofs.Requests.{count_of-push_other, has_left, has_last, same_place}
+use Rattle.qolb_model.proofs.Requests.{count_of-push_other, has_left, has_last, same_place, has_prefix}
 use Rattle.ring_line.specs.declared.entry.Point.{Point}
 use Rattle.ring_line.specs.declared.entry.Point.TheVariants.{Idle, Queued, Rolled}
 use Rattle.ring_line.specs.declared.entry.Entry.{Entry}
@@ -25,7 +25,7 @@ use Rattle.ring_line.specs.declared.rule.Setup.{Setup}
 use Rattle.qolb_model.specs.PortStates.{may_ask}
 use Rattle.qolb_model.specs.Requests.{count_of}
 use Rattle.ring_line.specs.Ring.{At, has_line, lets_go, is_kept, Past, HasPassed, Knowing, Hand, Walking, NodeOk, Member}
-use Rattle.ring_line.proofs.Lists.{at_same, at_one, at_none, at_longer, prefix_more, has_prefix, has_push_other, lacks_push, lacked_push}
+use Rattle.ring_line.proofs.Lists.{at_same, at_one, at_none, at_longer, prefix_more, has_push_other, lacks_push, lacked_push}
 use Rattle.qolb_model.specs.declared.view.View.{View}
 
 abbrev pub pick : {P A : Type 0} → Dec P → A → A → A

@@ -1,5 +1,5 @@
 -- A release, and a line that comes to its turn.
-use Rattle.std.proofs.Common.{◌≡◌, ℕ, suc, ◌+◌, ◌*◌, ◌≤◌, Bool, true, false, ◌||◌, length, List, [], ◌∷◌, ◌++◌, sym, refl, ap, ◌∙◌, subst, Some, arith, replicate, bit_or, append_assoc, length-append}
+use Rattle.std.proofs.Common.{◌≡◌, ℕ, suc, ◌+◌, ◌≤◌, Bool, true, false, ◌||◌, length, List, [], ◌∷◌, ◌++◌, sym, refl, ap, ◌∙◌, subst, Some, arith, replicate, bit_or, append_assoc, length-append}
 use Rattle.std.proofs.Math.Bool.{or-false}
 use Rattle.std.proofs.lemmas.Option.{slice_get_within}
 use Rattle.line_lanes.specs.Line.{merged}
@@ -25,12 +25,11 @@ use Rattle.qolb_model.proofs.Histories.{bytes_after-append, is_closed-append}
 use Rattle.ring_line.specs.Words.{cell_of}
 use Rattle.ring_line.specs.declared.entry.Entry.{Entry}
 use Rattle.ring_line.specs.declared.rule.Parcel.{Parcel}
-use Rattle.ring_line.specs.Steps.{RingSeat, entry_of, sole, write_of, own_end, end_of, next_end, Carries, Comes, Ended, after_clear, HasSlot, own_cell, HasNoSlot}
+use Rattle.ring_line.specs.Steps.{RingSeat, entry_of, sole, write_of, own_end, end_of, next_end, Carries, Comes, Ended, after_clear, HasSlot, own_cell}
 use Rattle.ring_line.specs.Releases.{IsPutBack, LetsLineGo, WalksOn, IsPassedOn}
 use Rattle.ring_line.specs.Ports.{IsMerged, Holds, Arrived}
-use Rattle.ring_line.proofs.Lists.{has_prefix}
 use Rattle.ring_line.proofs.Turning.{same_own}
-use Rattle.qolb_model.specs.declared.terms.Terms.{Terms}
+use Rattle.qolb_model.proofs.Requests.{has_prefix}
 
 -- who has passed none ends its own request next
 ends_own : (w : Entry) (y : Parcel) (closed : Bool) → w.passed ≡ [] → is_closed w.view.ends ≡ closed → next_end w y ≡ own_end closed y
@@ -161,7 +160,3 @@ holds_written s y z cell mask bytes h b k c = record {
   turns = c ∙ h.turns;
   some_left = λ none. h.some_left (sym c ∙ none);
 }
-
--- a closed line that came has been passed on
-pub passed_on : (s u t : RingSeat) (z : Parcel) (cell before n : ℕ) → entry_of u ≡ entry_of s → IsPassedOn (entry_of u) (entry_of t) → HasNoSlot t → n + 1 ≤ 3 * (entry_of u).view.terms.nodes → (entry_of t).view.terms ≡ (entry_of u).view.terms → Arrived t z cell before (before + n) shows.Shut
-passed_on s u t z cell before n same p slot few terms = (p.point, slot, p.state, p.told, (let e = ap (λ (x : Terms). x.nodes) terms in omega arith))

@@ -9,7 +9,7 @@ use Rattle.atomic_table.specs.Table.{step, keeps, Allows}
 use Rattle.qolb_model.specs.Requests.{Has, has}
 use Rattle.qolb_model.specs.Views.{own}
 use Rattle.qolb_model.specs.Sound.{Continues}
-use Rattle.qolb_model.proofs.Requests.{same_place}
+use Rattle.qolb_model.proofs.Requests.{same_place, has_prefix}
 use Rattle.qolb_model.proofs.Lists.{never}
 use Rattle.qolb_model.specs.declared.terms.TheConstants.{MOST_NODES}
 use Rattle.ring_line.specs.declared.entry.Point.TheVariants.{Rolled}
@@ -18,11 +18,12 @@ use Rattle.ring_line.specs.declared.rule.Setup.{Setup}
 use Rattle.ring_line.specs.Words.{ticket_at, cell_at, node_at, cell_of}
 use Rattle.ring_line.specs.Ring.{At, Past, NodeOk, PastOk, Shown, RingRule, has_line, lets_go, is_kept}
 use Rattle.ring_line.specs.Steps.{sole, Contents, IsStill, loaded_node, reset, after_reset}
-use Rattle.ring_line.proofs.Lists.{at_same, cleared_ended, has_prefix}
+use Rattle.ring_line.proofs.Lists.{at_same}
 use Rattle.ring_line.proofs.Nodes.{clash_at, put, put_here, put_else, placed_at, others_reset, fresh, fresh_ok, hand_none, passes_none}
 use Rattle.ring_line.proofs.Histories.{continues}
 use Rattle.ring_line.proofs.Keeping.{St, Homes, rule_step, mine_ok, mine_low}
 use Rattle.ring_line.proofs.Turning.{goes_step}
+use Rattle.qolb_model.proofs.Clearing.{clears_ended}
 
 -- the word of a node that withdrew: 1 where its request is clear
 abbrev word_of : Bool → ℕ
@@ -126,7 +127,7 @@ module _ (good : List ℕ → Type 0) (allows : List ℕ → List ℕ → Type 0
     }
       where
         ended : 0 < v.view.count → v.place < length x.ends
-        ended c = let o = cleared_ended x.order (length x.ends) x.clear f.cleared (own v.view) (has_prefix v.view.clear x.clear (own v.view) ok.knows.clears clear) in
+        ended c = let o = clears_ended f.cleared (own v.view) (has_prefix v.view.clear x.clear (own v.view) ok.knows.clears clear) in
             subst (λ q. q < length x.ends) (same_place x.order f.legal.numbered o.0 v.place (own v.view) o.2 (placed_at about x v.view.node v ok c)) o.1
 
     reset_shown : (x : Past) (words : List ℕ) (homes : Homes) (i : ℕ) → i ≡ node_at v.view.node → 0 < v.view.node → v.view.node ≤ MOST_NODES → Shown good allows about x words homes → Shown good allows about (reset_past x) (set words i 0) homes

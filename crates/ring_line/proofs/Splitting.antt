@@ -13,7 +13,7 @@ use Rattle.ring_line.specs.declared.rule.Setup.{Setup}
 use Rattle.ring_line.specs.declared.rule.Parcel.{Parcel}
 use Rattle.ring_line.specs.Ring.{At, newcomer, newcomers_from}
 use Rattle.ring_line.specs.Steps.{RingSeat, sole, front, behind}
-use Rattle.ring_line.specs.Ports.{Standing, standing, IsPort, AreSplit, AreUnused, IsOpened, BelongsTo}
+use Rattle.ring_line.specs.Ports.{Standing, standing, IsPort, AreSplit, IsOpened, BelongsTo}
 
 from_more : (about : Setup) (n N : ℕ) → n < N → newcomers_from about n (N - n) ≡ newcomer about (n + 1) ∷ newcomers_from about (n + 1) (N - (n + 1))
 from_more about n N l = let j = N - (n + 1) in let e : N - n ≡ suc j = omega arith in let f : suc n ≡ n + 1 = omega arith in
@@ -60,6 +60,3 @@ module _ (good : List ℕ → Type 0) (allows : List ℕ → List ℕ → Type 0
     where
       each_of : (P : Standing → Type 0) → ((k : ℕ) (p : Standing) → At ports k p → P p) → All P ports
       each_of P h = λ k x l. let at = element_at ports k l in subst P (sym (get_or_from_slice_get ports k at.0 x at.1)) (h k at.0 at.1)
-
-  pub split_unused : AreUnused ports
-  split_unused = λ k x l. let at = element_at ports k l in subst (λ (p : Standing). (p.steps ≡ 0) × (p.taken ≡ 0)) (sym (get_or_from_slice_get ports k at.0 x at.1)) (let e = d.each k at.0 at.1 in (e.2, e.3))

@@ -1,11 +1,9 @@
 -- Ports in tests.
 use Rattle.std.proofs.Common.{◌≡◌, ℕ, List, [], ◌∷◌, ◌++◌, Bool, true, false, if◌then◌else◌, suc, ◌<◌, length, arith, sym, ap, ◌∙◌, subst, get_or}
-use Rattle.std.proofs.lemmas.Option.{get_or_from_slice_get}
 use Rattle.std.proofs.lemmas.List.Elements.{All-push}
 use Rattle.atomic_table.specs.Seated.{TableId}
 use Rattle.qolb_model.specs.declared.view.View.{View}
 use Rattle.qolb_model.specs.Sound.{IsSound}
-use Rattle.qolb_model.proofs.Lists.{element_at}
 use Rattle.ring_line.specs.declared.rule.Setup.{Setup}
 use Rattle.ring_line.specs.Ports.{Standing}
 use Rattle.ring_line.specs.Trial.{IsOwn, IsTheirs, AreTheirs}

@@ -7,9 +7,8 @@ use Rattle.qolb_model.specs.Views.{own, Extends}
 use Rattle.qolb_model.specs.Sound.{Continues, IsSound}
 use Rattle.qolb_model.specs.Asking.{Asks, IsJoined}
 use Rattle.qolb_model.proofs.Prefixes.{prefix_self, prefix_get, prefix_length}
-use Rattle.qolb_model.proofs.Requests.{same_request}
+use Rattle.qolb_model.proofs.Requests.{same_request, has_prefix}
 use Rattle.qolb_model.proofs.Agreeing.{extends_trans}
-use Rattle.ring_line.proofs.Lists.{has_prefix}
 use Rattle.ring_line.specs.declared.entry.Entry.{Entry}
 use Rattle.ring_line.specs.declared.rule.Parcel.{Parcel}
 use Rattle.ring_line.specs.Steps.{Contents, Alone, sole, GoesOn, after_clear, after_reset}

@@ -28,8 +28,8 @@ use Rattle.ring_line.specs.declared.rule.Parcel.{Parcel}
 use Rattle.ring_line.specs.Ring.{At}
 use Rattle.ring_line.specs.Steps.{RingSeat, entry_of, sole, after_walk, end_of, next_end, Carries, Ended, GoesHome, Passes, Frees, GoesOn, SameSeat, HasSlot, HasNoSlot, turn_cell, after_clear}
 use Rattle.ring_line.specs.Releases.{IsBare, WalksOn, AreNodesAt, FreesAll}
-use Rattle.ring_line.proofs.Lists.{has_prefix}
 use Rattle.ring_line.proofs.Turning.{goes_trans, goes_clear}
+use Rattle.qolb_model.proofs.Requests.{has_prefix}
 
 -- the first of the requests that were passed are freed
 pub record FreesFirst (v : Entry) (i : ℕ) (w : Entry) : Type 0 where

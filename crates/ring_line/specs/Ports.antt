@@ -13,7 +13,7 @@ use Rattle.qolb_model.specs.Sound.{IsSound}
 use Rattle.qolb_model.specs.Leases.{turns_left}
 use Rattle.qolb_model.specs.Kept.{AreAllowed}
 use Rattle.qolb_model.specs.Finishing.{EachNodeOnce}
-use Rattle.qolb_model.specs.Opening.{new_view, Opens}
+use Rattle.qolb_model.specs.Opening.{new_view, MayOpen, Opens}
 use Rattle.qolb_model.specs.Turns.{IsGranted}
 use Rattle.qolb_model.specs.LettingGo.{IsTold}
 use Rattle.ring_line.specs.declared.entry.Point.{Point}
@@ -121,9 +121,10 @@ is_at_rest Rolled = true
 abbrev pub AllAtRest : ℕ → List Entry → Type 0
 AllAtRest nodes entries = (n : ℕ) → 0 < n → n ≤ nodes → (i : ℕ) × (e : Entry) × At entries i e × (e.view.node ≡ n) × (is_at_rest e.point ≡ true)
 
--- these are entries of different nodes, all of one history of the line, in which every request has ended and every turn kept the law; and
+-- these are entries of different nodes, all of one history of a line that may be opened so, in which every request has ended and every turn kept the law; and
 -- the bytes are those after all ends, and good
 pub record IsLast (good : List ℕ → Type 0) (allows : List ℕ → List ℕ → Type 0) (terms : Terms) (entries : List Entry) (bytes : List ℕ) : Type 0 where
+  pub may_open : MayOpen terms
   pub once : EachNodeOnce (map (λ (e : Entry). e.view) entries)
   pub history : OneHistory (map (λ (e : Entry). e.view) entries)
   pub terms_are : history.terms ≡ terms

@@ -185,8 +185,8 @@ impl<K: Keep> RingLine<K> {
         } else if !a.holds() {
             meet_seats(ground, &mut b.seat, &mut a.seat);
         } else {
-            // Not both hold. That is known only once their entries are compared, and a seat can be joined only without the slot: so
-            // this one is given up first.
+            // Not both hold, as the line is in one hand. But that is seen only where their entries are compared, in one seat, and a seat
+            // can be joined to another only without the slot: so this one gives it up first.
             park(ground, &mut b.seat);
             meet_seats(ground, &mut a.seat, &mut b.seat);
             unreachable!()

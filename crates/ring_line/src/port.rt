@@ -56,6 +56,7 @@ impl Port {
     }
 
     /// Whether the port holds the line.
+    #[inline]
     pub(crate) fn holds(&self) -> bool
         ensures { IsTrue result ↔ (self.now.view.state ≡ PortState.Holding) }
     {

@@ -1,5 +1,5 @@
 use Rattle.std.proofs.Common.{◌≤◌, subst}
-use Rattle.ring_line.proofs.Finishing.{finishes_so, refuses_so, tables_are, all_quiet, some_port, opened_so, all_at_rest, is_finished}
+use Rattle.ring_line.proofs.Finishing.{finishes_so, refuses_so, tables_are, all_quiet, some_port, all_at_rest, is_finished}
 use Rattle.ring_line.proofs.line.RingLine.finish.Goals as goal
 
 pub returns-in-Some-clause-why : goal.returns-in-Some-clause-why
@@ -33,7 +33,4 @@ close-requires-clause-at_rest g c = let l = c.args.self in let key = l.table.sha
 pub returns-clause-finished : goal.returns-clause-finished
 returns-clause-finished g c = let l = c.args.self in let key = l.table.shared.key in
     is_finished g.K.Keep.good g.K.Keep.allows key.label key.terms c.args.ports.items c.lay_by_node.result.items l.table.shared.table_id c.gather-whole.result c.lay_by_node.ensures c.gather-whole.ensures
-    (finishes_so l.label key.label l.nodes key.terms.nodes c.deref.result.now c.args.ports.items l.labelled l.counted c.deref.ensures.value c.in_default.ensures) _
-    (opened_so g.K.Keep.good g.K.Keep.allows key l.table.shared.table_id c.args.ports.items c.lay_by_node.result.items c.lay_by_node.ensures
-    (finishes_so l.label key.label l.nodes key.terms.nodes c.deref.result.now c.args.ports.items l.labelled l.counted c.deref.ensures.value c.in_default.ensures) c.requires.belong (subst (λ n. 1 ≤ n) l.counted l.some_nodes))
-    c.close.ensures
+    (finishes_so l.label key.label l.nodes key.terms.nodes c.deref.result.now c.args.ports.items l.labelled l.counted c.deref.ensures.value c.in_default.ensures) _ c.close.ensures

@@ -1,4 +1,4 @@
-use Rattle.std.proofs.Common.{rules, arith}
+use Rattle.std.proofs.Common.{rules}
 use Rattle.ring_line.proofs.Trials.{theirs_taken}
 use Rattle.ring_line.proofs.tests.row.Row.take.Goals as goal
 
