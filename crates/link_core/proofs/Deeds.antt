@@ -1,6 +1,6 @@
 -- What each case of an event makes of the queue that is matched.
 use Rattle.qolb_model.specs.declared.terms.Terms.{Terms}
-use Rattle.std.proofs.Common.{◌≡◌, ℕ, Bool, false, List, length, Option}
+use Rattle.std.proofs.Common.{◌≡◌, ℕ, Bool, false, length, Option}
 use Rattle.qolb_model.specs.Histories.{Clears}
 use Rattle.qolb_model.specs.Queue.{Queue, Move}
 use Rattle.link_core.specs.declared.told.Told.{Told as Answer}

@@ -1,8 +1,7 @@
 -- The turn ends: what the end is, and what it leaves true.
 use Rattle.qolb_model.specs.declared.terms.Terms.{Terms}
 use Rattle.std.proofs.Common.{◌≡◌, ◌≢◌, ℕ, ◌+◌, ◌<◌, Bool, true, false, ◌||◌, List, [], ◌∷◌, ◌++◌, length, Some, slice_get, refl, sym, ◌∙◌, ap, subst, inl, inr, arith}
-use Rattle.link_core.specs.declared.point.Point.{Point}
-use Rattle.link_core.specs.declared.point.Point.TheVariants.{Holding, Rolled}
+use Rattle.link_core.specs.declared.point.Point.TheVariants.{Holding}
 use Rattle.link_core.specs.declared.place.Place.TheVariants.{Mailbox, Hand}
 use Rattle.link_core.specs.declared.seat.Reason.{Reason}
 use Rattle.link_core.specs.declared.seat.Reason.TheVariants.{Own, Closing, Refused}

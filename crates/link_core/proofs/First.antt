@@ -1,29 +1,26 @@
 -- Prepending where no request is open: the line comes at once.
 use Rattle.qolb_model.specs.declared.terms.Terms.{Terms}
-use Rattle.std.proofs.Common.{◌≡◌, ◌≢◌, ℕ, ◌+◌, ◌-◌, ◌<◌, ◌≤◌, true, false, ◌||◌, List, length, [], Some, refl, sym, ◌∙◌, ap, subst, inl, inr, arith}
-use Rattle.link_core.specs.declared.point.Point.{Point}
-use Rattle.link_core.specs.declared.point.Point.TheVariants.{Ready, Rolled}
+use Rattle.std.proofs.Common.{◌≡◌, ◌≢◌, ℕ, ◌+◌, ◌-◌, ◌<◌, true, false, List, length, Some, refl, sym, ◌∙◌, ap, inl, inr, arith}
+use Rattle.link_core.specs.declared.point.Point.TheVariants.{Ready}
 use Rattle.link_core.specs.declared.place.Place.TheVariants.{Home, Mailbox, Hand}
-use Rattle.link_core.specs.declared.entry.Entry.{Entry}
-use Rattle.link_core.specs.Places.{request, asker, IsLast}
+use Rattle.link_core.specs.Places.{asker, IsLast}
 use Rattle.qolb_model.specs.Histories.{none}
 use Rattle.qolb_model.specs.Queue.{Queue, ask}
-use Rattle.qolb_model.specs.Requests.{count_of, has}
+use Rattle.qolb_model.specs.Requests.{count_of}
 use Rattle.qolb_model.specs.declared.request.Request.{Request}
-use Rattle.link_core.specs.State.{State, Seat, empty, entry, seat, point, IsNode, is_clear}
-use Rattle.link_core.specs.Shown.{is_rolled, has_line, is_freeing, HasEnded, IsWhole, Lies, at_home, in_hand, granted, left, HasCome, IsFresh, Matches}
-use Rattle.std.proofs.lemmas.Bool.{cases_eq, cases_lt, cases_Bool}
+use Rattle.link_core.specs.State.{State, Seat, entry, point, IsNode}
+use Rattle.link_core.specs.Shown.{has_line, IsWhole, Lies, at_home, in_hand, granted, left, HasCome, Matches}
+use Rattle.std.proofs.lemmas.Bool.{cases_lt}
 use Rattle.link_core.specs.State.{no_mask}
 use Rattle.link_core.specs.Steps.{seat_at_arrival, told_at_arrival}
 use Rattle.link_core.proofs.Deeds.{GoesOn}
-use Rattle.link_core.proofs.Orders.{pushed, length_pushed, request_old, request_new, asker_old, asker_new, place_cases, last_kept, last_back, last_new, last_is_new}
-use Rattle.qolb_model.proofs.Requests.{count_of-push_le, count_of-push_same}
+use Rattle.link_core.proofs.Orders.{pushed, length_pushed, asker_new, last_kept, last_back, last_new}
 use Rattle.qolb_model.proofs.Prefixes.{prefix_self}
 use Rattle.link_core.proofs.Changes.{Changed}
 use Rattle.link_core.proofs.Asks.{asks_shows}
 use Rattle.link_core.proofs.Arrival.{arrival_lies, arrival_sits, arrival_says, arrival_unrolled, arrival_unclear, arrival_unpassed}
-use Rattle.link_core.proofs.Follows.{sits_at, in_its_hand, hand_lies}
-use Rattle.link_core.proofs.Kept.{Spares, sits_kept, rests_held, settled_by}
+use Rattle.link_core.proofs.Follows.{in_its_hand, hand_lies}
+use Rattle.link_core.proofs.Kept.{Spares, rests_held}
 
 module _ (terms : Terms) (c : State) (h : Queue) (n : ℕ) (sts : List Seat) (s : Matches terms c h) (is : IsNode c n) (ready : point c n ≡ Ready) (free : c.home ≡ 0)
     (ch : Changed c (record c { home = n; place = Hand n; mask = no_mask; seats = sts }) n (seat_at_arrival n c.closed) n (entry c n)) where

@@ -8,7 +8,6 @@ use Rattle.qolb_model.specs.Ends.{is_closed}
 use Rattle.qolb_model.specs.Histories.{IsLegal}
 use Rattle.qolb_model.specs.Queue.{Queue, empty_queue, Move, moved, Runs}
 use Rattle.qolb_model.proofs.Runs.{has_cleared_none, has_cleared_twice}
-use Rattle.line_lanes.specs.declared.line.Line64.{Line64}
 use Rattle.link_core.specs.declared.point.Point.TheVariants.{Idle, Ready, Linking, Queued, Holding, Leaving, Marking, Granting, Freeing, Left, Rolled, Shut}
 use Rattle.link_core.specs.declared.point.Point.{Point}
 use Rattle.link_core.specs.declared.place.Place.TheVariants.{Home, Hand}
@@ -29,7 +28,7 @@ use Rattle.link_core.proofs.Leave.{releases_line, releases_at}
 use Rattle.link_core.proofs.Leave as Leave
 use Rattle.link_core.proofs.All.{freed_node, freed_rolled}
 use Rattle.link_core.proofs.Grant.{sat, node_m, granted_point}
-use Rattle.link_core.proofs.Sound.{names, step_sizes}
+use Rattle.link_core.proofs.Sound.{names}
 use Rattle.link_core.proofs.Others.{one_hand, linked_box, granted_box, idle_home}
 use Rattle.link_core.proofs.Unset.{done_unset, granted_unset, rolled_unset, link_unset, freed_unset}
 

@@ -15,7 +15,6 @@ use Rattle.link_core.specs.Shown.{is_rolled, has_line, is_freeing, EndedBy, HasE
 use Rattle.std.proofs.lemmas.Bool.{cases_eq}
 use Rattle.link_core.specs.Steps.{seat_with, told_with, point_at_end}
 use Rattle.link_core.proofs.Deeds.{GoesOn}
-use Rattle.link_core.specs.Promise.{Says}
 use Rattle.std.proofs.lemmas.Option.{slice_get_within}
 use Rattle.qolb_model.specs.declared.end.End.TheVariants.{Gone}
 use Rattle.qolb_model.proofs.Prefixes.{prefix_self}

@@ -91,8 +91,8 @@ module _ (terms : Terms) (c : State) (h : Queue) (n p : ℕ) (pl : Place) (mk : 
   spares : (m : ℕ) → IsNode c m → m ≢ n → Spares c d h.order h.order h.ends h.ends m
   spares m a ne = spares_by ch h.order h.ends h.ends m ne (λ _. refl) (λ _. ready_p) (prefix_self h.ends) (λ q _ _ l. l)
       (λ q x e l k. link_other q (λ f.
-          let i = last_once h.order p x behind.at (subst (λ (q : ℕ). IsLast h.order q x) f l) behind.before in
-          ne (sym k.its ∙ ap (λ (x : ℕ). asker h.order (x + 1)) i ∙ behind.own.its)))
+      let i = last_once h.order p x behind.at (subst (λ (q : ℕ). IsLast h.order q x) f l) behind.before in
+      ne (sym k.its ∙ ap (λ (x : ℕ). asker h.order (x + 1)) i ∙ behind.own.its)))
       (λ e. let k = in_its_hand s m a e in (hands m k ∙ sym k, refl, λ x k. link_other (current c m) (λ f. granting_link s m x a k (ap (λ (x : ℕ). (entry c x).link) f ∙ behind.unlinked))))
     where
       ready_p : point c p ≡ Ready → ⊥

@@ -2,8 +2,7 @@
 use Rattle.std.proofs.Common.{◌≡◌, ℕ, ◌==◌, Bool, true, false, cond, List, [], ◌∷◌, ◌++◌, refl, sym, ◌∙◌, ap, inl, inr, eq-eqb, ne_eqb}
 use Rattle.link_core.specs.declared.point.Point.{Point}
 use Rattle.link_core.specs.declared.point.Point.TheVariants.{Idle, Ready, Linking, Queued, Holding, Leaving, Marking, Granting, Left, Rolled}
-use Rattle.link_core.specs.declared.place.Place.TheVariants.{Home, Mailbox}
-use Rattle.link_core.specs.declared.seat.Reason.TheVariants.{Closing}
+use Rattle.link_core.specs.declared.place.Place.TheVariants.{Mailbox}
 use Rattle.link_core.specs.declared.told.Told.{Told as Answer}
 use Rattle.link_core.specs.declared.told.Told.TheVariants as told
 use Rattle.link_core.specs.declared.event.Event.{Event}

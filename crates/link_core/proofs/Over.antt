@@ -2,7 +2,7 @@
 use Rattle.qolb_model.specs.declared.terms.Terms.{Terms}
 use Rattle.std.proofs.Common.{◌≡◌, ◌≢◌, ℕ, ◌+◌, ◌<◌, ◌≤◌, true, false, ◌||◌, List, [], ◌∷◌, ◌⊎◌, length, Option, slice_get, refl, sym, ◌∙◌, ap, subst, inl, inr, arith}
 use Rattle.link_core.specs.declared.point.Point.{Point}
-use Rattle.link_core.specs.declared.point.Point.TheVariants.{Idle, Ready, Linking, Queued, Holding, Leaving, Marking, Granting, Freeing, Left, Rolled, Shut}
+use Rattle.link_core.specs.declared.point.Point.TheVariants.{Ready}
 use Rattle.link_core.specs.declared.place.Place.{Place}
 use Rattle.link_core.specs.declared.place.Place.TheVariants.{Mailbox, Hand}
 use Rattle.link_core.specs.declared.entry.Entry.{Entry}

@@ -4,23 +4,22 @@ use Rattle.std.proofs.Common.{◌≡◌, ◌≢◌, ℕ, ◌+◌, ◌-◌, ◌<�
 use Rattle.link_core.specs.declared.point.Point.{Point}
 use Rattle.link_core.specs.declared.point.Point.TheVariants.{Ready, Linking, Queued, Granting, Left, Rolled}
 use Rattle.link_core.specs.declared.entry.Entry.{Entry}
-use Rattle.link_core.specs.Places.{request, asker, IsLast}
+use Rattle.link_core.specs.Places.{asker, IsLast}
 use Rattle.qolb_model.specs.Histories.{none}
 use Rattle.qolb_model.specs.Queue.{Queue, ask}
-use Rattle.qolb_model.specs.Requests.{count_of, has}
+use Rattle.qolb_model.specs.Requests.{count_of}
 use Rattle.qolb_model.specs.declared.request.Request.{Request}
-use Rattle.link_core.specs.State.{State, Seat, empty, entry, seat, point, IsNode, is_clear}
-use Rattle.link_core.specs.Shown.{is_rolled, has_line, is_freeing, HasEnded, IsLinked, IsBehind, IsGranting, IsFresh, Matches}
-use Rattle.std.proofs.lemmas.Bool.{cases_eq, cases_Bool}
+use Rattle.link_core.specs.State.{State, Seat, entry, seat, point, IsNode}
+use Rattle.link_core.specs.Shown.{has_line, is_freeing, IsBehind, IsGranting, Matches}
+use Rattle.std.proofs.lemmas.Bool.{cases_eq}
 use Rattle.link_core.specs.declared.told.Told.TheVariants as told
 use Rattle.link_core.proofs.Deeds.{GoesOn}
-use Rattle.link_core.proofs.Orders.{pushed, length_pushed, request_old, request_new, asker_old, asker_new, place_cases, last_kept, last_back, last_new, last_is_new}
-use Rattle.qolb_model.proofs.Requests.{count_of-push_le, count_of-push_same}
+use Rattle.link_core.proofs.Orders.{pushed, length_pushed, asker_old, last_kept, last_back, last_new}
 use Rattle.qolb_model.proofs.Prefixes.{prefix_self, prefix_append}
 use Rattle.link_core.proofs.Changes.{Changed, point_other, point_own, at_other}
 use Rattle.link_core.proofs.Asks.{at_ready, not_open, asks_shows}
 use Rattle.link_core.proofs.Follows.{left_for}
-use Rattle.link_core.proofs.Kept.{Spares, sits_kept, fresh_kept, Leaves, lies_kept, rests_kept, settled_by}
+use Rattle.link_core.proofs.Kept.{Spares, Leaves, lies_kept, rests_kept}
 
 module _ (terms : Terms) (c : State) (h : Queue) (n : ℕ) (sts : List Seat) (s : Matches terms c h) (is : IsNode c n) (ready : point c n ≡ Ready) (busy : c.home ≢ 0) (ch : Changed c (record c { home = n; seats = sts }) n (record (seat c n) { point = Linking c.home }) n (entry c n)) where
   abbrev d : State
