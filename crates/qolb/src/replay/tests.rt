@@ -111,16 +111,16 @@ fn answers_scripts(rt: HostRuntime) -> Result<(), Fail> {
     Ok(())
 }
 
-/// A line for each of these nodes, of a word, the node and the rest.
+/// A line for each node from the first to before the end, of a word, the node and the rest.
 fn push_each(
     alloc: Global,
     text: &mut String,
     first: u64,
-    last: u64,
+    end: u64,
     word: &str,
     rest: &str,
 ) -> Result<(), Fail> {
-    for node in first..last + 1 {
+    for node in first..end {
         text.push_str(word)?;
         text.push(' ')?;
         text.push_str(node.to_string(alloc)?.as_str())?;
@@ -133,8 +133,8 @@ fn push_each(
 fn a_release_passes_199_withdrawn_nodes(rt: HostRuntime) -> Result<(), Fail> {
     let alloc = rt.alloc();
     let mut script = "nodes 200 lines 1\n".to_string(alloc)?;
-    push_each(alloc, &mut script, 1, 200, "enq", " 0\n")?;
-    push_each(alloc, &mut script, 2, 200, "out", " 0\n")?;
+    push_each(alloc, &mut script, 1, 201, "enq", " 0\n")?;
+    push_each(alloc, &mut script, 2, 201, "out", " 0\n")?;
     script.push_str("deq 1 0\n")?;
     let mut reply = "granted\n".to_string(alloc)?;
     for _ in 2..201 {
