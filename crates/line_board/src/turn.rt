@@ -1,0 +1,43 @@
+//! The turn of a port that holds a board: it changes the board, or leaves it, and releases the line.
+ghost use Rattle.std.specs.Prelude.{◌≡◌, ℕ, List, [], length, IsTrue};
+ghost use Rattle.qolb_model.specs.PortStates.{may_ask};
+ghost use Rattle.qolb_model.specs.Sound.{Continues};
+ghost use Rattle.qolb_model.specs.Turns.{IsGranted};
+ghost use Rattle.qolb_model.specs.Views.{bytes_of};
+ghost use Rattle.line_board.specs.Board.{Stand};
+ghost use Rattle.line_board.specs.Law.{Changes};
+ghost use Rattle.line_board.specs.PutsAndTakes.{put_between, taken_between};
+ghost use Rattle.line_board.specs.Calls.{HadTurn, HasFound};
+
+use crate::law::BoardLaw;
+use line_lanes::{Line64, changed};
+use qolb_model::LineSync;
+
+/// Writes the new board, where its bytes differ, and releases the line.
+pub(crate) fn replace<L: LineSync<BoardLaw>>(line: &L, port: &mut L::Port, new: &Line64)
+    requires belongs { L.belongs line.now port.old }
+    requires granted { IsGranted (L.view port.old) (L.turn port.old) }
+    requires changes { Changes (bytes_of (L.view port.old)) new.now.bytes }
+    ensures belongs { L.belongs line.now port.new }
+    ensures continues { Continues Changes (L.view port.old) (L.view port.new) }
+    ensures count { (L.view port.new).count ≡ (L.view port.old).count }
+    ensures state { IsTrue (may_ask (L.view port.new).state) }
+    ensures turn { (found left : List ℕ) → Stand (bytes_of (L.view port.old)) found → Stand new.now.bytes left → HadTurn found left (put_between found left) (taken_between found left) (L.view port.new) }
+{
+    let mask = changed(L::bytes(port), new);
+    L::write(port, mask, new);
+    line.deqolb(port);
+}
+
+/// Releases the line with the board as it stands.
+pub(crate) fn keep<L: LineSync<BoardLaw>>(line: &L, port: &mut L::Port)
+    requires belongs { L.belongs line.now port.old }
+    requires granted { IsGranted (L.view port.old) (L.turn port.old) }
+    ensures belongs { L.belongs line.now port.new }
+    ensures continues { Continues Changes (L.view port.old) (L.view port.new) }
+    ensures count { (L.view port.new).count ≡ (L.view port.old).count }
+    ensures state { IsTrue (may_ask (L.view port.new).state) }
+    ensures found { (tasks : List ℕ) → Stand (bytes_of (L.view port.old)) tasks → HasFound (length tasks) (L.view port.new) }
+{
+    line.deqolb(port);
+}
