@@ -1,0 +1,4 @@
+pub mod Steps
+pub mod Balance
+pub mod Turns
+pub mod Acquiring

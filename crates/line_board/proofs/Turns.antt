@@ -1,0 +1,2 @@
+-- The turn of a port that was granted the line.
+use Rattle.std.proofs.Common.{◌≡◌, ℕ}
