@@ -1,4 +1,5 @@
 pub mod Steps
 pub mod Balance
+pub mod Writing
 pub mod Turns
 pub mod Acquiring

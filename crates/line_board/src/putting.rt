@@ -50,7 +50,7 @@ fn store<L: LineSync<BoardLaw>>(line: &L, port: &mut L::Port, task: u64) -> bool
 {
     match with_last(L::bytes(port), task) {
         Some(new) => {
-            replace(line, port, &new);
+            replace(line, port, new);
             true
         }
         None => {

@@ -46,7 +46,7 @@ fn remove<L: LineSync<BoardLaw>>(line: &L, port: &mut L::Port) -> Option<u64>
 {
     match without_first(L::bytes(port)) {
         Some((task, new)) => {
-            replace(line, port, &new);
+            replace(line, port, new);
             Some(task)
         }
         None => {

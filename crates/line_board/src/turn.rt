@@ -14,18 +14,18 @@ use line_lanes::{Line64, changed};
 use qolb_model::LineSync;
 
 /// Writes the new board, where its bytes differ, and releases the line.
-pub(crate) fn replace<L: LineSync<BoardLaw>>(line: &L, port: &mut L::Port, new: &Line64)
+pub(crate) fn replace<L: LineSync<BoardLaw>>(line: &L, port: &mut L::Port, new: Line64)
     requires belongs { L.belongs line.now port.old }
     requires granted { IsGranted (L.view port.old) (L.turn port.old) }
-    requires changes { Changes (bytes_of (L.view port.old)) new.now.bytes }
+    requires changes { Changes (bytes_of (L.view port.old)) new.bytes }
     ensures belongs { L.belongs line.now port.new }
     ensures continues { Continues Changes (L.view port.old) (L.view port.new) }
     ensures count { (L.view port.new).count ≡ (L.view port.old).count }
     ensures state { IsTrue (may_ask (L.view port.new).state) }
-    ensures turn { (found left : List ℕ) → Stand (bytes_of (L.view port.old)) found → Stand new.now.bytes left → HadTurn found left (put_between found left) (taken_between found left) (L.view port.new) }
+    ensures turn { (found left : List ℕ) → Stand (bytes_of (L.view port.old)) found → Stand new.bytes left → HadTurn found left (put_between found left) (taken_between found left) (L.view port.new) }
 {
-    let mask = changed(L::bytes(port), new);
-    L::write(port, mask, new);
+    let mask = changed(L::bytes(port), &new);
+    L::write(port, mask, &new);
     line.deqolb(port);
 }
 
