@@ -3,3 +3,5 @@ pub mod Balance
 pub mod Writing
 pub mod Turns
 pub mod Acquiring
+pub mod Boards
+pub mod Encoding

@@ -1,7 +1,7 @@
 //! Boards as bytes.
 ghost use Rattle.std.specs.Prelude.{◌≡◌, ◌<◌, ℕ, List, length, MatchOption};
 ghost use Rattle.std.specs.List.{All};
-ghost use Rattle.line_board.specs.Board.{tasks_of, Stand};
+ghost use Rattle.line_board.specs.Board.{are_zeros, tasks_of, Stand};
 
 use arrayvec::ArrayVec;
 use line_lanes::{Line64, lane, with_lane};
@@ -16,14 +16,14 @@ pub type Tasks = ArrayVec<u64, MOST_TASKS>;
 pub fn decode(line: &Line64) -> Option<Tasks>
     ensures { MatchOption result (tasks_of line.now.bytes ≡ None) (λ tasks. Stand line.now.bytes tasks.items) }
 {
-    let count = lane(line, 0);
-    if count > MOST_TASKS as u64 {
+    let count = usize::from(line.bytes[0]);
+    if count > MOST_TASKS || !are_zeros(&line.bytes[1..8]) {
         return None;
     }
     let mut tasks = Tasks::new();
     for k in 1..MOST_TASKS + 1 {
         let task = lane(line, k);
-        if k as u64 <= count {
+        if k <= count {
             tasks.push(task);
         } else if task != 0 {
             return None;
@@ -42,4 +42,10 @@ pub fn encode(tasks: &Tasks) -> Line64
         line = with_lane(&line, k + 1, *task);
     }
     line
+}
+
+fn are_zeros(bytes: &[u8]) -> bool
+    ensures { result ≡ are_zeros bytes.now }
+{
+    bytes.iter().all(|byte| *byte == 0)
 }
