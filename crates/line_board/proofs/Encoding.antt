@@ -6,6 +6,7 @@ use Rattle.std.proofs.lemmas.List.{ext_get_or, get_or-take, get_or-drop, length-
 use Rattle.std.proofs.lemmas.List.Elements.{All-get_or}
 use Rattle.std.proofs.lemmas.List.FromFn.{get_or-map-range_with_len}
 use Rattle.std.proofs.lemmas.Bool.{cases_eq, cases_order}
+use Rattle.std.proofs.Math.Nat.{div-eq_of_lt, pow-le-pow_right}
 use Rattle.std.proofs.lemmas.Simd.{get_or_narrower, Each1-from_get_or}
 use lib.Lanes.{number_l, digits_l, Each1}
 use Rattle.line_lanes.specs.Line.{zeros}
@@ -52,7 +53,9 @@ zero_lane (suc (suc (suc (suc (suc (suc (suc zero))))))) h = refl
 zero_lane (suc (suc (suc (suc (suc (suc (suc (suc j)))))))) h = absurd (omega (arith, h))
 
 high_digit : (n i : ℕ) → n < 256 → 1 ≤ i → n / 256 ^ i % 256 ≡ 0
-high_digit n i few some = ?
+high_digit n i few some =
+    let above : n < 256 ^ i = omega (arith, few, pow-le-pow_right {n = 256} (omega arith) {i = 1} {j = i} some) in
+    ap (λ q. q % 256) (div-eq_of_lt above)
 
 -- the line of zeros with the count
 pub first_written : (tasks : List ℕ) → length tasks ≤ 7 → IsWritten (with_lane_of zeros 0 (length tasks)) tasks 0
