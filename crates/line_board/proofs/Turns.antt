@@ -27,8 +27,8 @@ use Rattle.qolb_model.proofs.Writes.{bytes_after-release, good_after}
 use Rattle.line_board.specs.Board.{Stand, IsBoard}
 use Rattle.line_board.specs.Law.{Changes, changed_board}
 use Rattle.line_board.specs.PutsAndTakes.{put_between, taken_between, standing, puts_of, takes_of}
-use Rattle.line_board.specs.Calls.{HadTurn, HasFound}
-use Rattle.line_board.proofs.Steps.{standing-stand, put_same, taken_same}
+use Rattle.line_board.specs.Calls.{HadTurn, HasPut, HasTaken, HasFound}
+use Rattle.line_board.proofs.Steps.{standing-stand, put_same, taken_same, put_last, taken_last, put_first, taken_first}
 use Rattle.line_board.proofs.Writing.{merged-changed, changed_mask-self}
 use Rattle.line_board.proofs.Balance.{puts-append, puts-passed, takes-append, takes-passed}
 
@@ -125,3 +125,24 @@ module _ (v : View) (first after : Write) (mask : ℕ) (new : List ℕ) (granted
       ∙ (or_zero_l mask
       ∙ (is
       ∙ (ap (λ b. changed_mask b new) granted.bytes ∙ ap (changed_mask (bytes_of v)) (sym new_bytes)))))
+
+-- a sound port that was granted the line finds a board
+pub found_board : (label : ℕ) (terms : Terms) (v : View) → IsSound IsBoard Changes label terms v → IsBoard (bytes_of v)
+found_board label terms v sound = board_known v (rw sound.terms_are sound.opened_good) sound.kept
+
+-- the turn of a put, and of a take
+pub has_put : (found : List ℕ) (task : ℕ) (new : View) → HadTurn found (found ++ task ∷ []) (put_between found (found ++ task ∷ [])) (taken_between found (found ++ task ∷ [])) new → HasPut task new
+has_put found task new turn = record {
+  found = found;
+  turn =
+    subst (λ t. HadTurn found (found ++ task ∷ []) (task ∷ []) t new) (taken_last found task)
+    (subst (λ p. HadTurn found (found ++ task ∷ []) p (taken_between found (found ++ task ∷ [])) new) (put_last found task) turn);
+}
+
+pub has_taken : (task : ℕ) (left : List ℕ) (new : View) → HadTurn (task ∷ left) left (put_between (task ∷ left) left) (taken_between (task ∷ left) left) new → HasTaken task new
+has_taken task left new turn = record {
+  left = left;
+  turn =
+    subst (λ t. HadTurn (task ∷ left) left [] t new) (taken_first task left)
+    (subst (λ p. HadTurn (task ∷ left) left p (taken_between (task ∷ left) left) new) (put_first task left) turn);
+}
