@@ -1,11 +1,10 @@
 -- Asking, and waiting.
-use Rattle.std.proofs.Common.{◌≡◌, ◌≢◌, ℕ, ◌≤◌, List, refl, ap, sym, ◌∙◌, subst}
+use Rattle.std.proofs.Common.{◌≡◌, ◌≢◌, ℕ, List, refl, ◌∙◌}
 use Rattle.qolb_model.specs.declared.answer.Enq.TheVariants.{Queued}
 use Rattle.qolb_model.specs.declared.answer.Out.{Out}
 use Rattle.qolb_model.specs.declared.answer.Out.TheVariants as out
 use Rattle.qolb_model.specs.declared.view.View.{View}
 use Rattle.qolb_model.specs.declared.write.Write.{Write}
-use Rattle.qolb_model.specs.Requests.{Has}
 use Rattle.qolb_model.specs.Views.{own, Extends}
 use Rattle.qolb_model.specs.Asking.{Asks, IsJoined}
 use Rattle.qolb_model.specs.Sound.{Continues}

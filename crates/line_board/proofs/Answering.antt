@@ -1,13 +1,11 @@
 -- What a board's call answers, once the line was granted.
-use Rattle.std.proofs.Common.{◌≡◌, ◌≢◌, ℕ, true, subst}
+use Rattle.std.proofs.Common.{◌≡◌, ℕ, true, subst}
 use Rattle.qolb_model.specs.declared.view.View.{View}
 use Rattle.qolb_model.specs.declared.write.Write.{Write}
 use Rattle.qolb_model.specs.PortStates.{may_ask}
 use Rattle.qolb_model.specs.Sound.{Continues}
 use Rattle.line_board.specs.declared.answer.Asked.TheVariants as asked
-use Rattle.line_board.specs.declared.answer.Put.{Put}
 use Rattle.line_board.specs.declared.answer.Put.TheVariants as put
-use Rattle.line_board.specs.declared.answer.Take.{Take}
 use Rattle.line_board.specs.declared.answer.Take.TheVariants as take
 use Rattle.line_board.specs.declared.board.TheConstants.{MOST_TASKS}
 use Rattle.line_board.specs.Law.{Changes}

@@ -1,7 +1,6 @@
 -- The puts are the takes and then the tasks that stand.
 use Rattle.std.proofs.Common.{◌≡◌, ℕ, List, [], ◌∷◌, ◌++◌, zero, suc, replicate, refl, ap, sym, ◌∙◌, append-nil, append_assoc}
 use Rattle.line_lanes.specs.Line.{zeros}
-use Rattle.qolb_model.specs.declared.write.Write.{Write}
 use Rattle.qolb_model.specs.declared.end.End.{End}
 use Rattle.qolb_model.specs.declared.end.End.TheVariants.{Served, Gone, Told}
 use Rattle.qolb_model.specs.Ends.{bytes_after, written}

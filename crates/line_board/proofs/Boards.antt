@@ -1,14 +1,13 @@
 -- The tasks of a line, lane by lane.
-use Rattle.std.proofs.Common.{◌≡◌, ◌≢◌, ℕ, zero, suc, ◌+◌, ◌-◌, ◌*◌, ◌/◌, ◌%◌, ◌^◌, ◌<◌, ◌≤◌, ◌==◌, Bool, true, false, ◌&&◌, ◌⊎◌, inl, inr, nat_le, List, [], ◌∷◌, ◌++◌, length, take, drop, get_or, Some, None, refl, ap, sym, ◌∙◌, subst, arith, eq-eqb, ne_eqb, if◌then◌else◌}
-use Rattle.std.specs.Prelude.{slice_index, slice_range}
-use Rattle.std.specs.List.{list_all}
+use Rattle.std.proofs.Common.{◌≡◌, ◌≢◌, ℕ, zero, suc, ◌+◌, ◌-◌, ◌<◌, ◌≤◌, ◌==◌, Bool, true, false, ◌&&◌, nat_le, List, [], ◌∷◌, length, take, drop, get_or, Some, None, refl, ap, sym, ◌∙◌, subst, arith, eq-eqb, ne_eqb, if◌then◌else◌}
+use Rattle.std.specs.Prelude.{slice_range}
 use Rattle.std.proofs.lemmas.List.{ext_get_or, get_or-take, get_or-drop, length-take, length-drop}
 use Rattle.std.proofs.lemmas.List.FromFn.{length-map-range_with_len}
 use Rattle.std.proofs.lemmas.List.Folds.{list_all_at}
 use Rattle.std.proofs.lemmas.Bool.{le-leb, lt-leb, leb-true, eqb-true}
 use Rattle.line_lanes.specs.Lane.{lane_of, lanes_of}
 use Rattle.line_lanes.proofs.EachLane.{lanes_of-at}
-use Rattle.qolb_model.proofs.Lists.{same_some, never}
+use Rattle.qolb_model.proofs.Lists.{same_some}
 use Rattle.line_board.specs.Board.{are_zeros, count_of, is_board, tasks_of, Stand}
 
 -- all numbers are zero where each is, and each where all are
@@ -117,7 +116,7 @@ not_unused bytes few j above below used =
     let place : count_of bytes + 1 + (j - (count_of bytes + 1)) ≡ j = omega arith in
     let within : j - (count_of bytes + 1) < 7 - count_of bytes = omega arith in
     let there : get_or (drop (count_of bytes + 1) (lanes_of bytes)) (j - (count_of bytes + 1)) 0 ≡ lane_of bytes j =
-      behind-at bytes few (j - (count_of bytes + 1)) within ∙ ap (lane_of bytes) place in
+    behind-at bytes few (j - (count_of bytes + 1)) within ∙ ap (lane_of bytes) place in
     not_board bytes (third_fails (nat_le (count_of bytes) 7) (are_zeros (slice_range bytes 1 8)) (are_zeros (drop (count_of bytes + 1) (lanes_of bytes)))
     (list_all_at (λ n. n == 0) (drop (count_of bytes + 1) (lanes_of bytes)) (j - (count_of bytes + 1)) 0 (omega (arith, within, behind-length bytes few))
     (rw there (ne_eqb (lane_of bytes j) 0 used))))
@@ -127,9 +126,9 @@ stand-laid bytes tasks laid =
     let few : count_of bytes ≤ 7 = omega (arith, laid.few, laid.count) in
     let is = is_board-from bytes few laid.blank (unused_zeros bytes few (λ j above below. laid.unused j (omega (arith, above, laid.count)) below)) in
     let same : take (count_of bytes) (drop 1 (lanes_of bytes)) ≡ tasks =
-      ext_get_or 0 (take (count_of bytes) (drop 1 (lanes_of bytes))) tasks (length-counted bytes few ∙ laid.count) (λ j h.
-      let within : j < count_of bytes = omega (arith, h, length-counted bytes few) in
-      counted-at bytes few j within ∙ sym (laid.each j (omega (arith, within, laid.count)))) in
+    ext_get_or 0 (take (count_of bytes) (drop 1 (lanes_of bytes))) tasks (length-counted bytes few ∙ laid.count) (λ j h.
+    let within : j < count_of bytes = omega (arith, h, length-counted bytes few) in
+    counted-at bytes few j within ∙ sym (laid.each j (omega (arith, within, laid.count)))) in
     ap (λ b. if b then Some (take (count_of bytes) (drop 1 (lanes_of bytes))) else None) is ∙ ap (λ t. Some t) same
 
 pub laid-stand : (bytes tasks : List ℕ) → Stand bytes tasks → IsLaid bytes tasks
@@ -139,6 +138,6 @@ laid-stand bytes tasks stand = go (is_board bytes) refl
     go true is =
         let parts = all_pass (nat_le (count_of bytes) 7) (are_zeros (slice_range bytes 1 8)) (are_zeros (drop (count_of bytes + 1) (lanes_of bytes))) is in
         let same : take (count_of bytes) (drop 1 (lanes_of bytes)) ≡ tasks =
-          same_some (sym (ap (λ b. if b then Some (take (count_of bytes) (drop 1 (lanes_of bytes))) else None) is) ∙ stand) in
+        same_some (sym (ap (λ b. if b then Some (take (count_of bytes) (drop 1 (lanes_of bytes))) else None) is) ∙ stand) in
         subst (IsLaid bytes) same (laid-counted bytes (leb-true (count_of bytes) 7 parts.0) parts.1 parts.2)
     go false is = absurd (let h : None ≡ Some tasks = sym (not_board bytes is) ∙ stand in cc h)

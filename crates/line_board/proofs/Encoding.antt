@@ -1,5 +1,5 @@
 -- A board as it is written, lane after lane.
-use Rattle.std.proofs.Common.{◌≡◌, ◌≢◌, ℕ, zero, suc, ◌+◌, ◌-◌, ◌*◌, ◌/◌, ◌%◌, ◌^◌, ◌<◌, ◌≤◌, ◌==◌, Bool, true, false, ◌⊎◌, inl, inr, List, length, take, drop, get_or, refl, ap, sym, ◌∙◌, arith, eq-eqb, ne_eqb, if◌then◌else◌}
+use Rattle.std.proofs.Common.{◌≡◌, ◌≢◌, ℕ, zero, suc, ◌+◌, ◌-◌, ◌*◌, ◌/◌, ◌%◌, ◌^◌, ◌<◌, ◌≤◌, ◌⊎◌, inl, inr, List, length, take, drop, get_or, refl, ap, sym, ◌∙◌, arith, eq-eqb, ne_eqb, if◌then◌else◌}
 use Rattle.std.specs.Prelude.{slice_index, slice_range}
 use Rattle.std.specs.List.{All}
 use Rattle.std.proofs.lemmas.List.{ext_get_or, get_or-take, get_or-drop, length-take, length-drop}
@@ -8,11 +8,11 @@ use Rattle.std.proofs.lemmas.List.FromFn.{get_or-map-range_with_len}
 use Rattle.std.proofs.lemmas.Bool.{cases_eq, cases_order}
 use Rattle.std.proofs.Math.Nat.{div-eq_of_lt, pow-le-pow_right}
 use Rattle.std.proofs.lemmas.Simd.{get_or_narrower, Each1-from_get_or}
-use lib.Lanes.{number_l, digits_l, Each1}
+use lib.Lanes.{digits_l, Each1}
 use Rattle.line_lanes.specs.Line.{zeros}
 use Rattle.line_lanes.specs.Lane.{lane_of, with_lane_of}
 use Rattle.line_lanes.proofs.LaneBytes.{with_lane-at, length-with_lane, lane-with_lane_same, lane-with_lane_other}
-use Rattle.line_board.specs.Board.{are_zeros, count_of, Stand}
+use Rattle.line_board.specs.Board.{count_of, Stand}
 use Rattle.line_board.proofs.Boards.{IsLaid, are_zeros-from, are_zeros-at, laid-stand}
 
 -- the count and the first `done` tasks are written, and the lanes behind them are zero
@@ -64,9 +64,9 @@ first_written tasks few = record {
   small = stays_small zeros 0 (length tasks) refl (omega arith) (omega arith) (λ i h. omega (arith, zero_byte i h));
   count = laid zeros 0 (length tasks) refl (omega arith) (omega arith) 0 (omega arith) refl ∙ omega arith;
   blank = λ i some low.
-    let at : i / 8 ≡ 0 = omega arith in
-    let digit : i % 8 ≡ i = omega arith in
-    laid zeros 0 (length tasks) refl (omega arith) (omega arith) i (omega arith) at ∙ (ap (λ d. length tasks / 256 ^ d % 256) digit ∙ high_digit (length tasks) i (omega arith) some);
+      let at : i / 8 ≡ 0 = omega arith in
+      let digit : i % 8 ≡ i = omega arith in
+      laid zeros 0 (length tasks) refl (omega arith) (omega arith) i (omega arith) at ∙ (ap (λ d. length tasks / 256 ^ d % 256) digit ∙ high_digit (length tasks) i (omega arith) some);
   each = λ j h. absurd (omega arith);
   unused = λ j above below. lane-with_lane_other zeros 0 (length tasks) j refl (omega arith) (omega arith) below (omega arith) ∙ zero_lane j below;
 }
@@ -101,8 +101,8 @@ written_laid bytes tasks few w = record {
   few = few;
   count = w.count;
   blank = are_zeros-from (slice_range bytes 1 8) (λ j h.
-    let below : j < 7 = omega (arith, h, low-length bytes w.long) in
-    low-at bytes j below ∙ w.blank (1 + j) (omega arith) (omega arith));
+      let below : j < 7 = omega (arith, h, low-length bytes w.long) in
+      low-at bytes j below ∙ w.blank (1 + j) (omega arith) (omega arith));
   each = w.each;
   unused = w.unused;
 }
@@ -115,7 +115,7 @@ digit_of_lane bytes k i long small within digit =
     let whole : length part ≡ 8 = length-take 8 (drop (8 * k) bytes) ∙ omega (arith, rest, within) in
     let each : (n : ℕ) → n < 8 → get_or part n 0 ≡ slice_index bytes (8 * k + n) = λ n h. get_or-take 8 (drop (8 * k) bytes) n 0 h ∙ get_or-drop (8 * k) bytes n 0 in
     let below : Each1 (λ x. x < 256) part = Each1-from_get_or (λ x. x < 256) part 0 (λ n h.
-      let n8 : n < 8 = omega (arith, h, whole) in omega (arith, each n n8, small (8 * k + n) (omega arith))) in
+    let n8 : n < 8 = omega (arith, h, whole) in omega (arith, each n n8, small (8 * k + n) (omega arith))) in
     let place : 1 * i + 0 ≡ i = omega arith in
     let one : slice_index bytes (8 * k + i) / 256 ^ 0 % 256 ≡ slice_index bytes (8 * k + i) = omega (arith, small (8 * k + i) (omega arith)) in
     sym one ∙ (ap (λ b. b / 256 ^ 0 % 256) (sym (each i digit)) ∙ (sym (get_or_narrower 256 1 256 8 part i 0 refl below (omega arith) (omega arith)) ∙ ap (λ n. get_or (digits_l 256 8 (lane_of bytes k)) n 0) place))

@@ -1,11 +1,10 @@
 -- The turn of a port that was granted the line.
-use Rattle.std.proofs.Common.{◌≡◌, ℕ, ◌+◌, ◌<◌, false, Bool, List, [], ◌∷◌, ◌++◌, length, replicate, Some, slice_get, refl, ap, sym, ◌∙◌, subst, arith, append-nil}
+use Rattle.std.proofs.Common.{◌≡◌, ℕ, ◌+◌, ◌<◌, false, Bool, List, [], ◌∷◌, ◌++◌, length, replicate, refl, ap, sym, ◌∙◌, subst, arith, append-nil}
 use Rattle.std.proofs.lemmas.Option.{slice_get_within}
 use Rattle.std.specs.Prelude.{bit_or}
 use Rattle.std.specs.Int.Bits.{or_zero_l}
 use Rattle.line_lanes.specs.Mask.{changed_mask}
 use Rattle.line_lanes.specs.Line.{merged}
-use Rattle.qolb_model.specs.declared.request.Request.{Request}
 use Rattle.qolb_model.specs.declared.write.Write.{Write}
 use Rattle.qolb_model.specs.declared.end.End.{End}
 use Rattle.qolb_model.specs.declared.end.End.TheVariants.{Served, Gone}
@@ -90,9 +89,9 @@ module _ (old new : View) (first write : Write) (granted : IsGranted old first) 
       found_there = rw more.terms stood;
       left_there = stands_after;
       mask =
-        masked
-        ∙ (ap (changed_mask (bytes_of old)) (sym released.bytes)
-        ∙ ap (λ (t : Terms). changed_mask (bytes_after t.opening.bytes old.ends) (bytes_of new)) (sym more.terms));
+          masked
+          ∙ (ap (changed_mask (bytes_of old)) (sym released.bytes)
+          ∙ ap (λ (t : Terms). changed_mask (bytes_after t.opening.bytes old.ends) (bytes_of new)) (sym more.terms));
       put = rw (more.terms, released.ends_turn.ends) (puts-turn old.terms.opening.bytes old.ends write (closes old.terms.lease old.ends false) released.ends_turn.passed found left stood written_after ∙ ap (λ p. puts_of old.terms.opening.bytes old.ends ++ p) put);
       taken = rw (more.terms, released.ends_turn.ends) (takes-turn old.terms.opening.bytes old.ends write (closes old.terms.lease old.ends false) released.ends_turn.passed found left stood written_after ∙ ap (λ p. takes_of old.terms.opening.bytes old.ends ++ p) taken);
       clear_before = clear;
@@ -105,7 +104,7 @@ module _ (old new : View) (first write : Write) (granted : IsGranted old first) 
   has_found tasks e stood =
       let same : write.bytes.bytes ≡ bytes_of old = sym (ap (λ (w : Write). w.bytes.bytes) e) ∙ granted.bytes in
       let none : write.mask.0 ≡ changed_mask (bytes_of old) write.bytes.bytes =
-        sym (ap (λ (w : Write). w.mask.0) e) ∙ (granted.no_mask ∙ (sym (changed_mask-self (bytes_of old)) ∙ ap (changed_mask (bytes_of old)) (sym same))) in
+      sym (ap (λ (w : Write). w.mask.0) e) ∙ (granted.no_mask ∙ (sym (changed_mask-self (bytes_of old)) ∙ ap (changed_mask (bytes_of old)) (sym same))) in
       record {
         tasks = tasks;
         counted = refl;
@@ -135,14 +134,14 @@ pub has_put : (found : List ℕ) (task : ℕ) (new : View) → HadTurn found (fo
 has_put found task new turn = record {
   found = found;
   turn =
-    subst (λ t. HadTurn found (found ++ task ∷ []) (task ∷ []) t new) (taken_last found task)
-    (subst (λ p. HadTurn found (found ++ task ∷ []) p (taken_between found (found ++ task ∷ [])) new) (put_last found task) turn);
+      subst (λ t. HadTurn found (found ++ task ∷ []) (task ∷ []) t new) (taken_last found task)
+      (subst (λ p. HadTurn found (found ++ task ∷ []) p (taken_between found (found ++ task ∷ [])) new) (put_last found task) turn);
 }
 
 pub has_taken : (task : ℕ) (left : List ℕ) (new : View) → HadTurn (task ∷ left) left (put_between (task ∷ left) left) (taken_between (task ∷ left) left) new → HasTaken task new
 has_taken task left new turn = record {
   left = left;
   turn =
-    subst (λ t. HadTurn (task ∷ left) left [] t new) (taken_first task left)
-    (subst (λ p. HadTurn (task ∷ left) left p (taken_between (task ∷ left) left) new) (put_first task left) turn);
+      subst (λ t. HadTurn (task ∷ left) left [] t new) (taken_first task left)
+      (subst (λ p. HadTurn (task ∷ left) left p (taken_between (task ∷ left) left) new) (put_first task left) turn);
 }

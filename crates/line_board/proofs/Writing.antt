@@ -1,10 +1,9 @@
 -- Writes of the bytes that differ.
-use Rattle.std.proofs.Common.{◌≡◌, ℕ, ◌<◌, ◌==◌, Bool, true, false, not, List, length, refl, ap, sym, ◌∙◌, arith, if◌then◌else◌, inl, inr, eq-eqb, ne_eqb}
+use Rattle.std.proofs.Common.{◌≡◌, ℕ, ◌==◌, false, not, List, length, refl, ap, sym, ◌∙◌, arith, if◌then◌else◌, inl, inr, eq-eqb, ne_eqb}
 use Rattle.std.proofs.lemmas.Bool.{cases_eq}
-use Rattle.std.specs.Prelude.{slice_index, bit_or}
-use Rattle.std.specs.Int.Bits.{or_zero_l}
+use Rattle.std.specs.Prelude.{slice_index}
 use Rattle.std.proofs.lemmas.Nat.Bits.{bit_at-zero}
-use Rattle.line_lanes.specs.Mask.{is_masked, changed_mask}
+use Rattle.line_lanes.specs.Mask.{changed_mask}
 use Rattle.line_lanes.specs.Line.{merged}
 use Rattle.line_lanes.proofs.MaskBits.{is_masked-mask_by, mask_by-from_bits}
 use Rattle.line_lanes.proofs.Masked.{merged-by}

@@ -1,6 +1,6 @@
 -- What each call of a board promises: one record a call, one field an answer. `old` and `new` are what the port knew before and after.
 -- (Of this project.)
-use Rattle.std.specs.Prelude.{◌≡◌, ◌≢◌, ℕ, ◌+◌, Bool, true, false, List, [], ◌∷◌, ◌++◌, length, replicate, slice_get, Some}
+use Rattle.std.specs.Prelude.{◌≡◌, ◌≢◌, ℕ, ◌+◌, true, false, List, [], ◌∷◌, ◌++◌, length, replicate, slice_get, Some}
 use Rattle.line_lanes.specs.Mask.{changed_mask}
 use Rattle.qolb_model.specs.declared.write.Write.{Write}
 use Rattle.qolb_model.specs.declared.end.End.{End}

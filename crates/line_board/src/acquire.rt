@@ -10,11 +10,7 @@ use crate::law::BoardLaw;
 use qolb_model::{Enq, LineSync, Out, Poll, PortState};
 
 /// Asks for the line, polls at most `patience` times while it waits, and then withdraws.
-pub(crate) fn acquire<L: LineSync<BoardLaw>>(
-    line: &L,
-    port: &mut L::Port,
-    patience: u64,
-) -> Asked
+pub(crate) fn acquire<L: LineSync<BoardLaw>>(line: &L, port: &mut L::Port, patience: u64) -> Asked
     requires belongs { L.belongs line.now port.old }
     requires state { IsTrue (may_ask (L.view port.old).state) }
     ensures belongs { L.belongs line.now port.new }

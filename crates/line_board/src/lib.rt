@@ -16,3 +16,6 @@ pub use board::{MOST_TASKS, Tasks, decode, encode};
 pub use law::BoardLaw;
 pub use putting::put;
 pub use taking::take;
+
+#[cfg(test)]
+mod tests;

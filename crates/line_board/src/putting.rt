@@ -17,12 +17,7 @@ use qolb_model::LineSync;
 
 /// Puts the task behind the others, in one turn. Asks for the line once, polls at most `patience` times while the request waits, and
 /// then withdraws it.
-pub fn put<L: LineSync<BoardLaw>>(
-    line: &L,
-    port: &mut L::Port,
-    task: u64,
-    patience: u64,
-) -> Put
+pub fn put<L: LineSync<BoardLaw>>(line: &L, port: &mut L::Port, task: u64, patience: u64) -> Put
     requires belongs { L.belongs line.now port.old }
     requires state { IsTrue (may_ask (L.view port.old).state) }
     ensures belongs { L.belongs line.now port.new }

@@ -1,4 +1,4 @@
-use Rattle.std.proofs.Common.{◌≡◌, refl}
+use Rattle.std.proofs.Common.{refl}
 use Rattle.line_board.proofs.Acquiring.{acquired}
 use Rattle.line_board.proofs.acquire.acquire.Goals as goal
 

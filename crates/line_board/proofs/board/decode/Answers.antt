@@ -1,7 +1,6 @@
-use Rattle.std.proofs.Common.{◌≡◌, ◌≢◌, arith, ◌+◌, ◌<◌, ◌≤◌, sym, ◌∙◌, true, length}
-use Rattle.std.specs.Prelude.{slice_range}
+use Rattle.std.proofs.Common.{◌≡◌, ◌≢◌, arith, ◌<◌, ◌≤◌, sym, ◌∙◌, length}
 use Rattle.line_lanes.specs.Lane.{lane_of}
-use Rattle.line_board.specs.Board.{are_zeros, count_of}
+use Rattle.line_board.specs.Board.{count_of}
 use Rattle.line_board.proofs.Boards.{stand-laid, not_unused}
 use Rattle.line_board.proofs.board.decode.Goals as goal
 

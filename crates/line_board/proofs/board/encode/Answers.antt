@@ -1,5 +1,4 @@
-use Rattle.std.proofs.Common.{◌≡◌, rules, arith, ap, sym, ◌∙◌, subst, length, ◌≤◌, ◌<◌, ◌+◌, ◌^◌, get_or}
-use Rattle.line_lanes.specs.Line.{zeros}
+use Rattle.std.proofs.Common.{◌≡◌, rules, arith, ap, ◌∙◌, subst, length, ◌≤◌, ◌<◌, ◌+◌, ◌^◌, get_or}
 use Rattle.line_lanes.specs.Lane.{with_lane_of}
 use Rattle.line_board.proofs.Boards.{stand-laid}
 use Rattle.line_board.proofs.Encoding.{IsWritten, first_written, next_written, written_laid, written_only}
@@ -18,7 +17,7 @@ loop-k-preserved c =
     let more : c.loop-k.k < length tasks = omega (arith, ap length same) in
     let fits : get_or tasks c.loop-k.k 0 < 2 ^ 64 = search rules in
     let laid : c.with_lane-line-in-loop-k.result.bytes ≡ with_lane_of c.loop-k.line.bytes (c.loop-k.k + 1) (get_or tasks c.loop-k.k 0) =
-      c.with_lane-line-in-loop-k.ensures ∙ ap (λ xs. with_lane_of c.loop-k.line.bytes (c.loop-k.k + 1) (get_or xs c.loop-k.k 0)) same in
+    c.with_lane-line-in-loop-k.ensures ∙ ap (λ xs. with_lane_of c.loop-k.line.bytes (c.loop-k.k + 1) (get_or xs c.loop-k.k 0)) same in
     rw laid (next_written c.loop-k.line.bytes tasks c.loop-k.k few more fits c.loop-k.invariant)
 
 pub returns-clause-tasks : goal.returns-clause-tasks

@@ -1,4 +1,3 @@
-use Rattle.std.proofs.Common.{◌≤◌, length}
 use Rattle.line_board.proofs.Encoding.{IsWritten}
 use Rattle.line_board.proofs.board.encode.Given as goal
 

@@ -1,4 +1,3 @@
-use Rattle.std.proofs.Common.{◌≡◌}
 use Rattle.line_board.proofs.Balance.{board_queues}
 use Rattle.line_board.proofs.laws.board_is_queue.Goals as goal
 

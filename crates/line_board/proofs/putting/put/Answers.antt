@@ -1,4 +1,3 @@
-use Rattle.std.proofs.Common.{◌≡◌, refl}
 use Rattle.line_board.proofs.Answering.{stored, full}
 use Rattle.line_board.proofs.putting.put.Goals as goal
 

@@ -1,4 +1,4 @@
-use Rattle.std.proofs.Common.{◌≡◌, ◌∷◌, [], ℕ, List, length, inl, inr, refl, ap, sym, ◌∙◌, subst}
+use Rattle.std.proofs.Common.{◌≡◌, [], ℕ, List, length, inr, ap, sym, ◌∙◌, subst}
 use Rattle.qolb_model.specs.Views.{bytes_of}
 use Rattle.line_board.specs.Board.{Stand}
 use Rattle.line_board.specs.Calls.{HasFound}

@@ -1,4 +1,3 @@
-use Rattle.std.proofs.Common.{◌≡◌, refl}
 use Rattle.line_board.proofs.Answering.{taken, empty}
 use Rattle.line_board.proofs.taking.take.Goals as goal
 

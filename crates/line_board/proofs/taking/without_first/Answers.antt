@@ -1,4 +1,4 @@
-use Rattle.std.proofs.Common.{◌≡◌, ℕ, List, [], ◌∷◌, Some, None, slice_get, sym, ◌∙◌, refl, ap}
+use Rattle.std.proofs.Common.{◌≡◌, ℕ, List, [], ◌∷◌, Some, None, slice_get, sym, ◌∙◌}
 use Rattle.std.specs.Prelude.{remove}
 use Rattle.qolb_model.proofs.Lists.{same_some}
 use Rattle.line_board.proofs.taking.without_first.Goals as goal

@@ -1,4 +1,4 @@
-use Rattle.std.proofs.Common.{◌≡◌, refl}
+use Rattle.std.proofs.Common.{refl}
 use Rattle.line_board.specs.Law.{same_board}
 use Rattle.line_board.proofs.Turns.{board_known, has_found}
 use Rattle.line_board.proofs.turn.keep.Goals as goal
