@@ -1,6 +1,8 @@
 -- Asking, and waiting.
 use Rattle.std.proofs.Common.{◌≡◌, ◌≢◌, ℕ, List, refl, ◌∙◌}
-use Rattle.qolb_model.specs.declared.answer.Enq.TheVariants.{Queued}
+use Rattle.qolb_model.specs.declared.answer.Enq.{Enq}
+use Rattle.qolb_model.specs.declared.answer.Enq.TheVariants as enq
+use Rattle.line_board.proofs.Unserved.{unserved}
 use Rattle.qolb_model.specs.declared.answer.Out.{Out}
 use Rattle.qolb_model.specs.declared.answer.Out.TheVariants as out
 use Rattle.qolb_model.specs.declared.view.View.{View}
@@ -54,10 +56,27 @@ asks_on old mid new a e same = record {
 pub joined_on : (mid new : View) → IsJoined mid → Extends mid new → new.count ≡ mid.count → IsJoined new
 joined_on mid new j e same = rw (own_on mid new e same) (e.joined (own mid) j)
 
+-- what came of asking, where the request was granted at once, or told, or the port was busy
+pub asked_once :
+    (old new : View) (turn : Write) (answer : Asked) (now : Enq)
+    → Enqueues Changes old new turn now
+    → (answer ≡ asked.Busy → now ≡ enq.Busy) → (answer ≢ asked.Busy → now ≢ enq.Busy) → (answer ≡ asked.Granted → now ≡ enq.Granted) → answer ≢ asked.Late → (answer ≡ asked.Closed → now ≡ enq.Closed)
+    → Acquires old new turn answer
+asked_once old new turn answer now e busy some granted late told = record {
+  continues = e.continues;
+  busy = λ is. e.busy (busy is);
+  asks = λ is. e.asks (some is);
+  joined = λ is. e.joined (some is);
+  granted = λ is. e.granted (granted is);
+  late = λ is. absurd (late is);
+  told = λ is. e.told (told is);
+  unserved = unserved old new e.continues.history answer (λ is. e.busy (busy is)) (λ is. e.asks (some is)) (λ is. absurd (late is)) (λ is. e.told (told is));
+}
+
 -- what came of asking, where the request waited and then was withdrawn, or granted, or told
 pub acquired :
     (old mid new : View) (first turn : Write) (answer : Asked) (ended : Out)
-    → Enqueues Changes old mid first Queued → Withdraws Changes mid new turn ended
+    → Enqueues Changes old mid first enq.Queued → Withdraws Changes mid new turn ended
     → answer ≢ asked.Busy → (answer ≡ asked.Granted → ended ≡ out.Granted) → (answer ≡ asked.Late → ended ≡ out.Withdrawn) → (answer ≡ asked.Closed → ended ≡ out.Closed)
     → Acquires old new turn answer
 acquired old mid new first turn answer ended e w some granted late told = record {
@@ -68,4 +87,7 @@ acquired old mid new first turn answer ended e w some granted late told = record
   granted = λ is. w.granted (granted is);
   late = λ is. w.withdrawn (late is);
   told = λ is. w.told (told is);
+  unserved =
+    unserved old new w.continues.history answer (λ is. absurd (some is)) (λ _. asks_on old mid new (e.asks (λ is. cc is)) w.continues.extends w.count)
+    (λ is. w.withdrawn (late is)) (λ is. w.told (told is));
 }

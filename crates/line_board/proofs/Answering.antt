@@ -1,5 +1,5 @@
 -- What a board's call answers, once the line was granted.
-use Rattle.std.proofs.Common.{◌≡◌, ℕ, true, subst}
+use Rattle.std.proofs.Common.{◌≡◌, ℕ, true, subst, refl}
 use Rattle.qolb_model.specs.declared.view.View.{View}
 use Rattle.qolb_model.specs.declared.write.Write.{Write}
 use Rattle.qolb_model.specs.PortStates.{may_ask}
@@ -24,6 +24,7 @@ module _ (old mid new : View) (turn : Write) (acquired : Acquires old mid turn a
     late = λ e. absurd (cc e);
     told = λ e. absurd (cc e);
     busy = λ e. absurd (cc e);
+    unserved = λ other _. absurd (other refl);
   }
 
   pub full : (task : ℕ) → HasFound MOST_TASKS new → Puts task old new put.Full
@@ -37,6 +38,7 @@ module _ (old mid new : View) (turn : Write) (acquired : Acquires old mid turn a
     late = λ e. absurd (cc e);
     told = λ e. absurd (cc e);
     busy = λ e. absurd (cc e);
+    unserved = λ _ other. absurd (other refl);
   }
 
   pub taken : (task : ℕ) → HasTaken task new → Takes old new (take.Task task)
@@ -50,6 +52,7 @@ module _ (old mid new : View) (turn : Write) (acquired : Acquires old mid turn a
     late = λ e. absurd (cc e);
     told = λ e. absurd (cc e);
     busy = λ e. absurd (cc e);
+    unserved = λ other _. absurd (other task refl);
   }
 
   pub empty : HasFound 0 new → Takes old new take.Empty
@@ -63,4 +66,5 @@ module _ (old mid new : View) (turn : Write) (acquired : Acquires old mid turn a
     late = λ e. absurd (cc e);
     told = λ e. absurd (cc e);
     busy = λ e. absurd (cc e);
+    unserved = λ _ other. absurd (other refl);
   }

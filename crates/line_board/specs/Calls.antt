@@ -1,11 +1,13 @@
 -- What each call of a board promises: one record a call, one field an answer. `old` and `new` are what the port knew before and after.
 -- (Of this project.)
-use Rattle.std.specs.Prelude.{◌≡◌, ◌≢◌, ℕ, ◌+◌, true, false, List, [], ◌∷◌, ◌++◌, length, replicate, slice_get, Some}
+use Rattle.std.specs.Prelude.{◌≡◌, ◌≢◌, ℕ, ◌+◌, ◌<◌, true, false, List, [], ◌∷◌, ◌++◌, length, replicate, slice_get, Some}
 use Rattle.line_lanes.specs.Mask.{changed_mask}
 use Rattle.qolb_model.specs.declared.write.Write.{Write}
 use Rattle.qolb_model.specs.declared.end.End.{End}
 use Rattle.qolb_model.specs.declared.end.End.TheVariants.{Served, Gone}
+use Rattle.qolb_model.specs.declared.request.Request.{Request}
 use Rattle.qolb_model.specs.declared.view.View.{View}
+use Rattle.qolb_model.specs.EndKinds.{is_served}
 use Rattle.qolb_model.specs.PortStates.{may_ask, left_by}
 use Rattle.qolb_model.specs.Leases.{closes}
 use Rattle.qolb_model.specs.Ends.{is_closed, bytes_after}
@@ -60,6 +62,10 @@ pub record HasFound (count : ℕ) (new : View) : Type 0 where
   pub turn : HadTurn tasks tasks [] [] new
   pub same : bytes_of new ≡ bytes_after new.terms.opening.bytes turn.before
 
+-- of the requests that the port made in the call none was served: it put no task and took none, and changed no byte
+abbrev pub IsUnserved : View → View → Type 0
+IsUnserved old new = (p : ℕ) (r : Request) (e : End) → slice_get new.order p ≡ Some r → r.node ≡ new.node → old.count < r.number → slice_get new.ends p ≡ Some e → is_served e ≡ false
+
 -- asking, and waiting with patience: the port is granted the line, or has withdrawn, or is told that the line is closed; or it was busy
 pub record Acquires (old new : View) (turn : Write) (answer : Asked) : Type 0 where
   pub continues : Continues Changes old new
@@ -69,6 +75,7 @@ pub record Acquires (old new : View) (turn : Write) (answer : Asked) : Type 0 wh
   pub granted : answer ≡ asked.Granted → IsGranted new turn
   pub late : answer ≡ asked.Late → IsWithdrawn new
   pub told : answer ≡ asked.Closed → IsTold new
+  pub unserved : answer ≢ asked.Granted → IsUnserved old new
 
 -- `put`: a task is put behind the others, where there is room
 pub record Puts (task : ℕ) (old new : View) (answer : Put) : Type 0 where
@@ -81,6 +88,7 @@ pub record Puts (task : ℕ) (old new : View) (answer : Put) : Type 0 where
   pub late : answer ≡ put.Late → IsWithdrawn new
   pub told : answer ≡ put.Closed → IsTold new
   pub busy : answer ≡ put.Busy → IsBusy old new
+  pub unserved : answer ≢ put.Stored → answer ≢ put.Full → IsUnserved old new
 
 -- `take`: the first task is taken, where there is one
 pub record Takes (old new : View) (answer : Take) : Type 0 where
@@ -93,3 +101,4 @@ pub record Takes (old new : View) (answer : Take) : Type 0 where
   pub late : answer ≡ take.Late → IsWithdrawn new
   pub told : answer ≡ take.Closed → IsTold new
   pub busy : answer ≡ take.Busy → IsBusy old new
+  pub unserved : ((task : ℕ) → answer ≢ take.Task task) → answer ≢ take.Empty → IsUnserved old new
