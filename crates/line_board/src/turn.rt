@@ -1,6 +1,8 @@
 //! The turn of a port that holds a board: it changes the board, or leaves it, and releases the line.
-ghost use Rattle.std.specs.Prelude.{◌≡◌, ℕ, List, [], length, IsTrue};
+ghost use Rattle.std.specs.Prelude.{◌≡◌, ℕ, List, length, false, IsTrue};
 ghost use Rattle.qolb_model.specs.PortStates.{may_ask};
+ghost use Rattle.qolb_model.specs.Kept.{MayRelease};
+ghost use Rattle.qolb_model.specs.Calls.{Releases};
 ghost use Rattle.qolb_model.specs.Sound.{Continues};
 ghost use Rattle.qolb_model.specs.Turns.{IsGranted};
 ghost use Rattle.qolb_model.specs.Views.{bytes_of};
@@ -11,7 +13,7 @@ ghost use Rattle.line_board.specs.Calls.{HadTurn, HasFound};
 
 use crate::law::BoardLaw;
 use line_lanes::{Line64, changed};
-use qolb_model::LineSync;
+use qolb_model::{LineSync, PortState};
 
 /// Writes the new board, where its bytes differ, and releases the line.
 pub(crate) fn replace<L: LineSync<BoardLaw>>(line: &L, port: &mut L::Port, new: Line64)
@@ -26,7 +28,7 @@ pub(crate) fn replace<L: LineSync<BoardLaw>>(line: &L, port: &mut L::Port, new: 
 {
     let mask = changed(L::bytes(port), &new);
     L::write(port, mask, &new);
-    line.deqolb(port);
+    release(line, port);
 }
 
 /// Releases the line with the board as it stands.
@@ -38,6 +40,17 @@ pub(crate) fn keep<L: LineSync<BoardLaw>>(line: &L, port: &mut L::Port)
     ensures count { (L.view port.new).count ≡ (L.view port.old).count }
     ensures state { IsTrue (may_ask (L.view port.new).state) }
     ensures found { (tasks : List ℕ) → Stand (bytes_of (L.view port.old)) tasks → HasFound (length tasks) (L.view port.new) }
+{
+    release(line, port);
+}
+
+/// Ends the turn and leaves the line open: no call of a board shuts it, but the last turn of a lease closes it.
+fn release<L: LineSync<BoardLaw>>(line: &L, port: &mut L::Port)
+    requires belongs { L.belongs line.now port.old }
+    requires state { (L.view port.old).state ≡ PortState.Holding }
+    requires allowed { MayRelease Changes (L.view port.old) (L.turn port.old) }
+    ensures belongs { L.belongs line.now port.new }
+    ensures releases { Releases Changes false (L.view port.old) (L.view port.new) (L.turn port.old) }
 {
     line.deqolb(port);
 }
