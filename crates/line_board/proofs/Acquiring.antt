@@ -88,6 +88,6 @@ acquired old mid new first turn answer ended e w some granted late told = record
   late = λ is. w.withdrawn (late is);
   told = λ is. w.told (told is);
   unserved =
-    unserved old new w.continues.history answer (λ is. absurd (some is)) (λ _. asks_on old mid new (e.asks (λ is. cc is)) w.continues.extends w.count)
-    (λ is. w.withdrawn (late is)) (λ is. w.told (told is));
+      unserved old new w.continues.history answer (λ is. absurd (some is)) (λ _. asks_on old mid new (e.asks (λ is. cc is)) w.continues.extends w.count)
+      (λ is. w.withdrawn (late is)) (λ is. w.told (told is));
 }

@@ -1,8 +1,7 @@
 -- A call that was not granted put no end of the board.
-use Rattle.std.proofs.Common.{◌≡◌, ◌≢◌, ℕ, ◌+◌, ◌<◌, ◌≤◌, false, [], ◌∷◌, length, replicate, Some, slice_get, refl, ap, sym, ◌∙◌, subst, arith}
+use Rattle.std.proofs.Common.{◌≡◌, ◌≢◌, ℕ, ◌+◌, ◌<◌, ◌≤◌, [], ◌∷◌, length, replicate, Some, slice_get, refl, ap, sym, ◌∙◌, arith}
 use Rattle.std.proofs.lemmas.Option.{slice_get_within}
 use Rattle.qolb_model.specs.declared.request.Request.{Request}
-use Rattle.qolb_model.specs.declared.end.End.{End}
 use Rattle.qolb_model.specs.declared.end.End.TheVariants.{Gone, Told}
 use Rattle.qolb_model.specs.declared.view.View.{View}
 use Rattle.qolb_model.specs.Requests.{count_of}
@@ -55,7 +54,7 @@ module _ (old new : View) (history : OneHistory (new ∷ [])) where
       let same : r ≡ own new = is_own p r at its made asks.count in
       let place : p ≡ length told.before = one_place p (length told.before) (own new) (at ∙ ap (λ x. Some x) same) told.at_turn in
       let end : slice_get new.ends p ≡ Some Told =
-        ap (slice_get new.ends) place ∙ (ap (λ es. slice_get es (length told.before)) told.ends ∙ slice_get-middle told.before Told (replicate told.passed Gone)) in
+      ap (slice_get new.ends) place ∙ (ap (λ es. slice_get es (length told.before)) told.ends ∙ slice_get-middle told.before Told (replicate told.passed Gone)) in
       ap is_served (same_some (sym ended ∙ end))
 
   pub unserved :

@@ -1,6 +1,25 @@
+ghost use Rattle.std.specs.Prelude.{IsTrue};
+ghost use Rattle.qolb_model.specs.PortStates.{may_ask};
+
 use super::*;
 use line_lanes::Line64;
+use qolb_model::LineSync;
 use std::test::Fail;
+
+/// Puts a task and takes one: a caller that knows no more of its line than the trait says.
+fn hand_over<L: LineSync<BoardLaw>>(line: &L, port: &mut L::Port) -> Option<u64>
+    requires belongs { L.belongs line.now port.old }
+    requires state { IsTrue (may_ask (L.view port.old).state) }
+    ensures belongs { L.belongs line.now port.new }
+{
+    if put(line, port, 5, 100) != Put::Stored {
+        return None;
+    }
+    match take(line, port, 100) {
+        Take::Task(task) => Some(task),
+        _ => None,
+    }
+}
 
 /// Tasks in this order, as many as a board has room for.
 fn tasks_of(numbers: &[u64]) -> Tasks {
