@@ -42,5 +42,6 @@ fn wait<L: LineSync<BoardLaw>>(line: &L, port: &mut L::Port, patience: u64) -> O
             Poll::Closed => return Out::Closed,
         }
     }
+    // The request may have come to its turn since the last poll. Then it is granted or told, and not withdrawn.
     line.withdraw(port)
 }

@@ -37,6 +37,7 @@ pub fn encode(tasks: &Tasks) -> Line64
     ensures tasks { Stand result.bytes tasks.now.items }
     ensures only { (line : List ℕ) → length line ≡ 64 → All (λ byte. byte < 256) line → Stand line tasks.now.items → line ≡ result.bytes }
 {
+    // A count below 256 in lane 0 is byte 0, with zeros in bytes 1 to 7.
     let mut line = with_lane(&Line64::zero(), 0, tasks.len() as u64);
     for (k, task) in tasks.iter().enumerate() {
         line = with_lane(&line, k + 1, *task);
@@ -44,6 +45,7 @@ pub fn encode(tasks: &Tasks) -> Line64
     line
 }
 
+/// Whether all these bytes are zero.
 fn are_zeros(bytes: &[u8]) -> bool
     ensures { result ≡ are_zeros bytes.now }
 {

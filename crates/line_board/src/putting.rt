@@ -24,8 +24,13 @@ pub fn put<L: LineSync<BoardLaw>>(line: &L, port: &mut L::Port, task: u64, patie
     ensures puts { Puts task (L.view port.old) (L.view port.new) result }
 {
     match acquire(line, port, patience) {
-        Asked::Granted if store(line, port, task) => Put::Stored,
-        Asked::Granted => Put::Full,
+        Asked::Granted => {
+            if store(line, port, task) {
+                Put::Stored
+            } else {
+                Put::Full
+            }
+        }
         Asked::Late => Put::Late,
         Asked::Closed => Put::Closed,
         Asked::Busy => Put::Busy,

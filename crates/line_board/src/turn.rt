@@ -26,6 +26,7 @@ pub(crate) fn replace<L: LineSync<BoardLaw>>(line: &L, port: &mut L::Port, new: 
     ensures state { IsTrue (may_ask (L.view port.new).state) }
     ensures turn { (found left : List ℕ) → Stand (bytes_of (L.view port.old)) found → Stand new.bytes left → HadTurn found left (put_between found left) (taken_between found left) (L.view port.new) }
 {
+    // The end of a turn keeps its mask: with the bytes that differ alone it says what this turn changed.
     let mask = changed(L::bytes(port), &new);
     L::write(port, mask, &new);
     release(line, port);
