@@ -1,0 +1,70 @@
+-- What a board's call answers, once the line was granted.
+use Rattle.std.proofs.Common.{◌≡◌, ℕ, true, subst, refl}
+use Rattle.qolb_model.specs.declared.view.View.{View}
+use Rattle.qolb_model.specs.declared.write.Write.{Write}
+use Rattle.qolb_model.specs.PortStates.{may_ask}
+use Rattle.qolb_model.specs.Sound.{Continues}
+use Rattle.line_board.specs.declared.answer.Asked.TheVariants as asked
+use Rattle.line_board.specs.declared.answer.Put.TheVariants as put
+use Rattle.line_board.specs.declared.answer.Take.TheVariants as take
+use Rattle.line_board.specs.declared.board.TheConstants.{MOST_TASKS}
+use Rattle.line_board.specs.Law.{Changes}
+use Rattle.line_board.specs.Calls.{HasPut, HasTaken, HasFound, Acquires, Puts, Takes}
+use Rattle.line_board.proofs.Acquiring.{continues_on, asks_on, joined_on}
+
+module _ (old mid new : View) (turn : Write) (acquired : Acquires old mid turn asked.Granted) (goes_on : Continues Changes mid new) (same : new.count ≡ mid.count) (quiet : may_ask new.state ≡ true) where
+  pub stored : (task : ℕ) → HasPut task new → Puts task old new put.Stored
+  stored task has = record {
+    continues = continues_on Changes old mid new acquired.continues.extends goes_on;
+    may_ask = quiet;
+    asks = λ _. asks_on old mid new (acquired.asks (λ e. cc e)) goes_on.extends same;
+    joined = λ _. joined_on mid new (acquired.joined (λ e. cc e)) goes_on.extends same;
+    stored = λ _. has;
+    full = λ e. absurd (cc e);
+    late = λ e. absurd (cc e);
+    told = λ e. absurd (cc e);
+    busy = λ e. absurd (cc e);
+    unserved = λ other _. absurd (other refl);
+  }
+
+  pub full : (task : ℕ) → HasFound MOST_TASKS new → Puts task old new put.Full
+  full task has = record {
+    continues = continues_on Changes old mid new acquired.continues.extends goes_on;
+    may_ask = quiet;
+    asks = λ _. asks_on old mid new (acquired.asks (λ e. cc e)) goes_on.extends same;
+    joined = λ _. joined_on mid new (acquired.joined (λ e. cc e)) goes_on.extends same;
+    stored = λ e. absurd (cc e);
+    full = λ _. has;
+    late = λ e. absurd (cc e);
+    told = λ e. absurd (cc e);
+    busy = λ e. absurd (cc e);
+    unserved = λ _ other. absurd (other refl);
+  }
+
+  pub taken : (task : ℕ) → HasTaken task new → Takes old new (take.Task task)
+  taken task has = record {
+    continues = continues_on Changes old mid new acquired.continues.extends goes_on;
+    may_ask = quiet;
+    asks = λ _. asks_on old mid new (acquired.asks (λ e. cc e)) goes_on.extends same;
+    joined = λ _. joined_on mid new (acquired.joined (λ e. cc e)) goes_on.extends same;
+    task = λ other e. let same_task : task ≡ other = cc e in subst (λ t. HasTaken t new) same_task has;
+    empty = λ e. absurd (cc e);
+    late = λ e. absurd (cc e);
+    told = λ e. absurd (cc e);
+    busy = λ e. absurd (cc e);
+    unserved = λ other _. absurd (other task refl);
+  }
+
+  pub empty : HasFound 0 new → Takes old new take.Empty
+  empty has = record {
+    continues = continues_on Changes old mid new acquired.continues.extends goes_on;
+    may_ask = quiet;
+    asks = λ _. asks_on old mid new (acquired.asks (λ e. cc e)) goes_on.extends same;
+    joined = λ _. joined_on mid new (acquired.joined (λ e. cc e)) goes_on.extends same;
+    task = λ task e. absurd (cc e);
+    empty = λ _. has;
+    late = λ e. absurd (cc e);
+    told = λ e. absurd (cc e);
+    busy = λ e. absurd (cc e);
+    unserved = λ _ other. absurd (other refl);
+  }

@@ -1,0 +1,18 @@
+//! The law of a board.
+use qolb_model::Keep;
+
+/// A line is a board, and a turn keeps its tasks, puts one behind them or takes the first.
+pub struct BoardLaw;
+
+impl Keep for BoardLaw {
+    ghost use Rattle.line_board.specs.Board.{IsBoard};
+    ghost use Rattle.line_board.specs.Law.{Changes, changed_board, same_board};
+
+    ghost good = { IsBoard };
+
+    ghost allows = { Changes };
+
+    ghost stays_good = { changed_board };
+
+    ghost allows_same = { same_board };
+}

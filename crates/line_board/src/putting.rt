@@ -1,0 +1,70 @@
+//! Putting a task on a board.
+ghost use Rattle.std.specs.Prelude.{◌≡◌, ◌++◌, ◌∷◌, [], ℕ, List, length, true, false, IsTrue, MatchOption};
+ghost use Rattle.qolb_model.specs.PortStates.{may_ask};
+ghost use Rattle.qolb_model.specs.Sound.{Continues};
+ghost use Rattle.qolb_model.specs.Turns.{IsGranted};
+ghost use Rattle.line_board.specs.Board.{Stand};
+ghost use Rattle.line_board.specs.Law.{Changes};
+ghost use Rattle.line_board.specs.Calls.{HasPut, HasFound, Puts};
+
+use crate::acquire::acquire;
+use crate::answer::{Asked, Put};
+use crate::board::{MOST_TASKS, decode, encode};
+use crate::law::BoardLaw;
+use crate::turn::{keep, replace};
+use line_lanes::Line64;
+use qolb_model::LineSync;
+
+/// Puts the task behind the others, in one turn. Asks for the line once, polls at most `patience` times while the request waits, and
+/// then withdraws it.
+pub fn put<L: LineSync<BoardLaw>>(line: &L, port: &mut L::Port, task: u64, patience: u64) -> Put
+    requires belongs { L.belongs line.now port.old }
+    requires state { IsTrue (may_ask (L.view port.old).state) }
+    ensures belongs { L.belongs line.now port.new }
+    ensures puts { Puts task (L.view port.old) (L.view port.new) result }
+{
+    match acquire(line, port, patience) {
+        Asked::Granted => {
+            if store(line, port, task) {
+                Put::Stored
+            } else {
+                Put::Full
+            }
+        }
+        Asked::Late => Put::Late,
+        Asked::Closed => Put::Closed,
+        Asked::Busy => Put::Busy,
+    }
+}
+
+/// Puts the task behind the others where there is room, and releases the line.
+fn store<L: LineSync<BoardLaw>>(line: &L, port: &mut L::Port, task: u64) -> bool
+    requires belongs { L.belongs line.now port.old }
+    requires granted { IsGranted (L.view port.old) (L.turn port.old) }
+    ensures belongs { L.belongs line.now port.new }
+    ensures continues { Continues Changes (L.view port.old) (L.view port.new) }
+    ensures count { (L.view port.new).count ≡ (L.view port.old).count }
+    ensures state { IsTrue (may_ask (L.view port.new).state) }
+    ensures stored { result ≡ true → HasPut task (L.view port.new) }
+    ensures full { result ≡ false → HasFound MOST_TASKS (L.view port.new) }
+{
+    match with_last(L::bytes(port), task) {
+        Some(new) => {
+            replace(line, port, new);
+            true
+        }
+        None => {
+            keep(line, port);
+            false
+        }
+    }
+}
+
+/// The board with one more task, or `None` where there is no room.
+fn with_last(board: &Line64, task: u64) -> Option<Line64>
+    ensures { (tasks : List ℕ) → Stand board.now.bytes tasks → MatchOption result (length tasks ≡ MOST_TASKS) (λ new. Stand new.bytes (tasks ++ task ∷ [])) }
+{
+    let mut tasks = decode(board)?;
+    tasks.try_push(task).ok()?;
+    Some(encode(&tasks))
+}

@@ -1,0 +1,66 @@
+//! Taking a task from a board.
+ghost use Rattle.std.specs.Prelude.{◌≡◌, ◌∷◌, [], ℕ, List, IsTrue, MatchOption};
+ghost use Rattle.qolb_model.specs.PortStates.{may_ask};
+ghost use Rattle.qolb_model.specs.Sound.{Continues};
+ghost use Rattle.qolb_model.specs.Turns.{IsGranted};
+ghost use Rattle.line_board.specs.Board.{Stand};
+ghost use Rattle.line_board.specs.Law.{Changes};
+ghost use Rattle.line_board.specs.Calls.{HasTaken, HasFound, Takes};
+
+use crate::acquire::acquire;
+use crate::answer::{Asked, Take};
+use crate::board::{decode, encode};
+use crate::law::BoardLaw;
+use crate::turn::{keep, replace};
+use line_lanes::Line64;
+use qolb_model::LineSync;
+
+/// Takes the oldest task, in one turn. Asks for the line once, polls at most `patience` times while the request waits, and then
+/// withdraws it.
+pub fn take<L: LineSync<BoardLaw>>(line: &L, port: &mut L::Port, patience: u64) -> Take
+    requires belongs { L.belongs line.now port.old }
+    requires state { IsTrue (may_ask (L.view port.old).state) }
+    ensures belongs { L.belongs line.now port.new }
+    ensures takes { Takes (L.view port.old) (L.view port.new) result }
+{
+    match acquire(line, port, patience) {
+        Asked::Granted => match remove(line, port) {
+            Some(task) => Take::Task(task),
+            None => Take::Empty,
+        },
+        Asked::Late => Take::Late,
+        Asked::Closed => Take::Closed,
+        Asked::Busy => Take::Busy,
+    }
+}
+
+/// Takes the oldest task where there is one, and releases the line.
+fn remove<L: LineSync<BoardLaw>>(line: &L, port: &mut L::Port) -> Option<u64>
+    requires belongs { L.belongs line.now port.old }
+    requires granted { IsGranted (L.view port.old) (L.turn port.old) }
+    ensures belongs { L.belongs line.now port.new }
+    ensures continues { Continues Changes (L.view port.old) (L.view port.new) }
+    ensures count { (L.view port.new).count ≡ (L.view port.old).count }
+    ensures state { IsTrue (may_ask (L.view port.new).state) }
+    ensures taken { MatchOption result (HasFound 0 (L.view port.new)) (λ task. HasTaken task (L.view port.new)) }
+{
+    match without_first(L::bytes(port)) {
+        Some((task, new)) => {
+            replace(line, port, new);
+            Some(task)
+        }
+        None => {
+            keep(line, port);
+            None
+        }
+    }
+}
+
+/// The oldest task, and the board without it; or `None` where no task stands.
+fn without_first(board: &Line64) -> Option<(u64, Line64)>
+    ensures { (tasks : List ℕ) → Stand board.now.bytes tasks → MatchOption result (tasks ≡ []) (λ r. (left : List ℕ) × (tasks ≡ r.0 ∷ left) × Stand r.1.bytes left) }
+{
+    let mut tasks = decode(board)?;
+    let first = tasks.pop_at(0)?;
+    Some((first, encode(&tasks)))
+}
