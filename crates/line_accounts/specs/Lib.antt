@@ -1,2 +1,4 @@
 pub mod Accounts
 pub mod Paid
+pub mod Desks
+pub mod Moves

@@ -1,6 +1,11 @@
 //! Accounts striped over lines: money that can't be lost.
 #![tactic(auto)]
 
+mod answer;
+mod ask;
+mod desk;
 mod law;
 
+pub use answer::Reply;
+pub use desk::Desk;
 pub use law::{AccountLaw, MOST_BALANCE};

@@ -1,0 +1,51 @@
+//! A desk: one node's ports of several lines.
+ghost use Rattle.std.specs.Prelude.{◌≡◌, ◌≢◌, ℕ, ◌+◌, ◌<◌, ◌≤◌, All, List, length};
+ghost use Rattle.line_accounts.specs.Desks.{AreOver, IsDeskOver};
+
+use crate::ask::ask;
+use crate::law::AccountLaw;
+use qolb_model::{Enq, LineSync, PortState};
+use std::marker::Model;
+
+/// One node's ports of several lines, and what was paid in and out through them.
+pub struct Desk<L: LineSync<AccountLaw>> {
+    ports: Vec<L::Port>,
+    paid_in: u128,
+    paid_out: u128,
+}
+
+impl<L: LineSync<AccountLaw>> Model for Desk<L> {
+    ghost use Rattle.line_accounts.specs.Desks.{DeskOf};
+
+    ghost Value = { DeskOf L.Port };
+
+    ghost view = { λ desk. record { ports = desk.ports.items; paid_in = desk.paid_in; paid_out = desk.paid_out } };
+}
+
+impl<L: LineSync<AccountLaw>> Desk<L> {
+    /// A desk with these ports, one of each line, none of which has made a request.
+    pub fn new(ports: Vec<L::Port>) -> Desk<L>
+        requires { All (λ port. ((L.view port).state ≡ PortState.Idle) × ((L.view port).count ≡ 0)) ports.items }
+        ensures { (lines : List L) → AreOver L.belongs L.view lines ports.items → IsDeskOver L.belongs L.view lines result }
+    {
+        Desk {
+            ports,
+            paid_in: 0,
+            paid_out: 0,
+        }
+    }
+
+    /// All that was paid in.
+    pub fn paid_in(&self) -> u128
+        ensures { result ≡ self.now.paid_in }
+    {
+        self.paid_in
+    }
+
+    /// All that was paid out.
+    pub fn paid_out(&self) -> u128
+        ensures { result ≡ self.now.paid_out }
+    {
+        self.paid_out
+    }
+}
