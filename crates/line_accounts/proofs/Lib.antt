@@ -1,2 +1,3 @@
 pub mod Turns
 pub mod Visits
+pub mod Totals

@@ -30,3 +30,7 @@ raised line lane amount = with_lane_of line lane (lane_of line lane + amount)
 
 abbrev pub lowered : List ℕ → ℕ → ℕ → List ℕ
 lowered line lane amount = with_lane_of line lane (lane_of line lane - amount)
+
+-- a lane's balance may rise by the amount
+abbrev pub HasRoom : List ℕ → ℕ → ℕ → Type 0
+HasRoom line lane amount = lane_of line lane + amount ≤ MOST_BALANCE

@@ -1,5 +1,5 @@
 -- What a call of a desk does with its port of a line. (Of this project.)
-use Rattle.std.specs.Prelude.{◌≡◌, ◌≢◌, ◌⊎◌, ℕ, ◌+◌, ◌<◌, ◌≤◌, ◌^◌, Bool, List, take, slice_get, Some}
+use Rattle.std.specs.Prelude.{◌≡◌, ◌⊎◌, ℕ, ◌+◌, ◌<◌, ◌≤◌, ◌^◌, Bool, false, List, take, slice_get, Some}
 use Rattle.line_lanes.specs.Lane.{lane_of}
 use Rattle.qolb_model.specs.declared.write.Write.{Write}
 use Rattle.qolb_model.specs.declared.end.End.TheVariants.{Served}
@@ -11,10 +11,10 @@ use Rattle.qolb_model.specs.Sound.{Continues}
 use Rattle.qolb_model.specs.Asking.{IsBusy, Asks}
 use Rattle.qolb_model.specs.Turns.{IsGranted, IsWithdrawn}
 use Rattle.qolb_model.specs.LettingGo.{IsTold}
+use Rattle.qolb_model.specs.Calls.{Releases}
 use Rattle.line_accounts.specs.declared.answer.Reply.{Reply}
 use Rattle.line_accounts.specs.declared.answer.Reply.TheVariants.{Done, Short, Over, Late, Closed, Busy, NoAccount, SameAccount}
-use Rattle.line_accounts.specs.declared.law.TheConstants.{MOST_BALANCE}
-use Rattle.line_accounts.specs.Accounts.{StayBalances, raised, lowered}
+use Rattle.line_accounts.specs.Accounts.{StayBalances, HasRoom, raised, lowered}
 use Rattle.line_accounts.specs.Paid.{rise, fall, paid_by, drawn_by, KnowsOwnPlaces}
 use Rattle.line_accounts.specs.Desks.{IsAtRest}
 
@@ -45,9 +45,9 @@ StopsWaiting v Over = ⊥
 StopsWaiting v NoAccount = ⊥
 StopsWaiting v SameAccount = ⊥
 
--- the lane's balance may rise by the amount
-abbrev pub HasRoom : List ℕ → ℕ → ℕ → Type 0
-HasRoom line lane amount = lane_of line lane + amount ≤ MOST_BALANCE
+-- a holder released the line, and left these bytes
+abbrev pub Leaves : View → View → List ℕ → Type 0
+Leaves held new left = (write : Write) × (write.bytes.bytes ≡ left) × Releases StayBalances false held new write
 
 -- the port asked, and had a turn that found these bytes and left those
 pub record TakesTurn (old new : View) (found left : List ℕ) : Type 0 where
@@ -107,3 +107,14 @@ PaysOut old new lane amount sum sum_then Closed = IsRefused old new Closed × (s
 PaysOut old new lane amount sum sum_then Busy = IsRefused old new Busy × (sum_then ≡ sum)
 PaysOut old new lane amount sum sum_then NoAccount = ⊥
 PaysOut old new lane amount sum sum_then SameAccount = ⊥
+
+-- a transfer from one lane of the line to another
+abbrev pub MovesWithin : View → View → ℕ → ℕ → ℕ → Reply → Type 0
+MovesWithin old new source target amount Done = (found : List ℕ) × TakesTurn old new found (raised (lowered found source amount) target amount) × (amount ≤ lane_of found source) × HasRoom found target amount
+MovesWithin old new source target amount Short = (found : List ℕ) × Looks old new found × (lane_of found source < amount)
+MovesWithin old new source target amount Over = (found : List ℕ) × Looks old new found × (amount ≤ lane_of found source) × (HasRoom found target amount → ⊥)
+MovesWithin old new source target amount Late = IsRefused old new Late
+MovesWithin old new source target amount Closed = IsRefused old new Closed
+MovesWithin old new source target amount Busy = IsRefused old new Busy
+MovesWithin old new source target amount NoAccount = ⊥
+MovesWithin old new source target amount SameAccount = ⊥

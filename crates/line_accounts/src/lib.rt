@@ -5,6 +5,8 @@ mod answer;
 mod ask;
 mod desk;
 mod law;
+mod money;
+mod turn;
 
 pub use answer::Reply;
 pub use desk::Desk;
