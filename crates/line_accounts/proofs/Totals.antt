@@ -45,6 +45,12 @@ module _ (line : List ℕ) (k value : ℕ) (long : length line ≡ 64) (within :
 small_sum : (n : ℕ) → n ≤ MOST_BALANCE → n < 2 ^ 64
 small_sum n le = omega (arith, le)
 
+pub long-raised : (line : List ℕ) (k amount : ℕ) → length line ≡ 64 → k < 8 → length (raised line k amount) ≡ 64
+long-raised line k amount long within = length-with_lane line k (lane_of line k + amount) long within
+
+pub long-lowered : (line : List ℕ) (k amount : ℕ) → length line ≡ 64 → k < 8 → length (lowered line k amount) ≡ 64
+long-lowered line k amount long within = length-with_lane line k (lane_of line k - amount) long within
+
 -- deposits and payments out
 module _ (line : List ℕ) (k amount : ℕ) (long : length line ≡ 64) (within : k < 8) (all : AreBalances line) where
   low : lane_of line k ≤ MOST_BALANCE
@@ -71,12 +77,32 @@ module _ (line : List ℕ) (k amount : ℕ) (long : length line ≡ 64) (within 
       minus : (a b l n : ℕ) → n ≤ l → a + l ≡ b + (l - n) → a + n ≡ b
       minus a b l n h e = omega (arith, h, e)
 
-  pub long-lowered : length (lowered line k amount) ≡ 64
-  long-lowered = length-with_lane line k (lane_of line k - amount) long within
+  -- another lane is as it was
+  pub lane-lowered_other : (j : ℕ) → j < 8 → j ≢ k → lane_of (lowered line k amount) j ≡ lane_of line j
+  lane-lowered_other j j8 ne = lane-with_lane_other line k (lane_of line k - amount) j long within (small_sum (lane_of line k - amount) small_rest) j8 ne
 
-  -- another lane has the same room
-  pub room-lowered : (j : ℕ) (more : ℕ) → j < 8 → j ≢ k → lane_of (lowered line k amount) j ≡ lane_of line j
-  room-lowered j more j8 ne = lane-with_lane_other line k (lane_of line k - amount) j long within (small_sum (lane_of line k - amount) small_rest) j8 ne
+-- a payment out of one lane and into another
+module _ (line : List ℕ) (source target amount : ℕ) (long : length line ≡ 64) (from : source < 8) (to : target < 8) (apart : target ≢ source) (all : AreBalances line) where
+  other : lane_of (lowered line source amount) target ≡ lane_of line target
+  other = lane-lowered_other line source amount long from all target to apart
+
+  less : AreBalances (lowered line source amount)
+  less = (lowered_stays line source amount long from all).1
+
+  room : HasRoom line target amount → HasRoom (lowered line source amount) target amount
+  room has = subst (λ n. n + amount ≤ MOST_BALANCE) (sym other) has
+
+  pub no_room : (HasRoom (lowered line source amount) target amount → ⊥) → HasRoom line target amount → ⊥
+  no_room none has = none (room has)
+
+  pub has_room : HasRoom (lowered line source amount) target amount → HasRoom line target amount
+  has_room has = subst (λ n. n + amount ≤ MOST_BALANCE) other has
+
+  pub moved_stays : HasRoom (lowered line source amount) target amount → StayBalances line (raised (lowered line source amount) target amount)
+  moved_stays has = (all, (raised_stays (lowered line source amount) target amount (long-lowered line source amount long from) to less has).1)
+
+  pub total-moved : amount ≤ lane_of line source → HasRoom line target amount → lanes_total (raised (lowered line source amount) target amount) ≡ lanes_total line
+  total-moved enough has = total-raised (lowered line source amount) target amount (long-lowered line source amount long from) to less (room has) ∙ total-lowered line source amount long from all enough
 
 -- what totals tell of a rise and a fall
 pub rise_by : (a b n : ℕ) → b ≡ a + n → b - a ≡ n

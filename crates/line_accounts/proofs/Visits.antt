@@ -20,7 +20,7 @@ use Rattle.qolb_model.specs.Leases.{is_last_turn, closes}
 use Rattle.qolb_model.specs.PortStates.{may_ask, left_by}
 use Rattle.qolb_model.specs.Views.{own, bytes_of, Extends}
 use Rattle.qolb_model.specs.OneHistory.{Knows, OneHistory}
-use Rattle.qolb_model.specs.Sound.{KnowsOwnPast, Continues}
+use Rattle.qolb_model.specs.Sound.{KnowsOwnPast, Continues, IsSound}
 use Rattle.qolb_model.specs.Asking.{IsBusy, Asks}
 use Rattle.qolb_model.specs.Turns.{IsGranted, IsWithdrawn}
 use Rattle.qolb_model.specs.LettingGo.{IsShort, LetsGo, EndsTurn, IsTold}
@@ -29,16 +29,17 @@ use Rattle.qolb_model.proofs.Lists.{never, same_some, element_at, drop_with, sli
 use Rattle.qolb_model.proofs.Prefixes.{prefix_get, prefix_self, prefix_trans, prefix_shorter}
 use Rattle.qolb_model.proofs.Histories.{same_place_legal, bytes_after-append}
 use Rattle.qolb_model.proofs.Requests.{same_request, has_at, has_prefix, count_of-append, number_le_count_all}
+use Rattle.qolb_model.proofs.Writes.{good_after}
 use Rattle.qolb_model.proofs.Agreeing.{among_first, extends_trans}
 use Rattle.std.specs.Prelude.{IfOk, IfErr}
 use Rattle.std.specs.declared.result.Result.{Result}
 use Rattle.std.specs.declared.result.Result.TheVariants.{Ok, Err}
 use Rattle.line_accounts.specs.declared.answer.Reply.{Reply}
 use Rattle.line_accounts.specs.declared.answer.Reply.TheVariants as answer
-use Rattle.line_accounts.specs.Accounts.{StayBalances}
+use Rattle.line_accounts.specs.Accounts.{AreBalances, StayBalances, balances_after}
 use Rattle.line_accounts.specs.Paid.{sum_of_turns, rise, fall, paid_by, drawn_by, KnowsOwnPlaces}
 use Rattle.line_accounts.specs.Desks.{IsAtRest}
-use Rattle.line_accounts.specs.Moves.{Pays, IsServed, Holds, TakesTurn, AsksInVain, IsRefused, StopsWaiting}
+use Rattle.line_accounts.specs.Moves.{Pays, IsServed, Holds, Leaves, TakesTurn, AsksInVain, IsRefused, StopsWaiting}
 use Rattle.line_accounts.proofs.Turns.{turns-append, turns-same, slice_get-append_right, none_of_node, own_place}
 
 -- asked for before a call that made no request, it is so after it
@@ -348,3 +349,12 @@ module _ (old mid new : View) (rest : IsAtRest old) (past : KnowsOwnPast old) (f
   waited_refused (Err answer.Over) stops = absurd stops
   waited_refused (Err answer.NoAccount) stops = absurd stops
   waited_refused (Err answer.SameAccount) stops = absurd stops
+
+-- a port that held the line and left these bytes has had a turn
+pub took : (old held new : View) (turn : Write) (left : List ℕ) → Holds old held turn → Leaves held new left → TakesTurn old new (bytes_of held) left
+took old held new turn left h l = subst (λ (b : List ℕ). TakesTurn old new (bytes_of held) b) l.1 (takes_turn held new l.0 l.2 h.granted.at_turn old turn h)
+
+-- a port of a line of accounts knows balances
+pub balances_known : (label : ℕ) (terms : Terms) (v : View) → IsSound AreBalances StayBalances label terms v → AreBalances (bytes_of v)
+balances_known label terms v sound =
+    good_after AreBalances StayBalances balances_after v.terms.opening.bytes v.ends (subst (λ (t : Terms). AreBalances t.opening.bytes) (sym sound.terms_are) sound.opened_good) sound.kept

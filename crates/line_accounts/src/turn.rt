@@ -1,5 +1,5 @@
 //! What is done at one line in one turn.
-ghost use Rattle.std.specs.Prelude.{◌≡◌, ◌≢◌, ℕ, ◌<◌};
+ghost use Rattle.std.specs.Prelude.{◌≡◌, ◌≢◌, ◌<◌, length};
 ghost use Rattle.qolb_model.specs.Turns.{IsGranted};
 ghost use Rattle.qolb_model.specs.Views.{bytes_of};
 ghost use Rattle.line_accounts.specs.Accounts.{StayBalances};
@@ -12,6 +12,15 @@ use crate::law::AccountLaw;
 use crate::money::{lowered, raised};
 use line_lanes::{Line64, Mask};
 use qolb_model::{LineSync, PortState};
+
+/// The line as the holder sees it.
+fn held<L: LineSync<AccountLaw>>(port: &L::Port) -> Line64
+    requires { (L.view port.now).state ≡ PortState.Holding }
+    ensures bytes { result.bytes ≡ (L.turn port.now).bytes.bytes }
+    ensures long { length result.bytes ≡ 64 }
+{
+    Line64::from_bytes(L::bytes(port).to_bytes())
+}
 
 /// The holder lets the line go as it found it.
 pub fn leave<L: LineSync<AccountLaw>>(line: &L, port: &mut L::Port)
@@ -27,6 +36,7 @@ pub fn leave<L: LineSync<AccountLaw>>(line: &L, port: &mut L::Port)
 pub fn leave_with<L: LineSync<AccountLaw>>(line: &L, port: &mut L::Port, next: &Line64)
     requires belongs { L.belongs line.now port.old }
     requires state { (L.view port.old).state ≡ PortState.Holding }
+    requires long { length next.now.bytes ≡ 64 }
     requires allowed { StayBalances (bytes_of (L.view port.old)) next.now.bytes }
     ensures belongs { L.belongs line.now port.new }
     ensures leaves { Leaves (L.view port.old) (L.view port.new) next.now.bytes }
@@ -53,8 +63,12 @@ pub fn pay_in<L: LineSync<AccountLaw>>(
     if let Err(reply) = ask(line, port, patience) {
         return reply;
     }
-    let held = *L::bytes(port);
-    let (Some(next), Some(sum)) = (raised(&held, k, amount), paid_in.checked_add(u128::from(amount))) else {
+    let found = held::<L>(port);
+    let Some(next) = raised(&found, k, amount) else {
+        leave(line, port);
+        return Reply::Over;
+    };
+    let Some(sum) = paid_in.checked_add(u128::from(amount)) else {
         leave(line, port);
         return Reply::Over;
     };
@@ -81,8 +95,8 @@ pub fn pay_out<L: LineSync<AccountLaw>>(
     if let Err(reply) = ask(line, port, patience) {
         return reply;
     }
-    let held = *L::bytes(port);
-    let Some(next) = lowered(&held, k, amount) else {
+    let found = held::<L>(port);
+    let Some(next) = lowered(&found, k, amount) else {
         leave(line, port);
         return Reply::Short;
     };
@@ -115,8 +129,8 @@ pub fn move_within<L: LineSync<AccountLaw>>(
     if let Err(reply) = ask(line, port, patience) {
         return reply;
     }
-    let held = *L::bytes(port);
-    let Some(less) = lowered(&held, from, amount) else {
+    let found = held::<L>(port);
+    let Some(less) = lowered(&found, from, amount) else {
         leave(line, port);
         return Reply::Short;
     };
