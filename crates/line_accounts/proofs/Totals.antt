@@ -9,8 +9,10 @@ use Rattle.std.proofs.lemmas.Bool.{cases_eq}
 use Rattle.line_lanes.specs.Lane.{lane_of, with_lane_of, lanes_of, lanes_total}
 use Rattle.line_lanes.proofs.EachLane.{lanes_of-at}
 use Rattle.line_lanes.proofs.LaneBytes.{lane-with_lane_same, lane-with_lane_other, length-with_lane}
+use Rattle.qolb_model.specs.declared.view.View.{View}
 use Rattle.line_accounts.specs.Accounts.{AreBalances, StayBalances, HasRoom, raised, lowered}
-use Rattle.line_accounts.specs.Paid.{rise, fall}
+use Rattle.line_accounts.specs.Paid.{rise, fall, paid_by, drawn_by}
+use Rattle.line_accounts.specs.Moves.{Pays}
 use Rattle.line_accounts.specs.declared.law.TheConstants.{MOST_BALANCE}
 
 -- a line in which lane k was written
@@ -104,6 +106,12 @@ module _ (line : List ℕ) (source target amount : ℕ) (long : length line ≡ 
   pub total-moved : amount ≤ lane_of line source → HasRoom line target amount → lanes_total (raised (lowered line source amount) target amount) ≡ lanes_total line
   total-moved enough has = total-raised (lowered line source amount) target amount (long-lowered line source amount long from) to less (room has) ∙ total-lowered line source amount long from all enough
 
+pub pays_as : {old new : View} {a b c d : ℕ} → Pays old new a b → a ≡ c → b ≡ d → Pays old new c d
+pays_as {old} {new} p e f = record {
+  paid_in = p.paid_in ∙ ap (λ n. paid_by old + n) e;
+  paid_out = p.paid_out ∙ ap (λ n. drawn_by old + n) f;
+}
+
 -- what totals tell of a rise and a fall
 pub rise_by : (a b n : ℕ) → b ≡ a + n → b - a ≡ n
 rise_by a b n e = omega (arith, e)
@@ -116,3 +124,31 @@ fall_by a b n e = omega (arith, e)
 
 pub fall_none : (a b n : ℕ) → b ≡ a + n → a - b ≡ 0
 fall_none a b n e = omega (arith, e)
+
+-- what a turn that did so has paid
+pub paid_in : {old new : View} (line : List ℕ) (k amount : ℕ) → length line ≡ 64 → k < 8 → AreBalances line → HasRoom line k amount → Pays old new (rise line (raised line k amount)) (fall line (raised line k amount)) → Pays old new amount 0
+paid_in {old} {new} line k amount long within all room p =
+    let e = total-raised line k amount long within all room in
+    pays_as p (rise_by (lanes_total line) (lanes_total (raised line k amount)) amount e) (fall_none (lanes_total line) (lanes_total (raised line k amount)) amount e)
+
+pub paid_out : {old new : View} (line : List ℕ) (k amount : ℕ) → length line ≡ 64 → k < 8 → AreBalances line → amount ≤ lane_of line k → Pays old new (rise line (lowered line k amount)) (fall line (lowered line k amount)) → Pays old new 0 amount
+paid_out {old} {new} line k amount long within all enough p =
+    let e = total-lowered line k amount long within all enough in
+    pays_as p (rise_none (lanes_total line) (lanes_total (lowered line k amount)) amount e) (fall_by (lanes_total line) (lanes_total (lowered line k amount)) amount e)
+
+pub moved : {old new : View} (line : List ℕ) (source target amount : ℕ) → length line ≡ 64 → source < 8 → target < 8 → target ≢ source → AreBalances line → amount ≤ lane_of line source → HasRoom line target amount
+    → Pays old new (rise line (raised (lowered line source amount) target amount)) (fall line (raised (lowered line source amount) target amount)) → Pays old new 0 0
+moved {old} {new} line source target amount long from to apart all enough room p =
+    let e = total-moved line source target amount long from to apart all enough room in
+    let left = lanes_total (raised (lowered line source amount) target amount) in
+    pays_as p (none (lanes_total line) left e) (none left (lanes_total line) (sym e))
+  where
+    none : (a b : ℕ) → b ≡ a → b - a ≡ 0
+    none a b e = omega (arith, e)
+
+-- a turn that changed nothing has paid nothing
+pub looked : {old new : View} (line : List ℕ) → Pays old new (rise line line) (fall line line) → Pays old new 0 0
+looked line p = pays_as p (none (lanes_total line)) (none (lanes_total line))
+  where
+    none : (a : ℕ) → a - a ≡ 0
+    none a = omega arith

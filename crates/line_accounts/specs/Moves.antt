@@ -6,7 +6,7 @@ use Rattle.qolb_model.specs.declared.end.End.TheVariants.{Served}
 use Rattle.qolb_model.specs.declared.view.View.{View}
 use Rattle.qolb_model.specs.Ends.{bytes_after}
 use Rattle.qolb_model.specs.Leases.{is_last_turn}
-use Rattle.qolb_model.specs.Views.{own}
+use Rattle.qolb_model.specs.Views.{own, bytes_of}
 use Rattle.qolb_model.specs.Sound.{Continues}
 use Rattle.qolb_model.specs.Asking.{IsBusy, Asks}
 use Rattle.qolb_model.specs.Turns.{IsGranted, IsWithdrawn}
@@ -88,7 +88,7 @@ IsRefused old new SameAccount = ⊥
 
 -- a deposit at the lane, and the sum of all that was paid in, before and after
 abbrev pub PaysIn : View → View → ℕ → ℕ → ℕ → ℕ → Reply → Type 0
-PaysIn old new lane amount sum sum_then Done = (found : List ℕ) × TakesTurn old new found (raised found lane amount) × HasRoom found lane amount × (sum_then ≡ sum + amount)
+PaysIn old new lane amount sum sum_then Done = (found : List ℕ) × TakesTurn old new found (raised found lane amount) × HasRoom found lane amount × Pays old new amount 0 × (sum_then ≡ sum + amount)
 PaysIn old new lane amount sum sum_then Over = (found : List ℕ) × Looks old new found × ((HasRoom found lane amount → ⊥) ⊎ (2 ^ 128 ≤ sum + amount)) × (sum_then ≡ sum)
 PaysIn old new lane amount sum sum_then Short = ⊥
 PaysIn old new lane amount sum sum_then Late = IsRefused old new Late × (sum_then ≡ sum)
@@ -99,7 +99,7 @@ PaysIn old new lane amount sum sum_then SameAccount = ⊥
 
 -- a payment out of the lane, and the sum of all that was paid out, before and after
 abbrev pub PaysOut : View → View → ℕ → ℕ → ℕ → ℕ → Reply → Type 0
-PaysOut old new lane amount sum sum_then Done = (found : List ℕ) × TakesTurn old new found (lowered found lane amount) × (amount ≤ lane_of found lane) × (sum_then ≡ sum + amount)
+PaysOut old new lane amount sum sum_then Done = (found : List ℕ) × TakesTurn old new found (lowered found lane amount) × (amount ≤ lane_of found lane) × Pays old new 0 amount × (sum_then ≡ sum + amount)
 PaysOut old new lane amount sum sum_then Short = (found : List ℕ) × Looks old new found × (lane_of found lane < amount) × (sum_then ≡ sum)
 PaysOut old new lane amount sum sum_then Over = (found : List ℕ) × Looks old new found × (amount ≤ lane_of found lane) × (2 ^ 128 ≤ sum + amount) × (sum_then ≡ sum)
 PaysOut old new lane amount sum sum_then Late = IsRefused old new Late × (sum_then ≡ sum)
@@ -110,7 +110,7 @@ PaysOut old new lane amount sum sum_then SameAccount = ⊥
 
 -- a transfer from one lane of the line to another
 abbrev pub MovesWithin : View → View → ℕ → ℕ → ℕ → Reply → Type 0
-MovesWithin old new source target amount Done = (found : List ℕ) × TakesTurn old new found (raised (lowered found source amount) target amount) × (amount ≤ lane_of found source) × HasRoom found target amount
+MovesWithin old new source target amount Done = (found : List ℕ) × TakesTurn old new found (raised (lowered found source amount) target amount) × (amount ≤ lane_of found source) × HasRoom found target amount × Pays old new 0 0
 MovesWithin old new source target amount Short = (found : List ℕ) × Looks old new found × (lane_of found source < amount)
 MovesWithin old new source target amount Over = (found : List ℕ) × Looks old new found × (amount ≤ lane_of found source) × (HasRoom found target amount → ⊥)
 MovesWithin old new source target amount Late = IsRefused old new Late
@@ -118,3 +118,38 @@ MovesWithin old new source target amount Closed = IsRefused old new Closed
 MovesWithin old new source target amount Busy = IsRefused old new Busy
 MovesWithin old new source target amount NoAccount = ⊥
 MovesWithin old new source target amount SameAccount = ⊥
+
+-- of two lines the first was asked for in vain, and the second not at all; or the first was let go as it was found, and the second was
+-- asked for in vain
+abbrev pub IsRefusedEither : View → View → View → View → Reply → Type 0
+IsRefusedEither first first_then second second_then reply =
+    (IsRefused first first_then reply × (second_then ≡ second)) ⊎ ((found : List ℕ) × Looks first first_then found × IsRefused second second_then reply)
+
+-- two lines in hand were looked at, and then both were written, or neither, and let go
+abbrev pub Carries : View → View → View → View → ℕ → ℕ → ℕ → Reply → Type 0
+Carries source source_then target target_then from to amount Done =
+    Leaves source source_then (lowered (bytes_of source) from amount) × Leaves target target_then (raised (bytes_of target) to amount) × (amount ≤ lane_of (bytes_of source) from) × HasRoom (bytes_of target) to amount
+Carries source source_then target target_then from to amount Short =
+    Leaves source source_then (bytes_of source) × Leaves target target_then (bytes_of target) × (lane_of (bytes_of source) from < amount)
+Carries source source_then target target_then from to amount Over =
+    Leaves source source_then (bytes_of source) × Leaves target target_then (bytes_of target) × (amount ≤ lane_of (bytes_of source) from) × (HasRoom (bytes_of target) to amount → ⊥)
+Carries source source_then target target_then from to amount Late = ⊥
+Carries source source_then target target_then from to amount Closed = ⊥
+Carries source source_then target target_then from to amount Busy = ⊥
+Carries source source_then target target_then from to amount NoAccount = ⊥
+Carries source source_then target target_then from to amount SameAccount = ⊥
+
+-- a transfer from a lane of one line to a lane of another; and what holds where one of the two isn't granted
+abbrev pub MovesAcross : (Reply → Type 0) → View → View → View → View → ℕ → ℕ → ℕ → Reply → Type 0
+MovesAcross refused source source_then target target_then from to amount Done =
+    (found : List ℕ) × TakesTurn source source_then found (lowered found from amount) × (amount ≤ lane_of found from) × Pays source source_then 0 amount
+    × (there : List ℕ) × TakesTurn target target_then there (raised there to amount) × HasRoom there to amount × Pays target target_then amount 0
+MovesAcross refused source source_then target target_then from to amount Short =
+    (found : List ℕ) × Looks source source_then found × (lane_of found from < amount) × (there : List ℕ) × Looks target target_then there
+MovesAcross refused source source_then target target_then from to amount Over =
+    (found : List ℕ) × Looks source source_then found × (amount ≤ lane_of found from) × (there : List ℕ) × Looks target target_then there × (HasRoom there to amount → ⊥)
+MovesAcross refused source source_then target target_then from to amount Late = refused Late
+MovesAcross refused source source_then target target_then from to amount Closed = refused Closed
+MovesAcross refused source source_then target target_then from to amount Busy = refused Busy
+MovesAcross refused source source_then target target_then from to amount NoAccount = ⊥
+MovesAcross refused source source_then target target_then from to amount SameAccount = ⊥

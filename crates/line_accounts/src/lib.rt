@@ -1,6 +1,7 @@
 //! Accounts striped over lines: money that can't be lost.
 #![tactic(auto)]
 
+mod across;
 mod answer;
 mod ask;
 mod desk;

@@ -14,7 +14,7 @@ use line_lanes::{Line64, Mask};
 use qolb_model::{LineSync, PortState};
 
 /// The line as the holder sees it.
-fn held<L: LineSync<AccountLaw>>(port: &L::Port) -> Line64
+pub fn held<L: LineSync<AccountLaw>>(port: &L::Port) -> Line64
     requires { (L.view port.now).state ≡ PortState.Holding }
     ensures bytes { result.bytes ≡ (L.turn port.now).bytes.bytes }
     ensures long { length result.bytes ≡ 64 }

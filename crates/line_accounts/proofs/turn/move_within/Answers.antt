@@ -4,7 +4,7 @@ use Rattle.qolb_model.specs.Views.{bytes_of}
 use Rattle.line_accounts.specs.Accounts.{StayBalances, HasRoom, raised, lowered}
 use Rattle.line_accounts.specs.Moves.{TakesTurn}
 use Rattle.line_accounts.proofs.Visits.{took, balances_known}
-use Rattle.line_accounts.proofs.Totals.{long-lowered, long-raised, moved_stays, no_room, has_room}
+use Rattle.line_accounts.proofs.Totals.{long-lowered, long-raised, moved_stays, no_room, has_room, moved}
 use Rattle.line_accounts.proofs.turn.move_within.Goals as goal
 
 pub returns-in_default-lowered-clause-moves : goal.returns-in_default-lowered-clause-moves
@@ -49,8 +49,12 @@ returns-clause-moves g c =
     let good = balances_known _ _ _ (g.met.L.LineSync.sound c.args.line.now c.ask.new.port c.ask.ensures.belongs) in
     let less : c.in-Some.less.bytes ≡ lowered (bytes_of v) c.args.from c.args.amount = c.in-Some.ensures.1 ∙ ap (λ (b : List ℕ). lowered b c.args.from c.args.amount) held in
     let next : c.in-Some-raised.next.bytes ≡ raised (lowered (bytes_of v) c.args.from c.args.amount) c.args.to c.args.amount = c.in-Some-raised.ensures.1 ∙ ap (λ (b : List ℕ). raised b c.args.to c.args.amount) less in
+    let enough = subst (λ (b : List ℕ). c.args.amount ≤ lane_of b c.args.from) held c.in-Some.ensures.0 in
+    let room = has_room (bytes_of v) c.args.from c.args.to c.args.amount (ap length (sym held) ∙ c.held-found.ensures.long) c.requires.source c.requires.target (λ e. c.requires.apart (sym e)) good
+    (subst (λ (b : List ℕ). HasRoom b c.args.to c.args.amount) less c.in-Some-raised.ensures.0) in
+    let turn = subst (λ (b : List ℕ). TakesTurn (g.L.LineSync.view c.args.port.now) (g.L.LineSync.view c.leave_with.new.port) (bytes_of v) b) next (took _ _ _ _ _ h c.leave_with.ensures.leaves) in
     (bytes_of v,
-    subst (λ (b : List ℕ). TakesTurn (g.L.LineSync.view c.args.port.now) (g.L.LineSync.view c.leave_with.new.port) (bytes_of v) b) next (took _ _ _ _ _ h c.leave_with.ensures.leaves),
-    subst (λ (b : List ℕ). c.args.amount ≤ lane_of b c.args.from) held c.in-Some.ensures.0,
-    has_room (bytes_of v) c.args.from c.args.to c.args.amount (ap length (sym held) ∙ c.held-found.ensures.long) c.requires.source c.requires.target (λ e. c.requires.apart (sym e)) good
-    (subst (λ (b : List ℕ). HasRoom b c.args.to c.args.amount) less c.in-Some-raised.ensures.0))
+    turn,
+    enough,
+    room,
+    moved (bytes_of v) c.args.from c.args.to c.args.amount (ap length (sym held) ∙ c.held-found.ensures.long) c.requires.source c.requires.target (λ e. c.requires.apart (sym e)) good enough room turn.pays)
