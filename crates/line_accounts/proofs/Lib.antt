@@ -1,3 +1,5 @@
 pub mod Turns
 pub mod Visits
 pub mod Totals
+pub mod Crossing
+pub mod Accounted

@@ -2,3 +2,4 @@ pub mod Accounts
 pub mod Paid
 pub mod Desks
 pub mod Moves
+pub mod Calls

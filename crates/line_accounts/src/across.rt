@@ -1,6 +1,7 @@
 //! Transfers over two lines: the lower line is asked for first, and both balances are looked at before either is written.
 ghost use Rattle.std.specs.Prelude.{◌≡◌, ◌<◌, IfOk, IfErr, length};
 ghost use Rattle.qolb_model.specs.Turns.{IsGranted};
+ghost use Rattle.qolb_model.specs.Views.{bytes_of};
 ghost use Rattle.line_accounts.specs.Desks.{IsAtRest};
 ghost use Rattle.line_accounts.specs.Moves.{Holds, Carries, IsRefusedEither, MovesAcross};
 
@@ -55,6 +56,8 @@ fn carry<L: LineSync<AccountLaw>>(
     requires to_lane { to < 8 }
     ensures belongs_source { L.belongs source.now source_port.new }
     ensures belongs_target { L.belongs target.now target_port.new }
+    ensures long_source { length (bytes_of (L.view source_port.old)) ≡ 64 }
+    ensures long_target { length (bytes_of (L.view target_port.old)) ≡ 64 }
     ensures carries { Carries (L.view source_port.old) (L.view source_port.new) (L.view target_port.old) (L.view target_port.new) from to amount result }
 {
     let paying = held::<L>(source_port);

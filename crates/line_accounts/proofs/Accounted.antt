@@ -1,0 +1,91 @@
+-- Desks before and after a call.
+use Rattle.std.proofs.Common.{◌≡◌, ◌≢◌, ◌+◌, ◌-◌, ◌<◌, ◌≤◌, ◌⊎◌, inl, inr, ℕ, zero, suc, List, [], ◌∷◌, ◌++◌, length, get_or, Option, Some, None, slice_get, refl, sym, ap, subst, ◌∙◌, arith, zero-add}
+use Rattle.std.specs.List.{sum_by}
+use Rattle.std.proofs.Math.ListN.{set}
+use Rattle.std.proofs.lemmas.List.{length-set}
+use Rattle.std.proofs.lemmas.List.Sums.{sum_by-set}
+use Rattle.std.proofs.lemmas.Bool.{cases_eq}
+use Rattle.std.proofs.lemmas.Option.{slice_get_within, get_or_from_slice_get}
+use Rattle.qolb_model.specs.declared.view.View.{View}
+use Rattle.qolb_model.specs.Requests.{count_of}
+use Rattle.qolb_model.specs.PortStates.{may_ask}
+use Rattle.qolb_model.specs.OneHistory.{OneHistory}
+use Rattle.qolb_model.proofs.Lists.{same_some}
+use Rattle.qolb_model.proofs.Requests.{count_of-append}
+use Rattle.qolb_model.proofs.Agreeing.{among_first}
+use Rattle.line_accounts.specs.declared.answer.Reply.{Reply}
+use Rattle.line_accounts.specs.declared.answer.Reply.TheVariants.{Done, Short, Over, Late, Closed, Busy, NoAccount, SameAccount}
+use Rattle.line_accounts.specs.Paid.{sum_of_turns, rise, fall, paid_by, drawn_by, KnowsOwnPlaces}
+use Rattle.line_accounts.specs.Desks.{DeskOf, IsAtRest, AreOver, IsDeskOver}
+use Rattle.line_accounts.specs.Moves.{Pays, TakesTurn, AsksInVain, IsRefused, IsRefusedEither, PaysIn, PaysOut, MovesWithin, MovesAcross}
+use Rattle.line_accounts.proofs.Turns.{turns-unserved, none_of_node, sum-each, sum-zero}
+use Rattle.line_accounts.proofs.Totals.{looked}
+
+-- elements of a list in which one was written
+pub slice_get-set_same : {X : Type 0} (xs : List X) (i : ℕ) (x : X) → i < length xs → slice_get (set xs i x) i ≡ Some x
+slice_get-set_same [] i x lt = absurd (omega arith)
+slice_get-set_same (y ∷ xs) zero x lt = refl
+slice_get-set_same (y ∷ xs) (suc i) x lt = slice_get-set_same xs i x (omega (arith, lt))
+
+pub slice_get-set_other : {X : Type 0} (xs : List X) (i j : ℕ) (x : X) → j ≢ i → slice_get (set xs i x) j ≡ slice_get xs j
+slice_get-set_other [] i j x ne = refl
+slice_get-set_other (y ∷ xs) zero zero x ne = absurd (ne refl)
+slice_get-set_other (y ∷ xs) zero (suc j) x ne = refl
+slice_get-set_other (y ∷ xs) (suc i) zero x ne = refl
+slice_get-set_other (y ∷ xs) (suc i) (suc j) x ne = slice_get-set_other xs i j x (λ e. ne (ap suc e))
+
+-- a port that has never asked is at rest, and has paid nothing
+module _ (v : View) (h : OneHistory (v ∷ [])) (unused : v.count ≡ 0) where
+  none : count_of v.node v.order ≡ 0
+  none =
+      let k = h.known v (among_first v []) in
+      let e = sym (ap (count_of v.node) k.order_begins.1) ∙ count_of-append v.node v.order k.order_begins.0 in
+      omega (arith, e, k.own_count, unused)
+
+  pub unused_rest : may_ask v.state ≡ true → IsAtRest v
+  unused_rest quiet = record { quiet = quiet; places = none ∙ sym unused }
+
+  nothing : (does : List ℕ → List ℕ → ℕ) → sum_of_turns does v.node v.terms.opening.bytes v.order v.ends ≡ 0
+  nothing does = turns-unserved does v.node v.terms.opening.bytes v.order v.ends (λ p r e at_r at_e same. absurd (none_of_node v.node v.order none p r at_r same))
+
+  pub unused_paid : paid_by v ≡ 0
+  unused_paid = nothing rise
+
+  pub unused_drawn : drawn_by v ≡ 0
+  unused_drawn = nothing fall
+
+pub sum-none : {X : Type 0} (f : X → ℕ) (xs : List X) → ((i : ℕ) (x : X) → slice_get xs i ≡ Some x → f x ≡ 0) → sum_by f xs ≡ 0
+sum-none f xs h = sum-each f (λ x. 0) xs h ∙ sum-zero (λ x. 0) xs (λ x. refl)
+
+module _ {Line Port : Type 0} (belongs : Line → Port → Type 0) (view : Port → View) (lines : List Line) where
+  -- a desk is over its lines where one port was called, and its counters moved with what it paid
+  pub desk_after : (d : DeskOf Port) (i : ℕ) (line : Line) (p q : Port) (sum_in sum_out : ℕ) → IsDeskOver belongs view lines d → slice_get lines i ≡ Some line → slice_get d.ports i ≡ Some p → belongs line q → IsAtRest (view q)
+      → (paid_by (view q) + drawn_by (view p)) + (sum_out + d.paid_in) ≡ (paid_by (view p) + drawn_by (view q)) + (d.paid_out + sum_in)
+      → IsDeskOver belongs view lines (record { ports = set d.ports i q; paid_in = sum_in; paid_out = sum_out })
+  desk_after d i line p q sum_in sum_out over at_line at_port belong rest paid = record {
+    over = record {
+      count = length-set d.ports i q ∙ over.over.count;
+      belong = λ j l r at_l at_r. elim (cases_eq j i) [
+        | inl e ↦
+            let same_line : line ≡ l = same_some (sym at_line ∙ (ap (slice_get lines) (sym e) ∙ at_l)) in
+            let same_port : q ≡ r = same_some (sym (slice_get-set_same d.ports i q within) ∙ (ap (slice_get (set d.ports i q)) (sym e) ∙ at_r)) in
+            subst (λ (l : Line). belongs l r) same_line (subst (λ (r : Port). belongs line r) same_port belong)
+        | inr ne ↦ over.over.belong j l r at_l (sym (slice_get-set_other d.ports i j q ne) ∙ at_r)
+      ];
+    };
+    at_rest = λ j r at_r. elim (cases_eq j i) [
+      | inl e ↦ subst (λ (r : Port). IsAtRest (view r)) (same_some (sym (slice_get-set_same d.ports i q within) ∙ (ap (slice_get (set d.ports i q)) (sym e) ∙ at_r))) rest
+      | inr ne ↦ over.at_rest j r (sym (slice_get-set_other d.ports i j q ne) ∙ at_r)
+    ];
+    paid = sums _ _ _ _ _ _ _ _ _ _ _ _ (moved (λ port. paid_by (view port))) (moved (λ port. drawn_by (view port))) over.paid paid;
+  }
+    where
+      within : i < length d.ports
+      within = slice_get_within d.ports i p at_port
+
+      moved : (f : Port → ℕ) → sum_by f (set d.ports i q) + f p ≡ sum_by f d.ports + f q
+      moved f = ap (λ x. sum_by f (set d.ports i q) + f x) (sym (get_or_from_slice_get d.ports i p p at_port)) ∙ sum_by-set f d.ports i q p within
+
+      sums : (paid drawn paid_then drawn_then pp pq dp dq paid_in paid_out sum_in sum_out : ℕ) → paid_then + pp ≡ paid + pq → drawn_then + dp ≡ drawn + dq → paid + paid_out ≡ drawn + paid_in
+          → (pq + dp) + (sum_out + paid_in) ≡ (pp + dq) + (paid_out + sum_in) → paid_then + sum_out ≡ drawn_then + sum_in
+      sums paid drawn paid_then drawn_then pp pq dp dq paid_in paid_out sum_in sum_out a b c e = omega (arith, a, b, c, e)
