@@ -1,5 +1,5 @@
 -- Desks before and after a call.
-use Rattle.std.proofs.Common.{◌≡◌, ◌≢◌, ◌+◌, ◌-◌, ◌<◌, ◌≤◌, ◌⊎◌, inl, inr, ℕ, zero, suc, List, [], ◌∷◌, ◌++◌, length, get_or, Option, Some, None, slice_get, refl, sym, ap, subst, ◌∙◌, arith, zero-add}
+use Rattle.std.proofs.Common.{◌≡◌, ◌≢◌, ◌+◌, ◌-◌, ◌<◌, ◌≤◌, ◌⊎◌, inl, inr, true, ℕ, zero, suc, List, [], ◌∷◌, ◌++◌, length, get_or, Option, Some, None, slice_get, refl, sym, ap, subst, ◌∙◌, arith, zero-add}
 use Rattle.std.specs.List.{sum_by}
 use Rattle.std.proofs.Math.ListN.{set}
 use Rattle.std.proofs.lemmas.List.{length-set}
@@ -10,7 +10,7 @@ use Rattle.qolb_model.specs.declared.view.View.{View}
 use Rattle.qolb_model.specs.Requests.{count_of}
 use Rattle.qolb_model.specs.PortStates.{may_ask}
 use Rattle.qolb_model.specs.OneHistory.{OneHistory}
-use Rattle.qolb_model.proofs.Lists.{same_some}
+use Rattle.qolb_model.proofs.Lists.{same_some, element_at}
 use Rattle.qolb_model.proofs.Requests.{count_of-append}
 use Rattle.qolb_model.proofs.Agreeing.{among_first}
 use Rattle.line_accounts.specs.declared.answer.Reply.{Reply}
@@ -89,3 +89,75 @@ module _ {Line Port : Type 0} (belongs : Line → Port → Type 0) (view : Port 
       sums : (paid drawn paid_then drawn_then pp pq dp dq paid_in paid_out sum_in sum_out : ℕ) → paid_then + pp ≡ paid + pq → drawn_then + dp ≡ drawn + dq → paid + paid_out ≡ drawn + paid_in
           → (pq + dp) + (sum_out + paid_in) ≡ (pp + dq) + (paid_out + sum_in) → paid_then + sum_out ≡ drawn_then + sum_in
       sums paid drawn paid_then drawn_then pp pq dp dq paid_in paid_out sum_in sum_out a b c e = omega (arith, a, b, c, e)
+
+  pub new_desk : (ports : List Port) → AreOver belongs view lines ports → ((i : ℕ) (port : Port) → slice_get ports i ≡ Some port → (may_ask (view port).state ≡ true) × ((view port).count ≡ 0))
+      → ((i : ℕ) (line : Line) (port : Port) → slice_get lines i ≡ Some line → slice_get ports i ≡ Some port → OneHistory (view port ∷ []))
+      → IsDeskOver belongs view lines (record { ports = ports; paid_in = 0; paid_out = 0 })
+  new_desk ports over unused history = record {
+    over = over;
+    at_rest = λ i port at. unused_rest (view port) (known i port at) (unused i port at).1 (unused i port at).0;
+    paid = ap (λ n. n + 0) (sum-none (λ port. paid_by (view port)) ports (λ i port at. unused_paid (view port) (known i port at) (unused i port at).1) ∙ sym (sum-none (λ port. drawn_by (view port)) ports (λ i port at. unused_drawn (view port) (known i port at) (unused i port at).1)));
+  }
+    where
+      known : (i : ℕ) (port : Port) → slice_get ports i ≡ Some port → OneHistory (view port ∷ [])
+      known i port at =
+          let there = slice_get_within ports i port at in
+          let many = over.count in
+          let (line, at_line) = element_at lines i (omega (arith, there, many)) in
+          history i line port at_line at
+
+-- what an answer tells of the port: it is at rest, and its counters moved as the desk's
+abbrev pub Counts : View → View → ℕ → ℕ → ℕ → ℕ → Type 0
+Counts v w paid_in paid_out in_then out_then = (paid_by w + drawn_by v) + (out_then + paid_in) ≡ (paid_by v + drawn_by w) + (paid_out + in_then)
+
+pub counts : (v w : View) (a b paid_in paid_out in_then out_then : ℕ) → Pays v w a b → a + (out_then + paid_in) ≡ b + (paid_out + in_then) → Counts v w paid_in paid_out in_then out_then
+counts v w a b paid_in paid_out in_then out_then p e = sums (paid_by v) (paid_by w) (drawn_by v) (drawn_by w) p.paid_in p.paid_out
+  where
+    sums : (pv pw dv dw : ℕ) → pw ≡ pv + a → dw ≡ dv + b → (pw + dv) + (out_then + paid_in) ≡ (pv + dw) + (paid_out + in_then)
+    sums pv pw dv dw f h = omega (arith, e, f, h)
+
+pub refused_in_vain : (v w : View) (reply : Reply) → IsRefused v w reply → AsksInVain v w
+refused_in_vain v w Late h = h.0
+refused_in_vain v w Closed h = h.0
+refused_in_vain v w Busy h = h.0
+refused_in_vain v w Done h = absurd h
+refused_in_vain v w Short h = absurd h
+refused_in_vain v w Over h = absurd h
+refused_in_vain v w NoAccount h = absurd h
+refused_in_vain v w SameAccount h = absurd h
+
+-- a port that paid nothing, with counters as they were
+rests : (v w : View) (paid_in paid_out in_then out_then : ℕ) → IsAtRest w → Pays v w 0 0 → in_then ≡ paid_in → out_then ≡ paid_out → IsAtRest w × Counts v w paid_in paid_out in_then out_then
+rests v w paid_in paid_out in_then out_then rest p e f = (rest, counts v w 0 0 paid_in paid_out in_then out_then p (omega (arith, e, f)))
+
+module _ (v w : View) (lane amount : ℕ) where
+  pub paid_in_port : (reply : Reply) (sum sum_then out : ℕ) → PaysIn v w lane amount sum sum_then reply → IsAtRest w × Counts v w sum out sum_then out
+  paid_in_port Done sum sum_then out (found, turn, room, pays, e) = (turn.at_rest, counts v w amount 0 sum out sum_then out pays (omega (arith, e)))
+  paid_in_port Over sum sum_then out (found, turn, why, e) = rests v w sum out sum_then out turn.at_rest (looked found turn.pays) e refl
+  paid_in_port Short sum sum_then out h = absurd h
+  paid_in_port Late sum sum_then out (r, e) = let vain = refused_in_vain v w Late r in rests v w sum out sum_then out vain.at_rest vain.pays e refl
+  paid_in_port Closed sum sum_then out (r, e) = let vain = refused_in_vain v w Closed r in rests v w sum out sum_then out vain.at_rest vain.pays e refl
+  paid_in_port Busy sum sum_then out (r, e) = let vain = refused_in_vain v w Busy r in rests v w sum out sum_then out vain.at_rest vain.pays e refl
+  paid_in_port NoAccount sum sum_then out h = absurd h
+  paid_in_port SameAccount sum sum_then out h = absurd h
+
+  pub paid_out_port : (reply : Reply) (sum sum_then paid_in : ℕ) → PaysOut v w lane amount sum sum_then reply → IsAtRest w × Counts v w paid_in sum paid_in sum_then
+  paid_out_port Done sum sum_then paid_in (found, turn, enough, pays, e) = (turn.at_rest, counts v w 0 amount paid_in sum paid_in sum_then pays (omega (arith, e)))
+  paid_out_port Short sum sum_then paid_in (found, turn, less, e) = rests v w paid_in sum paid_in sum_then turn.at_rest (looked found turn.pays) refl e
+  paid_out_port Over sum sum_then paid_in (found, turn, enough, most, e) = rests v w paid_in sum paid_in sum_then turn.at_rest (looked found turn.pays) refl e
+  paid_out_port Late sum sum_then paid_in (r, e) = let vain = refused_in_vain v w Late r in rests v w paid_in sum paid_in sum_then vain.at_rest vain.pays refl e
+  paid_out_port Closed sum sum_then paid_in (r, e) = let vain = refused_in_vain v w Closed r in rests v w paid_in sum paid_in sum_then vain.at_rest vain.pays refl e
+  paid_out_port Busy sum sum_then paid_in (r, e) = let vain = refused_in_vain v w Busy r in rests v w paid_in sum paid_in sum_then vain.at_rest vain.pays refl e
+  paid_out_port NoAccount sum sum_then paid_in h = absurd h
+  paid_out_port SameAccount sum sum_then paid_in h = absurd h
+
+-- the same of a transfer within a line
+pub moved_within_port : (v w : View) (source target amount paid_in paid_out : ℕ) (reply : Reply) → MovesWithin v w source target amount reply → IsAtRest w × Counts v w paid_in paid_out paid_in paid_out
+moved_within_port v w source target amount paid_in paid_out Done (found, turn, enough, room, pays) = rests v w paid_in paid_out paid_in paid_out turn.at_rest pays refl refl
+moved_within_port v w source target amount paid_in paid_out Short (found, turn, less) = rests v w paid_in paid_out paid_in paid_out turn.at_rest (looked found turn.pays) refl refl
+moved_within_port v w source target amount paid_in paid_out Over (found, turn, enough, none) = rests v w paid_in paid_out paid_in paid_out turn.at_rest (looked found turn.pays) refl refl
+moved_within_port v w source target amount paid_in paid_out Late r = let vain = refused_in_vain v w Late r in rests v w paid_in paid_out paid_in paid_out vain.at_rest vain.pays refl refl
+moved_within_port v w source target amount paid_in paid_out Closed r = let vain = refused_in_vain v w Closed r in rests v w paid_in paid_out paid_in paid_out vain.at_rest vain.pays refl refl
+moved_within_port v w source target amount paid_in paid_out Busy r = let vain = refused_in_vain v w Busy r in rests v w paid_in paid_out paid_in paid_out vain.at_rest vain.pays refl refl
+moved_within_port v w source target amount paid_in paid_out NoAccount h = absurd h
+moved_within_port v w source target amount paid_in paid_out SameAccount h = absurd h

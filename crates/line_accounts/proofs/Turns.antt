@@ -207,7 +207,7 @@ turns-whole does terms order ends clear v knows places =
       own_place v.node v.order order knows.order_begins (places ∙ sym knows.own_count) p r at_r same,
       slice_get_within v.ends p e (knows.own_ends p r e at_r at_e same (served_stays e served)))))
 
-sum-each : {X : Type 0} (f g : X → ℕ) (xs : List X) → ((i : ℕ) (x : X) → slice_get xs i ≡ Some x → f x ≡ g x) → sum_by f xs ≡ sum_by g xs
+pub sum-each : {X : Type 0} (f g : X → ℕ) (xs : List X) → ((i : ℕ) (x : X) → slice_get xs i ≡ Some x → f x ≡ g x) → sum_by f xs ≡ sum_by g xs
 sum-each f g [] h = refl
 sum-each f g (x ∷ xs) h =
     let here : f x ≡ g x = h 0 x refl in

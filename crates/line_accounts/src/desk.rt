@@ -1,10 +1,13 @@
 //! A desk: one node's ports of several lines.
-ghost use Rattle.std.specs.Prelude.{◌≡◌, ◌≢◌, ℕ, ◌+◌, ◌<◌, ◌≤◌, All, List, length};
+ghost use Rattle.std.specs.Prelude.{◌≡◌, All, List, length};
 ghost use Rattle.line_accounts.specs.Desks.{AreOver, IsDeskOver};
+ghost use Rattle.line_accounts.specs.Calls.{Deposits, TakesOut};
 
-use crate::ask::ask;
+use crate::answer::Reply;
 use crate::law::AccountLaw;
-use qolb_model::{Enq, LineSync, PortState};
+use crate::money::place_of;
+use crate::turn::{pay_in, pay_out};
+use qolb_model::{LineSync, PortState};
 use std::marker::Model;
 
 /// One node's ports of several lines, and what was paid in and out through them.
@@ -48,4 +51,40 @@ impl<L: LineSync<AccountLaw>> Desk<L> {
     {
         self.paid_out
     }
+}
+
+/// Pays the amount into the account.
+pub fn deposit<L: LineSync<AccountLaw>>(
+    lines: &[L],
+    desk: &mut Desk<L>,
+    account: u64,
+    amount: u64,
+    patience: u64,
+) -> Reply
+    requires over { IsDeskOver L.belongs L.view lines.now desk.old }
+    ensures over { IsDeskOver L.belongs L.view lines.now desk.new }
+    ensures deposits { Deposits L.view (length lines.now) account amount desk.old desk.new result }
+{
+    let Some((i, lane)) = place_of(account, lines.len()) else {
+        return Reply::NoAccount;
+    };
+    pay_in(&lines[i], &mut desk.ports[i], &mut desk.paid_in, lane, amount, patience)
+}
+
+/// Pays the amount out of the account.
+pub fn take_out<L: LineSync<AccountLaw>>(
+    lines: &[L],
+    desk: &mut Desk<L>,
+    account: u64,
+    amount: u64,
+    patience: u64,
+) -> Reply
+    requires over { IsDeskOver L.belongs L.view lines.now desk.old }
+    ensures over { IsDeskOver L.belongs L.view lines.now desk.new }
+    ensures takes_out { TakesOut L.view (length lines.now) account amount desk.old desk.new result }
+{
+    let Some((i, lane)) = place_of(account, lines.len()) else {
+        return Reply::NoAccount;
+    };
+    pay_out(&lines[i], &mut desk.ports[i], &mut desk.paid_out, lane, amount, patience)
 }
