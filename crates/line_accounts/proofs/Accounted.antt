@@ -1,11 +1,11 @@
 -- Desks before and after a call.
-use Rattle.std.proofs.Common.{◌≡◌, ◌≢◌, ◌+◌, ◌-◌, ◌<◌, ◌≤◌, ◌⊎◌, inl, inr, true, ℕ, zero, suc, List, [], ◌∷◌, ◌++◌, length, get_or, Option, Some, None, slice_get, refl, sym, ap, subst, ◌∙◌, arith, zero-add}
+use Rattle.std.proofs.Common.{◌≡◌, ◌≢◌, ◌+◌, ◌-◌, ◌<◌, ◌≤◌, ◌⊎◌, inl, inr, true, ℕ, zero, suc, List, [], ◌∷◌, ◌++◌, length, get_or, Bool, ◌*◌, ◌/◌, ◌%◌, Option, Some, None, slice_get, refl, sym, ap, subst, ◌∙◌, arith, zero-add}
 use Rattle.std.specs.List.{sum_by}
 use Rattle.std.proofs.Math.ListN.{set}
 use Rattle.std.proofs.lemmas.List.{length-set}
 use Rattle.std.proofs.lemmas.List.Sums.{sum_by-set}
 use Rattle.std.proofs.lemmas.Bool.{cases_eq}
-use Rattle.std.proofs.lemmas.Option.{slice_get_within, get_or_from_slice_get}
+use Rattle.std.proofs.lemmas.Option.{slice_get_within, slice_get_read, get_or_from_slice_get}
 use Rattle.qolb_model.specs.declared.view.View.{View}
 use Rattle.qolb_model.specs.Requests.{count_of}
 use Rattle.qolb_model.specs.PortStates.{may_ask}
@@ -18,6 +18,8 @@ use Rattle.line_accounts.specs.declared.answer.Reply.TheVariants.{Done, Short, O
 use Rattle.line_accounts.specs.Paid.{sum_of_turns, rise, fall, paid_by, drawn_by, KnowsOwnPlaces}
 use Rattle.line_accounts.specs.Desks.{DeskOf, IsAtRest, AreOver, IsDeskOver}
 use Rattle.line_accounts.specs.Moves.{Pays, TakesTurn, AsksInVain, IsRefused, IsRefusedEither, PaysIn, PaysOut, MovesWithin, MovesAcross}
+use Rattle.line_accounts.specs.Accounts.{line_of, lane_in}
+use Rattle.line_accounts.specs.Calls.{ChangesPort, ChangesTwo, Deposits, TakesOut, AreTwo, Transfers}
 use Rattle.line_accounts.proofs.Turns.{turns-unserved, none_of_node, sum-each, sum-zero}
 use Rattle.line_accounts.proofs.Totals.{looked}
 
@@ -90,6 +92,10 @@ module _ {Line Port : Type 0} (belongs : Line → Port → Type 0) (view : Port 
           → (pq + dp) + (sum_out + paid_in) ≡ (pp + dq) + (paid_out + sum_in) → paid_then + sum_out ≡ drawn_then + sum_in
       sums paid drawn paid_then drawn_then pp pq dp dq paid_in paid_out sum_in sum_out a b c e = omega (arith, a, b, c, e)
 
+  -- the line and the port at a place
+  pub at_place : (d : DeskOf Port) (i : ℕ) (line : Line) (p : Port) → IsDeskOver belongs view lines d → i < length lines → line ≡ get_or lines i line → p ≡ get_or d.ports i p → (slice_get lines i ≡ Some line) × (slice_get d.ports i ≡ Some p)
+  at_place d i line p over lt is_line is_port = (slice_get_read lines (length lines) i line refl lt is_line, slice_get_read d.ports (length lines) i p (sym over.over.count) lt is_port)
+
   pub new_desk : (ports : List Port) → AreOver belongs view lines ports → ((i : ℕ) (port : Port) → slice_get ports i ≡ Some port → (may_ask (view port).state ≡ true) × ((view port).count ≡ 0))
       → ((i : ℕ) (line : Line) (port : Port) → slice_get lines i ≡ Some line → slice_get ports i ≡ Some port → OneHistory (view port ∷ []))
       → IsDeskOver belongs view lines (record { ports = ports; paid_in = 0; paid_out = 0 })
@@ -155,9 +161,39 @@ module _ (v w : View) (lane amount : ℕ) where
 pub moved_within_port : (v w : View) (source target amount paid_in paid_out : ℕ) (reply : Reply) → MovesWithin v w source target amount reply → IsAtRest w × Counts v w paid_in paid_out paid_in paid_out
 moved_within_port v w source target amount paid_in paid_out Done (found, turn, enough, room, pays) = rests v w paid_in paid_out paid_in paid_out turn.at_rest pays refl refl
 moved_within_port v w source target amount paid_in paid_out Short (found, turn, less) = rests v w paid_in paid_out paid_in paid_out turn.at_rest (looked found turn.pays) refl refl
-moved_within_port v w source target amount paid_in paid_out Over (found, turn, enough, none) = rests v w paid_in paid_out paid_in paid_out turn.at_rest (looked found turn.pays) refl refl
+moved_within_port v w source target amount paid_in paid_out Over (found, turn, enough, no_room) = rests v w paid_in paid_out paid_in paid_out turn.at_rest (looked found turn.pays) refl refl
 moved_within_port v w source target amount paid_in paid_out Late r = let vain = refused_in_vain v w Late r in rests v w paid_in paid_out paid_in paid_out vain.at_rest vain.pays refl refl
 moved_within_port v w source target amount paid_in paid_out Closed r = let vain = refused_in_vain v w Closed r in rests v w paid_in paid_out paid_in paid_out vain.at_rest vain.pays refl refl
 moved_within_port v w source target amount paid_in paid_out Busy r = let vain = refused_in_vain v w Busy r in rests v w paid_in paid_out paid_in paid_out vain.at_rest vain.pays refl refl
 moved_within_port v w source target amount paid_in paid_out NoAccount h = absurd h
 moved_within_port v w source target amount paid_in paid_out SameAccount h = absurd h
+
+-- the records of the calls, from what was done at one port
+module _ {Port : Type 0} (view : Port → View) (lines account amount : ℕ) (d : DeskOf Port) (i lane : ℕ) (p q : Port) (known : account < 8 * lines) (line_is : i ≡ line_of account) (lane_is : lane ≡ lane_in account) (was : slice_get d.ports i ≡ Some p) where
+  pub deposits : (sum : ℕ) (reply : Reply) → PaysIn (view p) (view q) lane amount d.paid_in sum reply → Deposits view lines account amount d (record { ports = set d.ports i q; paid_in = sum; paid_out = d.paid_out }) reply
+  deposits sum reply pays = record {
+    unknown = λ e. absurd (subst (λ r. PaysIn (view p) (view q) lane amount d.paid_in sum r) e pays);
+    known = λ _. known;
+    pays = λ _. record {
+      port = p;
+      port_then = q;
+      was = ap (slice_get d.ports) (sym line_is) ∙ was;
+      is = ap (λ n. set d.ports n q) line_is;
+      does = subst (λ k. PaysIn (view p) (view q) k amount d.paid_in sum reply) lane_is pays;
+    };
+    paid_out = refl;
+  }
+
+  pub takes_out : (sum : ℕ) (reply : Reply) → PaysOut (view p) (view q) lane amount d.paid_out sum reply → TakesOut view lines account amount d (record { ports = set d.ports i q; paid_in = d.paid_in; paid_out = sum }) reply
+  takes_out sum reply pays = record {
+    unknown = λ e. absurd (subst (λ r. PaysOut (view p) (view q) lane amount d.paid_out sum r) e pays);
+    known = λ _. known;
+    pays = λ _. record {
+      port = p;
+      port_then = q;
+      was = ap (slice_get d.ports) (sym line_is) ∙ was;
+      is = ap (λ n. set d.ports n q) line_is;
+      does = subst (λ k. PaysOut (view p) (view q) k amount d.paid_out sum reply) lane_is pays;
+    };
+    paid_in = refl;
+  }
