@@ -1,5 +1,5 @@
 -- Desks before and after a call.
-use Rattle.std.proofs.Common.{◌≡◌, ◌≢◌, ◌+◌, ◌-◌, ◌<◌, ◌≤◌, ◌⊎◌, inl, inr, true, ℕ, zero, suc, List, [], ◌∷◌, ◌++◌, length, get_or, Bool, ◌*◌, ◌/◌, ◌%◌, Option, Some, None, slice_get, refl, sym, ap, subst, ◌∙◌, arith, zero-add}
+use Rattle.std.proofs.Common.{◌≡◌, ◌≢◌, ◌+◌, ◌-◌, ◌<◌, ◌≤◌, ◌⊎◌, inl, inr, true, ℕ, zero, suc, List, [], ◌∷◌, ◌++◌, length, take, drop, get_or, Bool, ◌*◌, ◌/◌, ◌%◌, Option, Some, None, slice_get, refl, sym, ap, subst, ◌∙◌, arith, zero-add}
 use Rattle.std.specs.List.{sum_by}
 use Rattle.std.proofs.Math.ListN.{set}
 use Rattle.std.proofs.lemmas.List.{length-set}
@@ -197,3 +197,51 @@ module _ {Port : Type 0} (view : Port → View) (lines account amount : ℕ) (d 
     };
     paid_in = refl;
   }
+
+-- two writes, one in each of the two parts of a list
+set_back : {X : Type 0} (xs : List X) (j : ℕ) (r : X) → take j xs ++ set (drop j xs) 0 r ≡ set xs j r
+set_back [] zero r = refl
+set_back [] (suc j) r = refl
+set_back (x ∷ xs) zero r = refl
+set_back (x ∷ xs) (suc j) r = ap (λ l. x ∷ l) (set_back xs j r)
+
+pub set_parts : {X : Type 0} (xs : List X) (i j : ℕ) (q r : X) → i < j → set (take j xs) i q ++ set (drop j xs) 0 r ≡ set (set xs i q) j r
+set_parts [] i zero q r lt = absurd (omega arith)
+set_parts [] i (suc j) q r lt = refl
+set_parts (x ∷ xs) i zero q r lt = absurd (omega arith)
+set_parts (x ∷ xs) zero (suc j) q r lt = ap (λ l. q ∷ l) (set_back xs j r)
+set_parts (x ∷ xs) (suc i) (suc j) q r lt = ap (λ l. x ∷ l) (set_parts xs i j q r (omega (arith, lt)))
+
+-- in any order
+pub set_swap : {X : Type 0} (xs : List X) (i j : ℕ) (q r : X) → i ≢ j → set (set xs i q) j r ≡ set (set xs j r) i q
+set_swap [] i j q r ne = refl
+set_swap (x ∷ xs) zero zero q r ne = absurd (ne refl)
+set_swap (x ∷ xs) zero (suc j) q r ne = refl
+set_swap (x ∷ xs) (suc i) zero q r ne = refl
+set_swap (x ∷ xs) (suc i) (suc j) q r ne = ap (λ l. x ∷ l) (set_swap xs i j q r (λ e. ne (ap suc e)))
+
+-- a transfer over two lines: each port is at rest, and what the one drew the other paid in
+pub either_rests : (s s_then t t_then : View) (reply : Reply) → IsAtRest t → IsAtRest s → IsRefusedEither s s_then t t_then reply → (IsAtRest s_then × Pays s s_then 0 0) × (IsAtRest t_then × Pays t t_then 0 0)
+either_rests s s_then t t_then reply rest_t rest_s (inl (refused, same)) =
+    let vain = refused_in_vain s s_then reply refused in
+    ((vain.at_rest, vain.pays), (subst (λ (v : View). IsAtRest v) (sym same) rest_t, subst (λ (v : View). Pays t v 0 0) (sym same) (pays_none t)))
+  where
+    pays_none : (v : View) → Pays v v 0 0
+    pays_none v = record { paid_in = plus (paid_by v); paid_out = plus (drawn_by v) }
+      where
+        plus : (n : ℕ) → n ≡ n + 0
+        plus n = omega arith
+either_rests s s_then t t_then reply rest_t rest_s (inr (found, turn, refused)) =
+    let vain = refused_in_vain t t_then reply refused in
+    ((turn.at_rest, looked found turn.pays), (vain.at_rest, vain.pays))
+
+pub across_ports : (refused : Reply → Type 0) (s s_then t t_then : View) (from to amount : ℕ) → ((reply : Reply) → refused reply → (IsAtRest s_then × Pays s s_then 0 0) × (IsAtRest t_then × Pays t t_then 0 0))
+    → (reply : Reply) → MovesAcross refused s s_then t t_then from to amount reply → (n : ℕ) × (IsAtRest s_then × Pays s s_then 0 n) × (IsAtRest t_then × Pays t t_then n 0)
+across_ports refused s s_then t t_then from to amount why Done (found, turn, enough, pays, there, other, room, more) = (amount, (turn.at_rest, pays), (other.at_rest, more))
+across_ports refused s s_then t t_then from to amount why Short (found, turn, less, there, other) = (0, (turn.at_rest, looked found turn.pays), (other.at_rest, looked there other.pays))
+across_ports refused s s_then t t_then from to amount why Over (found, turn, enough, there, other, no_room) = (0, (turn.at_rest, looked found turn.pays), (other.at_rest, looked there other.pays))
+across_ports refused s s_then t t_then from to amount why Late h = (0, why Late h)
+across_ports refused s s_then t t_then from to amount why Closed h = (0, why Closed h)
+across_ports refused s s_then t t_then from to amount why Busy h = (0, why Busy h)
+across_ports refused s s_then t t_then from to amount why NoAccount h = absurd h
+across_ports refused s s_then t t_then from to amount why SameAccount h = absurd h

@@ -1,12 +1,13 @@
 //! A desk: one node's ports of several lines.
 ghost use Rattle.std.specs.Prelude.{◌≡◌, All, List, length};
 ghost use Rattle.line_accounts.specs.Desks.{AreOver, IsDeskOver};
-ghost use Rattle.line_accounts.specs.Calls.{Deposits, TakesOut};
+ghost use Rattle.line_accounts.specs.Calls.{Deposits, TakesOut, Transfers};
 
+use crate::across::{move_down, move_up};
 use crate::answer::Reply;
 use crate::law::AccountLaw;
 use crate::money::place_of;
-use crate::turn::{pay_in, pay_out};
+use crate::turn::{move_within, pay_in, pay_out};
 use qolb_model::{LineSync, PortState};
 use std::marker::Model;
 
@@ -87,4 +88,39 @@ pub fn take_out<L: LineSync<AccountLaw>>(
         return Reply::NoAccount;
     };
     pay_out(&lines[i], &mut desk.ports[i], &mut desk.paid_out, lane, amount, patience)
+}
+
+/// Moves the amount from one account to another. Over two lines the lower is asked for first, and where the second isn't granted the first is
+/// let go as it was found.
+pub fn transfer<L: LineSync<AccountLaw>>(
+    lines: &[L],
+    desk: &mut Desk<L>,
+    from: u64,
+    to: u64,
+    amount: u64,
+    patience: u64,
+) -> Reply
+    requires over { IsDeskOver L.belongs L.view lines.now desk.old }
+    ensures over { IsDeskOver L.belongs L.view lines.now desk.new }
+    ensures transfers { Transfers L.view (length lines.now) from to amount desk.old desk.new result }
+{
+    let Some((i, source)) = place_of(from, lines.len()) else {
+        return Reply::NoAccount;
+    };
+    let Some((j, target)) = place_of(to, lines.len()) else {
+        return Reply::NoAccount;
+    };
+    if from == to {
+        return Reply::SameAccount;
+    }
+    if i == j {
+        return move_within(&lines[i], &mut desk.ports[i], source, target, amount, patience);
+    }
+    if i < j {
+        let (front, back) = desk.ports.split_at_mut(j);
+        move_up(&lines[i], &mut front[i], source, &lines[j], &mut back[0], target, amount, patience)
+    } else {
+        let (front, back) = desk.ports.split_at_mut(i);
+        move_down(&lines[i], &mut back[0], source, &lines[j], &mut front[j], target, amount, patience)
+    }
 }
