@@ -3,3 +3,4 @@ pub mod Visits
 pub mod Totals
 pub mod Crossing
 pub mod Accounted
+pub mod Transferred
