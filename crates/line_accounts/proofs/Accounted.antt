@@ -96,7 +96,7 @@ module _ {Line Port : Type 0} (belongs : Line → Port → Type 0) (view : Port 
   pub at_place : (d : DeskOf Port) (i : ℕ) (line : Line) (p : Port) → IsDeskOver belongs view lines d → i < length lines → line ≡ get_or lines i line → p ≡ get_or d.ports i p → (slice_get lines i ≡ Some line) × (slice_get d.ports i ≡ Some p)
   at_place d i line p over lt is_line is_port = (slice_get_read lines (length lines) i line refl lt is_line, slice_get_read d.ports (length lines) i p (sym over.over.count) lt is_port)
 
-  pub new_desk : (ports : List Port) → AreOver belongs view lines ports → ((i : ℕ) (port : Port) → slice_get ports i ≡ Some port → (may_ask (view port).state ≡ true) × ((view port).count ≡ 0))
+  pub new_desk : (ports : List Port) → AreOver belongs lines ports → ((i : ℕ) (port : Port) → slice_get ports i ≡ Some port → (may_ask (view port).state ≡ true) × ((view port).count ≡ 0))
       → ((i : ℕ) (line : Line) (port : Port) → slice_get lines i ≡ Some line → slice_get ports i ≡ Some port → OneHistory (view port ∷ []))
       → IsDeskOver belongs view lines (record { ports = ports; paid_in = 0; paid_out = 0 })
   new_desk ports over unused history = record {

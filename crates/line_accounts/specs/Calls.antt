@@ -7,6 +7,12 @@ use Rattle.line_accounts.specs.Accounts.{line_of, lane_in}
 use Rattle.line_accounts.specs.Desks.{DeskOf}
 use Rattle.line_accounts.specs.Moves.{PaysIn, PaysOut, MovesWithin, MovesAcross, IsRefusedEither}
 
+-- with so many lines there are both accounts, and they are two
+pub record AreTwo (lines source target : ℕ) : Type 0 where
+  pub source_known : source < 8 * lines
+  pub target_known : target < 8 * lines
+  pub apart : source ≢ target
+
 module _ {Port : Type 0} (view : Port → View) where
   -- of these ports that at the place did so, and no other was called
   pub record ChangesPort (place : ℕ) (Does : View → View → Type 0) (old new : List Port) : Type 0 where
@@ -40,12 +46,6 @@ module _ {Port : Type 0} (view : Port → View) where
     pub known : reply ≢ NoAccount → account < 8 * lines
     pub pays : reply ≢ NoAccount → ChangesPort (line_of account) (λ v w. PaysOut v w (lane_in account) amount old.paid_out new.paid_out reply) old.ports new.ports
     pub paid_in : new.paid_in ≡ old.paid_in
-
-  -- there are both accounts, and they are two
-  pub record AreTwo (lines source target : ℕ) : Type 0 where
-    pub source_known : source < 8 * lines
-    pub target_known : target < 8 * lines
-    pub apart : source ≢ target
 
   -- `transfer`: in one turn where both accounts are of one line; else in one turn of each, of which the lower line's is asked for first
   pub record Transfers (lines source target amount : ℕ) (old new : DeskOf Port) (reply : Reply) : Type 0 where

@@ -16,15 +16,14 @@ pub record IsAtRest (v : View) : Type 0 where
   pub quiet : may_ask v.state ≡ true
   pub places : KnowsOwnPlaces v
 
-module _ {Line Port : Type 0} (belongs : Line → Port → Type 0) (view : Port → View) where
-  -- port i is of line i
-  pub record AreOver (lines : List Line) (ports : List Port) : Type 0 where
-    pub count : length ports ≡ length lines
-    pub belong : (i : ℕ) (line : Line) (port : Port) → slice_get lines i ≡ Some line → slice_get ports i ≡ Some port → belongs line port
+-- port i is of line i
+pub record AreOver {Line Port : Type 0} (belongs : Line → Port → Type 0) (lines : List Line) (ports : List Port) : Type 0 where
+  pub count : length ports ≡ length lines
+  pub belong : (i : ℕ) (line : Line) (port : Port) → slice_get lines i ≡ Some line → slice_get ports i ≡ Some port → belongs line port
 
-  -- a desk over these lines, between calls: port i is of line i, and at rest; and what its ports have paid is what was paid in less what
-  -- was paid out
-  pub record IsDeskOver (lines : List Line) (desk : DeskOf Port) : Type 0 where
-    pub over : AreOver lines desk.ports
-    pub at_rest : (i : ℕ) (port : Port) → slice_get desk.ports i ≡ Some port → IsAtRest (view port)
-    pub paid : sum_by (λ port. paid_by (view port)) desk.ports + desk.paid_out ≡ sum_by (λ port. drawn_by (view port)) desk.ports + desk.paid_in
+-- a desk over these lines, between calls: port i is of line i, and at rest; and what its ports have paid is what was paid in less what
+-- was paid out
+pub record IsDeskOver {Line Port : Type 0} (belongs : Line → Port → Type 0) (view : Port → View) (lines : List Line) (desk : DeskOf Port) : Type 0 where
+  pub over : AreOver belongs lines desk.ports
+  pub at_rest : (i : ℕ) (port : Port) → slice_get desk.ports i ≡ Some port → IsAtRest (view port)
+  pub paid : sum_by (λ port. paid_by (view port)) desk.ports + desk.paid_out ≡ sum_by (λ port. drawn_by (view port)) desk.ports + desk.paid_in

@@ -3,3 +3,4 @@ pub mod Paid
 pub mod Desks
 pub mod Moves
 pub mod Calls
+pub mod Settled

@@ -20,3 +20,12 @@ pub enum Reply {
     /// Both accounts of a transfer are one.
     SameAccount,
 }
+
+/// Why nothing could be settled.
+#[derive(Clone, Copy, Debug, PartialEq, Eq)]
+pub enum SettleError {
+    /// Memory was refused.
+    Memory,
+    /// No desk has a port of this node on this line. It is the least such line, and there the least such node.
+    Missing { line: u64, node: u64 },
+}

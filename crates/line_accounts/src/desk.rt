@@ -1,5 +1,5 @@
 //! A desk: one node's ports of several lines.
-ghost use Rattle.std.specs.Prelude.{◌≡◌, All, List, length};
+ghost use Rattle.std.specs.Prelude.{◌≡◌, All, List, [], ◌∷◌, ◌++◌, length, slice_get, Some, MatchOption};
 ghost use Rattle.line_accounts.specs.Desks.{AreOver, IsDeskOver};
 ghost use Rattle.line_accounts.specs.Calls.{Deposits, TakesOut, Transfers};
 
@@ -30,7 +30,7 @@ impl<L: LineSync<AccountLaw>> Desk<L> {
     /// A desk with these ports, one of each line, none of which has made a request.
     pub fn new(ports: Vec<L::Port>) -> Desk<L>
         requires { All (λ port. ((L.view port).state ≡ PortState.Idle) × ((L.view port).count ≡ 0)) ports.items }
-        ensures { (lines : List L) → AreOver L.belongs L.view lines ports.items → IsDeskOver L.belongs L.view lines result }
+        ensures { (lines : List L) → AreOver L.belongs lines ports.items → IsDeskOver L.belongs L.view lines result }
     {
         Desk {
             ports,
@@ -51,6 +51,34 @@ impl<L: LineSync<AccountLaw>> Desk<L> {
         ensures { result ≡ self.now.paid_out }
     {
         self.paid_out
+    }
+
+    /// The port of line `i`.
+    pub(crate) fn port(&self, i: usize) -> &L::Port
+        requires { i < length self.now.ports }
+        ensures { slice_get self.now.ports i ≡ Some result.now }
+    {
+        &self.ports[i]
+    }
+
+    /// Takes the last port, if there is one.
+    pub(crate) fn take_last(&mut self) -> Option<L::Port>
+        ensures { MatchOption result (self.new ≡ self.old) (λ port. self.old ≡ record self.new { ports = self.new.ports ++ port ∷ [] }) }
+    {
+        self.ports.pop()
+    }
+}
+
+impl<L: LineSync<AccountLaw>> Drop for Desk<L>
+where
+    L::Port: Drop,
+{
+    fn drop(self) {
+        let Self {
+            ports: _,
+            paid_in: _,
+            paid_out: _,
+        } = self;
     }
 }
 

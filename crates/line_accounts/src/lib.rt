@@ -7,8 +7,10 @@ mod ask;
 mod desk;
 mod law;
 mod money;
+mod settle;
 mod turn;
 
-pub use answer::Reply;
-pub use desk::Desk;
+pub use answer::{Reply, SettleError};
+pub use desk::{Desk, deposit, take_out, transfer};
 pub use law::{AccountLaw, MOST_BALANCE};
+pub use settle::{Unsettled, settle};
