@@ -4,3 +4,4 @@ pub mod Totals
 pub mod Crossing
 pub mod Accounted
 pub mod Transferred
+pub mod Settlements

@@ -1,5 +1,5 @@
 //! A desk: one node's ports of several lines.
-ghost use Rattle.std.specs.Prelude.{◌≡◌, All, List, [], ◌∷◌, ◌++◌, length, slice_get, Some, MatchOption};
+ghost use Rattle.std.specs.Prelude.{◌≡◌, ◌<◌, All, List, [], ◌∷◌, ◌++◌, length, slice_get, Some, MatchOption};
 ghost use Rattle.line_accounts.specs.Desks.{AreOver, IsDeskOver};
 ghost use Rattle.line_accounts.specs.Calls.{Deposits, TakesOut, Transfers};
 
@@ -12,6 +12,7 @@ use qolb_model::{LineSync, PortState};
 use std::marker::Model;
 
 /// One node's ports of several lines, and what was paid in and out through them.
+#[derive(Drop)]
 pub struct Desk<L: LineSync<AccountLaw>> {
     ports: Vec<L::Port>,
     paid_in: u128,
@@ -66,19 +67,6 @@ impl<L: LineSync<AccountLaw>> Desk<L> {
         ensures { MatchOption result (self.new ≡ self.old) (λ port. self.old ≡ record self.new { ports = self.new.ports ++ port ∷ [] }) }
     {
         self.ports.pop()
-    }
-}
-
-impl<L: LineSync<AccountLaw>> Drop for Desk<L>
-where
-    L::Port: Drop,
-{
-    fn drop(self) {
-        let Self {
-            ports: _,
-            paid_in: _,
-            paid_out: _,
-        } = self;
     }
 }
 

@@ -7,10 +7,10 @@ mod ask;
 mod desk;
 mod law;
 mod money;
-mod settle;
+mod settling;
 mod turn;
 
 pub use answer::{Reply, SettleError};
 pub use desk::{Desk, deposit, take_out, transfer};
 pub use law::{AccountLaw, MOST_BALANCE};
-pub use settle::{Unsettled, settle};
+pub use settling::{Unsettled, settle};
