@@ -12,6 +12,10 @@ use Rattle.qolb_model.specs.declared.view.View.{View}
 use Rattle.qolb_model.specs.Opening.{MayOpen}
 use Rattle.qolb_model.specs.OneHistory.{IsAmong}
 use Rattle.qolb_model.specs.Finishing.{EachNode, IsFinished}
+use Rattle.std.specs.Prelude.{IfOk}
+use Rattle.std.specs.Result.{result_ok}
+use Rattle.std.specs.declared.result.Result.{Result}
+use Rattle.std.specs.declared.result.Result.TheVariants.{Ok, Err}
 use Rattle.qolb_model.proofs.Lists.{same_some, element_at, slice_get-append_left, slice_get-middle, slice_get-push}
 use Rattle.qolb_model.proofs.Agreeing.{among_map_port}
 use Rattle.line_accounts.specs.Accounts.{AreBalances, StayBalances}
@@ -195,3 +199,92 @@ AddsUp view terms_of all_lines lines all_desks desks total =
 
 abbrev pub IsBounded : ℕ → ℕ → ℕ → Type 0
 IsBounded all left total = (total + left * (8 * MOST_BALANCE) ≤ all * (8 * MOST_BALANCE)) × (left ≤ all)
+
+-- at first all is left
+pub left_first : {Line Port : Type 0} (belongs : Line → Port → Type 0) (view : Port → View) (terms_of : Line → Terms) (lines : List Line) (desks : List (DeskOf Port))
+    → ((i : ℕ) (line : Line) → slice_get lines i ≡ Some line → MayOpen (terms_of line))
+    → ((k : ℕ) (desk : DeskOf Port) → slice_get desks k ≡ Some desk → IsDeskOver belongs view lines desk)
+    → AreAllThere view terms_of lines desks → IsLeft belongs view terms_of lines desks
+left_first belongs view terms_of lines desks opened over there = record {
+  opened = opened;
+  over = λ k desk at. (over k desk at).over;
+  at_rest = λ k desk i port at at_port. (over k desk at).at_rest i port at_port;
+  there = there;
+}
+
+pub adds_first : {Line Port : Type 0} (view : Port → View) (terms_of : Line → Terms) (lines : List Line) (desks : List (DeskOf Port)) → AddsUp view terms_of lines lines desks desks 0
+adds_first view terms_of lines desks = same (sum_of_ports (λ port. drawn_by (view port)) desks) (all_opened terms_of lines) (sum_of_ports (λ port. paid_by (view port)) desks)
+  where
+    same : (d o p : ℕ) → (0 + d) + (o + p) ≡ (o + p) + d
+    same d o p = omega arith
+
+pub bounded_first : (n : ℕ) → IsBounded n n 0
+bounded_first n = (omega arith, omega arith)
+
+-- what holds of an answer that is fine
+pub finished_with : {T E : Type 0} (P : T → Type 0) (r : Result T E) (x : T) → result_ok r ≡ Some x → IfOk r P → P x
+finished_with P (Ok y) x e h = subst P (same_some e) h
+finished_with P (Err y) x e h = absurd (let f : None ≡ Some x = e in cc f)
+
+-- a total is of eight balances
+total_bounded : (line : List ℕ) → AreBalances line → lanes_total line ≤ 8 * MOST_BALANCE
+total_bounded line all = subst (λ n. n ≤ 8 * MOST_BALANCE) (sym (sum-map (lane_of line) (range_with_len 0 8))) (sum_by-le (lane_of line) MOST_BALANCE (range_with_len 0 8) each)
+  where
+    each : (k d : ℕ) → k < 8 → lane_of line (get_or (range_with_len 0 8) k d) ≤ MOST_BALANCE
+    each k d lt = subst (λ n. lane_of line n ≤ MOST_BALANCE) (sym (get_or-range_with_len 0 8 k d lt)) (all k lt)
+
+pub fits_total : (all left total : ℕ) (line : List ℕ) → IsBounded all (left + 1) total → AreBalances line → all < 2 ^ 64 → total + lanes_total line < 2 ^ 128
+fits_total all left total line b good small = sum (lanes_total line) (total_bounded line good)
+  where
+    sum : (n : ℕ) → n ≤ 8 * MOST_BALANCE → total + n < 2 ^ 128
+    sum n le = omega (arith, b.0, b.1, le, small)
+
+pub bounded_then : (all left total : ℕ) (line : List ℕ) → IsBounded all (left + 1) total → AreBalances line → IsBounded all left (total + lanes_total line)
+bounded_then all left total line b good = sum (lanes_total line) (total_bounded line good)
+  where
+    sum : (n : ℕ) → n ≤ 8 * MOST_BALANCE → IsBounded all left (total + n)
+    sum n le = (omega (arith, b.0, b.1, le), omega (arith, b.1))
+
+-- a line was finished with the ports that were taken
+pub adds_then : {Line Port : Type 0} (belongs : Line → Port → Type 0) (view : Port → View) (terms_of : Line → Terms) (all_lines lines : List Line) (line : Line) (all_desks old new : List (DeskOf Port)) (ports : List Port) (label total : ℕ) (bytes : List ℕ)
+    → IsLeft belongs view terms_of (lines ++ line ∷ []) old → TakesLast old new ports → IsFinished AreBalances StayBalances label (terms_of line) (map view ports) bytes
+    → AddsUp view terms_of all_lines (lines ++ line ∷ []) all_desks old total → AddsUp view terms_of all_lines lines all_desks new (total + lanes_total bytes)
+adds_then belongs view terms_of all_lines lines line all_desks old new ports label total bytes left t f adds =
+    let e = finished_total AreBalances StayBalances label (terms_of line) (map view ports) bytes (popped_opened belongs view terms_of lines line old new ports left t) f (taken_places belongs view terms_of lines line old new ports left t) in
+    let drawn = sum-taken (λ port. drawn_by (view port)) old new ports t in
+    let paid = sum-taken (λ port. paid_by (view port)) old new ports t in
+    let opened = sum_by_push (λ l. lanes_total (terms_of l).opening.bytes) lines line in
+    let drawn_map = sum-of_map drawn_by view ports in
+    let paid_map = sum-of_map paid_by view ports in
+    sums total _ _ _ _ _ _ _ _ _ _ _ _ _ (ap (λ n. lanes_total bytes + n) (sym drawn_map) ∙ (e ∙ ap (λ n. lanes_total (terms_of line).opening.bytes + n) paid_map)) drawn paid opened adds
+  where
+    sums : (total b dc o pc d_old d_new p_old p_new o_old o_new d_all o_all p_all : ℕ) → b + dc ≡ o + pc → d_old ≡ d_new + dc → p_old ≡ p_new + pc → o_old ≡ o_new + o
+        → (total + d_all) + (o_old + p_old) ≡ (o_all + p_all) + d_old → ((total + b) + d_all) + (o_new + p_new) ≡ (o_all + p_all) + d_new
+    sums total b dc o pc d_old d_new p_old p_new o_old o_new d_all o_all p_all e1 e2 e3 e4 e5 = omega (arith, e1, e2, e3, e4, e5)
+
+-- at last nothing is left
+pub adds_last : {Line Port : Type 0} (belongs : Line → Port → Type 0) (view : Port → View) (terms_of : Line → Terms) (all_lines lines : List Line) (all_desks desks : List (DeskOf Port)) (total : ℕ)
+    → lines ≡ [] → IsLeft belongs view terms_of lines desks → AddsUp view terms_of all_lines lines all_desks desks total
+    → ((k : ℕ) (desk : DeskOf Port) → slice_get all_desks k ≡ Some desk → IsDeskOver belongs view all_lines desk)
+    → total + all_paid_out all_desks ≡ all_opened terms_of all_lines + all_paid_in all_desks
+adds_last {Line} {Port} belongs view terms_of all_lines lines all_desks desks total empty left adds over =
+    let paid = gone (λ port. paid_by (view port)) in
+    let drawn = gone (λ port. drawn_by (view port)) in
+    let opened : all_opened terms_of lines ≡ 0 = ap (all_opened terms_of) empty in
+    let whole = sum-each (λ (d : DeskOf Port). sum_by (λ port. paid_by (view port)) d.ports + d.paid_out) (λ (d : DeskOf Port). sum_by (λ port. drawn_by (view port)) d.ports + d.paid_in) all_desks (λ k desk at. (over k desk at).paid) in
+    let a = sum-plus (λ (d : DeskOf Port). sum_by (λ port. paid_by (view port)) d.ports) (λ (d : DeskOf Port). d.paid_out) all_desks in
+    let b = sum-plus (λ (d : DeskOf Port). sum_by (λ port. drawn_by (view port)) d.ports) (λ (d : DeskOf Port). d.paid_in) all_desks in
+    sums total _ _ _ _ _ _ _ _ adds paid drawn opened (sym a ∙ (whole ∙ b))
+  where
+    none_left : (k : ℕ) (desk : DeskOf Port) → slice_get desks k ≡ Some desk → length desk.ports ≡ 0
+    none_left k desk at = (left.over k desk at).count ∙ ap length empty
+
+    no_sum : (f : Port → ℕ) (ports : List Port) → length ports ≡ 0 → sum_by f ports ≡ 0
+    no_sum f [] e = refl
+    no_sum f (p ∷ ports) e = absurd (omega (arith, e))
+
+    gone : (f : Port → ℕ) → sum_of_ports f desks ≡ 0
+    gone f = sum-none (λ (d : DeskOf Port). sum_by f d.ports) desks (λ k desk at. no_sum f desk.ports (none_left k desk at))
+
+    sums : (total d_all o p o_all p_all d out paid_in : ℕ) → (total + d_all) + (o + p) ≡ (o_all + p_all) + d → p ≡ 0 → d ≡ 0 → o ≡ 0 → p_all + out ≡ d_all + paid_in → total + out ≡ o_all + paid_in
+    sums total d_all o p o_all p_all d out paid_in e1 e2 e3 e4 e5 = omega (arith, e1, e2, e3, e4, e5)

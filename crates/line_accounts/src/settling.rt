@@ -38,7 +38,8 @@ fn first_missing<L: LineSync<AccountLaw>>(line: &L, desks: &[Desk<L>], i: usize)
     ensures { MatchOption result (EachNode (L.terms_of line.now).nodes (HasPort L.view desks.now i))
         (λ node. IsLeast (L.terms_of line.now).nodes (LacksPort L.view desks.now i) (HasPort L.view desks.now i) node) }
 {
-    for node in 1..=line.nodes() {
+    for before in 0..line.nodes() {
+        let node = before + 1;
         if !is_there(desks, i, node) {
             return Some(node);
         }
