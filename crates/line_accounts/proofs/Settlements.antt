@@ -1,8 +1,9 @@
 -- Taking lines apart, the last first, with the last ports of all desks.
-use Rattle.std.proofs.Common.{◌≡◌, ◌≢◌, ◌+◌, ◌*◌, ◌-◌, ◌<◌, ◌≤◌, ◌⊎◌, inl, inr, ℕ, zero, suc, List, [], ◌∷◌, ◌++◌, length, map, get_or, Option, Some, None, slice_get, refl, sym, ap, subst, ◌∙◌, arith, zero-add, length-append}
+use Rattle.std.proofs.Common.{◌≡◌, ◌≢◌, ◌+◌, ◌*◌, ◌^◌, ◌-◌, ◌<◌, ◌≤◌, ◌⊎◌, inl, inr, ℕ, zero, suc, List, [], ◌∷◌, ◌++◌, length, map, get_or, Option, Some, None, slice_get, refl, sym, ap, subst, ◌∙◌, arith, zero-add, length-append}
 use Rattle.std.specs.List.{sum_by, range_with_len}
 use Rattle.std.proofs.Math.ListN.{set}
 use Rattle.std.proofs.lemmas.List.{length-set}
+use Rattle.std.proofs.lemmas.List.FromFn.{get_or-range_with_len}
 use Rattle.std.proofs.lemmas.List.Sums.{sum_by-cons, sum_by_push, sum-map, sum_by-le}
 use Rattle.std.proofs.lemmas.Bool.{cases_eq, cases_lt}
 use Rattle.std.proofs.lemmas.Option.{slice_get_within, slice_get-map}
@@ -288,3 +289,8 @@ adds_last {Line} {Port} belongs view terms_of all_lines lines all_desks desks to
 
     sums : (total d_all o p o_all p_all d out paid_in : ℕ) → (total + d_all) + (o + p) ≡ (o_all + p_all) + d → p ≡ 0 → d ≡ 0 → o ≡ 0 → p_all + out ≡ d_all + paid_in → total + out ≡ o_all + paid_in
     sums total d_all o p o_all p_all d out paid_in e1 e2 e3 e4 e5 = omega (arith, e1, e2, e3, e4, e5)
+
+-- each desk has a port where a line is left
+pub some_left : {Line Port : Type 0} (belongs : Line → Port → Type 0) (view : Port → View) (terms_of : Line → Terms) (lines : List Line) (line : Line) (desks : List (DeskOf Port))
+    → IsLeft belongs view terms_of (lines ++ line ∷ []) desks → (k : ℕ) (desk : DeskOf Port) → slice_get desks k ≡ Some desk → 0 < length desk.ports
+some_left belongs view terms_of lines line desks left k desk at = omega (arith, (left.over k desk at).count, length-append lines (line ∷ []))
