@@ -232,7 +232,7 @@ total_bounded : (line : List ℕ) → AreBalances line → lanes_total line ≤ 
 total_bounded line all = subst (λ n. n ≤ 8 * MOST_BALANCE) (sym (sum-map (lane_of line) (range_with_len 0 8))) (sum_by-le (lane_of line) MOST_BALANCE (range_with_len 0 8) each)
   where
     each : (k d : ℕ) → k < 8 → lane_of line (get_or (range_with_len 0 8) k d) ≤ MOST_BALANCE
-    each k d lt = subst (λ n. lane_of line n ≤ MOST_BALANCE) (sym (get_or-range_with_len 0 8 k d lt)) (all k lt)
+    each k d lt = subst (λ n. lane_of line n ≤ MOST_BALANCE) (sym (get_or-range_with_len 0 8 k d lt ∙ zero-add k)) (all k lt)
 
 pub fits_total : (all left total : ℕ) (line : List ℕ) → IsBounded all (left + 1) total → AreBalances line → all < 2 ^ 64 → total + lanes_total line < 2 ^ 128
 fits_total all left total line b good small = sum (lanes_total line) (total_bounded line good)
@@ -294,3 +294,7 @@ adds_last {Line} {Port} belongs view terms_of all_lines lines all_desks desks to
 pub some_left : {Line Port : Type 0} (belongs : Line → Port → Type 0) (view : Port → View) (terms_of : Line → Terms) (lines : List Line) (line : Line) (desks : List (DeskOf Port))
     → IsLeft belongs view terms_of (lines ++ line ∷ []) desks → (k : ℕ) (desk : DeskOf Port) → slice_get desks k ≡ Some desk → 0 < length desk.ports
 some_left belongs view terms_of lines line desks left k desk at = omega (arith, (left.over k desk at).count, length-append lines (line ∷ []))
+
+pub nothing_left : {X : Type 0} (xs : List X) → length xs ≡ 0 → xs ≡ []
+nothing_left [] e = refl
+nothing_left (x ∷ xs) e = absurd (omega (arith, e))

@@ -7,7 +7,7 @@ use Rattle.qolb_model.specs.Opening.{MayOpen}
 use Rattle.qolb_model.specs.Finishing.{IsFinished}
 use Rattle.line_accounts.specs.Accounts.{AreBalances, StayBalances}
 use Rattle.line_accounts.specs.Desks.{DeskOf, IsDeskOver}
-use Rattle.line_accounts.proofs.Settlements.{IsLeft, AddsUp, IsBounded, left_first, adds_first, bounded_first, left_then, taken_belongs, finished_with, adds_then, bounded_then, fits_total, adds_last, some_left}
+use Rattle.line_accounts.proofs.Settlements.{IsLeft, AddsUp, IsBounded, left_first, adds_first, bounded_first, left_then, taken_belongs, finished_with, adds_then, bounded_then, fits_total, adds_last, some_left, nothing_left}
 use Rattle.line_accounts.proofs.settling.finish_all.Goals as goal
 
 pub loop-line-init : goal.loop-line-init
@@ -38,9 +38,9 @@ overflow_add-total g c =
     let f = finished_with (λ (last : Line64). IsFinished AreBalances StayBalances (g.L.LineSync.label_of c.in-Some.line) (g.L.LineSync.terms_of c.in-Some.line) (map g.L.LineSync.view c.in_ok-ports.ports.items) last.bytes) c.finish.result c.in_ok-last.last (sym c.ok.ensures.value ∙ c.in_ok-last.was) c.finish.ensures.finished in
     let more : length c.loop-line.lines.items ≡ length c.pop.new.self.items + 1 = ap length c.in-Some.ensures.items ∙ length-append c.pop.new.self.items (c.in-Some.line ∷ []) in
     let bounded = subst (λ n. IsBounded (length c.args.lines.items) n c.loop-line.total) more c.loop-line.invariant.bounded in
-    let few : length c.args.lines.items < 2 ^ 64 = ? in
+    let few : length c.args.lines.items < 2 ^ 64 = omega (arith, c.args.lines.ok.0, c.args.lines.small) in
     let sum : c.loop-line.total + c.lane_sum-total.result < 2 ^ 128 = subst (λ n. c.loop-line.total + n < 2 ^ 128) (sym c.lane_sum-total.ensures) (fits_total (length c.args.lines.items) (length c.pop.new.self.items) c.loop-line.total c.in_ok-last.last.bytes bounded f.is_good few) in
-    ?
+    record { fits = sum }
 
 pub loop-line-preserved : goal.loop-line-preserved
 loop-line-preserved g c =
@@ -58,6 +58,6 @@ loop-line-preserved g c =
 
 pub returns : goal.returns
 returns g c = record {
-  total = adds_last g.L.LineSync.belongs g.L.LineSync.view g.L.LineSync.terms_of c.args.lines.items c.loop-line.lines.items c.args.desks.items c.loop-line.desks.items c.loop-line.total ? c.loop-line.invariant.left c.loop-line.invariant.adds_up
+  total = adds_last g.L.LineSync.belongs g.L.LineSync.view g.L.LineSync.terms_of c.args.lines.items c.loop-line.lines.items c.args.desks.items c.loop-line.desks.items c.loop-line.total (nothing_left c.loop-line.lines.items (sym c.loop-line.lines.ok.0 ∙ c.in_default.ensures.cases.0)) c.loop-line.invariant.left c.loop-line.invariant.adds_up
     (λ k desk at. subst (λ (d : DeskOf g.row.L-Port.Denot). IsDeskOver g.L.LineSync.belongs g.L.LineSync.view c.args.lines.items d) (get_or_from_slice_get c.args.desks.items k desk desk at) (c.requires.over k desk (slice_get_within c.args.desks.items k desk at)));
 }
