@@ -8,6 +8,7 @@ use Rattle.qolb_model.specs.PortStates.{may_ask}
 use Rattle.qolb_model.specs.Ends.{bytes_after}
 use Rattle.qolb_model.specs.OneHistory.{IsAmong, OneHistory}
 use Rattle.qolb_model.specs.Kept.{AreAllowed}
+use Rattle.qolb_model.specs.Opening.{MayOpen}
 
 -- all ports have this label; and some port has another
 abbrev pub AreOfLine : ℕ → List View → Type 0
@@ -61,6 +62,7 @@ MayRefuse label nodes views Memory = MayFinish label nodes views
 -- ended and every turn kept the law; and the bytes are the opening ones changed by all its served writes in order, and good
 pub record IsFinished (good : List ℕ → Type 0) (allows : List ℕ → List ℕ → Type 0) (label : ℕ) (terms : Terms) (views : List View) (bytes : List ℕ) : Type 0 where
   pub of_line : AreOfLine label views
+  pub may_open : MayOpen terms
   pub there : EachNode terms.nodes (IsThere views)
   pub once : EachNodeOnce views
   pub quiet : EachNode terms.nodes (IsQuiet views)

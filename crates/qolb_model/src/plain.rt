@@ -1,7 +1,7 @@
 //! The reference line: one owner, no threads, no memory.
 ghost use Rattle.std.specs.Prelude.{◌≡◌, ◌≢◌, ℕ, ◌≤◌, Bool, true, false, IsTrue, IfOk, IfErr, MatchResult, ◌<◌, length, map, find, Option, Some, None};
 ghost use Rattle.qolb_model.specs.Queue.{Runs};
-ghost use Rattle.qolb_model.specs.OneOwner.{LineState, opened, state_of, shown, enq_answer, enq_moves, after_enq, poll_answer, poll_moves, after_poll, out_answer, out_moves, after_out, release_moves, after_release, after_write};
+ghost use Rattle.qolb_model.specs.OneOwner.{LineState, opened, state_of, shown, enq_answer, enq_moves, after_enq, poll_answer, poll_moves, after_poll, as_enq, out_answer, out_moves, after_out, release_moves, after_release, after_write};
 ghost use Rattle.qolb_model.specs.declared.terms.Terms.{Terms};
 ghost use Rattle.qolb_model.specs.PortStates.{may_ask};
 ghost use Rattle.qolb_model.specs.Leases.{turns_left};
@@ -24,7 +24,7 @@ const ROOM: usize = MOST_NODES as usize;
 ///
 /// Every call's contract is the run of the queue machine that the table of answers gives for it: from each state that agrees
 /// with the line, to one that agrees again. Calls take no memory: the line has room for all nodes to wait, 16 bytes for each, and so
-/// is some 3.3 KiB large.
+/// is some 3,300 bytes large.
 #[derive(Drop)]
 pub struct PlainLine {
     turn: Write,
@@ -71,7 +71,8 @@ impl PlainLine {
         })
     }
 
-    fn with_terms(terms: Terms) -> Result<PlainLine, OpenError>
+    /// The same, for these terms.
+    pub fn with_terms(terms: Terms) -> Result<PlainLine, OpenError>
         ensures { MatchResult result (λ line. Agrees line (opened terms)) (λ error. (error ≢ OpenError.Memory) × MayNotOpen terms error) }
     {
         terms.check()?;
@@ -146,11 +147,7 @@ impl PlainLine {
             node,
             withdrawn: false,
         });
-        match self.look(node) {
-            Poll::Granted => Enq::Granted,
-            Poll::Waiting => Enq::Queued,
-            Poll::Closed => Enq::Closed,
-        }
+        as_enq(self.look(node))
     }
 
     /// The node that waits looks whether it has come to its turn.
@@ -255,6 +252,17 @@ impl PlainLine {
         self.turn.mask = Mask(0);
         self.waiting.remove(0);
         pass(&mut self.waiting);
+    }
+}
+
+/// What one that asks is answered, by what it then finds.
+fn as_enq(found: Poll) -> Enq
+    ensures { result ≡ as_enq found }
+{
+    match found {
+        Poll::Granted => Enq::Granted,
+        Poll::Waiting => Enq::Queued,
+        Poll::Closed => Enq::Closed,
     }
 }
 

@@ -1,6 +1,5 @@
 use Rattle.std.proofs.Common.{rules, arith, ◌≡◌, ◌≤◌, false, ap, sym, ◌∙◌, subst, true}
 use Rattle.std.specs.List.{list_any}
-use Rattle.qolb_model.specs.declared.answer.Poll.TheVariants.{Granted, Waiting, Closed}
 use Rattle.qolb_model.specs.Plain.{is_at}
 use Rattle.qolb_model.proofs.Waiting.{entry_says, room, waiting_push}
 use Rattle.qolb_model.proofs.Calls.{busy-answer, busy-moves, busy-agrees, asks-answer, asks-moves, asks-agrees, is_joined}
@@ -35,53 +34,19 @@ invariant_of-self c =
     let high : c.args.node ≤ c.self.inside.nodes = subst (λ l. c.args.node ≤ l.nodes) (sym c.self.view_is) c.requires.last in
     (c.self.invariant.0, rw c.push.ensures.items (waiting_push c.self.inside.nodes c.args.node false c.self.inside.waiting.items c.self.invariant.1 quiet c.requires.first high))
 
-pub returns-in-Granted-clause-answer : goal.returns-in-Granted-clause-answer
-returns-in-Granted-clause-answer c = λ s a.
+pub returns-clause-answer : goal.returns-clause-answer
+returns-clause-answer c = λ s a.
     let quiet = entry_says c.args.node _ _ _ false c.entry.ensures c.is_some.ensures c.if-is_some.false in
     let joined = is_joined c.args.self.now _ c.push.new.self.items c.args.node c.self.view_is c.push.ensures.items in
-    asks-answer c.args.self.now s c.args.node a c.requires.first c.requires.last quiet _ joined Granted c.in-Granted.ensures.answer
+    c.as_enq.ensures ∙ asks-answer c.args.self.now s c.args.node a c.requires.first c.requires.last quiet _ joined c.look.result c.look.ensures.answer
 
-pub returns-in-Granted-clause-moves : goal.returns-in-Granted-clause-moves
-returns-in-Granted-clause-moves c = λ s a.
+pub returns-clause-moves : goal.returns-clause-moves
+returns-clause-moves c = λ s a.
     let quiet = entry_says c.args.node _ _ _ false c.entry.ensures c.is_some.ensures c.if-is_some.false in
     asks-moves c.args.self.now s c.args.node a c.requires.first c.requires.last quiet
 
-pub returns-in-Granted-clause-agrees : goal.returns-in-Granted-clause-agrees
-returns-in-Granted-clause-agrees c = λ s a.
+pub returns-clause-agrees : goal.returns-clause-agrees
+returns-clause-agrees c = λ s a.
     let quiet = entry_says c.args.node _ _ _ false c.entry.ensures c.is_some.ensures c.if-is_some.false in
     let joined = is_joined c.args.self.now _ c.push.new.self.items c.args.node c.self.view_is c.push.ensures.items in
-    asks-agrees c.args.self.now s c.args.node a c.requires.first c.requires.last quiet _ joined Granted c.in-Granted.ensures.answer c.look.new.self c.in-Granted.ensures.new
-
-pub returns-in-Waiting-clause-answer : goal.returns-in-Waiting-clause-answer
-returns-in-Waiting-clause-answer c = λ s a.
-    let quiet = entry_says c.args.node _ _ _ false c.entry.ensures c.is_some.ensures c.if-is_some.false in
-    let joined = is_joined c.args.self.now _ c.push.new.self.items c.args.node c.self.view_is c.push.ensures.items in
-    asks-answer c.args.self.now s c.args.node a c.requires.first c.requires.last quiet _ joined Waiting c.in-Waiting.ensures.answer
-
-pub returns-in-Waiting-clause-moves : goal.returns-in-Waiting-clause-moves
-returns-in-Waiting-clause-moves c = λ s a.
-    let quiet = entry_says c.args.node _ _ _ false c.entry.ensures c.is_some.ensures c.if-is_some.false in
-    asks-moves c.args.self.now s c.args.node a c.requires.first c.requires.last quiet
-
-pub returns-in-Waiting-clause-agrees : goal.returns-in-Waiting-clause-agrees
-returns-in-Waiting-clause-agrees c = λ s a.
-    let quiet = entry_says c.args.node _ _ _ false c.entry.ensures c.is_some.ensures c.if-is_some.false in
-    let joined = is_joined c.args.self.now _ c.push.new.self.items c.args.node c.self.view_is c.push.ensures.items in
-    asks-agrees c.args.self.now s c.args.node a c.requires.first c.requires.last quiet _ joined Waiting c.in-Waiting.ensures.answer c.look.new.self c.in-Waiting.ensures.new
-
-pub returns-in-Closed-clause-answer : goal.returns-in-Closed-clause-answer
-returns-in-Closed-clause-answer c = λ s a.
-    let quiet = entry_says c.args.node _ _ _ false c.entry.ensures c.is_some.ensures c.if-is_some.false in
-    let joined = is_joined c.args.self.now _ c.push.new.self.items c.args.node c.self.view_is c.push.ensures.items in
-    asks-answer c.args.self.now s c.args.node a c.requires.first c.requires.last quiet _ joined Closed c.in-Closed.ensures.answer
-
-pub returns-in-Closed-clause-moves : goal.returns-in-Closed-clause-moves
-returns-in-Closed-clause-moves c = λ s a.
-    let quiet = entry_says c.args.node _ _ _ false c.entry.ensures c.is_some.ensures c.if-is_some.false in
-    asks-moves c.args.self.now s c.args.node a c.requires.first c.requires.last quiet
-
-pub returns-in-Closed-clause-agrees : goal.returns-in-Closed-clause-agrees
-returns-in-Closed-clause-agrees c = λ s a.
-    let quiet = entry_says c.args.node _ _ _ false c.entry.ensures c.is_some.ensures c.if-is_some.false in
-    let joined = is_joined c.args.self.now _ c.push.new.self.items c.args.node c.self.view_is c.push.ensures.items in
-    asks-agrees c.args.self.now s c.args.node a c.requires.first c.requires.last quiet _ joined Closed c.in-Closed.ensures.answer c.look.new.self c.in-Closed.ensures.new
+    asks-agrees c.args.self.now s c.args.node a c.requires.first c.requires.last quiet _ joined c.look.result c.look.ensures.answer c.look.new.self c.look.ensures.new
