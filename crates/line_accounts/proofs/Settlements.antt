@@ -10,7 +10,6 @@ use Rattle.std.proofs.lemmas.Option.{slice_get_within, slice_get-map}
 use Rattle.line_lanes.specs.Lane.{lane_of, lanes_total}
 use Rattle.qolb_model.specs.declared.terms.Terms.{Terms}
 use Rattle.qolb_model.specs.declared.view.View.{View}
-use Rattle.qolb_model.specs.Opening.{MayOpen}
 use Rattle.qolb_model.specs.OneHistory.{IsAmong}
 use Rattle.qolb_model.specs.Finishing.{EachNode, IsFinished}
 use Rattle.std.specs.Prelude.{IfOk}
@@ -105,7 +104,6 @@ sum-of_map f g (x ∷ xs) = sum_by-cons f (g x) (map g xs) ∙ (ap (λ n. f (g x
 module _ {Line Port : Type 0} (belongs : Line → Port → Type 0) (view : Port → View) (terms_of : Line → Terms) where
   -- what is still to be settled
   pub record IsLeft (lines : List Line) (desks : List (DeskOf Port)) : Type 0 where
-    pub opened : (i : ℕ) (line : Line) → slice_get lines i ≡ Some line → MayOpen (terms_of line)
     pub over : (k : ℕ) (desk : DeskOf Port) → slice_get desks k ≡ Some desk → AreOver belongs lines desk.ports
     pub at_rest : (k : ℕ) (desk : DeskOf Port) (i : ℕ) (port : Port) → slice_get desks k ≡ Some desk → slice_get desk.ports i ≡ Some port → IsAtRest (view port)
     pub there : AreAllThere view terms_of lines desks
@@ -136,7 +134,6 @@ module _ {Line Port : Type 0} (belongs : Line → Port → Type 0) (view : Port 
 
     pub left_then : IsLeft lines new
     left_then = record {
-      opened = λ i l at. left.opened i l (slice_get-append_left lines (line ∷ []) i (slice_get_within lines i l at) ∙ at);
       over = λ k desk at.
           let (before, port, at_before, is, long) = was k desk at in
           record {
@@ -189,9 +186,6 @@ module _ {Line Port : Type 0} (belongs : Line → Port → Type 0) (view : Port 
         let (desk, at_desk, at_place) = port_was i port at_port in
         subst (λ (w : View). KnowsOwnPlaces w) (sym is) (left.at_rest i desk (length lines) port at_desk at_place).places
 
-    pub popped_opened : MayOpen (terms_of line)
-    popped_opened = left.opened (length lines) line line_at
-
 -- what is settled so far and what is left add up to the whole
 abbrev pub AddsUp : {Line Port : Type 0} → (Port → View) → (Line → Terms) → List Line → List Line → List (DeskOf Port) → List (DeskOf Port) → ℕ → Type 0
 AddsUp view terms_of all_lines lines all_desks desks total =
@@ -203,11 +197,9 @@ IsBounded all left total = (total + left * (8 * MOST_BALANCE) ≤ all * (8 * MOS
 
 -- at first all is left
 pub left_first : {Line Port : Type 0} (belongs : Line → Port → Type 0) (view : Port → View) (terms_of : Line → Terms) (lines : List Line) (desks : List (DeskOf Port))
-    → ((i : ℕ) (line : Line) → slice_get lines i ≡ Some line → MayOpen (terms_of line))
     → ((k : ℕ) (desk : DeskOf Port) → slice_get desks k ≡ Some desk → IsDeskOver belongs view lines desk)
     → AreAllThere view terms_of lines desks → IsLeft belongs view terms_of lines desks
-left_first belongs view terms_of lines desks opened over there = record {
-  opened = opened;
+left_first belongs view terms_of lines desks over there = record {
   over = λ k desk at. (over k desk at).over;
   at_rest = λ k desk i port at at_port. (over k desk at).at_rest i port at_port;
   there = there;
@@ -251,7 +243,7 @@ pub adds_then : {Line Port : Type 0} (belongs : Line → Port → Type 0) (view 
     → IsLeft belongs view terms_of (lines ++ line ∷ []) old → TakesLast old new ports → IsFinished AreBalances StayBalances label (terms_of line) (map view ports) bytes
     → AddsUp view terms_of all_lines (lines ++ line ∷ []) all_desks old total → AddsUp view terms_of all_lines lines all_desks new (total + lanes_total bytes)
 adds_then belongs view terms_of all_lines lines line all_desks old new ports label total bytes left t f adds =
-    let e = finished_total AreBalances StayBalances label (terms_of line) (map view ports) bytes (popped_opened belongs view terms_of lines line old new ports left t) f (taken_places belongs view terms_of lines line old new ports left t) in
+    let e = finished_total AreBalances StayBalances label (terms_of line) (map view ports) bytes f (taken_places belongs view terms_of lines line old new ports left t) in
     let drawn = sum-taken (λ port. drawn_by (view port)) old new ports t in
     let paid = sum-taken (λ port. paid_by (view port)) old new ports t in
     let opened = sum_by_push (λ l. lanes_total (terms_of l).opening.bytes) lines line in

@@ -15,7 +15,6 @@ use Rattle.qolb_model.specs.Requests.{count_of}
 use Rattle.qolb_model.specs.Ends.{written, bytes_after}
 use Rattle.qolb_model.specs.EndKinds.{is_served, is_gone}
 use Rattle.qolb_model.specs.OneHistory.{IsAmong, Knows, OneHistory}
-use Rattle.qolb_model.specs.Opening.{MayOpen}
 use Rattle.qolb_model.specs.Finishing.{EachNodeOnce, IsThere, IsFinished}
 use Rattle.qolb_model.proofs.Lists.{never, same_some, slice_get-drop, element_at}
 use Rattle.qolb_model.proofs.Prefixes.{prefix_get}
@@ -216,13 +215,13 @@ sum-each f g (x ∷ xs) h =
 
 -- of a finished line: the bytes' total and all that was drawn are the opening's total and all that was paid in
 pub finished_total : (good : List ℕ → Type 0) (allows : List ℕ → List ℕ → Type 0) (label : ℕ) (terms : Terms) (views : List View) (bytes : List ℕ)
-    → MayOpen terms → IsFinished good allows label terms views bytes → ((i : ℕ) (v : View) → slice_get views i ≡ Some v → KnowsOwnPlaces v)
+    → IsFinished good allows label terms views bytes → ((i : ℕ) (v : View) → slice_get views i ≡ Some v → KnowsOwnPlaces v)
     → lanes_total bytes + sum_by drawn_by views ≡ lanes_total terms.opening.bytes + sum_by paid_by views
-finished_total good allows label terms views bytes may f places =
+finished_total good allows label terms views bytes f places =
     let h = f.history in
     let whole = λ (does : List ℕ → List ℕ → ℕ). sum-each (λ (v : View). sum_of_turns does v.node v.terms.opening.bytes v.order v.ends) (λ (v : View). sum_of_turns does v.node terms.opening.bytes h.order h.ends) views
         (λ i v at. turns-whole does h.terms h.order h.ends h.clear v (h.known v (i, at)) (places i v at) ∙ ap (λ (t : Terms). sum_of_turns does v.node t.opening.bytes h.order h.ends) f.terms_are) in
-    let (w, among, is) = f.there 1 (omega arith) may.nodes.some in
+    let (w, among, is) = f.there 1 (omega arith) f.may_open.nodes.some in
     let of_line = subst (λ (t : Terms). (p : ℕ) (r : Request) → slice_get h.order p ≡ Some r → (1 ≤ r.node) × (r.node ≤ t.nodes)) f.terms_are (h.known w among).of_line in
     let once = λ (p : ℕ) (r : Request) (at : slice_get h.order p ≡ Some r). once_there views r.node f.once (f.there r.node (of_line p r at).0 (of_line p r at).1) in
     ap (λ b. lanes_total b + sum_by drawn_by views) f.result

@@ -1,7 +1,6 @@
 //! Settling: all lines are taken apart, and their balances summed up.
 ghost use Rattle.std.specs.Prelude.{◌≡◌, ◌+◌, ◌<◌, ◌≤◌, ℕ, All, List, length, map, slice_get, Some, IfOk, IfErr, IfSome, MatchBool, MatchOption};
 ghost use Rattle.qolb_model.specs.Finishing.{EachNode, IsLeast};
-ghost use Rattle.qolb_model.specs.Opening.{MayOpen};
 ghost use Rattle.line_accounts.specs.Desks.{DeskOf, AreOver, IsDeskOver};
 ghost use Rattle.line_accounts.specs.Settled.{all_paid_in, all_paid_out, all_opened, HasPort, LacksPort, AreAllThere, IsFirstMissing, MayNotSettle, IsBack, TakesLast};
 
@@ -78,7 +77,6 @@ where
 fn finish_all<L: LineSync<AccountLaw> + Drop>(alloc: Global, lines: Vec<L>, desks: Vec<Desk<L>>) -> Option<u128>
 where
     L::Port: Drop,
-    requires opened { All (λ line. MayOpen (L.terms_of line)) lines.items }
     requires over { All (IsDeskOver L.belongs L.view lines.items) desks.items }
     requires there { AreAllThere L.view L.terms_of lines.items desks.items }
     ensures total { IfSome result (λ total. total + all_paid_out desks.items ≡ all_opened L.terms_of lines.items + all_paid_in desks.items) }
@@ -103,7 +101,6 @@ pub fn settle<L: LineSync<AccountLaw> + Drop>(
 ) -> Result<u128, Unsettled<L>>
 where
     L::Port: Drop,
-    requires opened { All (λ line. MayOpen (L.terms_of line)) lines.items }
     requires over { All (IsDeskOver L.belongs L.view lines.items) desks.items }
     ensures total { IfOk result (λ total. total + all_paid_out desks.items ≡ all_opened L.terms_of lines.items + all_paid_in desks.items) }
     ensures there { IfOk result (λ _. AreAllThere L.view L.terms_of lines.items desks.items) }

@@ -3,7 +3,6 @@ use Rattle.std.specs.Result.{result_ok}
 use Rattle.std.proofs.lemmas.Option.{slice_get-get_or, slice_get_within, get_or_from_slice_get}
 use Rattle.line_lanes.specs.Lane.{lanes_total}
 use Rattle.line_lanes.specs.declared.line.Line64.{Line64}
-use Rattle.qolb_model.specs.Opening.{MayOpen}
 use Rattle.qolb_model.specs.Finishing.{IsFinished}
 use Rattle.line_accounts.specs.Accounts.{AreBalances, StayBalances}
 use Rattle.line_accounts.specs.Desks.{DeskOf, IsDeskOver}
@@ -13,7 +12,6 @@ use Rattle.line_accounts.proofs.settling.finish_all.Goals as goal
 pub loop-line-init : goal.loop-line-init
 loop-line-init g c = record {
   left = left_first g.L.LineSync.belongs g.L.LineSync.view g.L.LineSync.terms_of c.args.lines.items c.args.desks.items
-    (λ i line at. subst (λ (l : g.row.L.Denot). MayOpen (g.L.LineSync.terms_of l)) (get_or_from_slice_get c.args.lines.items i line line at) (c.requires.opened i line (slice_get_within c.args.lines.items i line at)))
     (λ k desk at. subst (λ (d : DeskOf g.row.L-Port.Denot). IsDeskOver g.L.LineSync.belongs g.L.LineSync.view c.args.lines.items d) (get_or_from_slice_get c.args.desks.items k desk desk at) (c.requires.over k desk (slice_get_within c.args.desks.items k desk at)))
     c.requires.there;
   adds_up = adds_first g.L.LineSync.view g.L.LineSync.terms_of c.args.lines.items c.args.desks.items;
