@@ -1,5 +1,5 @@
 -- Desks before and after a call.
-use Rattle.std.proofs.Common.{◌≡◌, ◌≢◌, ◌+◌, ◌-◌, ◌<◌, ◌≤◌, ◌⊎◌, inl, inr, true, ℕ, zero, suc, List, [], ◌∷◌, ◌++◌, length, take, drop, get_or, Bool, ◌*◌, ◌/◌, ◌%◌, Option, Some, None, slice_get, refl, sym, ap, subst, ◌∙◌, arith, zero-add}
+use Rattle.std.proofs.Common.{◌≡◌, ◌≢◌, ◌+◌, ◌<◌, inl, inr, true, ℕ, zero, suc, List, [], ◌∷◌, length, get_or, ◌*◌, Some, slice_get, refl, sym, ap, subst, ◌∙◌, arith}
 use Rattle.std.specs.List.{sum_by}
 use Rattle.std.proofs.Math.ListN.{set}
 use Rattle.std.proofs.lemmas.List.{length-set}
@@ -15,11 +15,11 @@ use Rattle.qolb_model.proofs.Requests.{count_of-append}
 use Rattle.qolb_model.proofs.Agreeing.{among_first}
 use Rattle.line_accounts.specs.declared.answer.Reply.{Reply}
 use Rattle.line_accounts.specs.declared.answer.Reply.TheVariants.{Done, Short, Over, Late, Closed, Busy, NoAccount, SameAccount}
-use Rattle.line_accounts.specs.Paid.{sum_of_turns, rise, fall, paid_by, drawn_by, KnowsOwnPlaces}
+use Rattle.line_accounts.specs.Paid.{sum_of_turns, rise, fall, paid_by, drawn_by}
 use Rattle.line_accounts.specs.Desks.{DeskOf, IsAtRest, AreOver, IsDeskOver}
-use Rattle.line_accounts.specs.Moves.{Pays, TakesTurn, AsksInVain, IsRefused, IsRefusedEither, PaysIn, PaysOut, MovesWithin, MovesAcross}
+use Rattle.line_accounts.specs.Moves.{Pays, AsksInVain, IsRefused, PaysIn, PaysOut, MovesWithin}
 use Rattle.line_accounts.specs.Accounts.{line_of, lane_in}
-use Rattle.line_accounts.specs.Calls.{ChangesPort, ChangesTwo, Deposits, TakesOut, AreTwo, Transfers}
+use Rattle.line_accounts.specs.Calls.{Deposits, TakesOut}
 use Rattle.line_accounts.proofs.Turns.{turns-unserved, none_of_node, sum-each, sum-zero}
 use Rattle.line_accounts.proofs.Totals.{looked}
 

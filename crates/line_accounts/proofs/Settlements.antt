@@ -1,29 +1,28 @@
 -- Taking lines apart, the last first, with the last ports of all desks.
-use Rattle.std.proofs.Common.{◌≡◌, ◌≢◌, ◌+◌, ◌*◌, ◌^◌, ◌-◌, ◌<◌, ◌≤◌, ◌⊎◌, inl, inr, ℕ, zero, suc, List, [], ◌∷◌, ◌++◌, length, map, get_or, Option, Some, None, slice_get, refl, sym, ap, subst, ◌∙◌, arith, zero-add, length-append}
+use Rattle.std.proofs.Common.{◌≡◌, ◌+◌, ◌*◌, ◌^◌, ◌<◌, ◌≤◌, inl, inr, ℕ, suc, List, [], ◌∷◌, ◌++◌, length, map, get_or, Some, None, slice_get, refl, sym, ap, subst, ◌∙◌, arith, zero-add, length-append}
 use Rattle.std.specs.List.{sum_by, range_with_len}
 use Rattle.std.proofs.Math.ListN.{set}
 use Rattle.std.proofs.lemmas.List.{length-set}
 use Rattle.std.proofs.lemmas.List.FromFn.{get_or-range_with_len}
 use Rattle.std.proofs.lemmas.List.Sums.{sum_by-cons, sum_by_push, sum-map, sum_by-le}
-use Rattle.std.proofs.lemmas.Bool.{cases_eq, cases_lt}
-use Rattle.std.proofs.lemmas.Option.{slice_get_within, slice_get-map}
+use Rattle.std.proofs.lemmas.Bool.{cases_eq}
+use Rattle.std.proofs.lemmas.Option.{slice_get_within}
 use Rattle.line_lanes.specs.Lane.{lane_of, lanes_total}
 use Rattle.qolb_model.specs.declared.terms.Terms.{Terms}
 use Rattle.qolb_model.specs.declared.view.View.{View}
-use Rattle.qolb_model.specs.OneHistory.{IsAmong}
-use Rattle.qolb_model.specs.Finishing.{EachNode, IsFinished}
+use Rattle.qolb_model.specs.Finishing.{IsFinished}
 use Rattle.std.specs.Prelude.{IfOk}
 use Rattle.std.specs.Result.{result_ok}
 use Rattle.std.specs.declared.result.Result.{Result}
 use Rattle.std.specs.declared.result.Result.TheVariants.{Ok, Err}
-use Rattle.qolb_model.proofs.Lists.{same_some, element_at, slice_get-append_left, slice_get-middle, slice_get-push}
+use Rattle.qolb_model.proofs.Lists.{same_some, element_at, slice_get-append_left, slice_get-push}
 use Rattle.qolb_model.proofs.Agreeing.{among_map_port}
 use Rattle.line_accounts.specs.Accounts.{AreBalances, StayBalances}
 use Rattle.line_accounts.specs.Paid.{paid_by, drawn_by, KnowsOwnPlaces}
 use Rattle.line_accounts.specs.Desks.{DeskOf, IsAtRest, AreOver, IsDeskOver}
-use Rattle.line_accounts.specs.Settled.{all_paid_in, all_paid_out, all_opened, HasPort, LacksPort, AreAllThere, TakesLast}
+use Rattle.line_accounts.specs.Settled.{all_paid_in, all_paid_out, all_opened, AreAllThere, TakesLast}
 use Rattle.line_accounts.specs.declared.law.TheConstants.{MOST_BALANCE}
-use Rattle.line_accounts.proofs.Turns.{finished_total, sum-plus, sum-each, sum-zero}
+use Rattle.line_accounts.proofs.Turns.{finished_total, sum-plus, sum-each}
 use Rattle.line_accounts.proofs.Accounted.{slice_get-set_same, slice_get-set_other, sum-none}
 
 -- what is taken of the desk at a place

@@ -1,8 +1,8 @@
 -- Transfers of a desk.
-use Rattle.std.proofs.Common.{◌≡◌, ◌≢◌, ◌+◌, ◌*◌, ◌/◌, ◌%◌, ◌-◌, ◌<◌, ◌≤◌, ◌⊎◌, inl, inr, ℕ, zero, suc, List, [], ◌∷◌, ◌++◌, length, take, drop, get_or, Some, slice_get, refl, sym, ap, subst, ◌∙◌, arith}
+use Rattle.std.proofs.Common.{◌≡◌, ◌≢◌, ◌+◌, ◌-◌, ◌<◌, ◌≤◌, inl, inr, ℕ, zero, suc, List, [], ◌∷◌, ◌++◌, length, take, drop, get_or, Some, slice_get, refl, sym, ap, subst, ◌∙◌, arith}
 use Rattle.std.proofs.Math.ListN.{set}
-use Rattle.std.proofs.lemmas.List.{length-set, length-take-le, length-drop}
-use Rattle.std.proofs.lemmas.Option.{slice_get_within, slice_get-get_or}
+use Rattle.std.proofs.lemmas.List.{length-take-le, length-drop}
+use Rattle.std.proofs.lemmas.Option.{slice_get-get_or}
 use Rattle.qolb_model.specs.declared.view.View.{View}
 use Rattle.qolb_model.proofs.Lists.{slice_get-take, slice_get-drop}
 use Rattle.line_accounts.specs.declared.answer.Reply.{Reply}
@@ -84,7 +84,7 @@ module _ {Line Port : Type 0} (belongs : Line → Port → Type 0) (view : Port 
   crossed_desk d i j li lj p p_then q q_then ne over at_li at_lj at_p at_q belong_p belong_q (n, source, target) =
       desk_after belongs view lines (record { ports = set d.ports i p_then; paid_in = d.paid_in; paid_out = d.paid_out + n }) j lj q q_then d.paid_in d.paid_out
       (desk_after belongs view lines d i li p p_then d.paid_in (d.paid_out + n) over at_li at_p belong_p source.0
-        (counts (view p) (view p_then) 0 n d.paid_in d.paid_out d.paid_in (d.paid_out + n) source.1 (one d.paid_in d.paid_out)))
+      (counts (view p) (view p_then) 0 n d.paid_in d.paid_out d.paid_in (d.paid_out + n) source.1 (one d.paid_in d.paid_out)))
       at_lj (slice_get-set_other d.ports i j p_then (λ e. ne (sym e)) ∙ at_q) belong_q target.0
       (counts (view q) (view q_then) n 0 d.paid_in (d.paid_out + n) d.paid_in d.paid_out target.1 (two d.paid_in d.paid_out))
     where
@@ -133,7 +133,7 @@ module _ {Port : Type 0} (view : Port → View) (lines source target amount : �
       other_was = ap (slice_get d.ports) (sym target_line) ∙ was_q;
       is = ap (λ n. set (set d.ports n p_then) j q_then) source_line ∙ ap (λ n. set (set d.ports (line_of source) p_then) n q_then) target_line;
       does = subst (λ k. MovesAcross (IsRefusedEither (view p) (view p_then) (view q) (view q_then)) (view p) (view p_then) (view q) (view q_then) (lane_in source) k amount reply) target_lane
-        (subst (λ k. MovesAcross (IsRefusedEither (view p) (view p_then) (view q) (view q_then)) (view p) (view p_then) (view q) (view q_then) k to amount reply) source_lane moves);
+          (subst (λ k. MovesAcross (IsRefusedEither (view p) (view p_then) (view q) (view q_then)) (view p) (view p_then) (view q) (view q_then) k to amount reply) source_lane moves);
     };
     down = λ _ lt. absurd (omega (arith, lt, source_line, target_line, less));
     paid_in = refl;
@@ -158,7 +158,7 @@ module _ {Port : Type 0} (view : Port → View) (lines source target amount : �
       other_was = ap (slice_get d.ports) (sym target_line) ∙ was_q;
       is = ap (λ n. set (set d.ports n p_then) j q_then) source_line ∙ ap (λ n. set (set d.ports (line_of source) p_then) n q_then) target_line;
       does = subst (λ k. MovesAcross (IsRefusedEither (view q) (view q_then) (view p) (view p_then)) (view p) (view p_then) (view q) (view q_then) (lane_in source) k amount reply) target_lane
-        (subst (λ k. MovesAcross (IsRefusedEither (view q) (view q_then) (view p) (view p_then)) (view p) (view p_then) (view q) (view q_then) k to amount reply) source_lane moves);
+          (subst (λ k. MovesAcross (IsRefusedEither (view q) (view q_then) (view p) (view p_then)) (view p) (view p_then) (view q) (view q_then) k to amount reply) source_lane moves);
     };
     paid_in = refl;
     paid_out = refl;

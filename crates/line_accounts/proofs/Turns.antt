@@ -1,5 +1,5 @@
 -- Sums over the turns of a node.
-use Rattle.std.proofs.Common.{◌≡◌, ◌≢◌, ℕ, zero, suc, ◌+◌, ◌-◌, ◌*◌, ◌<◌, ◌≤◌, ◌==◌, ◌⊎◌, inl, inr, Bool, true, false, cond, if◌then◌else◌, List, [], ◌∷◌, ◌++◌, length, take, drop, Option, Some, None, slice_get, refl, ap, sym, ◌∙◌, subst, arith, zero-add}
+use Rattle.std.proofs.Common.{◌≡◌, ◌≢◌, ℕ, zero, suc, ◌+◌, ◌-◌, ◌*◌, ◌<◌, ◌≤◌, ◌==◌, ◌⊎◌, inl, inr, Bool, true, false, cond, if◌then◌else◌, List, [], ◌∷◌, ◌++◌, length, take, drop, Some, None, slice_get, refl, ap, sym, ◌∙◌, subst, arith, zero-add}
 use Rattle.std.specs.List.{sum_by, count_by}
 use Rattle.std.proofs.lemmas.List.Sums.{sum_by-cons}
 use Rattle.std.proofs.lemmas.Bool.{eq-eqb, ne_eqb, cases_eq, cases_lt}
@@ -14,9 +14,9 @@ use Rattle.qolb_model.specs.declared.view.View.{View}
 use Rattle.qolb_model.specs.Requests.{count_of}
 use Rattle.qolb_model.specs.Ends.{written, bytes_after}
 use Rattle.qolb_model.specs.EndKinds.{is_served, is_gone}
-use Rattle.qolb_model.specs.OneHistory.{IsAmong, Knows, OneHistory}
+use Rattle.qolb_model.specs.OneHistory.{Knows}
 use Rattle.qolb_model.specs.Finishing.{EachNodeOnce, IsThere, IsFinished}
-use Rattle.qolb_model.proofs.Lists.{never, same_some, slice_get-drop, element_at}
+use Rattle.qolb_model.proofs.Lists.{never, same_some, slice_get-drop}
 use Rattle.qolb_model.proofs.Prefixes.{prefix_get}
 use Rattle.qolb_model.proofs.Requests.{count_of-append}
 use Rattle.line_accounts.specs.Paid.{sum_of_turns, rise, fall, paid_by, drawn_by, KnowsOwnPlaces}
@@ -204,7 +204,8 @@ turns-whole does terms order ends clear v knows places =
     ap (λ (t : Terms). sum_of_turns does v.node t.opening.bytes v.order v.ends) knows.terms_are
     ∙ sym (turns-same does v.node terms.opening.bytes v.order order v.ends ends knows.order_begins knows.ends_begin (λ p r e at_r at_e same served. (
       own_place v.node v.order order knows.order_begins (places ∙ sym knows.own_count) p r at_r same,
-      slice_get_within v.ends p e (knows.own_ends p r e at_r at_e same (served_stays e served)))))
+      slice_get_within v.ends p e (knows.own_ends p r e at_r at_e same (served_stays e served)),
+    )))
 
 pub sum-each : {X : Type 0} (f g : X → ℕ) (xs : List X) → ((i : ℕ) (x : X) → slice_get xs i ≡ Some x → f x ≡ g x) → sum_by f xs ≡ sum_by g xs
 sum-each f g [] h = refl
@@ -220,7 +221,7 @@ pub finished_total : (good : List ℕ → Type 0) (allows : List ℕ → List �
 finished_total good allows label terms views bytes f places =
     let h = f.history in
     let whole = λ (does : List ℕ → List ℕ → ℕ). sum-each (λ (v : View). sum_of_turns does v.node v.terms.opening.bytes v.order v.ends) (λ (v : View). sum_of_turns does v.node terms.opening.bytes h.order h.ends) views
-        (λ i v at. turns-whole does h.terms h.order h.ends h.clear v (h.known v (i, at)) (places i v at) ∙ ap (λ (t : Terms). sum_of_turns does v.node t.opening.bytes h.order h.ends) f.terms_are) in
+    (λ i v at. turns-whole does h.terms h.order h.ends h.clear v (h.known v (i, at)) (places i v at) ∙ ap (λ (t : Terms). sum_of_turns does v.node t.opening.bytes h.order h.ends) f.terms_are) in
     let (w, among, is) = f.there 1 (omega arith) f.may_open.nodes.some in
     let of_line = subst (λ (t : Terms). (p : ℕ) (r : Request) → slice_get h.order p ≡ Some r → (1 ≤ r.node) × (r.node ≤ t.nodes)) f.terms_are (h.known w among).of_line in
     let once = λ (p : ℕ) (r : Request) (at : slice_get h.order p ≡ Some r). once_there views r.node f.once (f.there r.node (of_line p r at).0 (of_line p r at).1) in

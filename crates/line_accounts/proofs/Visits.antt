@@ -1,5 +1,5 @@
 -- A port that asks, and is refused or has a turn: what it has paid.
-use Rattle.std.proofs.Common.{◌≡◌, ◌≢◌, ℕ, zero, suc, ◌+◌, ◌-◌, ◌<◌, ◌≤◌, ◌==◌, ◌⊎◌, inl, inr, Bool, true, false, cond, if◌then◌else◌, List, [], ◌∷◌, ◌++◌, length, take, drop, replicate, Option, Some, None, slice_get, refl, ap, sym, ◌∙◌, subst, arith, zero-add}
+use Rattle.std.proofs.Common.{◌≡◌, ℕ, zero, suc, ◌+◌, ◌-◌, ◌<◌, ◌≤◌, ◌⊎◌, inl, inr, Bool, true, false, if◌then◌else◌, List, [], ◌∷◌, ◌++◌, length, take, drop, replicate, Some, slice_get, refl, ap, sym, ◌∙◌, subst, arith}
 use Rattle.std.proofs.lemmas.Bool.{eq-eqb, cases_lt}
 use Rattle.std.proofs.lemmas.List.{length-take-le, take-append-drop}
 use Rattle.std.proofs.lemmas.Option.{slice_get_within}
@@ -23,7 +23,7 @@ use Rattle.qolb_model.specs.OneHistory.{Knows, OneHistory}
 use Rattle.qolb_model.specs.Sound.{KnowsOwnPast, Continues, IsSound}
 use Rattle.qolb_model.specs.Asking.{IsBusy, Asks}
 use Rattle.qolb_model.specs.Turns.{IsGranted, IsWithdrawn}
-use Rattle.qolb_model.specs.LettingGo.{IsShort, LetsGo, EndsTurn, IsTold}
+use Rattle.qolb_model.specs.LettingGo.{IsShort, LetsGo, IsTold}
 use Rattle.qolb_model.specs.Calls.{Releases}
 use Rattle.qolb_model.proofs.Lists.{never, same_some, element_at, drop_with, slice_get-middle}
 use Rattle.qolb_model.proofs.Prefixes.{prefix_get, prefix_self, prefix_trans, prefix_shorter}
@@ -59,7 +59,8 @@ module _ (old new : View) (more : Extends old new) (h : OneHistory (new ∷ []))
       → (count_of new.node new.order ≡ old.count + count_of new.node xs) × (new.count ≡ count_of new.node new.order + count_of new.node ys)
   counts xs ys e f places = (
     sym (ap (count_of new.node) e) ∙ (count_of-append new.node old.order xs ∙ ap (λ n. n + count_of new.node xs) (ap (λ n. count_of n old.order) more.node ∙ places)),
-    sym knows.own_count ∙ (sym (ap (count_of new.node) f) ∙ count_of-append new.node new.order ys))
+    sym knows.own_count ∙ (sym (ap (count_of new.node) f) ∙ count_of-append new.node new.order ys),
+  )
 
   pub places_same : new.count ≡ old.count → KnowsOwnPlaces old → KnowsOwnPlaces new
   places_same same places =

@@ -1,6 +1,6 @@
 -- Accounts over lines: account a is lane a mod 8 of line a / 8, and a lane is its balance. (Of this project.)
-use Rattle.std.specs.Prelude.{◌≡◌, ℕ, ◌+◌, ◌-◌, ◌*◌, ◌/◌, ◌%◌, ◌<◌, ◌≤◌, List, refl}
-use Rattle.line_lanes.specs.Lane.{lane_of, lanes_total, with_lane_of}
+use Rattle.std.specs.Prelude.{ℕ, ◌+◌, ◌-◌, ◌/◌, ◌%◌, ◌<◌, ◌≤◌, List}
+use Rattle.line_lanes.specs.Lane.{lane_of, with_lane_of}
 use Rattle.line_accounts.specs.declared.law.TheConstants.{MOST_BALANCE}
 
 -- the line of an account, and its lane there

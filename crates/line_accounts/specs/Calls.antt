@@ -1,5 +1,5 @@
 -- The calls of a desk: what each does to the desk, one field an answer or a part of it. (Of this project.)
-use Rattle.std.specs.Prelude.{◌≡◌, ◌≢◌, ◌⊎◌, ℕ, ◌*◌, ◌<◌, ◌≤◌, List, length, slice_set, slice_get, Some}
+use Rattle.std.specs.Prelude.{◌≡◌, ◌≢◌, ◌⊎◌, ℕ, ◌*◌, ◌<◌, ◌≤◌, List, slice_set, slice_get, Some}
 use Rattle.qolb_model.specs.declared.view.View.{View}
 use Rattle.line_accounts.specs.declared.answer.Reply.{Reply}
 use Rattle.line_accounts.specs.declared.answer.Reply.TheVariants.{NoAccount, SameAccount}

@@ -1,5 +1,5 @@
 -- Settling: all lines are taken apart, with all desks over them. (Of this project.)
-use Rattle.std.specs.Prelude.{◌≡◌, ◌≢◌, ℕ, ◌+◌, ◌<◌, List, ◌++◌, ◌∷◌, [], length, slice_get, Option, Some, None}
+use Rattle.std.specs.Prelude.{◌≡◌, ◌≢◌, ℕ, ◌<◌, List, ◌++◌, ◌∷◌, [], length, slice_get, Option, Some, None}
 use Rattle.std.specs.List.{sum_by}
 use Rattle.line_lanes.specs.Lane.{lanes_total}
 use Rattle.qolb_model.specs.declared.terms.Terms.{Terms}

@@ -12,7 +12,11 @@ use crate::law::AccountLaw;
 use qolb_model::{Enq, LineSync, Out, Poll, PortState};
 
 /// Asks for the line, and looks for the turn at most `patience` times; then the request is withdrawn. `Err` says why the port doesn't hold it.
-pub fn ask<L: LineSync<AccountLaw>>(line: &L, port: &mut L::Port, patience: u64) -> Result<(), Reply>
+pub fn ask<L: LineSync<AccountLaw>>(
+    line: &L,
+    port: &mut L::Port,
+    patience: u64,
+) -> Result<(), Reply>
     requires belongs { L.belongs line.now port.old }
     requires at_rest { IsAtRest (L.view port.old) }
     ensures belongs { L.belongs line.now port.new }

@@ -85,7 +85,14 @@ pub fn deposit<L: LineSync<AccountLaw>>(
     let Some((i, lane)) = place_of(account, lines.len()) else {
         return Reply::NoAccount;
     };
-    pay_in(&lines[i], &mut desk.ports[i], &mut desk.paid_in, lane, amount, patience)
+    pay_in(
+        &lines[i],
+        &mut desk.ports[i],
+        &mut desk.paid_in,
+        lane,
+        amount,
+        patience,
+    )
 }
 
 /// Pays the amount out of the account.
@@ -103,7 +110,14 @@ pub fn take_out<L: LineSync<AccountLaw>>(
     let Some((i, lane)) = place_of(account, lines.len()) else {
         return Reply::NoAccount;
     };
-    pay_out(&lines[i], &mut desk.ports[i], &mut desk.paid_out, lane, amount, patience)
+    pay_out(
+        &lines[i],
+        &mut desk.ports[i],
+        &mut desk.paid_out,
+        lane,
+        amount,
+        patience,
+    )
 }
 
 /// Moves the amount from one account to another. Over two lines the lower is asked for first, and where the second isn't granted the first is
@@ -130,13 +144,38 @@ pub fn transfer<L: LineSync<AccountLaw>>(
         return Reply::SameAccount;
     }
     if i == j {
-        return move_within(&lines[i], &mut desk.ports[i], source, target, amount, patience);
+        return move_within(
+            &lines[i],
+            &mut desk.ports[i],
+            source,
+            target,
+            amount,
+            patience,
+        );
     }
     if i < j {
         let (front, back) = desk.ports.split_at_mut(j);
-        move_up(&lines[i], &mut front[i], source, &lines[j], &mut back[0], target, amount, patience)
+        move_up(
+            &lines[i],
+            &mut front[i],
+            source,
+            &lines[j],
+            &mut back[0],
+            target,
+            amount,
+            patience,
+        )
     } else {
         let (front, back) = desk.ports.split_at_mut(i);
-        move_down(&lines[i], &mut back[0], source, &lines[j], &mut front[j], target, amount, patience)
+        move_down(
+            &lines[i],
+            &mut back[0],
+            source,
+            &lines[j],
+            &mut front[j],
+            target,
+            amount,
+            patience,
+        )
     }
 }

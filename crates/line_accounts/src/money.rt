@@ -40,3 +40,51 @@ pub fn lowered(line: &Line64, k: usize, amount: u64) -> Option<Line64>
     }
     Some(with_lane(line, k, balance - amount))
 }
+
+#[cfg(test)]
+mod tests {
+    use super::*;
+
+    #[test]
+    fn eight_accounts_lie_on_a_line(rt: HostRuntime) {
+        for (account, lines, want) in [
+            (0, 1, Some((0, 0))),
+            (7, 1, Some((0, 7))),
+            (8, 1, None),
+            (9, 2, Some((1, 1))),
+            (63, 8, Some((7, 7))),
+            (64, 8, None),
+            (0, 0, None),
+            (u64::MAX, 8, None),
+        ] {
+            assert_eq!(rt;
+                place_of(account, lines),
+                want,
+                "account {account} of {lines} lines"
+            );
+        }
+    }
+
+    #[test]
+    fn a_balance_is_at_most_two_to_the_48(rt: HostRuntime) {
+        let zeros = Line64::zero();
+        for (amount, want) in [
+            (0, Some(0)),
+            (281_474_976_710_656, Some(281_474_976_710_656)),
+            (281_474_976_710_657, None),
+            (u64::MAX, None),
+        ] {
+            let next = raised(&zeros, 3, amount).map(|line| lane(&line, 3));
+            assert_eq!(rt; next, want, "{amount} more");
+        }
+    }
+
+    #[test]
+    fn a_balance_is_paid_out_to_the_last(rt: HostRuntime) {
+        let held = with_lane(&Line64::zero(), 2, 5);
+        for (amount, want) in [(0, Some(5)), (4, Some(1)), (5, Some(0)), (6, None)] {
+            let next = lowered(&held, 2, amount).map(|line| lane(&line, 2));
+            assert_eq!(rt; next, want, "{amount} less");
+        }
+    }
+}

@@ -60,7 +60,10 @@ fn find_missing<L: LineSync<AccountLaw>>(lines: &[L], desks: &[Desk<L>]) -> Opti
 }
 
 /// Takes the last port of each desk. `None` where memory was refused.
-fn take_last<L: LineSync<AccountLaw>>(alloc: Global, desks: &mut Vec<Desk<L>>) -> Option<Vec<L::Port>>
+fn take_last<L: LineSync<AccountLaw>>(
+    alloc: Global,
+    desks: &mut Vec<Desk<L>>,
+) -> Option<Vec<L::Port>>
 where
     L::Port: Drop,
     requires { All (λ desk. 0 < length desk.ports) desks.old.items }
@@ -74,7 +77,11 @@ where
 }
 
 /// Takes all lines apart, the last first. `None` where memory was refused.
-fn finish_all<L: LineSync<AccountLaw> + Drop>(alloc: Global, lines: Vec<L>, desks: Vec<Desk<L>>) -> Option<u128>
+fn finish_all<L: LineSync<AccountLaw> + Drop>(
+    alloc: Global,
+    lines: Vec<L>,
+    desks: Vec<Desk<L>>,
+) -> Option<u128>
 where
     L::Port: Drop,
     requires over { All (IsDeskOver L.belongs L.view lines.items) desks.items }

@@ -8,5 +8,5 @@ invariant-loop g l = record {
   belongs : g.L.LineSync.belongs l.line l.port;
   state : (g.L.LineSync.view l.port).state ≡ Queued;
   count : (g.L.LineSync.view l.port).count ≡ (g.L.LineSync.view l.fn.port).count;
-  extends : Extends (g.L.LineSync.view l.fn.port) (g.L.LineSync.view l.port)
+  extends : Extends (g.L.LineSync.view l.fn.port) (g.L.LineSync.view l.port);
 }

@@ -1,6 +1,6 @@
-use Rattle.std.proofs.Common.{◌≡◌, ◌<◌, ◌*◌, ◌/◌, ℕ, List, length, Some, slice_get, sym, ap, ◌∙◌, subst, arith, refl}
+use Rattle.std.proofs.Common.{◌<◌, length, sym, subst, arith}
 use Rattle.std.proofs.Math.ListN.{set}
-use Rattle.line_accounts.specs.Desks.{DeskOf, IsAtRest, IsDeskOver}
+use Rattle.line_accounts.specs.Desks.{DeskOf, IsDeskOver}
 use Rattle.line_accounts.specs.Calls.{Deposits}
 use Rattle.line_accounts.proofs.Accounted.{paid_in_port, desk_after, at_place, deposits}
 use Rattle.line_accounts.proofs.desk.deposit.Goals as goal

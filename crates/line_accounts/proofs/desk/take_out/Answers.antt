@@ -1,6 +1,6 @@
-use Rattle.std.proofs.Common.{◌≡◌, ◌<◌, ◌*◌, ◌/◌, ℕ, List, length, Some, slice_get, sym, ap, ◌∙◌, subst, arith, refl}
+use Rattle.std.proofs.Common.{◌<◌, length, sym, subst, arith}
 use Rattle.std.proofs.Math.ListN.{set}
-use Rattle.line_accounts.specs.Desks.{DeskOf, IsAtRest, IsDeskOver}
+use Rattle.line_accounts.specs.Desks.{DeskOf, IsDeskOver}
 use Rattle.line_accounts.specs.Calls.{TakesOut}
 use Rattle.line_accounts.proofs.Accounted.{paid_out_port, desk_after, at_place, takes_out}
 use Rattle.line_accounts.proofs.desk.take_out.Goals as goal

@@ -1,10 +1,10 @@
-use Rattle.std.proofs.Common.{◌≡◌, ◌≢◌, ◌<◌, ◌≤◌, ◌*◌, ◌/◌, ◌%◌, ◌++◌, ℕ, List, length, take, drop, get_or, Some, slice_get, sym, ap, ◌∙◌, subst, arith, refl}
+use Rattle.std.proofs.Common.{◌≡◌, ◌<◌, ◌++◌, List, length, take, drop, get_or, sym, ap, ◌∙◌, subst, arith, refl}
 use Rattle.std.specs.Vec.{with_items}
 use Rattle.std.proofs.Math.ListN.{set}
 use Rattle.std.proofs.lemmas.List.{with_items_is, length-set}
 use Rattle.std.proofs.lemmas.Option.{slice_get_read}
 use Rattle.line_accounts.specs.declared.answer.Reply.{Reply}
-use Rattle.line_accounts.specs.Desks.{DeskOf, IsAtRest, IsDeskOver}
+use Rattle.line_accounts.specs.Desks.{DeskOf, IsDeskOver}
 use Rattle.line_accounts.specs.Moves.{IsRefusedEither}
 use Rattle.line_accounts.specs.Calls.{AreTwo, Transfers}
 use Rattle.line_accounts.proofs.Accounted.{at_place, moved_within_port, desk_after}

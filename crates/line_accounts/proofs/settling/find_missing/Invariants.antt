@@ -1,4 +1,4 @@
-use Rattle.std.proofs.Common.{◌≡◌, ◌<◌, ◌≤◌, ℕ, slice_get, Some}
+use Rattle.std.proofs.Common.{◌≡◌, ◌<◌, ℕ, slice_get, Some}
 use Rattle.qolb_model.specs.Finishing.{EachNode}
 use Rattle.line_accounts.specs.Settled.{HasPort}
 use Rattle.line_accounts.proofs.settling.find_missing.Given as goal

@@ -1,7 +1,5 @@
-use Rattle.std.proofs.Common.{◌≡◌, ◌<◌, ◌≤◌, ◌+◌, ◌*◌, ◌^◌, ◌++◌, ◌∷◌, [], ℕ, List, length, get_or, Some, slice_get, map, refl, sym, ap, subst, ◌∙◌, arith, length-append}
-use Rattle.std.specs.Result.{result_ok}
+use Rattle.std.proofs.Common.{◌≡◌, ◌<◌, ◌+◌, ◌^◌, ◌∷◌, [], List, length, map, sym, ap, subst, ◌∙◌, arith, length-append}
 use Rattle.std.proofs.lemmas.Option.{slice_get-get_or, slice_get_within, get_or_from_slice_get}
-use Rattle.line_lanes.specs.Lane.{lanes_total}
 use Rattle.line_lanes.specs.declared.line.Line64.{Line64}
 use Rattle.qolb_model.specs.Finishing.{IsFinished}
 use Rattle.line_accounts.specs.Accounts.{AreBalances, StayBalances}
@@ -12,8 +10,8 @@ use Rattle.line_accounts.proofs.settling.finish_all.Goals as goal
 pub loop-line-init : goal.loop-line-init
 loop-line-init g c = record {
   left = left_first g.L.LineSync.belongs g.L.LineSync.view g.L.LineSync.terms_of c.args.lines.items c.args.desks.items
-    (λ k desk at. subst (λ (d : DeskOf g.row.L-Port.Denot). IsDeskOver g.L.LineSync.belongs g.L.LineSync.view c.args.lines.items d) (get_or_from_slice_get c.args.desks.items k desk desk at) (c.requires.over k desk (slice_get_within c.args.desks.items k desk at)))
-    c.requires.there;
+      (λ k desk at. subst (λ (d : DeskOf g.row.L-Port.Denot). IsDeskOver g.L.LineSync.belongs g.L.LineSync.view c.args.lines.items d) (get_or_from_slice_get c.args.desks.items k desk desk at) (c.requires.over k desk (slice_get_within c.args.desks.items k desk at)))
+      c.requires.there;
   adds_up = adds_first g.L.LineSync.view g.L.LineSync.terms_of c.args.lines.items c.args.desks.items;
   bounded = bounded_first (length c.args.lines.items);
 }
@@ -50,12 +48,12 @@ loop-line-preserved g c =
     record {
       left = left_then g.L.LineSync.belongs g.L.LineSync.view g.L.LineSync.terms_of c.pop.new.self.items c.in-Some.line c.loop-line.desks.items c.take_last.new.desks.items c.in_ok-ports.ports.items left c.in_ok-ports.ensures;
       adds_up = subst (λ n. AddsUp g.L.LineSync.view g.L.LineSync.terms_of c.args.lines.items c.pop.new.self.items c.args.desks.items c.take_last.new.desks.items (c.loop-line.total + n)) (sym c.lane_sum-total.ensures)
-        (adds_then g.L.LineSync.belongs g.L.LineSync.view g.L.LineSync.terms_of c.args.lines.items c.pop.new.self.items c.in-Some.line c.args.desks.items c.loop-line.desks.items c.take_last.new.desks.items c.in_ok-ports.ports.items _ c.loop-line.total c.in_ok-last.last.bytes left c.in_ok-ports.ensures f adds);
+          (adds_then g.L.LineSync.belongs g.L.LineSync.view g.L.LineSync.terms_of c.args.lines.items c.pop.new.self.items c.in-Some.line c.args.desks.items c.loop-line.desks.items c.take_last.new.desks.items c.in_ok-ports.ports.items _ c.loop-line.total c.in_ok-last.last.bytes left c.in_ok-ports.ensures f adds);
       bounded = subst (λ n. IsBounded (length c.args.lines.items) (length c.pop.new.self.items) (c.loop-line.total + n)) (sym c.lane_sum-total.ensures) (bounded_then (length c.args.lines.items) (length c.pop.new.self.items) c.loop-line.total c.in_ok-last.last.bytes bounded f.is_good);
     }
 
 pub returns : goal.returns
 returns g c = record {
   total = adds_last g.L.LineSync.belongs g.L.LineSync.view g.L.LineSync.terms_of c.args.lines.items c.loop-line.lines.items c.args.desks.items c.loop-line.desks.items c.loop-line.total (nothing_left c.loop-line.lines.items (sym c.loop-line.lines.ok.0 ∙ c.in_default.ensures.cases.0)) c.loop-line.invariant.left c.loop-line.invariant.adds_up
-    (λ k desk at. subst (λ (d : DeskOf g.row.L-Port.Denot). IsDeskOver g.L.LineSync.belongs g.L.LineSync.view c.args.lines.items d) (get_or_from_slice_get c.args.desks.items k desk desk at) (c.requires.over k desk (slice_get_within c.args.desks.items k desk at)));
+      (λ k desk at. subst (λ (d : DeskOf g.row.L-Port.Denot). IsDeskOver g.L.LineSync.belongs g.L.LineSync.view c.args.lines.items d) (get_or_from_slice_get c.args.desks.items k desk desk at) (c.requires.over k desk (slice_get_within c.args.desks.items k desk at)));
 }

@@ -1,4 +1,4 @@
-use Rattle.std.proofs.Common.{◌≡◌, ◌<◌, ◌≤◌, ◌+◌, ℕ, arith}
+use Rattle.std.proofs.Common.{◌+◌}
 use Rattle.qolb_model.proofs.Finishing.{each_more}
 use Rattle.line_accounts.specs.Settled.{HasPort}
 use Rattle.line_accounts.proofs.settling.first_missing.Goals as goal

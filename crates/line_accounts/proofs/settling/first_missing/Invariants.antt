@@ -1,4 +1,4 @@
-use Rattle.std.proofs.Common.{◌≡◌, ◌<◌, ◌≤◌, ◌+◌, ℕ}
+use Rattle.std.proofs.Common.{◌<◌, ◌≤◌, ◌+◌, ℕ}
 use Rattle.line_accounts.specs.Settled.{HasPort}
 use Rattle.line_accounts.proofs.settling.first_missing.Given as goal
 

@@ -1,4 +1,3 @@
-use Rattle.std.proofs.Common.{◌≡◌, ◌<◌, ◌≤◌, ℕ, length, slice_get, Some}
 use Rattle.line_accounts.proofs.Settlements.{IsTaking}
 use Rattle.line_accounts.proofs.settling.take_last.Given as goal
 

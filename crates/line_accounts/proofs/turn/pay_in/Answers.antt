@@ -44,9 +44,10 @@ returns-clause-pays g c =
     let sum : c.in-Some-checked_add.sum ≡ c.args.paid_in.now + c.args.amount = omega (arith, c.in-Some-checked_add.ensures.1, c.from.ensures) in
     let good = balances_known _ _ _ (g.met.L.LineSync.sound c.args.line.now c.ask.new.port c.ask.ensures.belongs) in
     let room = subst (λ (b : List ℕ). HasRoom b c.args.k c.args.amount) held c.in-Some.ensures.0 in
-    let turn = subst (λ (b : List ℕ). TakesTurn (g.L.LineSync.view c.args.port.now) (g.L.LineSync.view c.leave_with.new.port) (bytes_of v) b) next (took _ _ _ _ _ h c.leave_with.ensures.leaves) in
-    (bytes_of v,
-    turn,
-    room,
-    paid_in (bytes_of v) c.args.k c.args.amount (ap length (sym held) ∙ c.held-found.ensures.long) c.requires.lane good room turn.pays,
-    sum)
+    let turn = subst (λ (b : List ℕ). TakesTurn (g.L.LineSync.view c.args.port.now) (g.L.LineSync.view c.leave_with.new.port) (bytes_of v) b) next (took _ _ _ _ _ h c.leave_with.ensures.leaves) in (
+      bytes_of v,
+      turn,
+      room,
+      paid_in (bytes_of v) c.args.k c.args.amount (ap length (sym held) ∙ c.held-found.ensures.long) c.requires.lane good room turn.pays,
+      sum,
+    )

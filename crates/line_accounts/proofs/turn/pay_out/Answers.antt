@@ -46,9 +46,10 @@ returns-clause-pays g c =
     let sum : c.in-Some-checked_add.sum ≡ c.args.paid_out.now + c.args.amount = omega (arith, c.in-Some-checked_add.ensures.1, c.from.ensures) in
     let good = balances_known _ _ _ (g.met.L.LineSync.sound c.args.line.now c.ask.new.port c.ask.ensures.belongs) in
     let enough = subst (λ (b : List ℕ). c.args.amount ≤ lane_of b c.args.k) held c.in-Some.ensures.0 in
-    let turn = subst (λ (b : List ℕ). TakesTurn (g.L.LineSync.view c.args.port.now) (g.L.LineSync.view c.leave_with.new.port) (bytes_of v) b) next (took _ _ _ _ _ h c.leave_with.ensures.leaves) in
-    (bytes_of v,
-    turn,
-    enough,
-    paid_out (bytes_of v) c.args.k c.args.amount (ap length (sym held) ∙ c.held-found.ensures.long) c.requires.lane good enough turn.pays,
-    sum)
+    let turn = subst (λ (b : List ℕ). TakesTurn (g.L.LineSync.view c.args.port.now) (g.L.LineSync.view c.leave_with.new.port) (bytes_of v) b) next (took _ _ _ _ _ h c.leave_with.ensures.leaves) in (
+      bytes_of v,
+      turn,
+      enough,
+      paid_out (bytes_of v) c.args.k c.args.amount (ap length (sym held) ∙ c.held-found.ensures.long) c.requires.lane good enough turn.pays,
+      sum,
+    )
