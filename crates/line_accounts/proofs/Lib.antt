@@ -1,0 +1,7 @@
+pub mod Turns
+pub mod Visits
+pub mod Totals
+pub mod Crossing
+pub mod Accounted
+pub mod Transferred
+pub mod Settlements

@@ -1,0 +1,36 @@
+use Rattle.std.proofs.Common.{◌<◌, length, sym, subst, arith}
+use Rattle.std.proofs.Math.ListN.{set}
+use Rattle.line_accounts.specs.Desks.{DeskOf, IsDeskOver}
+use Rattle.line_accounts.specs.Calls.{Deposits}
+use Rattle.line_accounts.proofs.Accounted.{paid_in_port, desk_after, at_place, deposits}
+use Rattle.line_accounts.proofs.desk.deposit.Goals as goal
+
+pub pay_in-requires-clause-at_rest : goal.pay_in-requires-clause-at_rest
+pay_in-requires-clause-at_rest g c =
+    let over = subst (λ (d : DeskOf g.row.L-Port.Denot). IsDeskOver g.L.LineSync.belongs g.L.LineSync.view c.args.lines.now d) (sym c.desk.view_is) c.requires.over in
+    let there : c.in-Some.i < length c.args.lines.now = omega (arith, c.in-Some.ensures.0, c.in-Some.ensures.1) in
+    let at = at_place g.L.LineSync.belongs g.L.LineSync.view c.args.lines.now _ c.in-Some.i c.index-lines-i.result c.index_mut.result.now over there c.index-lines-i.is c.index_mut.ensures.value in
+    over.at_rest c.in-Some.i c.index_mut.result.now at.1
+
+pub pay_in-requires-clause-belongs : goal.pay_in-requires-clause-belongs
+pay_in-requires-clause-belongs g c =
+    let over = subst (λ (d : DeskOf g.row.L-Port.Denot). IsDeskOver g.L.LineSync.belongs g.L.LineSync.view c.args.lines.now d) (sym c.desk.view_is) c.requires.over in
+    let there : c.in-Some.i < length c.args.lines.now = omega (arith, c.in-Some.ensures.0, c.in-Some.ensures.1) in
+    let at = at_place g.L.LineSync.belongs g.L.LineSync.view c.args.lines.now _ c.in-Some.i c.index-lines-i.result c.index_mut.result.now over there c.index-lines-i.is c.index_mut.ensures.value in
+    over.over.belong c.in-Some.i c.index-lines-i.result c.index_mut.result.now at.0 at.1
+
+pub returns-clause-over : goal.returns-clause-over
+returns-clause-over g c =
+    let over = subst (λ (d : DeskOf g.row.L-Port.Denot). IsDeskOver g.L.LineSync.belongs g.L.LineSync.view c.args.lines.now d) (sym c.desk.view_is) c.requires.over in
+    let there : c.in-Some.i < length c.args.lines.now = omega (arith, c.in-Some.ensures.0, c.in-Some.ensures.1) in
+    let at = at_place g.L.LineSync.belongs g.L.LineSync.view c.args.lines.now _ c.in-Some.i c.index-lines-i.result c.index_mut.result.now over there c.index-lines-i.is c.index_mut.ensures.value in
+    let done = paid_in_port _ _ c.in-Some.lane c.args.amount c.pay_in.result _ _ c.desk.inside.paid_out c.pay_in.ensures.pays in
+    desk_after g.L.LineSync.belongs g.L.LineSync.view c.args.lines.now _ c.in-Some.i c.index-lines-i.result c.index_mut.result.now c.pay_in.new.port c.pay_in.new.paid_in c.desk.inside.paid_out over at.0 at.1 c.pay_in.ensures.belongs done.0 done.1
+
+pub returns-clause-deposits : goal.returns-clause-deposits
+returns-clause-deposits g c =
+    let over = subst (λ (d : DeskOf g.row.L-Port.Denot). IsDeskOver g.L.LineSync.belongs g.L.LineSync.view c.args.lines.now d) (sym c.desk.view_is) c.requires.over in
+    let there : c.in-Some.i < length c.args.lines.now = omega (arith, c.in-Some.ensures.0, c.in-Some.ensures.1) in
+    let at = at_place g.L.LineSync.belongs g.L.LineSync.view c.args.lines.now _ c.in-Some.i c.index-lines-i.result c.index_mut.result.now over there c.index-lines-i.is c.index_mut.ensures.value in
+    subst (λ (d : DeskOf g.row.L-Port.Denot). Deposits g.L.LineSync.view (length c.args.lines.now) c.args.account c.args.amount d (record { ports = set c.desk.inside.ports.items c.in-Some.i c.pay_in.new.port; paid_in = c.pay_in.new.paid_in; paid_out = c.desk.inside.paid_out }) c.pay_in.result) c.desk.view_is
+    (deposits g.L.LineSync.view (length c.args.lines.now) c.args.account c.args.amount _ c.in-Some.i c.in-Some.lane c.index_mut.result.now c.pay_in.new.port c.in-Some.ensures.0 c.in-Some.ensures.1 c.in-Some.ensures.2 at.1 c.pay_in.new.paid_in c.pay_in.result c.pay_in.ensures.pays)

@@ -1,0 +1,29 @@
+-- Desks: one node's ports of several lines, and what was paid in and out through them. (Of this project.)
+use Rattle.std.specs.Prelude.{◌≡◌, ℕ, ◌+◌, true, List, length, Some, slice_get}
+use Rattle.std.specs.List.{sum_by}
+use Rattle.qolb_model.specs.declared.view.View.{View}
+use Rattle.qolb_model.specs.PortStates.{may_ask}
+use Rattle.line_accounts.specs.Paid.{paid_by, drawn_by, KnowsOwnPlaces}
+
+-- a desk, as its callers see it: its port of each line, and the sums paid in and out
+pub record DeskOf (Port : Type 0) : Type 0 where
+  pub ports : List Port
+  pub paid_in : ℕ
+  pub paid_out : ℕ
+
+-- the port neither waits nor holds, and knows where its requests stand
+pub record IsAtRest (v : View) : Type 0 where
+  pub quiet : may_ask v.state ≡ true
+  pub places : KnowsOwnPlaces v
+
+-- port i is of line i
+pub record AreOver {Line Port : Type 0} (belongs : Line → Port → Type 0) (lines : List Line) (ports : List Port) : Type 0 where
+  pub count : length ports ≡ length lines
+  pub belong : (i : ℕ) (line : Line) (port : Port) → slice_get lines i ≡ Some line → slice_get ports i ≡ Some port → belongs line port
+
+-- a desk over these lines, between calls: port i is of line i, and at rest; and what its ports have paid is what was paid in less what
+-- was paid out
+pub record IsDeskOver {Line Port : Type 0} (belongs : Line → Port → Type 0) (view : Port → View) (lines : List Line) (desk : DeskOf Port) : Type 0 where
+  pub over : AreOver belongs lines desk.ports
+  pub at_rest : (i : ℕ) (port : Port) → slice_get desk.ports i ≡ Some port → IsAtRest (view port)
+  pub paid : sum_by (λ port. paid_by (view port)) desk.ports + desk.paid_out ≡ sum_by (λ port. drawn_by (view port)) desk.ports + desk.paid_in

@@ -1,0 +1,6 @@
+pub mod Accounts
+pub mod Paid
+pub mod Desks
+pub mod Moves
+pub mod Calls
+pub mod Settled

@@ -1,0 +1,155 @@
+-- What a call of a desk does with its port of a line. (Of this project.)
+use Rattle.std.specs.Prelude.{◌≡◌, ◌⊎◌, ℕ, ◌+◌, ◌<◌, ◌≤◌, ◌^◌, Bool, false, List, take, slice_get, Some}
+use Rattle.line_lanes.specs.Lane.{lane_of}
+use Rattle.qolb_model.specs.declared.write.Write.{Write}
+use Rattle.qolb_model.specs.declared.end.End.TheVariants.{Served}
+use Rattle.qolb_model.specs.declared.view.View.{View}
+use Rattle.qolb_model.specs.Ends.{bytes_after}
+use Rattle.qolb_model.specs.Leases.{is_last_turn}
+use Rattle.qolb_model.specs.Views.{own, bytes_of}
+use Rattle.qolb_model.specs.Sound.{Continues}
+use Rattle.qolb_model.specs.Asking.{IsBusy, Asks}
+use Rattle.qolb_model.specs.Turns.{IsGranted, IsWithdrawn}
+use Rattle.qolb_model.specs.LettingGo.{IsTold}
+use Rattle.qolb_model.specs.Calls.{Releases}
+use Rattle.line_accounts.specs.declared.answer.Reply.{Reply}
+use Rattle.line_accounts.specs.declared.answer.Reply.TheVariants.{Done, Short, Over, Late, Closed, Busy, NoAccount, SameAccount}
+use Rattle.line_accounts.specs.Accounts.{StayBalances, HasRoom, raised, lowered}
+use Rattle.line_accounts.specs.Paid.{rise, fall, paid_by, drawn_by, KnowsOwnPlaces}
+use Rattle.line_accounts.specs.Desks.{IsAtRest}
+
+-- the port has paid in so much more, and drawn so much more
+pub record Pays (old new : View) (more drawn : ℕ) : Type 0 where
+  pub paid_in : paid_by new ≡ paid_by old + more
+  pub paid_out : drawn_by new ≡ drawn_by old + drawn
+
+-- the port's last request was served by a turn that found these bytes and left those. It closed the line only as the last of a lease
+pub record IsServed (v : View) (found left : List ℕ) : Type 0 where
+  pub place : ℕ
+  pub write : Write
+  pub shut : Bool
+  pub at : slice_get v.order place ≡ Some (own v)
+  pub served : slice_get v.ends place ≡ Some (Served write shut)
+  pub shuts : shut ≡ is_last_turn v.terms.lease (take place v.ends)
+  pub before : bytes_after v.terms.opening.bytes (take place v.ends) ≡ found
+  pub after : bytes_after v.terms.opening.bytes (take (place + 1) v.ends) ≡ left
+
+-- a request that waited is withdrawn, or told that the line is closed
+abbrev pub StopsWaiting : View → Reply → Type 0
+StopsWaiting v Late = IsWithdrawn v
+StopsWaiting v Closed = IsTold v
+StopsWaiting v Busy = ⊥
+StopsWaiting v Done = ⊥
+StopsWaiting v Short = ⊥
+StopsWaiting v Over = ⊥
+StopsWaiting v NoAccount = ⊥
+StopsWaiting v SameAccount = ⊥
+
+-- a holder released the line, and left these bytes
+abbrev pub Leaves : View → View → List ℕ → Type 0
+Leaves held new left = (write : Write) × (write.bytes.bytes ≡ left) × Releases StayBalances false held new write
+
+-- the port asked, and had a turn that found these bytes and left those
+pub record TakesTurn (old new : View) (found left : List ℕ) : Type 0 where
+  pub continues : Continues StayBalances old new
+  pub at_rest : IsAtRest new
+  pub asks : Asks old new
+  pub served : IsServed new found left
+  pub pays : Pays old new (rise found left) (fall found left)
+
+-- the port looked at the line in a turn, and changed nothing
+abbrev pub Looks : View → View → List ℕ → Type 0
+Looks old new found = TakesTurn old new found found
+
+-- the port asked, and holds the line; its turn has written nothing yet
+pub record Holds (old new : View) (turn : Write) : Type 0 where
+  pub continues : Continues StayBalances old new
+  pub places : KnowsOwnPlaces new
+  pub asks : Asks old new
+  pub granted : IsGranted new turn
+  pub pays : Pays old new 0 0
+
+-- the port asked in vain
+pub record AsksInVain (old new : View) : Type 0 where
+  pub continues : Continues StayBalances old new
+  pub at_rest : IsAtRest new
+  pub pays : Pays old new 0 0
+
+-- why: its request was withdrawn; or was told that the line is closed; or it could not be made. No other answer is given then
+abbrev pub IsRefused : View → View → Reply → Type 0
+IsRefused old new Late = AsksInVain old new × Asks old new × IsWithdrawn new
+IsRefused old new Closed = AsksInVain old new × Asks old new × IsTold new
+IsRefused old new Busy = AsksInVain old new × IsBusy old new
+IsRefused old new Done = ⊥
+IsRefused old new Short = ⊥
+IsRefused old new Over = ⊥
+IsRefused old new NoAccount = ⊥
+IsRefused old new SameAccount = ⊥
+
+-- a deposit at the lane, and the sum of all that was paid in, before and after
+abbrev pub PaysIn : View → View → ℕ → ℕ → ℕ → ℕ → Reply → Type 0
+PaysIn old new lane amount sum sum_then Done = (found : List ℕ) × TakesTurn old new found (raised found lane amount) × HasRoom found lane amount × Pays old new amount 0 × (sum_then ≡ sum + amount)
+PaysIn old new lane amount sum sum_then Over = (found : List ℕ) × Looks old new found × ((HasRoom found lane amount → ⊥) ⊎ (2 ^ 128 ≤ sum + amount)) × (sum_then ≡ sum)
+PaysIn old new lane amount sum sum_then Short = ⊥
+PaysIn old new lane amount sum sum_then Late = IsRefused old new Late × (sum_then ≡ sum)
+PaysIn old new lane amount sum sum_then Closed = IsRefused old new Closed × (sum_then ≡ sum)
+PaysIn old new lane amount sum sum_then Busy = IsRefused old new Busy × (sum_then ≡ sum)
+PaysIn old new lane amount sum sum_then NoAccount = ⊥
+PaysIn old new lane amount sum sum_then SameAccount = ⊥
+
+-- a payment out of the lane, and the sum of all that was paid out, before and after
+abbrev pub PaysOut : View → View → ℕ → ℕ → ℕ → ℕ → Reply → Type 0
+PaysOut old new lane amount sum sum_then Done = (found : List ℕ) × TakesTurn old new found (lowered found lane amount) × (amount ≤ lane_of found lane) × Pays old new 0 amount × (sum_then ≡ sum + amount)
+PaysOut old new lane amount sum sum_then Short = (found : List ℕ) × Looks old new found × (lane_of found lane < amount) × (sum_then ≡ sum)
+PaysOut old new lane amount sum sum_then Over = (found : List ℕ) × Looks old new found × (amount ≤ lane_of found lane) × (2 ^ 128 ≤ sum + amount) × (sum_then ≡ sum)
+PaysOut old new lane amount sum sum_then Late = IsRefused old new Late × (sum_then ≡ sum)
+PaysOut old new lane amount sum sum_then Closed = IsRefused old new Closed × (sum_then ≡ sum)
+PaysOut old new lane amount sum sum_then Busy = IsRefused old new Busy × (sum_then ≡ sum)
+PaysOut old new lane amount sum sum_then NoAccount = ⊥
+PaysOut old new lane amount sum sum_then SameAccount = ⊥
+
+-- a transfer from one lane of the line to another
+abbrev pub MovesWithin : View → View → ℕ → ℕ → ℕ → Reply → Type 0
+MovesWithin old new source target amount Done = (found : List ℕ) × TakesTurn old new found (raised (lowered found source amount) target amount) × (amount ≤ lane_of found source) × HasRoom found target amount × Pays old new 0 0
+MovesWithin old new source target amount Short = (found : List ℕ) × Looks old new found × (lane_of found source < amount)
+MovesWithin old new source target amount Over = (found : List ℕ) × Looks old new found × (amount ≤ lane_of found source) × (HasRoom found target amount → ⊥)
+MovesWithin old new source target amount Late = IsRefused old new Late
+MovesWithin old new source target amount Closed = IsRefused old new Closed
+MovesWithin old new source target amount Busy = IsRefused old new Busy
+MovesWithin old new source target amount NoAccount = ⊥
+MovesWithin old new source target amount SameAccount = ⊥
+
+-- of two lines the first was asked for in vain, and the second not at all; or the first was let go as it was found, and the second was
+-- asked for in vain
+abbrev pub IsRefusedEither : View → View → View → View → Reply → Type 0
+IsRefusedEither first first_then second second_then reply =
+    (IsRefused first first_then reply × (second_then ≡ second)) ⊎ ((found : List ℕ) × Looks first first_then found × IsRefused second second_then reply)
+
+-- two lines in hand were looked at, and then both were written, or neither, and let go
+abbrev pub Carries : View → View → View → View → ℕ → ℕ → ℕ → Reply → Type 0
+Carries source source_then target target_then from to amount Done =
+    Leaves source source_then (lowered (bytes_of source) from amount) × Leaves target target_then (raised (bytes_of target) to amount) × (amount ≤ lane_of (bytes_of source) from) × HasRoom (bytes_of target) to amount
+Carries source source_then target target_then from to amount Short =
+    Leaves source source_then (bytes_of source) × Leaves target target_then (bytes_of target) × (lane_of (bytes_of source) from < amount)
+Carries source source_then target target_then from to amount Over =
+    Leaves source source_then (bytes_of source) × Leaves target target_then (bytes_of target) × (amount ≤ lane_of (bytes_of source) from) × (HasRoom (bytes_of target) to amount → ⊥)
+Carries source source_then target target_then from to amount Late = ⊥
+Carries source source_then target target_then from to amount Closed = ⊥
+Carries source source_then target target_then from to amount Busy = ⊥
+Carries source source_then target target_then from to amount NoAccount = ⊥
+Carries source source_then target target_then from to amount SameAccount = ⊥
+
+-- a transfer from a lane of one line to a lane of another; and what holds where one of the two isn't granted
+abbrev pub MovesAcross : (Reply → Type 0) → View → View → View → View → ℕ → ℕ → ℕ → Reply → Type 0
+MovesAcross refused source source_then target target_then from to amount Done =
+    (found : List ℕ) × TakesTurn source source_then found (lowered found from amount) × (amount ≤ lane_of found from) × Pays source source_then 0 amount
+    × (there : List ℕ) × TakesTurn target target_then there (raised there to amount) × HasRoom there to amount × Pays target target_then amount 0
+MovesAcross refused source source_then target target_then from to amount Short =
+    (found : List ℕ) × Looks source source_then found × (lane_of found from < amount) × (there : List ℕ) × Looks target target_then there
+MovesAcross refused source source_then target target_then from to amount Over =
+    (found : List ℕ) × Looks source source_then found × (amount ≤ lane_of found from) × (there : List ℕ) × Looks target target_then there × (HasRoom there to amount → ⊥)
+MovesAcross refused source source_then target target_then from to amount Late = refused Late
+MovesAcross refused source source_then target target_then from to amount Closed = refused Closed
+MovesAcross refused source source_then target target_then from to amount Busy = refused Busy
+MovesAcross refused source source_then target target_then from to amount NoAccount = ⊥
+MovesAcross refused source source_then target target_then from to amount SameAccount = ⊥

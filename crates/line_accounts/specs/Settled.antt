@@ -1,0 +1,63 @@
+-- Settling: all lines are taken apart, with all desks over them. (Of this project.)
+use Rattle.std.specs.Prelude.{◌≡◌, ◌≢◌, ℕ, ◌<◌, List, ◌++◌, ◌∷◌, [], length, slice_get, Option, Some, None}
+use Rattle.std.specs.List.{sum_by}
+use Rattle.line_lanes.specs.Lane.{lanes_total}
+use Rattle.qolb_model.specs.declared.terms.Terms.{Terms}
+use Rattle.qolb_model.specs.declared.view.View.{View}
+use Rattle.qolb_model.specs.Finishing.{EachNode, IsLeast}
+use Rattle.line_accounts.specs.declared.answer.SettleError.{SettleError}
+use Rattle.line_accounts.specs.declared.answer.SettleError.TheVariants.{Memory, Missing}
+use Rattle.line_accounts.specs.Desks.{DeskOf}
+
+-- the sum of what was paid in at all desks, and paid out
+abbrev pub all_paid_in : {Port : Type 0} → List (DeskOf Port) → ℕ
+all_paid_in desks = sum_by (λ desk. desk.paid_in) desks
+
+abbrev pub all_paid_out : {Port : Type 0} → List (DeskOf Port) → ℕ
+all_paid_out desks = sum_by (λ desk. desk.paid_out) desks
+
+-- the sum of all balances that the lines were opened with
+abbrev pub all_opened : {Line : Type 0} → (Line → Terms) → List Line → ℕ
+all_opened terms_of lines = sum_by (λ line. lanes_total (terms_of line).opening.bytes) lines
+
+module _ {Port : Type 0} (view : Port → View) (desks : List (DeskOf Port)) where
+  -- some desk has the node's port of line i; and none has
+  pub record HasPort (i node : ℕ) : Type 0 where
+    pub place : ℕ
+    pub desk : DeskOf Port
+    pub port : Port
+    pub desk_at : slice_get desks place ≡ Some desk
+    pub port_at : slice_get desk.ports i ≡ Some port
+    pub of_node : (view port).node ≡ node
+
+  abbrev pub LacksPort : ℕ → ℕ → Type 0
+  LacksPort i node = (k : ℕ) (desk : DeskOf Port) (port : Port) → slice_get desks k ≡ Some desk → slice_get desk.ports i ≡ Some port → (view port).node ≢ node
+
+module _ {Line Port : Type 0} (view : Port → View) (terms_of : Line → Terms) (lines : List Line) (desks : List (DeskOf Port)) where
+  -- each node of each line has a port
+  abbrev pub AreAllThere : Type 0
+  AreAllThere = (i : ℕ) (line : Line) → slice_get lines i ≡ Some line → EachNode (terms_of line).nodes (HasPort view desks i)
+
+  -- the node is the least that has no port of line i, which is the least line that lacks any
+  pub record IsFirstMissing (i node : ℕ) : Type 0 where
+    pub line : Line
+    pub at : slice_get lines i ≡ Some line
+    pub least : IsLeast (terms_of line).nodes (LacksPort view desks i) (HasPort view desks i) node
+    pub before : (j : ℕ) (other : Line) → j < i → slice_get lines j ≡ Some other → EachNode (terms_of other).nodes (HasPort view desks j)
+
+  -- why nothing is settled: a node has no port; and only else, want of memory
+  abbrev pub MayNotSettle : SettleError → Type 0
+  MayNotSettle (Missing i node) = IsFirstMissing i node
+  MayNotSettle Memory = AreAllThere
+
+-- what is handed back then: all, and at want of memory nothing
+abbrev pub IsBack : {X : Type 0} → X → SettleError → Option X → Type 0
+IsBack all (Missing i node) back = back ≡ Some all
+IsBack all Memory back = back ≡ None
+
+-- the last port of each desk was taken
+pub record TakesLast {Port : Type 0} (old new : List (DeskOf Port)) (ports : List Port) : Type 0 where
+  pub desks_left : length new ≡ length old
+  pub ports_taken : length ports ≡ length old
+  pub each : (k : ℕ) (desk : DeskOf Port) → slice_get old k ≡ Some desk
+      → (rest : List Port) × (port : Port) × (desk.ports ≡ rest ++ port ∷ []) × (slice_get new k ≡ Some (record desk { ports = rest })) × (slice_get ports k ≡ Some port)

@@ -1,0 +1,31 @@
+//! Answers of a desk.
+
+/// The answer of a desk's call. Only `Done` changes a balance or a counter.
+#[derive(Clone, Copy, Debug, PartialEq, Eq)]
+pub enum Reply {
+    /// What was asked for is done.
+    Done,
+    /// The balance is less than the amount.
+    Short,
+    /// The balance would pass `MOST_BALANCE`, or the desk's counter what it can count.
+    Over,
+    /// The line wasn't granted in time, and the request is withdrawn.
+    Late,
+    /// The line is closed.
+    Closed,
+    /// An earlier request of the desk's port was withdrawn or left in its mailbox, and is not clear yet; nothing was asked.
+    Busy,
+    /// There is no such account.
+    NoAccount,
+    /// Both accounts of a transfer are one.
+    SameAccount,
+}
+
+/// Why nothing could be settled.
+#[derive(Clone, Copy, Debug, PartialEq, Eq)]
+pub enum SettleError {
+    /// Memory was refused.
+    Memory,
+    /// No desk has a port of this node on this line. It is the least such line, and there the least such node.
+    Missing { line: u64, node: u64 },
+}

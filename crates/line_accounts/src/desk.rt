@@ -1,0 +1,181 @@
+//! A desk: one node's ports of several lines.
+ghost use Rattle.std.specs.Prelude.{◌≡◌, ◌<◌, All, List, [], ◌∷◌, ◌++◌, length, slice_get, Some, MatchOption};
+ghost use Rattle.line_accounts.specs.Desks.{AreOver, IsDeskOver};
+ghost use Rattle.line_accounts.specs.Calls.{Deposits, TakesOut, Transfers};
+
+use crate::across::{move_down, move_up};
+use crate::answer::Reply;
+use crate::law::AccountLaw;
+use crate::money::place_of;
+use crate::turn::{move_within, pay_in, pay_out};
+use qolb_model::{LineSync, PortState};
+use std::marker::Model;
+
+/// One node's ports of several lines, and what was paid in and out through them.
+#[derive(Drop)]
+pub struct Desk<L: LineSync<AccountLaw>> {
+    ports: Vec<L::Port>,
+    paid_in: u128,
+    paid_out: u128,
+}
+
+impl<L: LineSync<AccountLaw>> Model for Desk<L> {
+    ghost use Rattle.line_accounts.specs.Desks.{DeskOf};
+
+    ghost Value = { DeskOf L.Port };
+
+    ghost view = { λ desk. record { ports = desk.ports.items; paid_in = desk.paid_in; paid_out = desk.paid_out } };
+}
+
+impl<L: LineSync<AccountLaw>> Desk<L> {
+    /// A desk with these ports, one of each line, none of which has made a request.
+    pub fn new(ports: Vec<L::Port>) -> Desk<L>
+        requires { All (λ port. ((L.view port).state ≡ PortState.Idle) × ((L.view port).count ≡ 0)) ports.items }
+        ensures { (lines : List L) → AreOver L.belongs lines ports.items → IsDeskOver L.belongs L.view lines result }
+    {
+        Desk {
+            ports,
+            paid_in: 0,
+            paid_out: 0,
+        }
+    }
+
+    /// All that was paid in.
+    pub fn paid_in(&self) -> u128
+        ensures { result ≡ self.now.paid_in }
+    {
+        self.paid_in
+    }
+
+    /// All that was paid out.
+    pub fn paid_out(&self) -> u128
+        ensures { result ≡ self.now.paid_out }
+    {
+        self.paid_out
+    }
+
+    /// The port of line `i`.
+    pub(crate) fn port(&self, i: usize) -> &L::Port
+        requires { i < length self.now.ports }
+        ensures { slice_get self.now.ports i ≡ Some result.now }
+    {
+        &self.ports[i]
+    }
+
+    /// Takes the last port, if there is one.
+    pub(crate) fn take_last(&mut self) -> Option<L::Port>
+        ensures { MatchOption result (self.new ≡ self.old) (λ port. self.old ≡ record self.new { ports = self.new.ports ++ port ∷ [] }) }
+    {
+        self.ports.pop()
+    }
+}
+
+/// Pays the amount into the account.
+pub fn deposit<L: LineSync<AccountLaw>>(
+    lines: &[L],
+    desk: &mut Desk<L>,
+    account: u64,
+    amount: u64,
+    patience: u64,
+) -> Reply
+    requires over { IsDeskOver L.belongs L.view lines.now desk.old }
+    ensures over { IsDeskOver L.belongs L.view lines.now desk.new }
+    ensures deposits { Deposits L.view (length lines.now) account amount desk.old desk.new result }
+{
+    let Some((i, lane)) = place_of(account, lines.len()) else {
+        return Reply::NoAccount;
+    };
+    pay_in(
+        &lines[i],
+        &mut desk.ports[i],
+        &mut desk.paid_in,
+        lane,
+        amount,
+        patience,
+    )
+}
+
+/// Pays the amount out of the account.
+pub fn take_out<L: LineSync<AccountLaw>>(
+    lines: &[L],
+    desk: &mut Desk<L>,
+    account: u64,
+    amount: u64,
+    patience: u64,
+) -> Reply
+    requires over { IsDeskOver L.belongs L.view lines.now desk.old }
+    ensures over { IsDeskOver L.belongs L.view lines.now desk.new }
+    ensures takes_out { TakesOut L.view (length lines.now) account amount desk.old desk.new result }
+{
+    let Some((i, lane)) = place_of(account, lines.len()) else {
+        return Reply::NoAccount;
+    };
+    pay_out(
+        &lines[i],
+        &mut desk.ports[i],
+        &mut desk.paid_out,
+        lane,
+        amount,
+        patience,
+    )
+}
+
+/// Moves the amount from one account to another. Over two lines the lower is asked for first, and where the second isn't granted the first is
+/// let go as it was found.
+pub fn transfer<L: LineSync<AccountLaw>>(
+    lines: &[L],
+    desk: &mut Desk<L>,
+    from: u64,
+    to: u64,
+    amount: u64,
+    patience: u64,
+) -> Reply
+    requires over { IsDeskOver L.belongs L.view lines.now desk.old }
+    ensures over { IsDeskOver L.belongs L.view lines.now desk.new }
+    ensures transfers { Transfers L.view (length lines.now) from to amount desk.old desk.new result }
+{
+    let Some((i, source)) = place_of(from, lines.len()) else {
+        return Reply::NoAccount;
+    };
+    let Some((j, target)) = place_of(to, lines.len()) else {
+        return Reply::NoAccount;
+    };
+    if from == to {
+        return Reply::SameAccount;
+    }
+    if i == j {
+        return move_within(
+            &lines[i],
+            &mut desk.ports[i],
+            source,
+            target,
+            amount,
+            patience,
+        );
+    }
+    if i < j {
+        let (front, back) = desk.ports.split_at_mut(j);
+        move_up(
+            &lines[i],
+            &mut front[i],
+            source,
+            &lines[j],
+            &mut back[0],
+            target,
+            amount,
+            patience,
+        )
+    } else {
+        let (front, back) = desk.ports.split_at_mut(i);
+        move_down(
+            &lines[i],
+            &mut back[0],
+            source,
+            &lines[j],
+            &mut front[j],
+            target,
+            amount,
+            patience,
+        )
+    }
+}

@@ -1,0 +1,16 @@
+//! Accounts striped over lines: money that can't be lost.
+#![tactic(auto)]
+
+mod across;
+mod answer;
+mod ask;
+mod desk;
+mod law;
+mod money;
+mod settling;
+mod turn;
+
+pub use answer::{Reply, SettleError};
+pub use desk::{Desk, deposit, take_out, transfer};
+pub use law::{AccountLaw, MOST_BALANCE};
+pub use settling::{Unsettled, settle};
