@@ -1,5 +1,5 @@
 -- Desks before and after a call.
-use Rattle.std.proofs.Common.{◌≡◌, ◌≢◌, ◌+◌, ◌<◌, inl, inr, true, ℕ, zero, suc, List, [], ◌∷◌, length, get_or, ◌*◌, Some, slice_get, refl, sym, ap, subst, ◌∙◌, arith}
+use Rattle.std.proofs.Common.{◌≡◌, ◌≢◌, ◌+◌, ◌<◌, inl, inr, true, ℕ, zero, suc, List, [], ◌∷◌, length, get_or, ◌*◌, Some, None, slice_get, refl, sym, ap, subst, ◌∙◌, arith}
 use Rattle.std.specs.List.{sum_by}
 use Rattle.std.proofs.Math.ListN.{set}
 use Rattle.std.proofs.lemmas.List.{length-set}
@@ -197,3 +197,12 @@ module _ {Port : Type 0} (view : Port → View) (lines account amount : ℕ) (d 
     };
     paid_in = refl;
   }
+
+-- two lines, and a port of each
+pub over_pair : {Line Port : Type 0} (belongs : Line → Port → Type 0) (a b : Line) (p q : Port) → belongs a p → belongs b q → AreOver belongs (a ∷ b ∷ []) (p ∷ q ∷ [])
+over_pair {Line} {Port} belongs a b p q first second = record { count = refl; belong = at }
+  where
+    at : (i : ℕ) (line : Line) (port : Port) → slice_get (a ∷ b ∷ []) i ≡ Some line → slice_get (p ∷ q ∷ []) i ≡ Some port → belongs line port
+    at zero line port at_line at_port = subst (λ l. belongs l port) (same_some at_line) (subst (λ r. belongs a r) (same_some at_port) first)
+    at (suc zero) line port at_line at_port = subst (λ l. belongs l port) (same_some at_line) (subst (λ r. belongs b r) (same_some at_port) second)
+    at (suc (suc i)) line port at_line at_port = absurd (let nothing : None ≡ Some line = at_line in cc nothing)

@@ -12,6 +12,7 @@ use qolb_model::LineSync;
 use std::alloc::Global;
 
 /// What a refused `settle` hands back.
+#[derive(Drop)]
 pub struct Unsettled<L: LineSync<AccountLaw>> {
     pub why: SettleError,
     /// The lines and desks, as they were handed in. `None` where memory was refused: then they are gone.
