@@ -1,5 +1,5 @@
 //! Rows of desks, over any lines of accounts, and over the ring.
-ghost use Rattle.std.specs.Prelude.{◌≡◌, ◌∷◌, [], IsTrue, IfSome};
+ghost use Rattle.std.specs.Prelude.{◌≡◌, ◌∷◌, [], All, IsTrue, IfSome};
 ghost use Rattle.qolb_model.specs.PortStates.{may_ask};
 ghost use Rattle.line_accounts.specs.Desks.{IsDeskOver};
 ghost use Rattle.over_ring.specs.Fresh.{IsUnused};
@@ -60,7 +60,8 @@ where
     requires idle_second { (L.view second_port).state ≡ PortState.Idle }
     requires unused_first { (L.view first_port).count ≡ 0 }
     requires unused_second { (L.view second_port).count ≡ 0 }
-    ensures { IfSome result (λ made. IsDeskOver L.belongs L.view made.0.items made.1) }
+    ensures over { IfSome result (λ made. IsDeskOver L.belongs L.view made.0.items made.1) }
+    ensures lines { IfSome result (λ made. made.0.items ≡ first ∷ second ∷ []) }
 {
     let lines = pair(alloc, first, second)?;
     let ports = pair(alloc, first_port, second_port)?;
@@ -152,17 +153,46 @@ fn leased<L: LineSync<AccountLaw>>(lines: &[L], desk: &mut Desk<L>) -> [Reply; 4
 
 type Ring = RingLine<AccountLaw>;
 
+/// An opened line, and the last of its ports.
+fn with_last(opened: (Ring, Vec<Port>)) -> Option<(Ring, Port)>
+    requires belong { All (⟦<RingLine<AccountLaw> as LineSync<AccountLaw>>⟧.belongs opened.0) opened.1.items }
+    requires unused { All IsUnused opened.1.items }
+    ensures belongs { IfSome result (λ made. ⟦<RingLine<AccountLaw> as LineSync<AccountLaw>>⟧.belongs made.0 made.1) }
+    ensures unused { IfSome result (λ made. IsUnused made.1) }
+{
+    let (line, mut ports) = opened;
+    let port = ports.pop()?;
+    Some((line, port))
+}
+
+/// An opened line, and the last two of its ports.
+fn with_two(opened: (Ring, Vec<Port>)) -> Option<(Ring, Port, Port)>
+    requires belong { All (⟦<RingLine<AccountLaw> as LineSync<AccountLaw>>⟧.belongs opened.0) opened.1.items }
+    requires unused { All IsUnused opened.1.items }
+    ensures belongs { IfSome result (λ made. ⟦<RingLine<AccountLaw> as LineSync<AccountLaw>>⟧.belongs made.0 made.1 × ⟦<RingLine<AccountLaw> as LineSync<AccountLaw>>⟧.belongs made.0 made.2) }
+    ensures unused { IfSome result (λ made. IsUnused made.1 × IsUnused made.2) }
+{
+    let (line, mut ports) = opened;
+    let second = ports.pop()?;
+    let first = ports.pop()?;
+    Some((line, first, second))
+}
+
 /// A line of zeros for one node, and its port.
 fn alone(alloc: Global, lease: Option<u64>) -> Option<(Ring, Port)>
     ensures belongs { IfSome result (λ made. ⟦<RingLine<AccountLaw> as LineSync<AccountLaw>>⟧.belongs made.0 made.1) }
     ensures unused { IfSome result (λ made. IsUnused made.1) }
 {
-    let (line, mut ports) = match lease {
-        Some(lease) => Ring::open_leased(alloc, 1, 1, Line64::zero(), lease).ok()?,
-        None => Ring::open(alloc, 1, 1, Line64::zero()).ok()?,
-    };
-    let port = ports.pop()?;
-    Some((line, port))
+    match lease {
+        Some(lease) => match Ring::open_leased(alloc, 1, 1, Line64::zero(), lease) {
+            Ok(opened) => with_last(opened),
+            Err(_) => None,
+        },
+        None => match Ring::open(alloc, 1, 1, Line64::zero()) {
+            Ok(opened) => with_last(opened),
+            Err(_) => None,
+        },
+    }
 }
 
 /// A line of zeros for two nodes, and its ports.
@@ -170,10 +200,10 @@ fn shared(alloc: Global) -> Option<(Ring, Port, Port)>
     ensures belongs { IfSome result (λ made. ⟦<RingLine<AccountLaw> as LineSync<AccountLaw>>⟧.belongs made.0 made.1 × ⟦<RingLine<AccountLaw> as LineSync<AccountLaw>>⟧.belongs made.0 made.2) }
     ensures unused { IfSome result (λ made. IsUnused made.1 × IsUnused made.2) }
 {
-    let (line, mut ports) = Ring::open(alloc, 1, 2, Line64::zero()).ok()?;
-    let second = ports.pop()?;
-    let first = ports.pop()?;
-    Some((line, first, second))
+    match Ring::open(alloc, 1, 2, Line64::zero()) {
+        Ok(opened) => with_two(opened),
+        Err(_) => None,
+    }
 }
 
 /// Two lines of zeros for one node, of which the first may have a lease, and a desk over them.
@@ -209,7 +239,9 @@ fn a_balance_has_a_limit(rt: HostRuntime) -> Result<(), Fail> {
 #[test]
 fn a_transfer_goes_over_two_lines(rt: HostRuntime) -> Result<(), Fail> {
     let alloc = rt.alloc();
-    let (lines, mut desk) = two_alone(alloc, None).ok_or("opened")?;
+    let Some((lines, mut desk)) = two_alone(alloc, None) else {
+        return Err(Fail::from("opened"));
+    };
     assert_eq!(rt; across(&lines, &mut desk), [Reply::Done, Reply::Done]);
     let total = settle_with(alloc, lines, desk).and_then(|settled| settled.ok());
     assert_eq!(rt; total, Some(10));
@@ -219,7 +251,9 @@ fn a_transfer_goes_over_two_lines(rt: HostRuntime) -> Result<(), Fail> {
 #[test]
 fn a_transfer_keeps_the_limit(rt: HostRuntime) -> Result<(), Fail> {
     let alloc = rt.alloc();
-    let (lines, mut desk) = two_alone(alloc, None).ok_or("opened")?;
+    let Some((lines, mut desk)) = two_alone(alloc, None) else {
+        return Err(Fail::from("opened"));
+    };
     assert_eq!(rt;
         over(&lines, &mut desk),
         [Reply::Done, Reply::Done, Reply::Over]
@@ -232,7 +266,9 @@ fn a_transfer_keeps_the_limit(rt: HostRuntime) -> Result<(), Fail> {
 #[test]
 fn a_lease_closes_the_line(rt: HostRuntime) -> Result<(), Fail> {
     let alloc = rt.alloc();
-    let (lines, mut desk) = two_alone(alloc, Some(2)).ok_or("opened")?;
+    let Some((lines, mut desk)) = two_alone(alloc, Some(2)) else {
+        return Err(Fail::from("opened"));
+    };
     assert_eq!(rt;
         leased(&lines, &mut desk),
         [Reply::Done, Reply::Done, Reply::Closed, Reply::Done]
@@ -246,11 +282,15 @@ fn a_lease_closes_the_line(rt: HostRuntime) -> Result<(), Fail> {
 #[test]
 fn a_late_transfer_moves_nothing(rt: HostRuntime) -> Result<(), Fail> {
     let alloc = rt.alloc();
-    let (first, first_port, _other) = shared(alloc).ok_or("opened")?;
-    let (second, second_port, mut other) = shared(alloc).ok_or("opened")?;
-    let (lines, mut desk) = over_two(alloc, first, first_port, second, second_port).ok_or(
-        "opened",
-    )?;
+    let (Some((first, first_port, _)), Some((second, second_port, mut other))) = (
+        shared(alloc),
+        shared(alloc),
+    ) else {
+        return Err(Fail::from("opened"));
+    };
+    let Some((lines, mut desk)) = over_two(alloc, first, first_port, second, second_port) else {
+        return Err(Fail::from("opened"));
+    };
     let (asked, answers) = late(&lines, &mut desk, &lines[1], &mut other);
     assert_eq!(rt; asked, Enq::Granted);
     assert_eq!(rt;
