@@ -59,7 +59,11 @@ where
 }
 
 /// Each two ports meet. `None` where memory was refused.
-fn meet_all<L: LineSync<Rising>>(alloc: Global, line: &L, ports: Vec<L::Port>) -> Option<Vec<L::Port>>
+fn meet_all<L: LineSync<Rising>>(
+    alloc: Global,
+    line: &L,
+    ports: Vec<L::Port>,
+) -> Option<Vec<L::Port>>
 where
     L::Port: Drop,
     requires { All (λ port. L.belongs line.now port) ports.items }
