@@ -67,6 +67,11 @@ join_else me other n j i ne = go (ℕ_discrete j other)
 two_places : (me : ℕ) (x : ℕ × ℕ) → x ≡ (me, 0) → x ≡ (me, 1) → ⊥
 two_places me x p q = let a : x.1 ≡ 0 = ap (λ (z : ℕ × ℕ). z.1) p in let b : x.1 ≡ 1 = ap (λ (z : ℕ × ℕ). z.1) q in absurd (omega arith)
 
+-- of the entries that are left the first is the next node's
+pub each_from_more : {E : Type 0} (entry : ℕ → E) (n nodes : ℕ) → n < nodes → each_from entry n (nodes - n) ≡ entry (n + 1) ∷ each_from entry (n + 1) (nodes - (n + 1))
+each_from_more entry n nodes l = let j = nodes - (n + 1) in let e : nodes - n ≡ suc j = omega arith in let f : suc n ≡ n + 1 = omega arith in
+    ap (each_from entry n) e ∙ (λ i. entry (f i) ∷ each_from entry (f i) j)
+
 module _ {E : Type 0} (node : E → ℕ) (nodes : ℕ) where
   -- all entries of a new table stand in its first seat
   module _ (entry : ℕ → E) (own : (n : ℕ) → node (entry n) ≡ n) where
