@@ -1,9 +1,10 @@
 -- What the outcomes of a run say of its task.
 use Rattle.std.proofs.Common.{◌≡◌, ℕ, List, Option, Some, None, IfSome, IfErr, Result, Ok, Err, inl, inr, arith}
-use Rattle.qolb.specs.declared.replay.ReplayError.{ReplayError}
-use Rattle.qolb.specs.declared.replay.ReplayError.TheVariants as error
-use Rattle.qolb.specs.declared.task.Task.{Task}
-use Rattle.qolb.specs.Outcome.{MayFail, IsRefused, status_of}
+use Rattle.qolb_run.specs.declared.replay.ReplayError.{ReplayError}
+use Rattle.qolb_run.specs.declared.replay.ReplayError.TheVariants as error
+use Rattle.qolb_run.specs.declared.task.Task.{Task}
+use Rattle.qolb_run.specs.Outcome.{MayFail, IsRefused}
+use Rattle.qolb.specs.Status.{status_of}
 
 fault : (task : Task) (e : ReplayError) (input : List ℕ) → MayFail task input e → status_of e ≡ 1 → IsRefused task input
 fault task error.Memory input h one = absurd (omega arith)

@@ -1,9 +1,2 @@
-pub mod InTurn
-pub mod Allowed
-pub mod Tallying
-pub mod Replayed
-pub mod StepsRun
 pub mod Answered
 pub mod CommandLines
-pub mod Rounds
-pub mod Forcing

@@ -5,10 +5,10 @@ use Rattle.std.specs.Str.{bytes_eq}
 use Rattle.clap.specs.Words.{App, Row, Rule, Text, first_of, new_app, new_rule, subcommand_of, takes, with_rule, with_subcommand}
 use Rattle.clap.specs.declared.builder.ArgAction.TheVariants.{Set}
 use Rattle.clap.specs.declared.builder.value_parser.ValueParser.TheVariants as parser
-use Rattle.qolb.specs.declared.replay.Kind.{Kind}
-use Rattle.qolb.specs.declared.replay.Kind.TheVariants as kind
-use Rattle.qolb.specs.declared.task.Task.{Task}
-use Rattle.qolb.specs.declared.task.Task.TheVariants as task
+use Rattle.qolb_run.specs.declared.replay.Kind.{Kind}
+use Rattle.qolb_run.specs.declared.replay.Kind.TheVariants as kind
+use Rattle.qolb_run.specs.declared.task.Task.{Task}
+use Rattle.qolb_run.specs.declared.task.Task.TheVariants as task
 
 -- the kinds that a replay takes
 abbrev pub kind_names : List Text

@@ -1,6 +1,2 @@
-pub mod Tallies
-pub mod Outcome
-pub mod StepRuns
 pub mod CommandLine
-pub mod Stances
-pub mod Calls
+pub mod Status

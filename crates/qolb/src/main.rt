@@ -1,15 +1,7 @@
 //! Replays scripts of calls on queued lines.
 #![tactic(auto)]
 
-mod input;
-mod line;
-mod plain;
-mod ported;
-mod replay;
 mod serve;
-mod steps;
-mod tally;
-mod task;
 
 use std::env;
 use std::io::{self, ErrorKind};

@@ -4,14 +4,13 @@ ghost use Rattle.clap.specs.Words.{app_of, found_of, kind_of, rows_of};
 ghost use Rattle.qolb_script.specs.Watched.{inner_of};
 ghost use Rattle.qolb.specs.CommandLine as spec;
 ghost use Rattle.qolb.specs.CommandLine.{AreKinds, Names, NamesTask, IsNotTaken, the_command};
-ghost use Rattle.qolb.specs.Outcome.{IsAnswered, IsRefused, status_of};
-ghost use Rattle.qolb.specs.declared.task.Task.{Task};
+ghost use Rattle.qolb_run.specs.Outcome.{IsAnswered, IsRefused};
+ghost use Rattle.qolb.specs.Status.{status_of};
+ghost use Rattle.qolb_run.specs.declared.task.Task.{Task};
 
-use crate::replay::{Kind, ReplayError, run_schedule};
-use crate::steps::run_steps;
-use crate::task::Task;
 use clap::error::ErrorKind;
 use clap::{Arg, ArgAction, ArgMatches, Command, Error};
+use qolb_run::{Kind, ReplayError, Task, run_schedule, run_steps};
 use qolb_script::Watched;
 use std::alloc::{AllocError, Global};
 use std::io::{self, Read, Write};

@@ -1,8 +1,9 @@
 use Rattle.std.proofs.Common.{◌≡◌, sym, subst, IfErr, IfSome}
-use Rattle.qolb.specs.declared.task.Task.TheVariants.{Replay, Steps}
+use Rattle.qolb_run.specs.declared.task.Task.TheVariants.{Replay, Steps}
 use Rattle.qolb.proofs.Answered.{refused}
 use Rattle.qolb_script.specs.Watched.{inner_of}
-use Rattle.qolb.specs.Outcome.{IsRefused, status_of}
+use Rattle.qolb_run.specs.Outcome.{IsRefused}
+use Rattle.qolb.specs.Status.{status_of}
 use Rattle.qolb.proofs.serve.run.Goals as goal
 
 pub returns-in-Replay-clause-refused : goal.returns-in-Replay-clause-refused

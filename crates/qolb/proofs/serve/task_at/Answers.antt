@@ -3,7 +3,7 @@ use Rattle.std.specs.Str.{bytes_eq}
 use Rattle.clap.specs.Words.{first_of, found_of, rows_of}
 use Rattle.clap.proofs.WalkLemmas.{first_value-rows}
 use Rattle.qolb.specs.CommandLine.{kind_of_name}
-use Rattle.qolb.specs.declared.task.Task.TheVariants.{Replay, Steps}
+use Rattle.qolb_run.specs.declared.task.Task.TheVariants.{Replay, Steps}
 use Rattle.qolb.proofs.serve.task_at.Goals as goal
 
 pub returns-else-eq : goal.returns-else-eq

@@ -1,5 +1,0 @@
-use Rattle.qolb.proofs.StepsRun.{Reaches}
-use Rattle.qolb.proofs.steps.reply.Given as goal
-
-abbrev pub invariant-loop-event : goal.invariant-loop-event
-invariant-loop-event g l = Reaches l.fn.steps l.event-index l.core l.counts l.text.items

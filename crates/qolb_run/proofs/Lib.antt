@@ -1,0 +1,7 @@
+pub mod InTurn
+pub mod Allowed
+pub mod Tallying
+pub mod Replayed
+pub mod StepsRun
+pub mod Rounds
+pub mod Forcing

@@ -1,0 +1,5 @@
+pub mod Tallies
+pub mod Outcome
+pub mod StepRuns
+pub mod Stances
+pub mod Calls

@@ -1,0 +1,61 @@
+-- The run of a step script on the core of reversed links, and its reply. (Of this project.)
+use Rattle.std.specs.Prelude.{◌≡◌, ◌≤◌, ℕ, Bool, true, false, List, [], ◌∷◌, ◌++◌, length, map, count_by, Option, Some, None, Ok}
+use Rattle.std.specs.List.{range_with_len}
+use Rattle.line_lanes.specs.Line.{zeros}
+use Rattle.qolb_model.specs.declared.terms.Terms.{Terms}
+use Rattle.link_core.specs.declared.event.Event.{Event}
+use Rattle.link_core.specs.declared.told.Told.{Told}
+use Rattle.link_core.specs.declared.told.NotEnabled.{NotEnabled}
+use Rattle.link_core.specs.declared.point.Point.{Point}
+use Rattle.link_core.specs.declared.point.Point.TheVariants as point
+use Rattle.link_core.specs.declared.state.State.{State}
+use Rattle.link_core.specs.State.{first}
+use Rattle.link_core.specs.State as state
+use Rattle.link_core.specs.Steps.{Step, IsRefused}
+use Rattle.qolb_script.specs.Said.{said_text}
+use Rattle.qolb_script.specs.Reply.{text_of}
+use Rattle.qolb_script.specs.StepScript.{StepScript, steps_of}
+use Rattle.qolb_script.specs.StepReply.{step_said, step_summary}
+use Rattle.qolb_run.specs.declared.input.TheConstants.{MOST_BYTES}
+
+-- These events were made one after another, from the first core to the last. Each that was enabled told a word; one that was not is
+-- refused, tells none and changes nothing.
+pub data Tells (from : State) : List Event → List (Option Told) → State → Type 0 where
+  nothing : Tells from [] [] from
+  told : {events : List Event} {all : List (Option Told)} {before after : State} (event : Event) (what : Told) → Tells from events all before → Step before event what after → Tells from (events ++ event ∷ []) (all ++ Some what ∷ []) after
+  refused : {events : List Event} {all : List (Option Told)} {before : State} (event : Event) (why : NotEnabled) → Tells from events all before → IsRefused before event why → Tells from (events ++ event ∷ []) (all ++ None ∷ []) before
+
+-- a node at this point is in a call, waits or holds
+abbrev pub is_busy : Point → Bool
+is_busy point.Idle = false
+is_busy point.Ready = false
+is_busy point.Left = false
+is_busy point.Rolled = false
+is_busy point.Shut = false
+is_busy p = true
+
+-- how many of the first so many nodes are
+abbrev pub nodes_busy : ℕ → State → ℕ
+nodes_busy nodes c = count_by (λ n. is_busy (state.point c n)) (range_with_len 1 nodes)
+
+-- the reply: what each event told, and then the summary of the line
+abbrev pub step_text : List (Option Told) → State → List ℕ
+step_text all last = text_of (map step_said all) ++ said_text (step_summary (map step_said all) (nodes_busy last.nodes last))
+
+-- a step script has one line, which is opened with zeros, for the script's nodes and with its lease
+abbrev pub line_of : StepScript → Terms
+line_of script = record { nodes = script.nodes; opening = record { bytes = zeros }; lease = script.lease }
+
+-- the text is the reply of a run of the script
+pub record IsStepReply (script : StepScript) (text : List ℕ) : Type 0 where
+  pub all : List (Option Told)
+  pub last : State
+  pub runs : Tells (first (line_of script)) script.events all last
+  pub text_is : text ≡ step_text all last
+
+-- the bytes are a step script, and this is its reply
+pub record IsStepReplyTo (input text : List ℕ) : Type 0 where
+  pub fits : length input ≤ MOST_BYTES
+  pub script : StepScript
+  pub read : steps_of input ≡ Ok script
+  pub reply : IsStepReply script text

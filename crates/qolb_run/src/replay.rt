@@ -1,0 +1,212 @@
+//! Replays of schedules: what is said of each command, and then of each line.
+ghost use Rattle.std.specs.Prelude.{◌≡◌, ◌≢◌, ◌⊎◌, ◌↔◌, ℕ, List, length, ◌≤◌, true, false, Ok, Err, OnOk, IfOk, IfErr, IfSome};
+ghost use Rattle.std.specs.Io.KnownBytes.{Appends};
+ghost use Rattle.qolb_script.specs.Watched.{inner_of, has_failed};
+ghost use Rattle.qolb_script.specs.Reply.{terms_of, replay_start, reply_of, reply_to};
+ghost use Rattle.qolb_model.specs.Opening.{MayOpen};
+ghost use Rattle.qolb_model.specs.Plain.{PlainView, Agrees};
+ghost use Rattle.qolb_model.specs.OneOwner.{LineState};
+ghost use Rattle.qolb_model.specs.Whole.{Stance, AreWhole};
+ghost use Rattle.qolb_run.specs.Tallies.{AreLinesOf};
+ghost use Rattle.qolb_run.specs.declared.replay.ReplayError.TheVariants.{Memory, Write};
+ghost use Rattle.qolb_run.specs.declared.task.Task.TheVariants as task;
+ghost use Rattle.qolb_run.specs.Outcome.{IsReply, MayFail, as_replay_error, script_error};
+
+use crate::input::{InputError, read_all};
+use crate::line::ReplayLine;
+use crate::by_ports::PortedLine;
+use crate::tally::TalliedLine;
+use line_lanes::Line64;
+use qolb_model::{Free, PlainLine, Terms};
+use qolb_script::{Fault, Schedule, ScriptError, Watched, push_said, read_schedule};
+use ring_line::RingLine;
+use std::alloc::{AllocError, Allocator, Global};
+use std::io::{Read, Write};
+use thiserror::Error;
+
+/// What represents the lines of a replay.
+#[derive(Clone, Copy, Debug, PartialEq, Eq)]
+pub enum Kind {
+    /// The plain reference, with one owner.
+    Plain,
+    /// Rings, whose nodes call through ports of their own. The port that acts meets each other one before and after its call.
+    Ring,
+}
+
+/// Why a schedule could not be replayed.
+#[derive(Clone, Copy, Debug, PartialEq, Eq, Error)]
+pub enum ReplayError {
+    /// A growth of memory was refused.
+    #[error("out of memory")]
+    Memory,
+    /// The reader failed.
+    #[error("read fault")]
+    Read,
+    /// The input has more bytes than a script may have.
+    #[error("script too long")]
+    Long,
+    /// The input is no schedule.
+    #[error(transparent)]
+    Script(ScriptError),
+    /// The writer failed, or took no byte.
+    #[error("write fault")]
+    Write,
+}
+
+impl From<AllocError> for ReplayError {
+    ghost from_gives = { λ _ error. error ≡ Memory };
+
+    fn from(_error: AllocError) -> ReplayError {
+        ReplayError::Memory
+    }
+}
+
+impl From<InputError> for ReplayError {
+    ghost from_gives = { λ fault error. error ≡ as_replay_error fault };
+
+    fn from(error: InputError) -> ReplayError {
+        match error {
+            InputError::Memory => ReplayError::Memory,
+            InputError::Read => ReplayError::Read,
+            InputError::Long => ReplayError::Long,
+        }
+    }
+}
+
+impl From<ScriptError> for ReplayError {
+    ghost from_gives = { λ fault error. error ≡ script_error fault };
+
+    fn from(error: ScriptError) -> ReplayError {
+        match error {
+            ScriptError::Memory => ReplayError::Memory,
+            error => ReplayError::Script(error),
+        }
+    }
+}
+
+impl From<Fault> for ReplayError {
+    ghost from_gives = { λ _ error. error ≡ Write };
+
+    fn from(_fault: Fault) -> ReplayError {
+        ReplayError::Write
+    }
+}
+
+/// Replays the schedule that the reader gives, and writes its reply, which is the same for each kind.
+///
+/// The whole input is read first, and the reply is built whole before its first byte is written: with every error but `Write`
+/// nothing was written.
+pub fn run_schedule<R: Read, W: Write>(
+    alloc: Global,
+    reader: &mut Watched<R>,
+    writer: &mut Watched<W>,
+    kind: Kind,
+) -> Result<(), ReplayError>
+    ensures ok { OnOk result (IfSome (R.remaining (inner_of reader.old)) (λ input. (text : List ℕ) × IsReply input text × Appends (W.contents (inner_of writer.old)) (W.contents (inner_of writer.new)) text)) }
+    ensures refused { IfErr result (λ error. IfSome (R.remaining (inner_of reader.old)) (λ input. MayFail (task.Replay kind) input error)) }
+    ensures unwritten { IfErr result (λ error. error ≢ ReplayError.Write → writer.new ≡ writer.old) }
+    ensures read_fault { (result ≡ Err ReplayError.Read) ↔ (has_failed reader.new ≡ true) }
+    ensures write_fault { result ≡ Err ReplayError.Write → has_failed writer.new ≡ true }
+    ensures written { OnOk result (has_failed writer.new ≡ false) }
+    ensures memory { result ≢ Err (ReplayError.Script ScriptError.Memory) }
+{
+    let input = read_all(alloc, reader)?;
+    let text = answered(&alloc, alloc, input.as_slice(), kind)?;
+    writer.write_all(text.as_slice())?;
+    Ok(())
+}
+
+/// The reply of the schedule that the input is. Words and ports of rings lie in memory of `rings`, all else in memory of `alloc`.
+fn answered<'a, A: Allocator>(
+    alloc: &'a A,
+    rings: Global,
+    input: &[u8],
+    kind: Kind,
+) -> Result<Vec<u8, &'a A>, ReplayError>
+    ensures ok { IfOk result (λ text. reply_to input.now ≡ Ok text.items) }
+    ensures refused { IfErr result (λ error. (error ≡ ReplayError.Memory) ⊎ ((fault : ScriptError) × (error ≡ ReplayError.Script fault) × (reply_to input.now ≡ Err fault) × (fault ≢ ScriptError.Memory))) }
+{
+    let schedule = read_schedule(alloc, input)?;
+    let terms = Terms {
+        nodes: schedule.nodes(),
+        opening: Line64::zero(),
+        lease: schedule.lease(),
+    };
+    let text = match kind {
+        Kind::Plain => {
+            let lines = open_lines(alloc, &terms, schedule.lines())?;
+            reply(alloc, &schedule, lines)?
+        }
+        Kind::Ring => {
+            let lines = open_rings(alloc, rings, &terms, schedule.lines())?;
+            reply(alloc, &schedule, lines)?
+        }
+    };
+    Ok(text)
+}
+
+/// The reply of a schedule, by these lines, of which nothing was said yet.
+fn reply<A: Allocator, R: ReplayLine + Drop>(
+    alloc: A,
+    schedule: &Schedule<A>,
+    lines: Vec<TalliedLine<R>, A>,
+) -> Result<Vec<u8, A>, AllocError>
+    requires { AreLinesOf R.shows R.nodes_of schedule.now.nodes (replay_start (terms_of schedule.now) schedule.now.lines) lines.items }
+    ensures { IfOk result (λ text. text.items ≡ reply_of schedule.now) }
+{
+    let nodes = schedule.nodes();
+    let mut lines = lines;
+    let mut text = Vec::new(alloc);
+    for command in schedule.commands() {
+        let said = lines[command.line() as usize].take(command);
+        push_said(&mut text, &said)?;
+    }
+    for (number, line) in lines.iter().enumerate() {
+        push_said(&mut text, &line.summary(number as u64, nodes))?;
+    }
+    Ok(text)
+}
+
+/// Lines that are opened so, of which nothing was said.
+fn open_lines<A: Allocator>(
+    alloc: A,
+    terms: &Terms,
+    lines: u64,
+) -> Result<Vec<TalliedLine<PlainLine>, A>, AllocError>
+    requires bytes { length terms.now.opening.bytes ≡ 64 }
+    requires may_open { MayOpen terms.now }
+    ensures { IfOk result (λ all. AreLinesOf Agrees (λ (line : PlainView). line.nodes) terms.now.nodes (replay_start terms.now lines) all.items) }
+{
+    let mut all = Vec::with_capacity(alloc, lines as usize)?;
+    for _ in 0..lines {
+        let Ok(line) = PlainLine::with_terms(*terms) else {
+            unreachable!();
+        };
+        all.push(TalliedLine::new(line))?;
+    }
+    Ok(all)
+}
+
+/// Rings that are opened so, of which nothing was said.
+fn open_rings<A: Allocator>(
+    alloc: A,
+    rings: Global,
+    terms: &Terms,
+    lines: u64,
+) -> Result<Vec<TalliedLine<PortedLine<RingLine<Free>>>, A>, AllocError>
+    requires bytes { length terms.now.opening.bytes ≡ 64 }
+    requires may_open { MayOpen terms.now }
+    ensures { IfOk result (λ all. AreLinesOf (λ (ports : List Stance) (s : LineState). AreWhole s ports) (λ (ports : List Stance). length ports) terms.now.nodes (replay_start terms.now lines) all.items) }
+{
+    let mut all = Vec::with_capacity(alloc, lines as usize)?;
+    for number in 0..lines {
+        let Ok((ring, ports)) = RingLine::with_terms(rings, number, *terms) else {
+            return Err(AllocError);
+        };
+        all.push(TalliedLine::new(PortedLine::new(ring, ports)))?;
+    }
+    Ok(all)
+}
+
+#[cfg(test)]
+mod tests;
