@@ -1,0 +1,2 @@
+pub mod NewPorts
+pub mod Promises
