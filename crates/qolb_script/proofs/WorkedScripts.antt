@@ -8,6 +8,11 @@ use Rattle.link_core.specs.declared.told.Told.TheVariants as told
 use Rattle.qolb_script.specs.Reply.{reply_to, text_of}
 use Rattle.qolb_script.specs.StepScript.{steps_of}
 use Rattle.qolb_script.specs.StepReply.{step_said, step_summary}
+use Rattle.qolb_script.specs.declared.job.Job.TheVariants.{Put, Take, PayIn, PayOut, Move}
+use Rattle.qolb_script.specs.declared.job.WorkKind.TheVariants.{Board, Bank}
+use Rattle.qolb_script.specs.declared.report.Report.TheVariants as report
+use Rattle.qolb_script.specs.WorkScript.{work_of}
+use Rattle.qolb_script.specs.Reports.{report_text}
 
 no_commands : reply_to (codes "nodes 1 lines 1\n") ≡ Ok (codes "line 0 served 0 withdrawn 0 told 0 left 0\n")
 unfolding digits
@@ -119,3 +124,24 @@ said_of_steps = refl
 summary_of_steps : text_of (step_summary (map step_said (Some told.Went ∷ Some told.Granted ∷ Some told.Shut ∷ None ∷ Some told.Closed ∷ Some told.Withdrawn ∷ Some told.Released ∷ [])) 3 ∷ []) ≡ codes "line 0 served 2 withdrawn 1 told 1 left 3\n"
 unfolding digits
 summary_of_steps = refl
+
+-- work scripts: jobs in order, and first faults
+work_on_a_board : work_of Board (codes "board workers 2\n2 put 5\n\n1 take\n") ≡ Ok (record { kind = Board; workers = 2; lines = 1; jobs = Put 2 5 ∷ Take 1 ∷ [] })
+work_on_a_board = refl
+
+work_at_a_bank : work_of Bank (codes "bank workers 1 lines 2\n1 in 0 10\n1 move 0 9 4\n1 out 9 9\n") ≡ Ok (record { kind = Bank; workers = 1; lines = 2; jobs = PayIn 1 0 10 ∷ Move 1 0 9 4 ∷ PayOut 1 9 9 ∷ [] })
+work_at_a_bank = refl
+
+no_such_account : work_of Bank (codes "bank workers 1 lines 1\n1 in 8 1\n") ≡ Err (Number 2)
+no_such_account = refl
+
+-- an unknown job is bad whatever its worker
+unknown_job_first : work_of Board (codes "board workers 1\n2 give\n") ≡ Err (BadLine 2)
+unknown_job_first = refl
+
+no_work_of_this_kind : work_of Board (codes "bank workers 1 lines 1\n") ≡ Err (BadLine 1)
+no_work_of_this_kind = refl
+
+report_of_a_bank : report_text (report.Bank 10 1 9) ≡ codes "in 10\nout 1\ntotal 9\n"
+unfolding digits
+report_of_a_bank = refl

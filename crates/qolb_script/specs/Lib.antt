@@ -18,3 +18,6 @@ pub mod Watched
 pub mod Events
 pub mod StepScript
 pub mod StepReply
+pub mod Jobs
+pub mod WorkScript
+pub mod Reports

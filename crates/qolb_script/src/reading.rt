@@ -27,7 +27,7 @@ pub const WRITE: &[u8] = b"write";
 pub const NODES: &[u8] = b"nodes";
 
 /// The word of a header before its number of lines.
-const LINES: &[u8] = b"lines";
+pub const LINES: &[u8] = b"lines";
 
 /// The word of a header before its lease.
 pub const LEASE: &[u8] = b"lease";
@@ -105,7 +105,7 @@ pub fn read_header(line: &[u8]) -> Result<Header, LineFault>
 }
 
 /// The numbers of nodes and of lines.
-fn read_sizes(nodes: &[u8], lines: &[u8]) -> Result<(u64, u64), LineFault>
+pub fn read_sizes(nodes: &[u8], lines: &[u8]) -> Result<(u64, u64), LineFault>
     ensures sizes { result ≡ spec.sizes_of nodes.now lines.now }
     ensures nodes { IfOk result (λ sizes. AreNodes sizes.0) }
     ensures lines { IfOk result (λ sizes. (1 ≤ sizes.1) × (sizes.1 ≤ MOST_LINES)) }

@@ -1,0 +1,273 @@
+//! Reading the header and the jobs of a work script.
+ghost use Rattle.std.specs.Prelude.{◌≡◌, ◌≤◌, ◌<◌, ◌*◌, IfOk};
+ghost use Rattle.qolb_model.specs.Opening.{AreNodes};
+ghost use Rattle.qolb_script.specs.Commands.{read_line, sizes_of};
+ghost use Rattle.qolb_script.specs.Jobs as spec;
+ghost use Rattle.qolb_script.specs.declared.schedule.TheConstants.{MOST_LINES};
+
+use crate::items::ReadItem;
+use crate::job::{ACCOUNTS_A_LINE, Job, WorkKind};
+use crate::number::number_within;
+use crate::reading::{LINES, node_within, read_sizes};
+use crate::schedule::MOST_LINES;
+use crate::text::{LineFault, is_plain_line};
+use crate::words::Words;
+use qolb_model::MOST_NODES;
+
+/// The words of headers.
+const BOARD: &[u8] = b"board";
+
+const BANK: &[u8] = b"bank";
+
+const WORKERS: &[u8] = b"workers";
+
+/// The second words of jobs.
+const PUT: &[u8] = b"put";
+
+const TAKE: &[u8] = b"take";
+
+const PAY_IN: &[u8] = b"in";
+
+const PAY_OUT: &[u8] = b"out";
+
+const MOVE: &[u8] = b"move";
+
+/// What the header of a work script says. A board has one line.
+#[derive(Clone, Copy)]
+pub struct WorkHeader {
+    pub workers: u64,
+    pub lines: u64,
+}
+
+/// Reads the jobs below a header of these numbers, in work of this kind.
+#[derive(Drop)]
+pub struct JobReader {
+    pub kind: WorkKind,
+    pub workers: u64,
+    pub lines: u64,
+    ghost some_line: { 1 ≤ lines },
+    ghost few_lines: { lines ≤ MOST_LINES },
+}
+
+impl ReadItem for JobReader {
+    type Item = Job;
+
+    ghost item_of = { λ r. spec.job_of r.kind r.workers r.lines };
+
+    ghost in_range = { λ r job. (1 ≤ spec.worker_of job) × (spec.worker_of job ≤ r.workers) × spec.IsOfKind r.kind r.lines job };
+
+    fn read_item(&self, line: &[u8]) -> Result<Job, LineFault> {
+        match self.kind {
+            WorkKind::Board => read_board_job(self.workers, line),
+            WorkKind::Bank => read_bank_job(self.workers, self.lines, line),
+        }
+    }
+}
+
+/// What the header line of a work script of this kind gives.
+pub fn read_work_header(kind: WorkKind, text: &[u8]) -> Result<WorkHeader, LineFault>
+    ensures header { result ≡ read_line (spec.work_header_of kind) text.now }
+    ensures workers { IfOk result (λ header. AreNodes header.workers) }
+    ensures lines { IfOk result (λ header. (1 ≤ header.lines) × (header.lines ≤ MOST_LINES)) }
+    ensures one { IfOk result (λ header. kind ≡ WorkKind.Board → header.lines ≡ 1) }
+{
+    match kind {
+        WorkKind::Board => read_board_header(text),
+        WorkKind::Bank => read_bank_header(text),
+    }
+}
+
+/// The header of a board's work.
+fn read_board_header(text: &[u8]) -> Result<WorkHeader, LineFault>
+    ensures header { result ≡ read_line spec.board_header text.now }
+    ensures workers { IfOk result (λ header. AreNodes header.workers) }
+    ensures one { IfOk result (λ header. header.lines ≡ 1) }
+{
+    if !is_plain_line(text) {
+        return Err(LineFault::Bad);
+    }
+    let mut words = Words::new(text);
+    match (words.next(), words.next(), words.next(), words.next()) {
+        (Some(first), Some(second), Some(workers), None) if first == BOARD && second == WORKERS =>
+            Ok(WorkHeader {
+                workers: number_within(1, MOST_NODES, workers)?,
+                lines: 1,
+            }),
+        _ => Err(LineFault::Bad),
+    }
+}
+
+/// The header of a bank's work.
+fn read_bank_header(text: &[u8]) -> Result<WorkHeader, LineFault>
+    ensures header { result ≡ read_line spec.bank_header text.now }
+    ensures workers { IfOk result (λ header. AreNodes header.workers) }
+    ensures lines { IfOk result (λ header. (1 ≤ header.lines) × (header.lines ≤ MOST_LINES)) }
+{
+    if !is_plain_line(text) {
+        return Err(LineFault::Bad);
+    }
+    let mut words = Words::new(text);
+    let (Some(first), Some(second), Some(workers), Some(fourth), Some(lines), None) = (
+        words.next(),
+        words.next(),
+        words.next(),
+        words.next(),
+        words.next(),
+        words.next(),
+    ) else {
+        return Err(LineFault::Bad);
+    };
+    if first != BANK || second != WORKERS || fourth != LINES {
+        return Err(LineFault::Bad);
+    }
+    let (workers, lines) = read_sizes(workers, lines)?;
+    Ok(WorkHeader { workers, lines })
+}
+
+/// The job that a line writes on a board.
+fn read_board_job(workers: u64, text: &[u8]) -> Result<Job, LineFault>
+    ensures job { result ≡ read_line (spec.board_job workers) text.now }
+    ensures range { IfOk result (λ job. (1 ≤ spec.worker_of job) × (spec.worker_of job ≤ workers) × spec.IsOfKind WorkKind.Board 1 job) }
+{
+    if !is_plain_line(text) {
+        return Err(LineFault::Bad);
+    }
+    let mut words = Words::new(text);
+    let (Some(worker), Some(verb)) = (words.next(), words.next()) else {
+        return Err(LineFault::Bad);
+    };
+    match (words.next(), words.next()) {
+        (None, _) if verb == TAKE => Ok(Job::Take {
+            worker: node_within(workers, worker)?,
+        }),
+        (Some(task), None) if verb == PUT => Ok(Job::Put {
+            worker: node_within(workers, worker)?,
+            task: any_number(task)?,
+        }),
+        _ => Err(LineFault::Bad),
+    }
+}
+
+/// The job that a line writes at a bank of so many lines.
+fn read_bank_job(workers: u64, lines: u64, text: &[u8]) -> Result<Job, LineFault>
+    requires some { 1 ≤ lines }
+    requires few { lines ≤ MOST_LINES }
+    ensures job { result ≡ read_line (spec.bank_job workers lines) text.now }
+    ensures range { IfOk result (λ job. (1 ≤ spec.worker_of job) × (spec.worker_of job ≤ workers) × spec.IsOfKind WorkKind.Bank lines job) }
+{
+    if !is_plain_line(text) {
+        return Err(LineFault::Bad);
+    }
+    let mut words = Words::new(text);
+    let (Some(worker), Some(verb), Some(third), Some(fourth)) = (
+        words.next(),
+        words.next(),
+        words.next(),
+        words.next(),
+    ) else {
+        return Err(LineFault::Bad);
+    };
+    match (words.next(), words.next()) {
+        (None, _) => read_payment_job(workers, lines, verb, worker, third, fourth),
+        (Some(fifth), None) if verb == MOVE => read_move_job(
+            workers, lines, worker, third, fourth, fifth,
+        ),
+        _ => Err(LineFault::Bad),
+    }
+}
+
+/// The payment that a second word names.
+fn read_payment_job(
+    workers: u64,
+    lines: u64,
+    verb: &[u8],
+    worker: &[u8],
+    account: &[u8],
+    amount: &[u8],
+) -> Result<Job, LineFault>
+    requires some { 1 ≤ lines }
+    requires few { lines ≤ MOST_LINES }
+    ensures job { result ≡ spec.payment_job workers lines verb.now worker.now account.now amount.now }
+    ensures range { IfOk result (λ job. (1 ≤ spec.worker_of job) × (spec.worker_of job ≤ workers) × spec.IsOfKind WorkKind.Bank lines job) }
+{
+    let payment = read_payment(workers, lines, worker, account, amount);
+    if verb == PAY_IN {
+        let (worker, account, amount) = payment?;
+        Ok(Job::PayIn {
+            worker,
+            account,
+            amount,
+        })
+    } else if verb == PAY_OUT {
+        let (worker, account, amount) = payment?;
+        Ok(Job::PayOut {
+            worker,
+            account,
+            amount,
+        })
+    } else {
+        Err(LineFault::Bad)
+    }
+}
+
+/// The worker, the account and the amount of a payment.
+fn read_payment(
+    workers: u64,
+    lines: u64,
+    worker: &[u8],
+    account: &[u8],
+    amount: &[u8],
+) -> Result<(u64, u64, u64), LineFault>
+    requires some { 1 ≤ lines }
+    requires few { lines ≤ MOST_LINES }
+    ensures payment { result ≡ spec.payment_of workers lines worker.now account.now amount.now }
+    ensures range { IfOk result (λ p. (1 ≤ p.0) × (p.0 ≤ workers) × (p.1 < ACCOUNTS_A_LINE * lines)) }
+{
+    let worker = node_within(workers, worker)?;
+    let account = account_within(lines, account)?;
+    let amount = any_number(amount)?;
+    Ok((worker, account, amount))
+}
+
+/// The move of an amount from one account to another.
+fn read_move_job(
+    workers: u64,
+    lines: u64,
+    worker: &[u8],
+    source: &[u8],
+    target: &[u8],
+    amount: &[u8],
+) -> Result<Job, LineFault>
+    requires some { 1 ≤ lines }
+    requires few { lines ≤ MOST_LINES }
+    ensures job { result ≡ spec.move_job workers lines worker.now source.now target.now amount.now }
+    ensures range { IfOk result (λ job. (1 ≤ spec.worker_of job) × (spec.worker_of job ≤ workers) × spec.IsOfKind WorkKind.Bank lines job) }
+{
+    let worker = node_within(workers, worker)?;
+    let source = account_within(lines, source)?;
+    let target = account_within(lines, target)?;
+    let amount = any_number(amount)?;
+    Ok(Job::Move {
+        worker,
+        source,
+        target,
+        amount,
+    })
+}
+
+/// The number that a word writes, whatever it is.
+fn any_number(word: &[u8]) -> Result<u64, LineFault>
+    ensures { result ≡ spec.any_number word.now }
+{
+    number_within(0, u64::MAX, word)
+}
+
+/// The account that a word writes, of those that so many lines have.
+fn account_within(lines: u64, word: &[u8]) -> Result<u64, LineFault>
+    requires some { 1 ≤ lines }
+    requires few { lines ≤ MOST_LINES }
+    ensures account { result ≡ spec.account_within lines word.now }
+    ensures range { IfOk result (λ a. a < ACCOUNTS_A_LINE * lines) }
+{
+    number_within(0, ACCOUNTS_A_LINE * lines - 1, word)
+}

@@ -1,0 +1,105 @@
+//! Work scripts: what workers do on a board or at a bank.
+ghost use Rattle.std.specs.Prelude.{◌≡◌, ◌≢◌, IfOk, IfErr};
+ghost use Rattle.qolb_script.specs.WorkScript.{work_of};
+
+use crate::error::ScriptError;
+use crate::items::read_items;
+use crate::job::{Job, WorkKind};
+use crate::job_reader::{JobReader, WorkHeader, read_work_header};
+use crate::lines::Lines;
+use crate::schedule::MOST_LINES;
+use std::alloc::{Allocator, Global};
+use std::marker::Model;
+
+/// A work script that was read: its kind, the header's numbers, and the jobs in order. Nothing but `read_work` makes one.
+#[derive(Drop)]
+pub struct Work<A: Allocator = Global> {
+    kind: WorkKind,
+    workers: u64,
+    lines: u64,
+    jobs: Vec<Job, A>,
+}
+
+impl<A: Allocator> Model for Work<A> {
+    ghost use Rattle.qolb_script.specs.WorkScript.{WorkScript};
+    ghost use Rattle.qolb_script.specs.Ranges.{IsWorkBounded};
+
+    ghost Value = { WorkScript };
+
+    ghost view = { λ w. record { kind = w.kind; workers = w.workers; lines = w.lines; jobs = w.jobs.items } };
+
+    ghost invariant = { λ w. IsWorkBounded (record { kind = w.kind; workers = w.workers; lines = w.lines; jobs = w.jobs.items }) };
+}
+
+impl<A: Allocator> Work<A> {
+    ghost use Rattle.std.specs.Prelude.{◌≡◌, ◌≤◌, length};
+    ghost use Rattle.qolb_script.specs.declared.schedule.TheConstants.{MOST_COMMANDS};
+    ghost use Rattle.qolb_model.specs.Opening.{AreNodes};
+    ghost use Rattle.qolb_script.specs.WorkScript.{AreOfIts};
+
+    /// What the workers share.
+    pub fn kind(&self) -> WorkKind
+        ensures { result ≡ self.now.kind }
+    {
+        self.kind
+    }
+
+    /// How many workers there are.
+    pub fn workers(&self) -> u64
+        ensures workers { result ≡ self.now.workers }
+        ensures range { AreNodes result }
+    {
+        self.workers
+    }
+
+    /// How many lines there are: one for a board.
+    pub fn lines(&self) -> u64
+        ensures lines { result ≡ self.now.lines }
+        ensures range { (1 ≤ result) × (result ≤ MOST_LINES) }
+        ensures one { self.now.kind ≡ WorkKind.Board → result ≡ 1 }
+    {
+        self.lines
+    }
+
+    /// The jobs, in order.
+    pub fn jobs(&self) -> &[Job]
+        ensures jobs { result.now ≡ self.now.jobs }
+        ensures range { AreOfIts self.now }
+        ensures most { length result.now ≤ MOST_COMMANDS }
+    {
+        &self.jobs
+    }
+}
+
+/// Reads a work script of this kind. The first faulty line decides what is refused; `Memory` where a growth was refused.
+pub fn read_work<A: Allocator>(
+    alloc: A,
+    text: &[u8],
+    kind: WorkKind,
+) -> Result<Work<A>, ScriptError>
+    ensures ok { IfOk result (λ work. work_of kind text.now ≡ Ok work) }
+    ensures refused { IfErr result (λ error. error ≢ ScriptError.Memory → work_of kind text.now ≡ Err error) }
+{
+    let mut rest = Lines::new(text);
+    let Some((number, line)) = rest.next() else {
+        return Err(ScriptError::BadLine(1));
+    };
+    let WorkHeader { workers, lines } = read_work_header(kind, line).map_err(|fault| fault.at(
+        number,
+    ))?;
+    let reader = JobReader {
+        kind,
+        workers,
+        lines,
+    };
+    let jobs = read_items(alloc, &reader, rest)?;
+    Ok(Work {
+        kind,
+        workers,
+        lines,
+        jobs,
+    })
+}
+
+#[cfg(test)]
+mod tests;
