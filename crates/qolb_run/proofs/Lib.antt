@@ -5,3 +5,4 @@ pub mod Replayed
 pub mod StepsRun
 pub mod Rounds
 pub mod Forcing
+pub mod Acquiring

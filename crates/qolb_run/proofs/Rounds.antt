@@ -6,7 +6,6 @@ use Rattle.qolb_model.specs.declared.view.View.{View}
 use Rattle.qolb_model.specs.declared.write.Write.{Write}
 use Rattle.qolb_model.specs.Rounds.{Meet, MeetsEach, nobody, another}
 use Rattle.qolb_model.proofs.Lists.{take_with}
-use Rattle.qolb_run.specs.Calls.{all_allowed}
 use Rattle.qolb_run.specs.Stances.{stance_of}
 
 pub get_of : {X : Type 0} (xs : List X) (i : ℕ) (d : X) → i < length xs → slice_get xs i ≡ Some (get_or xs i d)
@@ -43,20 +42,20 @@ all_set P xs i x all is = λ k d lt.
     ]
 
 -- so far the port has met the first ones
-pub record Round {P : Type 0} (belongs : P → Type 0) (view : P → View) (turn : P → Write) (first : P) (others : List P) (i : ℕ) (port : P) (now : List P) : Type 0 where
+pub record Round {P : Type 0} (allows : List ℕ → List ℕ → Type 0) (belongs : P → Type 0) (view : P → View) (turn : P → Write) (first : P) (others : List P) (i : ℕ) (port : P) (now : List P) : Type 0 where
   pub of_line : belongs port
   pub all : All belongs now
   pub many : length now ≡ length others
   pub left : drop i now ≡ drop i others
-  pub meets : MeetsEach all_allowed (stance_of view turn first) (map (stance_of view turn) (take i others)) (stance_of view turn port) (map (stance_of view turn) (take i now))
+  pub meets : MeetsEach allows (stance_of view turn first) (map (stance_of view turn) (take i others)) (stance_of view turn port) (map (stance_of view turn) (take i now))
 
-module _ {P : Type 0} (belongs : P → Type 0) (view : P → View) (turn : P → Write) where
-  pub round_start : (port : P) (others : List P) → belongs port → All belongs others → Round belongs view turn port others 0 port others
+module _ {P : Type 0} (allows : List ℕ → List ℕ → Type 0) (belongs : P → Type 0) (view : P → View) (turn : P → Write) where
+  pub round_start : (port : P) (others : List P) → belongs port → All belongs others → Round allows belongs view turn port others 0 port others
   round_start port others of_line all = record { of_line = of_line; all = all; many = refl; left = refl; meets = nobody }
 
-  pub round_step : (first : P) (others : List P) (i : ℕ) (port : P) (now : List P) (d port_then other_then : P) → Round belongs view turn first others i port now → i < length now
-      → belongs port_then → belongs other_then → Meet all_allowed (stance_of view turn port) (stance_of view turn (get_or now i d)) (stance_of view turn port_then) (stance_of view turn other_then)
-      → Round belongs view turn first others (i + 1) port_then (set now i other_then)
+  pub round_step : (first : P) (others : List P) (i : ℕ) (port : P) (now : List P) (d port_then other_then : P) → Round allows belongs view turn first others i port now → i < length now
+      → belongs port_then → belongs other_then → Meet allows (stance_of view turn port) (stance_of view turn (get_or now i d)) (stance_of view turn port_then) (stance_of view turn other_then)
+      → Round allows belongs view turn first others (i + 1) port_then (set now i other_then)
   round_step first others i port now d port_then other_then r lt of_port of_other meet =
       let other : P = get_or now i d in
       let next : suc i ≡ i + 1 = omega arith in
@@ -67,17 +66,17 @@ module _ {P : Type 0} (belongs : P → Type 0) (view : P → View) (turn : P →
         all = all_set belongs now i other_then r.all of_other;
         many = length-set now i other_then ∙ r.many;
         left = subst (λ n. drop n (set now i other_then) ≡ drop n others) next (set_drop now i other_then ∙ (drop_one now i ∙ (ap (drop 1) r.left ∙ sym (drop_one others i))));
-        meets = subst (λ n. MeetsEach all_allowed (stance_of view turn first) (map (stance_of view turn) (take n others)) (stance_of view turn port_then) (map (stance_of view turn) (take n (set now i other_then)))) next
-            (subst (λ xs. MeetsEach all_allowed (stance_of view turn first) xs (stance_of view turn port_then) (map (stance_of view turn) (take (suc i) (set now i other_then))))
+        meets = subst (λ n. MeetsEach allows (stance_of view turn first) (map (stance_of view turn) (take n others)) (stance_of view turn port_then) (map (stance_of view turn) (take n (set now i other_then)))) next
+            (subst (λ xs. MeetsEach allows (stance_of view turn first) xs (stance_of view turn port_then) (map (stance_of view turn) (take (suc i) (set now i other_then))))
             (sym (ap (map (stance_of view turn)) (take_with others i other there) ∙ map-append (stance_of view turn) (take i others) (other ∷ [])))
-            (subst (λ ys. MeetsEach all_allowed (stance_of view turn first) (map (stance_of view turn) (take i others) ++ stance_of view turn other ∷ []) (stance_of view turn port_then) ys)
+            (subst (λ ys. MeetsEach allows (stance_of view turn first) (map (stance_of view turn) (take i others) ++ stance_of view turn other ∷ []) (stance_of view turn port_then) ys)
             (sym (ap (map (stance_of view turn)) (set_take now i other_then lt) ∙ map-append (stance_of view turn) (take i now) (other_then ∷ [])))
             (another (stance_of view turn (get_or now i d)) (stance_of view turn port_then) (stance_of view turn other_then) r.meets meet)));
       }
 
-  pub round_end : (first : P) (others : List P) (i : ℕ) (port : P) (now : List P) → Round belongs view turn first others i port now → length now ≤ i
-      → MeetsEach all_allowed (stance_of view turn first) (map (stance_of view turn) others) (stance_of view turn port) (map (stance_of view turn) now)
+  pub round_end : (first : P) (others : List P) (i : ℕ) (port : P) (now : List P) → Round allows belongs view turn first others i port now → length now ≤ i
+      → MeetsEach allows (stance_of view turn first) (map (stance_of view turn) others) (stance_of view turn port) (map (stance_of view turn) now)
   round_end first others i port now r le =
       let e = r.many in
-      subst (λ xs. MeetsEach all_allowed (stance_of view turn first) (map (stance_of view turn) xs) (stance_of view turn port) (map (stance_of view turn) now)) (take_all i others (omega arith))
-      (subst (λ xs. MeetsEach all_allowed (stance_of view turn first) (map (stance_of view turn) (take i others)) (stance_of view turn port) (map (stance_of view turn) xs)) (take_all i now le) r.meets)
+      subst (λ xs. MeetsEach allows (stance_of view turn first) (map (stance_of view turn) xs) (stance_of view turn port) (map (stance_of view turn) now)) (take_all i others (omega arith))
+      (subst (λ xs. MeetsEach allows (stance_of view turn first) (map (stance_of view turn) (take i others)) (stance_of view turn port) (map (stance_of view turn) xs)) (take_all i now le) r.meets)

@@ -3,3 +3,4 @@ pub mod Outcome
 pub mod StepRuns
 pub mod Stances
 pub mod Calls
+pub mod Acquiring

@@ -3,12 +3,12 @@ ghost use Rattle.std.specs.Prelude.{◌≡◌, ◌<◌, ◌≤◌, length, map, 
 ghost use Rattle.qolb_model.specs.OneOwner.{opened};
 ghost use Rattle.qolb_model.specs.Opening.{AreNew, MayOpen};
 ghost use Rattle.qolb_model.specs.Whole.{AreWhole};
-ghost use Rattle.qolb_model.specs.Rounds.{MeetsEach, MeetsOthers};
 ghost use Rattle.qolb_script.specs.Commands.{node_of};
 ghost use Rattle.qolb_run.specs.Stances.{stance_of};
-ghost use Rattle.qolb_run.specs.Calls.{Calls, AnswersByPort, all_allowed};
+ghost use Rattle.qolb_run.specs.Calls.{Calls, AnswersByPort};
 
 use crate::line::{ReplayLine, allows};
+use crate::meetings::meet_others;
 use qolb_model::{Free, LineSync, PortState};
 use qolb_script::{Command, Said};
 use std::marker::Model;
@@ -115,32 +115,5 @@ fn call<L: LineSync<Free>>(line: &L, port: &mut L::Port, command: &Command) -> S
             line.shut(port);
             Said::Shut
         }
-    }
-}
-
-/// The port meets each of the others.
-fn meet_each<L: LineSync<Free>>(line: &L, port: &mut L::Port, others: &mut [L::Port])
-    requires belongs { L.belongs line.now port.old }
-    requires belong { All (L.belongs line.now) others.old }
-    ensures belongs { L.belongs line.now port.new }
-    ensures belong { All (L.belongs line.now) others.new }
-    ensures meets { MeetsEach all_allowed (stance_of L.view L.turn port.old) (map (stance_of L.view L.turn) others.old) (stance_of L.view L.turn port.new) (map (stance_of L.view L.turn) others.new) }
-{
-    for other in others.iter_mut() {
-        line.meet(port, other);
-    }
-}
-
-/// The port at the place meets each other port.
-fn meet_others<L: LineSync<Free>>(line: &L, ports: &mut [L::Port], place: usize)
-    requires place { place < length ports.old }
-    requires belong { All (L.belongs line.now) ports.old }
-    ensures belong { All (L.belongs line.now) ports.new }
-    ensures meets { MeetsOthers all_allowed place (map (stance_of L.view L.turn) ports.old) (map (stance_of L.view L.turn) ports.new) }
-{
-    let (before, rest) = ports.split_at_mut(place);
-    if let Some((port, behind)) = rest.split_first_mut() {
-        meet_each(line, port, before);
-        meet_each(line, port, behind);
     }
 }

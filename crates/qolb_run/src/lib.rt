@@ -1,16 +1,20 @@
-//! Runs over queued lines: replays of scripts.
+//! Runs over queued lines: waiting for a line, and replays of scripts.
 #![tactic(auto)]
 
 mod by_ports;
 mod input;
 mod line;
+mod meetings;
 mod plain;
 mod replay;
 mod steps;
 mod tally;
 mod task;
+mod waiting;
 
 pub use input::{InputError, MOST_BYTES, read_all};
+pub use meetings::meet_all;
 pub use replay::{Kind, ReplayError, run_schedule};
 pub use steps::run_steps;
 pub use task::Task;
+pub use waiting::{Got, acquire};

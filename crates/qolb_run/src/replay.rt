@@ -12,9 +12,9 @@ ghost use Rattle.qolb_run.specs.declared.replay.ReplayError.TheVariants.{Memory,
 ghost use Rattle.qolb_run.specs.declared.task.Task.TheVariants as task;
 ghost use Rattle.qolb_run.specs.Outcome.{IsReply, MayFail, as_replay_error, script_error};
 
+use crate::by_ports::PortedLine;
 use crate::input::{InputError, read_all};
 use crate::line::ReplayLine;
-use crate::by_ports::PortedLine;
 use crate::tally::TalliedLine;
 use line_lanes::Line64;
 use qolb_model::{Free, PlainLine, Terms};

@@ -1,4 +1,4 @@
-use Rattle.std.proofs.Common.{arith, ◌≡◌, ℕ, List, ◌+◌, length, refl, sym, ap, ◌∙◌, subst, length-append}
+use Rattle.std.proofs.Common.{arith, ◌≡◌, ℕ, ◌+◌, length, sym, ap, ◌∙◌, subst, length-append}
 use Rattle.qolb_model.specs.OneOwner.{opened}
 use Rattle.qolb_model.specs.Plain.{PlainView, Agrees}
 use Rattle.qolb_script.specs.Reply.{replay_start}

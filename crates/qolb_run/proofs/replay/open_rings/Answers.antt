@@ -1,7 +1,7 @@
-use Rattle.std.proofs.Common.{◌≡◌, ℕ, List, ◌+◌, length, refl, sym, ap, ◌∙◌, subst, length-append}
+use Rattle.std.proofs.Common.{◌≡◌, ℕ, List, ◌+◌, length, sym, ap, ◌∙◌, subst, length-append}
 use Rattle.qolb_model.specs.declared.terms.Terms.{Terms}
 use Rattle.qolb_model.specs.OneOwner.{LineState, opened}
-use Rattle.qolb_model.specs.Opening.{MayOpen, AreNew}
+use Rattle.qolb_model.specs.Opening.{MayOpen}
 use Rattle.qolb_model.specs.Whole.{Stance, AreWhole}
 use Rattle.qolb_script.specs.Reply.{replay_start}
 use Rattle.qolb_run.specs.Tallies.{AreLinesOf}

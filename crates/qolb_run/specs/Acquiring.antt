@@ -1,0 +1,18 @@
+-- Waiting for a line: what holds once the wait has ended. (Of this project.)
+use Rattle.std.specs.Prelude.{◌≡◌, ℕ, List}
+use Rattle.qolb_model.specs.declared.write.Write.{Write}
+use Rattle.qolb_model.specs.declared.view.View.{View}
+use Rattle.qolb_model.specs.Sound.{Continues}
+use Rattle.qolb_model.specs.Asking.{Asks, IsJoined}
+use Rattle.qolb_model.specs.Turns.{IsGranted}
+use Rattle.qolb_model.specs.LettingGo.{IsTold}
+use Rattle.qolb_run.specs.declared.waiting.Got.{Got}
+use Rattle.qolb_run.specs.declared.waiting.Got.TheVariants.{Granted, Closed}
+
+-- the port made one request, which was granted, or told that the line is closed
+pub record Acquires (allows : List ℕ → List ℕ → Type 0) (old new : View) (turn : Write) (got : Got) : Type 0 where
+  pub continues : Continues allows old new
+  pub asks : Asks old new
+  pub joined : IsJoined new
+  pub granted : got ≡ Granted → IsGranted new turn
+  pub told : got ≡ Closed → IsTold new
