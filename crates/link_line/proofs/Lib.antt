@@ -1,0 +1,3 @@
+pub mod Packed
+pub mod Lists
+pub mod Histories

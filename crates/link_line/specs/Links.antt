@@ -211,7 +211,7 @@ pub record IsFreed (c : Core) (order : List Request) (r : Request) : Type 0 wher
   pub rolled : point c r.node ≡ Rolled
   pub freed : (entry c r.node).freed ≡ true
 
-module _ (good : List ℕ → Type 0) (allows : List ℕ → List ℕ → Type 0) (about : Setup) where
+module _ (allows : List ℕ → List ℕ → Type 0) (about : Setup) where
   -- what holds of the past alone
   pub record PastOk (x : Past) : Type 0 where
     pub entries : length x.core.entries ≡ PLACES
@@ -219,18 +219,19 @@ module _ (good : List ℕ → Type 0) (allows : List ℕ → List ℕ → Type 0
     pub shown : Shows about.terms x.core x.queue
     pub cleared : Clears x.queue.order (length x.queue.ends) [] x.queue.clear
     pub kept : AreAllowed allows about.terms.opening.bytes x.queue.ends
-    pub sound : good (bytes_after about.terms.opening.bytes x.queue.ends)
     pub lawful : (n : ℕ) → IsNode x.core n → MayServe (seat x.core n) → allows (bytes_after about.terms.opening.bytes x.queue.ends) x.core.bytes.bytes
     pub joined : (r : Request) → Has x.joined r → Has x.queue.order r
     pub unjoined : (n q : ℕ) → IsNode x.core n → point x.core n ≡ Linking q → Lacks x.joined (last_of n x.queue.order)
     pub freed : (r : Request) → Has x.early r ⊎ Has x.late r → Has x.queue.clear r ⊎ IsFreed x.core x.queue.order r
 
+module _ (good : List ℕ → Type 0) (allows : List ℕ → List ℕ → Type 0) (about : Setup) where
   pub record LinkRule (s : State Parcel (List Known)) : Type 0 where
     pub past : Past
     pub who : ℕ → Known
     pub owner : ℕ → ℕ × ℕ
     pub may_open : MayOpen about.terms
-    pub fine : PastOk past
+    pub opened_good : good about.terms.opening.bytes
+    pub fine : PastOk allows about past
     pub laid : Laid past.core s.words s.homes
     pub each : (n : ℕ) → 0 < n → n ≤ about.terms.nodes → NodeOk about past n (who n)
     pub members : (j i : ℕ) (es : List Known) (e : Known) → get_elem? s.views j ≡ some es → At es i e → Member about.terms.nodes who owner j i e
