@@ -1,9 +1,11 @@
 use Rattle.std.proofs.Common.{rules, ◌≡◌, ◌≢◌, ◌+◌, ◌∙◌}
 use Rattle.qolb_model.specs.declared.answer.PortState.TheVariants as shows
+use Rattle.qolb_model.proofs.Going.{joined_goes}
 use Rattle.ring_line.specs.Steps.{entry_of}
-use Rattle.ring_line.proofs.Turning.{goes_trans, joined_goes}
+use Rattle.ring_line.proofs.Turning.{goes_trans}
 use Rattle.qolb_model.proofs.Agreeing.{extends_trans}
-use Rattle.ring_line.proofs.Calling.{call_continues, call_belongs, asking_asks, early_waits, granted_of, told_of, is_busy, enqueues_busy, enqueues_queued, enqueues_granted, enqueues_told}
+use Rattle.qolb_model.proofs.Answering.{enqueues_busy, enqueues_queued, enqueues_granted, enqueues_told}
+use Rattle.ring_line.proofs.Calling.{call_continues, call_belongs, asking_asks, early_waits, granted_of, told_of, is_busy}
 use Rattle.ring_line.proofs.line.RingLine.enqolb.Goals as goal
 
 pub returns-in_default-clause-belongs : goal.returns-in_default-clause-belongs

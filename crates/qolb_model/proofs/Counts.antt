@@ -1,45 +1,12 @@
--- Lists of requests and ends.
-use Rattle.std.proofs.Common.{◌≡◌, ◌≢◌, ◌⊎◌, ℕ, zero, suc, ◌+◌, ◌<◌, ◌≤◌, List, [], ◌∷◌, ◌++◌, length, drop, Bool, cond, eqb, sym, refl, ap, ◌∙◌, inl, inr, ⊎_elim, arith, zero-add, eq-eqb, ne_eqb, Some, None}
+-- How many requests of its nodes a list has.
+use Rattle.std.proofs.Common.{◌≡◌, ◌≢◌, ℕ, zero, suc, ◌+◌, ◌<◌, ◌≤◌, List, [], ◌∷◌, length, Bool, cond, eqb, sym, refl, ap, ◌∙◌, arith, zero-add, eq-eqb, ne_eqb, Some, slice_get}
 use mathlib.Core.Logic.{dite}
-use mathlib.Core.List.{IsPrefix}
-use mathlib.Core.Option.{some, some-ne-none}
 use native.Mathlib.Decide.{ℕ_discrete}
-use lib.ListN.{get_elem?}
-use Rattle.std.proofs.lemmas.Option.{slice_get_within}
 use Rattle.qolb_model.specs.declared.request.Request.{Request}
-use Rattle.qolb_model.specs.Requests.{Lacks, has, count_of}
-use Rattle.qolb_model.proofs.Lists.{never, same_some, slice_get-append_left, slice_get-drop, same_test}
-use Rattle.qolb_model.proofs.Prefixes.{prefix_append, prefix_trans}
-use Rattle.qolb_model.proofs.Requests.{count_of-append, count_of-push_same, count_of-push_other, lacks_from, has_left, has_push}
-use Rattle.ring_line.specs.Ring.{At}
+use Rattle.qolb_model.specs.Requests.{count_of}
+use Rattle.qolb_model.proofs.Requests.{count_of-append, count_of-push_same, count_of-push_other}
 
-module _ {A : Type 0} where
-  pub at_same : (xs : List A) (p : ℕ) (x y : A) → At xs p x → At xs p y → x ≡ y
-  at_same xs p x y a b = same_some (sym a ∙ b)
-
-  -- a list begins the same list with more
-  pub prefix_more : (xs ys zs : List A) → IsPrefix xs ys → IsPrefix xs (ys ++ zs)
-  prefix_more xs ys zs p = prefix_trans xs ys (ys ++ zs) p (prefix_append ys zs)
-
-  pub at_longer : (xs ys : List A) (p : ℕ) (x : A) → At xs p x → At (xs ++ ys) p x
-  at_longer xs ys p x e = slice_get-append_left xs ys p (slice_get_within xs p x e) ∙ e
-
-  -- an append is read in its first part or in its second
-  pub at_either : (xs ys : List A) (i : ℕ) (x : A) → At (xs ++ ys) i x → At xs i x ⊎ ((j : ℕ) × (i ≡ length xs + j) × At ys j x)
-  at_either [] ys i x e = inr (i, omega arith, e)
-  at_either (y ∷ xs) ys zero x e = inl e
-  at_either (y ∷ xs) ys (suc i) x e = ⊎_elim (λ t. inl t) (λ t. let a = t.1 in inr (t.0, omega arith, t.2)) (at_either xs ys i x e)
-
-  pub at_drop : (k : ℕ) (xs : List A) (p : ℕ) (x : A) → At (drop k xs) p x → At xs (k + p) x
-  at_drop k xs p x e = sym (slice_get-drop k xs p) ∙ e
-
-  pub at_one : (x y : A) (i : ℕ) → At (x ∷ []) i y → x ≡ y
-  at_one x y zero e = same_some e
-  at_one x y (suc i) e = absurd (let h : None ≡ Some y = e in cc h)
-
-  pub at_none : (i : ℕ) (y : A) → At [] i y → ⊥
-  at_none i y e = let h : None ≡ Some y = e in cc h
-
+-- an order with one request more before it
 pub count_of-cons_other : (n : ℕ) (r : Request) (xs : List Request) → r.node ≢ n → count_of n (r ∷ xs) ≡ count_of n xs
 count_of-cons_other n r xs other = let a = count_of-append n (r ∷ []) xs in let b : count_of n (r ∷ []) ≡ count_of n [] = count_of-push_other n [] r other in
     let c : count_of n [] ≡ 0 = refl in omega arith
@@ -48,7 +15,7 @@ pub count_of-cons_same : (n : ℕ) (r : Request) (xs : List Request) → r.node 
 count_of-cons_same n r xs same = let a = count_of-append n (r ∷ []) xs in let b : count_of n (r ∷ []) ≡ count_of n [] + 1 = count_of-push_same n [] r same in
     let c : count_of n [] ≡ 0 = refl in omega arith
 
--- Nodes that stand at most once each are not more than there are nodes
+-- the sum of what each number up to the n-th has
 pub sum_to : (ℕ → ℕ) → ℕ → ℕ
 sum_to f zero = 0
 sum_to f (suc n) = sum_to f n + f (suc n)
@@ -78,7 +45,7 @@ count_of-cons k x xs = dite (ℕ_discrete x.node k)
     (λ e. count_of-cons_same k x xs e ∙ ap (λ b. one_if b + count_of k xs) (sym (eq-eqb x.node k e)))
     (λ ne. count_of-cons_other k x xs ne ∙ sym (zero-add (count_of k xs)) ∙ ap (λ b. one_if b + count_of k xs) (sym (ne_eqb x.node k ne)))
 
-pub sum_counts : (n : ℕ) (xs : List Request) → ((p : ℕ) (r : Request) → At xs p r → (0 < r.node) × (r.node ≤ n)) → sum_to (λ k. count_of k xs) n ≡ length xs
+pub sum_counts : (n : ℕ) (xs : List Request) → ((p : ℕ) (r : Request) → slice_get xs p ≡ Some r → (0 < r.node) × (r.node ≤ n)) → sum_to (λ k. count_of k xs) n ≡ length xs
 sum_counts n [] h = sum_to-zero (λ k. count_of k []) n (λ k _ _. refl)
 sum_counts n (x ∷ xs) h =
     let a = sum_to-add (λ k. one_if (eqb x.node k)) (λ k. count_of k xs) (λ k. count_of k (x ∷ xs)) (λ k. count_of-cons k x xs) n in
@@ -90,15 +57,16 @@ unfolding sum_to
 sum_to-le f zero h = omega arith
 sum_to-le f (suc n) h = let a = sum_to-le f n (λ k l u. h k l (omega arith)) in let b = h (suc n) (omega arith) (omega arith) in omega arith
 
-pub few_if_once : (n : ℕ) (xs : List Request) → ((p : ℕ) (r : Request) → At xs p r → (0 < r.node) × (r.node ≤ n)) → ((k : ℕ) → 0 < k → k ≤ n → count_of k xs ≤ 1) → length xs ≤ n
+-- nodes that stand at most once each are not more than there are nodes
+pub few_if_once : (n : ℕ) (xs : List Request) → ((p : ℕ) (r : Request) → slice_get xs p ≡ Some r → (0 < r.node) × (r.node ≤ n)) → ((k : ℕ) → 0 < k → k ≤ n → count_of k xs ≤ 1) → length xs ≤ n
 few_if_once n xs h once = let a = sum_counts n xs h in let b = sum_to-le (λ k. count_of k xs) n once in omega arith
 
-count_none : (k : ℕ) (xs : List Request) → ((i : ℕ) (r : Request) → At xs i r → r.node ≢ k) → count_of k xs ≡ 0
+count_none : (k : ℕ) (xs : List Request) → ((i : ℕ) (r : Request) → slice_get xs i ≡ Some r → r.node ≢ k) → count_of k xs ≡ 0
 count_none k [] h = refl
 count_none k (x ∷ xs) h = count_of-cons_other k x xs (h 0 x refl) ∙ count_none k xs (λ i r e. h (suc i) r e)
 
 -- a node that stands at one place at most
-pub count_once : (k : ℕ) (xs : List Request) → ((i j : ℕ) (r s : Request) → At xs i r → At xs j s → r.node ≡ k → s.node ≡ k → i ≡ j) → count_of k xs ≤ 1
+pub count_once : (k : ℕ) (xs : List Request) → ((i j : ℕ) (r s : Request) → slice_get xs i ≡ Some r → slice_get xs j ≡ Some s → r.node ≡ k → s.node ≡ k → i ≡ j) → count_of k xs ≤ 1
 count_once k [] h = let e : count_of k [] ≡ 0 = refl in omega arith
 count_once k (x ∷ xs) h = dite (ℕ_discrete x.node k)
     (λ e. let a = count_none k xs (λ i r at mine. clash i (h 0 (suc i) x r refl at e mine)) in let b = count_of-cons_same k x xs e in omega arith)
@@ -109,18 +77,3 @@ count_once k (x ∷ xs) h = dite (ℕ_discrete x.node k)
 
     back : (i j : ℕ) → suc i ≡ suc j → i ≡ j
     back i j e = omega arith
-
--- a request that is not pushed
-pub has_push_other : (xs : List Request) (x r : Request) → r ≢ x → has (xs ++ x ∷ []) r ≡ has xs r
-has_push_other xs x r ne = same_test (has (xs ++ x ∷ []) r) (has xs r) (λ h. ⊎_elim (λ t. t) (λ t. absurd (ne t)) (has_push xs x r h)) (λ h. has_left xs (x ∷ []) r h)
-
-pub lacks_push : (xs : List Request) (x r : Request) → r ≢ x → Lacks xs r → Lacks (xs ++ x ∷ []) r
-lacks_push xs x r ne h = has_push_other xs x r ne ∙ h
-
-pub lacked_push : (xs : List Request) (x r : Request) → Lacks (xs ++ x ∷ []) r → Lacks xs r
-lacked_push xs x r h = lacks_from xs r (λ was. never (has_left xs (x ∷ []) r was) h)
-
-pub elem_within : {A : Type 0} (xs : List A) (p : ℕ) (x : A) → get_elem? xs p ≡ some x → p < length xs
-elem_within [] p x e = absurd (some-ne-none x (sym e))
-elem_within (y ∷ ys) zero x e = omega arith
-elem_within (y ∷ ys) (suc p) x e = let h = elem_within ys p x e in omega arith
