@@ -1,3 +1,6 @@
 pub mod Packed
 pub mod Lists
 pub mod Histories
+pub mod Stepping
+pub mod Handing
+pub mod Freeing

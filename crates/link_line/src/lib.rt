@@ -2,9 +2,15 @@
 #![tactic(auto)]
 
 mod known;
+mod line;
 mod parcel;
 mod plays;
+mod port;
+mod release;
 mod rule;
 mod slot;
 mod steps;
 mod words;
+
+pub use line::LinkLine;
+pub use port::Port;
