@@ -4,3 +4,4 @@ pub mod Histories
 pub mod Stepping
 pub mod Handing
 pub mod Freeing
+pub mod Walking
