@@ -5,3 +5,5 @@ pub mod Stepping
 pub mod Handing
 pub mod Freeing
 pub mod Walking
+pub mod Releasing
+pub mod Calling

@@ -210,7 +210,7 @@ walk_may allows s t nodes taken node b slot = ((known_of s).line, b.0 ∙ slot, 
 
 -- and what the walk has done when it is let go
 module _ (allows : List ℕ → List ℕ → Type 0) (s t u : LinkSeat) (nodes : List ℕ) (taken node : ℕ) (n : ℕ) (k : Walked (known_of s) nodes (known_of t)) (b : StandsBy s nodes t taken (handed.Passed node)) (slot : HasSlot s (known_of s).line) (state : (known_of s).view.state ≡ left_by (known_of s).line.closed)
-  (went : GoesOn allows t.me u.me n) where
+    (went : GoesOn allows t.me u.me n) where
   out_state : (ps : List ℕ) (closed : Bool) → ps ≢ [] → left_in ps closed ≡ left_by closed
   out_state [] closed some = absurd (some refl)
   out_state (p ∷ ps) closed some = refl
@@ -223,7 +223,7 @@ module _ (allows : List ℕ → List ℕ → Type 0) (s t u : LinkSeat) (nodes :
 
   -- the line is away, and as many are passed as before
   module _ (e : Ended (known_of t) (known_of u) (known_of s).line) (same : (known_of u).passed ≡ (known_of t).passed) (left : PortState) (at : (known_of u).seat.point ≡ after_release left (known_of t).passed) (is : (known_of u).view.state ≡ left_by (known_of s).line.closed)
-    (unmarked : (r : Request) → turn_of (known_of u).view.order (known_of u).view.ends ≡ Some r → Lacks (known_of u).view.marked r) where
+      (unmarked : (r : Request) → turn_of (known_of u).view.order (known_of u).view.ends ≡ Some r → Lacks (known_of u).view.marked r) where
     out_walked : Walked (known_of s) (nodes ++ node ∷ []) (known_of u)
     out_walked = walked_on (known_of s) (known_of t) (known_of u) nodes node (known_of s).line k b.1 e went.extends (is ∙ sym state) (grows_none (known_of s) (known_of t) (known_of u) nodes k same)
 
@@ -295,6 +295,6 @@ walking_on allows s t u before nodes node steps later n result k slot state same
 
 -- when the walk is over, the line is away
 pub away_by : (allows : List ℕ → List ℕ → Type 0) (s t : LinkSeat) (before : ℕ) (nodes : List ℕ) (result : Handed) (steps : ℕ) → ((node : ℕ) → result ≢ handed.Passed node) → (k : IsWalking allows s before nodes result t steps) → HasNoSlot t × IsAway nodes (known_of t) × (k.taken + length nodes + 6 ≤ 4 * (known_of s).view.terms.nodes)
-away_by allows s t before nodes handed.On steps none k = k.stands
-away_by allows s t before nodes handed.Left steps none k = k.stands
-away_by allows s t before nodes (handed.Passed node) steps none k = absurd (none node refl)
+away_by allows s t from nodes handed.On steps none k = k.stands
+away_by allows s t from nodes handed.Left steps none k = k.stands
+away_by allows s t from nodes (handed.Passed node) steps none k = absurd (none node refl)

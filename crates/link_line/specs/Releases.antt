@@ -10,7 +10,8 @@ use Rattle.qolb_model.specs.PortStates.{left_by}
 use Rattle.qolb_model.specs.Ends.{is_closed}
 use Rattle.qolb_model.specs.Views.{own}
 use Rattle.qolb_model.specs.LettingGo.{LetsGo, EndsTurn, IsShort}
-use Rattle.link_core.specs.declared.point.Point.TheVariants.{Ready}
+use Rattle.link_core.specs.declared.point.Point.{Point}
+use Rattle.link_core.specs.declared.point.Point.TheVariants.{Idle, Left, Rolled, Shut}
 use Rattle.link_line.specs.declared.known.Known.{Known}
 use Rattle.link_line.specs.declared.parcel.Parcel.{Parcel}
 use Rattle.link_line.specs.declared.release.Handed.{Handed}
@@ -30,6 +31,13 @@ MayBeBusy state = (state ≡ shows.Left) ⊎ (state ≡ shows.Rolled)
 abbrev pub steps_to_renew : Option ℕ → ℕ
 steps_to_renew (Some steps) = steps
 steps_to_renew None = 1
+
+-- where a node is that may ask, by its port's state
+abbrev pub rest_of : PortState → Point
+rest_of shows.Left = Left
+rest_of shows.Rolled = Rolled
+rest_of shows.Shut = Shut
+rest_of _ = Idle
 
 -- the node may ask, after that many word steps; or its last request is not clear, so it may not
 abbrev pub IsRenewed : PortState → Known → Known → Option ℕ → Type 0

@@ -5,8 +5,8 @@ ghost use Rattle.qolb_model.specs.declared.terms.TheConstants.{MOST_NODES};
 ghost use Rattle.qolb_model.specs.PortStates as states;
 ghost use Rattle.link_core.specs.declared.point.Point.TheVariants.{Idle, Leaving, Freeing, Left, Rolled, Shut};
 ghost use Rattle.link_line.specs.Links.{At};
-ghost use Rattle.link_line.specs.Steps.{SameSeat, IsSeatOf, IsAt, HasSlot, HasNoSlot, IsOwnNode, Alone, known_of, point_by, GoesOn, Comes, MayLetGo};
-ghost use Rattle.link_line.specs.Releases.{AreFew, IsRenewed, steps_to_renew, HandsOn, LetsLineGo, WalksOn, AreNodesAt, FreesAll};
+ghost use Rattle.link_line.specs.Steps.{SameSeat, IsSeatOf, IsAt, HasSlot, HasNoSlot, IsOwnNode, Alone, known_of, GoesOn, Comes, MayLetGo};
+ghost use Rattle.link_line.specs.Releases.{AreFew, IsRenewed, steps_to_renew, rest_of, HandsOn, LetsLineGo, WalksOn, AreNodesAt, FreesAll};
 ghost use Rattle.link_line.specs.Ports.{Arrived};
 ghost use Rattle.link_line.specs.declared.parcel.Parcel.{Parcel};
 
@@ -42,7 +42,7 @@ pub(crate) fn renew<K: Keep>(
 ) -> Option<u64>
     requires table { IsSeatOf ground.now.table_id seat.old }
     requires alone { Alone seat.old.me }
-    requires point { (known_of seat.old).seat.point ≡ point_by state }
+    requires point { (known_of seat.old).seat.point ≡ rest_of state }
     requires may_ask { states.may_ask state ≡ true }
     requires own { IsOwnNode node seat.old }
     ensures same { SameSeat seat.old seat.new }
@@ -82,7 +82,7 @@ pub(crate) fn arrive<K: Keep>(
     requires table { IsSeatOf ground.now.table_id seat.old }
     requires alone { Alone seat.old.me }
     requires own { IsOwnNode node seat.old }
-    requires nodes { 1 ≤ (known_of seat.old).view.terms.nodes }
+    requires nodes { (1 ≤ (known_of seat.old).view.terms.nodes) × ((known_of seat.old).view.terms.nodes ≤ MOST_NODES) }
     requires few { steps.old ≤ 3 }
     requires comes { (y : Parcel) × HasSlot seat.old y × Comes (known_of seat.old) y }
     ensures same { SameSeat seat.old seat.new }
@@ -110,7 +110,7 @@ fn pass_on<K: Keep>(
     requires table { IsSeatOf ground.now.table_id seat.old }
     requires alone { Alone seat.old.me }
     requires own { IsOwnNode node seat.old }
-    requires nodes { 1 ≤ (known_of seat.old).view.terms.nodes }
+    requires nodes { (1 ≤ (known_of seat.old).view.terms.nodes) × ((known_of seat.old).view.terms.nodes ≤ MOST_NODES) }
     requires few { steps.old ≤ 3 }
     requires comes { (y : Parcel) × HasSlot seat.old y × Comes (known_of seat.old) y × (y.closed ≡ true) }
     ensures same { SameSeat seat.old seat.new }
@@ -135,7 +135,7 @@ pub(crate) fn release<K: Keep>(
     requires alone { Alone seat.old.me }
     requires own { IsOwnNode node seat.old }
     requires none_passed { (known_of seat.old).passed ≡ [] }
-    requires nodes { 1 ≤ (known_of seat.old).view.terms.nodes }
+    requires nodes { (1 ≤ (known_of seat.old).view.terms.nodes) × ((known_of seat.old).view.terms.nodes ≤ MOST_NODES) }
     requires few { steps.old ≤ 3 }
     requires parcel { (y : Parcel) × HasSlot seat.old y × MayLetGo K.allows (known_of seat.old) y node × (y.closed ≡ closed) }
     ensures same { SameSeat seat.old seat.new }
