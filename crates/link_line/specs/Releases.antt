@@ -23,10 +23,6 @@ use Rattle.link_line.specs.Steps.{LinkSeat, known_of, HasSlot, HasNoSlot, own_en
 abbrev pub AreFew : ℕ → Type 0
 AreFew steps = steps ≤ 4 * MOST_NODES
 
--- the last request of a node in this state may be unclear
-abbrev pub MayBeBusy : PortState → Type 0
-MayBeBusy state = (state ≡ shows.Left) ⊎ (state ≡ shows.Rolled)
-
 -- how many word steps it takes to find out whether a node may ask, and to make it ready
 abbrev pub steps_to_renew : Option ℕ → ℕ
 steps_to_renew (Some steps) = steps
@@ -39,10 +35,16 @@ rest_of shows.Rolled = Rolled
 rest_of shows.Shut = Shut
 rest_of _ = Idle
 
--- the node may ask, after that many word steps; or its last request is not clear, so it may not
+-- how many word steps a node takes to make a request, by its port's state
+abbrev pub steps_to_ask : PortState → ℕ
+steps_to_ask shows.Left = 3
+steps_to_ask shows.Rolled = 3
+steps_to_ask _ = 2
+
+-- the node may ask, after all but the last of those steps; or its last request is not clear, so it may not
 abbrev pub IsRenewed : PortState → Known → Known → Option ℕ → Type 0
-IsRenewed state v w (Some steps) = IsReady v w × (steps ≤ 2) × (¬ MayBeBusy state → steps ≡ 1) × (MayBeBusy state → steps ≡ 2)
-IsRenewed state v w None = MayBeBusy state × (w.seat.point ≡ v.seat.point) × (w.view.state ≡ v.view.state) × (w.view.count ≡ v.view.count) × Lacks w.view.clear (own w.view)
+IsRenewed state v w (Some steps) = IsReady v w × (steps ≤ 2) × (steps + 1 ≡ steps_to_ask state)
+IsRenewed state v w None = ((state ≡ shows.Left) ⊎ (state ≡ shows.Rolled)) × (w.seat.point ≡ v.seat.point) × (w.view.state ≡ v.view.state) × (w.view.count ≡ v.view.count) × Lacks w.view.clear (own w.view)
 
 -- the node with the line y in its hand
 abbrev pub with_line : Known → Parcel → Known

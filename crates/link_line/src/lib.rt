@@ -1,6 +1,7 @@
 //! A queued line over atomic words: nodes stand in a list, and the younger of two neighbours makes the link.
 #![tactic(auto)]
 
+mod calls;
 mod known;
 mod line;
 mod parcel;
