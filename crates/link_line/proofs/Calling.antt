@@ -30,7 +30,7 @@ use Rattle.link_line.specs.declared.rule.Setup.{Setup}
 use Rattle.link_line.specs.Steps.{LinkSeat, SameSeat, HasSlot, HasNoSlot, known_of, sole, GoesOn, write_of, own_end, point_by, MayLetGo, IsPutBack}
 use Rattle.link_line.specs.Releases.{IsRenewed, LetsLineGo}
 use Rattle.link_line.specs.Ports.{Standing, standing, Holds, Stands, IsPort, BelongsTo, Arrived}
-use Rattle.link_line.proofs.Releasing.{turn_over, holds_written}
+use Rattle.link_line.proofs.Released.{turn_over, holds_written}
 
 -- the fields are as they are between calls; what contracts see of them; and what the port knows
 abbrev pub IsBetween : Inside → Type 0

@@ -3,7 +3,7 @@ pub mod Lists
 pub mod Histories
 pub mod Stepping
 pub mod Handing
-pub mod Freeing
+pub mod Freed
 pub mod Walking
-pub mod Releasing
+pub mod Released
 pub mod Calling

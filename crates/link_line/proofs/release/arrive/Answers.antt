@@ -1,4 +1,4 @@
-use Rattle.link_line.proofs.Releasing.{arrives}
+use Rattle.link_line.proofs.Released.{arrives}
 use Rattle.link_line.proofs.release.arrive.Goals as goal
 
 pub returns-then-parcel-clause-arrived : goal.returns-then-parcel-clause-arrived

@@ -1,7 +1,7 @@
 use Rattle.std.proofs.Common.{refl, ◌∙◌, arith}
 use Rattle.link_line.specs.Steps.{known_of}
 use Rattle.link_line.proofs.Stepping.{goes_none}
-use Rattle.link_line.proofs.Freeing.{frees_none, frees_all, freeing_which, freeing_next, freed_steps}
+use Rattle.link_line.proofs.Freed.{frees_none, frees_all, freeing_which, freeing_next, freed_steps}
 use Rattle.link_line.proofs.release.free_passed.Goals as goal
 
 pub loop-node-init : goal.loop-node-init

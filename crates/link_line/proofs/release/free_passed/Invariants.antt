@@ -1,4 +1,4 @@
-use Rattle.link_line.proofs.Freeing.{IsFreeing}
+use Rattle.link_line.proofs.Freed.{IsFreeing}
 use Rattle.link_line.proofs.release.free_passed.Given as goal
 
 abbrev pub invariant-loop-node : goal.invariant-loop-node

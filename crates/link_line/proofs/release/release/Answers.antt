@@ -6,7 +6,7 @@ use Rattle.link_line.specs.declared.parcel.Parcel.{Parcel}
 use Rattle.link_line.specs.Steps.{known_of}
 use Rattle.link_line.specs.Releases.{LetsLineGo}
 use Rattle.link_line.proofs.Stepping.{goes_trans}
-use Rattle.link_line.proofs.Releasing.{lets_out, lets_left, lets_on, walk_nodes, same_slot}
+use Rattle.link_line.proofs.Released.{lets_out, lets_left, lets_on, walk_nodes, same_slot}
 use Rattle.link_line.proofs.release.release.Goals as goal
 
 pub walk-requires-clause-nodes : goal.walk-requires-clause-nodes
