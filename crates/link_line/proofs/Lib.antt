@@ -1,3 +1,6 @@
 pub mod Packed
 pub mod Lists
 pub mod Histories
+pub mod Going
+pub mod Laying
+pub mod Turning
