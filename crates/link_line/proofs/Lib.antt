@@ -4,3 +4,5 @@ pub mod Histories
 pub mod Going
 pub mod Laying
 pub mod Turning
+pub mod Quiet
+pub mod Resting

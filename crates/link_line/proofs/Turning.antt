@@ -151,14 +151,14 @@ module _ (good : List ℕ → Type 0) (allows : List ℕ → List ℕ → Type 0
     pub nodes : x.core.nodes ≡ x0.core.nodes
     pub others : (n : ℕ) (u : Known) → 0 < n → n ≤ about.terms.nodes → n ≢ v.view.node → NodeOk about x0 n u → NodeOk about x n u
 
-  pub via_none : (x : Past) (v : Known) → PastOk allows about x → Via x v x
+  abbrev pub via_none : (x : Past) (v : Known) → PastOk allows about x → Via x v x
   via_none x v f = record { fine = f; queue = refl; joined = refl; early = refl; late = refl; nodes = refl; others = λ n u a b ne ok. ok }
 
   module _ (s : St good allows about) (r : Rule good allows about s) (me : ℕ) (v : Known) (at : get_elem? s.views me ≡ some (v ∷ [])) (x : Past) (via : Via r.past v x) where
-    few : about.terms.nodes ≤ MOST_NODES
+    abbrev pub few : about.terms.nodes ≤ MOST_NODES
     few = r.may_open.nodes.few
 
-    ok : NodeOk about r.past v.view.node v
+    pub ok : NodeOk about r.past v.view.node v
     ok = mine_ok good allows about s r me v at
 
     -- what is found after an event

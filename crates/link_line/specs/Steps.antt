@@ -139,10 +139,10 @@ is_free Left w = not (link_of w == 0)
 is_free Rolled w = is_freed w && not (is_done w && (link_of w == 0))
 is_free _ w = false
 
--- the last request is clear, or it is not
+-- the node may ask, or its last request is not clear
 pub record IsStill (v : Known) (free : Bool) (w : Known) : Type 0 where
   pub count : w.view.count ≡ v.view.count
-  pub clear : free ≡ true → (w.seat.point ≡ Idle) × (w.view.state ≡ shows.Idle) × Has w.view.clear (own w.view)
+  pub clear : free ≡ true → (w.seat.point ≡ Idle) × (w.view.state ≡ shows.Idle)
   pub unclear : free ≡ false → (w.seat.point ≡ v.seat.point) × (w.view.state ≡ v.view.state) × Lacks w.view.clear (own w.view)
 
 -- what the turn wrote
