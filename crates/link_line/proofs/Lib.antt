@@ -6,3 +6,5 @@ pub mod Laying
 pub mod Turning
 pub mod Quiet
 pub mod Resting
+pub mod Arriving
+pub mod Polling

@@ -20,7 +20,7 @@ use Rattle.link_line.specs.declared.rule.Setup.{Setup}
 use Rattle.link_line.specs.Links.{Past, NodeOk, PastOk, Laid, Homes, is_leaving}
 use Rattle.link_line.proofs.Going.{next, on}
 use Rattle.link_line.proofs.Laying.{St, Rule, mine_ok}
-use Rattle.link_line.proofs.Turning.{whole, grows_none, passes_none, Owes, via_none, Turned, turned}
+use Rattle.link_line.proofs.Turning.{Joins, joins_same, whole, grows_none, passes_none, Owes, via_none, Turned, turned}
 
 abbrev pub is_quiet : Point → Bool
 is_quiet Idle = true
@@ -63,15 +63,13 @@ quiet_unleaving Rolled a b = cc
 quiet_unleaving Shut a b = cc
 
 module _ (good : List ℕ → Type 0) (allows : List ℕ → List ℕ → Type 0) (about : Setup) where
-  quiet_owes : (x y : Past) (v : Known) (p : Point) → PastOk allows about x → NodeOk about x v.view.node v → Shows about.terms y.core y.queue → IsNode y.core v.view.node → point y.core v.view.node ≡ p → is_quiet p ≡ true → y.queue.order ≡ x.queue.order → y.queue.ends ≡ x.queue.ends → y.joined ≡ x.joined → Owes good allows about y v v.view.count v.view.joined [] v.line
-  quiet_owes x y v p f ok s node is quiet order ends joined = record {
+  pub quiet_owes : (x y : Past) (v : Known) (p : Point) (joins : List Request) → PastOk allows about x → NodeOk about x v.view.node v → Shows about.terms y.core y.queue → IsNode y.core v.view.node → point y.core v.view.node ≡ p → is_quiet p ≡ true → y.queue.order ≡ x.queue.order → y.queue.ends ≡ x.queue.ends → Joins y v joins → Owes good allows about y v v.view.count joins [] v.line
+  quiet_owes x y v p joins f ok s node is quiet order ends j = record {
     kept = subst (AreAllowed allows about.terms.opening.bytes) (sym ends) f.kept;
     lawful = λ z. absurd (quiet_unleaving p quiet (ap is_leaving (sym is) ∙ z.leaves));
     unjoined = λ q z. absurd (quiet_not p (Linking q) quiet refl (sym is ∙ z));
     counts = ap (λ (o : List Request). count_of v.view.node o) order ∙ ok.knows.counts;
-    own_joined = λ r mine h. ok.joins.own_joined r mine (subst (λ rs. Has rs r) joined h);
-    all_joined = λ r h. subst (λ rs. Has rs r) (sym joined) (ok.joins.all_joined r h);
-    more_joined = λ r h. h;
+    joins = j;
     unwritten = λ z. absurd (quiet_not p Holding quiet refl (sym is ∙ z));
     carries = λ z. absurd (quiet_unleaving p quiet (ap is_leaving (sym is) ∙ z));
     passes = passes_none y.queue.order _ (s.matches.unpassed v.view.node node (ap (λ (z : Point). has_line z || is_freeing z) is ∙ quiet_unlined p quiet)) refl;
@@ -88,4 +86,4 @@ module _ (good : List ℕ → Type 0) (allows : List ℕ → List ℕ → Type 0
         → Turned good allows about s r me v at r.past (via_none good allows about r.past v r.fine) (after k) (view_after k) words homes
     quiet_turned {e} {t} {d} k is p here quiet node order ends words homes laid =
         turned good allows about s r me v at r.past (via_none good allows about r.past v r.fine) k is r.past.joined r.past.early r.past.late (grows_none r.past (after k) (node_of e) refl refl refl) v.view.count v.view.joined [] v.line
-            (quiet_owes r.past (after k) v p r.fine (mine_ok good allows about s r me v at) (on allows about r.may_open.nodes.few r.past r.fine k).shows node here quiet order ends refl) words homes laid
+            (quiet_owes r.past (after k) v p v.view.joined r.fine (mine_ok good allows about s r me v at) (on allows about r.may_open.nodes.few r.past r.fine k).shows node here quiet order ends (joins_same about r.past (after k) v (mine_ok good allows about s r me v at) refl)) words homes laid

@@ -80,6 +80,32 @@ grows_joined x y n r its known a b c = record {
   new_late = λ z h. inl (subst (λ rs. Has rs z) c h);
 }
 
+-- of its own requests these are joined, and perhaps others, and they are more than before
+pub record Joins (y : Past) (v : Known) (joins : List Request) : Type 0 where
+  pub own_joined : (r : Request) → r.node ≡ v.view.node → Has y.joined r → Has joins r
+  pub all_joined : IsSubset joins y.joined
+  pub more_joined : IsSubset v.view.joined joins
+
+pub joins_same : (about : Setup) (x y : Past) (v : Known) → NodeOk about x v.view.node v → y.joined ≡ x.joined → Joins y v v.view.joined
+joins_same about x y v ok e = record {
+  own_joined = λ r mine h. ok.joins.own_joined r mine (subst (λ rs. Has rs r) e h);
+  all_joined = λ r h. subst (λ rs. Has rs r) (sym e) (ok.joins.all_joined r h);
+  more_joined = λ r h. h;
+}
+
+pub joins_push : (about : Setup) (x y : Past) (v : Known) (own : Request) → NodeOk about x v.view.node v → y.joined ≡ x.joined ++ own ∷ [] → Joins y v (v.view.joined ++ own ∷ [])
+joins_push about x y v own ok e = record {
+  own_joined = λ r mine h. elim (has_push x.joined own r (subst (λ rs. Has rs r) e h)) [
+    | inl old ↦ has_left v.view.joined (own ∷ []) r (ok.joins.own_joined r mine old)
+    | inr new ↦ subst (Has (v.view.joined ++ own ∷ [])) (sym new) (has_last v.view.joined own)
+  ];
+  all_joined = λ r h. subst (λ rs. Has rs r) (sym e) (elim (has_push v.view.joined own r h) [
+    | inl old ↦ has_left x.joined (own ∷ []) r (ok.joins.all_joined r old)
+    | inr new ↦ subst (Has (x.joined ++ own ∷ [])) (sym new) (has_last x.joined own)
+  ]);
+  more_joined = λ r h. has_left v.view.joined (own ∷ []) r h;
+}
+
 -- nothing is passed
 pub passes_none : (order : List Request) (w : Known) → w.seat.passed ≡ [] → w.passed ≡ [] → Passing order w
 passes_none order w e f = record {
@@ -102,27 +128,27 @@ goes_step allows v w before after c n = record {
   counted = n;
 }
 
-arrival_point : (n : ℕ) (b : Bool) → (seat_at_arrival n b).point ≡ point_at_arrival n b
+pub arrival_point : (n : ℕ) (b : Bool) → (seat_at_arrival n b).point ≡ point_at_arrival n b
 arrival_point n true = refl
 arrival_point n false = refl
 
-arrival_lined : (n : ℕ) (b : Bool) → has_line (seat_at_arrival n b).point ≡ true
+pub arrival_lined : (n : ℕ) (b : Bool) → has_line (seat_at_arrival n b).point ≡ true
 arrival_lined n true = refl
 arrival_lined n false = refl
 
-arrival_state : (n : ℕ) (b : Bool) → state_of (seat_at_arrival n b) ≡ shows.Holding
+pub arrival_state : (n : ℕ) (b : Bool) → state_of (seat_at_arrival n b) ≡ shows.Holding
 arrival_state n true = refl
 arrival_state n false = refl
 
-arrival_passed : (n : ℕ) (b : Bool) → (seat_at_arrival n b).passed ≡ []
+pub arrival_passed : (n : ℕ) (b : Bool) → (seat_at_arrival n b).passed ≡ []
 arrival_passed n true = refl
 arrival_passed n false = refl
 
-arrival_unserved : (n : ℕ) (b : Bool) → MayServe (seat_at_arrival n b) → ⊥
+pub arrival_unserved : (n : ℕ) (b : Bool) → MayServe (seat_at_arrival n b) → ⊥
 arrival_unserved n true s = let z = s.serves in cc
 arrival_unserved n false s = let z = s.leaves in cc
 
-arrival_unlinked : (n q : ℕ) (b : Bool) → (seat_at_arrival n b).point ≡ Linking q → ⊥
+pub arrival_unlinked : (n q : ℕ) (b : Bool) → (seat_at_arrival n b).point ≡ Linking q → ⊥
 arrival_unlinked n q true e = cc
 arrival_unlinked n q false e = cc
 
@@ -134,9 +160,7 @@ module _ (good : List ℕ → Type 0) (allows : List ℕ → List ℕ → Type 0
     pub lawful : MayServe (seat y.core v.view.node) → allows (bytes_after about.terms.opening.bytes y.queue.ends) y.core.bytes.bytes
     pub unjoined : (q : ℕ) → point y.core v.view.node ≡ Linking q → Lacks y.joined (last_of v.view.node y.queue.order)
     pub counts : count_of v.view.node y.queue.order ≡ count
-    pub own_joined : (r : Request) → r.node ≡ v.view.node → Has y.joined r → Has joined r
-    pub all_joined : IsSubset joined y.joined
-    pub more_joined : IsSubset v.view.joined joined
+    pub joins : Joins y v joined
     pub unwritten : point y.core v.view.node ≡ Holding → y.core.mask ≡ no_mask
     pub carries : is_leaving (point y.core v.view.node) ≡ true → IsInHand y.core v.view.node (seat y.core v.view.node) line
     pub passes : Passing y.queue.order (whole y v count joined passed line)
@@ -219,7 +243,7 @@ module _ (good : List ℕ → Type 0) (allows : List ℕ → List ℕ → Type 0
               (λ z. o.lawful (subst (λ (n : ℕ). MayServe (seat d n)) is z))
               (λ q z. subst (λ (n : ℕ). Lacks joined (last_of n y.queue.order)) (sym is) (o.unjoined q (ap (point d) (sym is) ∙ z))) in
           let z = whole_by grows fine (whole y v count joins passed line) in
-          turned_by grows fine (whole y v count joins passed line) refl (own fine) z.0 z.1 z.2 o.more_joined z.3 (λ q h. h) words homes laid
+          turned_by grows fine (whole y v count joins passed line) refl (own fine) z.0 z.1 z.2 o.joins.more_joined z.3 (λ q h. h) words homes laid
         where
           own : PastOk allows about y → NodeOk about y v.view.node (whole y v count joins passed line)
           own fine = record {
@@ -235,10 +259,10 @@ module _ (good : List ℕ → Type 0) (allows : List ℕ → List ℕ → Type 0
               all_marked = λ q h. h;
             };
             joins = record {
-              own_joined = o.own_joined;
-              all_joined = o.all_joined;
+              own_joined = o.joins.own_joined;
+              all_joined = o.joins.all_joined;
               all_freed = λ q h. elim (ok.joins.all_freed q h) [ inl z ↦ inl (grows.early q (subst (λ rs. Has rs q) (sym via.early) z)) | inr z ↦ inr (grows.late q (subst (λ rs. Has rs q) (sym via.late) z)) ];
-              joined_last = λ p a b here behind h j. between grows fine p a b here behind h (o.all_joined b j);
+              joined_last = λ p a b here behind h j. between grows fine p a b here behind h (o.joins.all_joined b j);
               freed_last = λ q h now. elim (grows.new_late q now) [
                 | inl old ↦ has_prefix r.past.queue.clear y.queue.clear q (clear_grows grows fine) (has_prefix v.view.clear r.past.queue.clear q ok.knows.clears (ok.joins.freed_last q h (subst (λ rs. Has rs q) via.late old)))
                 | inr new ↦ new.0
