@@ -8,3 +8,4 @@ pub mod Quiet
 pub mod Resting
 pub mod Arriving
 pub mod Polling
+pub mod Linking
