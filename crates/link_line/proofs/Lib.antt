@@ -9,3 +9,4 @@ pub mod Resting
 pub mod Arriving
 pub mod Polling
 pub mod Linking
+pub mod Prepend
