@@ -10,3 +10,4 @@ pub mod Arriving
 pub mod Polling
 pub mod Linking
 pub mod Prepend
+pub mod Releasing
