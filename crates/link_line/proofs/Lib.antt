@@ -11,3 +11,5 @@ pub mod Polling
 pub mod Linking
 pub mod Prepend
 pub mod Releasing
+pub mod Marking
+pub mod Granting
