@@ -13,7 +13,7 @@ use Rattle.qolb_model.specs.Kept.{AreAllowed}
 use Rattle.qolb_model.specs.PortStates.{left_by}
 use Rattle.qolb_model.specs.Queue.{Queue}
 use Rattle.qolb_model.specs.Requests.{Lacks, last_of, count_of}
-use Rattle.qolb_model.proofs.Lists.{push_cases}
+use Rattle.qolb_model.proofs.Lists.{push_cases, never}
 use Rattle.link_core.specs.declared.point.Point.{Point}
 use Rattle.link_core.specs.declared.point.Point.TheVariants.{Linking, Holding, Leaving, Granting, Freeing}
 use Rattle.link_core.specs.declared.place.Place.TheVariants.{Mailbox, Hand}
@@ -167,7 +167,7 @@ module _ (good : List ℕ → Type 0) (allows : List ℕ → List ℕ → Type 0
             (λ y' has. (
               subst (λ (q : Parcel). Ended v w q) (line_is z y' has) (ended good allows about s r me v at z r.past h k refl order ends v.passed),
               (λ _. (refl, subst (λ (q : Parcel). GoesOut v w q) (line_is z y' has) (goes_out good allows about s r me v at z r.past h k refl order ends p quiet own refl no_hand))),
-              (λ f. let q = sym f ∙ rolled_as ∙ un in cc),
+              (λ f. absurd (never f (rolled_as ∙ un))),
             )),
           ),
         )
@@ -195,10 +195,10 @@ module _ (good : List ℕ → Type 0) (allows : List ℕ → List ℕ → Type 0
         let owes : Owes good allows about y v v.view.count v.view.joined passed z = record {
           kept = kept good allows about s r me v at z r.past h k refl order ends;
           lawful = λ a. not_none (seat r.past.core n).passed m (ap (λ (s : Seat). s.passed) (sym own) ∙ a.passed);
-          unjoined = λ q e. let a : Leaving m ≡ Linking q = ap (λ (s : Seat). s.point) (sym own) ∙ e in cc;
+          unjoined = λ q e. unlinked q (ap (λ (s : Seat). s.point) (sym own) ∙ e);
           counts = counts good allows about s r me v at z r.past h k refl order;
           joins = joins_same about r.past y v ok refl;
-          unwritten = λ e. let a : Leaving m ≡ Holding = ap (λ (s : Seat). s.point) (sym own) ∙ e in cc;
+          unwritten = λ e. unheld (ap (λ (s : Seat). s.point) (sym own) ∙ e);
           carries = λ _. record {
             bytes = h.bytes;
             closed = h.closed;
@@ -222,7 +222,7 @@ module _ (good : List ℕ → Type 0) (allows : List ℕ → List ℕ → Type 0
             goes_step allows v w (with_line z) (with_line z) t.continues refl,
             (λ y' has. (
               subst (λ (q : Parcel). Ended v w q) (line_is z y' has) (ended good allows about s r me v at z r.past h k refl order ends passed),
-              (λ f. let q = sym f ∙ rolled_as ∙ ro in cc),
+              (λ f. absurd (never (rolled_as ∙ ro) f)),
               (λ _. (
                 refl,
                 (λ m' to. record {
@@ -240,6 +240,12 @@ module _ (good : List ℕ → Type 0) (allows : List ℕ → List ℕ → Type 0
           ),
         )
       where
+        unlinked : {A : Type 0} (q : ℕ) → Leaving m ≡ Linking q → A
+        unlinked q e = cc
+
+        unheld : {A : Type 0} → Leaving m ≡ Holding → A
+        unheld e = cc
+
         next_is : (a b : ℕ) → Granting a ≡ Granting b → a ≡ b
         next_is a b e = cc
 
