@@ -13,3 +13,4 @@ pub mod Prepend
 pub mod Releasing
 pub mod Marking
 pub mod Granting
+pub mod Homing
