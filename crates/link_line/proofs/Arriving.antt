@@ -34,7 +34,7 @@ use Rattle.link_line.specs.Links.{At, Past, NodeOk, PastOk, IsInHand, Laid, HasL
 use Rattle.link_line.specs.Steps.{Comes, point_at_arrival}
 use Rattle.link_line.proofs.Going.{SetsGrow, next, on}
 use Rattle.link_line.proofs.Laying.{St, Rule, mine_ok, is_node}
-use Rattle.link_line.proofs.Turning.{Joins, whole, passes_none, arrival_point, arrival_lined, arrival_state, arrival_passed, arrival_unserved, arrival_unlinked, Owes, via_none, Turned, turned, own_at, own_marked}
+use Rattle.link_line.proofs.Turning.{Joins, whole, passes_none, arrival_point, arrival_lined, arrival_state, arrival_passed, arrival_unserved, arrival_unlinked, arrival_unfreeing, Owes, via_none, Turned, turned, own_at, own_marked}
 
 -- the line that a node carries to whom it came closed
 arrival_carries : (d : Core) (n : ℕ) (line : Parcel) (b : Bool) → line.bytes ≡ d.bytes → line.closed ≡ d.closed → line.turns_left ≡ d.left → line.closed ≡ b → seat d n ≡ seat_at_arrival n b → is_leaving (point d n) ≡ true → IsInHand d n (seat d n) line
@@ -108,6 +108,7 @@ module _ (good : List ℕ → Type 0) (allows : List ℕ → List ℕ → Type 0
           joins = a.joins_are;
           unwritten = λ _. a.mask;
           carries = arrival_carries d v.view.node h.line b (h.bytes ∙ sym a.bytes) (h.closed ∙ sym a.closed) (h.turns ∙ sym a.left) h.closed a.seat_is;
+          left = λ z. absurd (arrival_unfreeing v.view.node b (ap (λ (s : Seat). s.point) (sym a.seat_is) ∙ z));
           passes = passes_none came.queue.order view_come (ap (λ (s : Seat). s.passed) a.seat_is ∙ arrival_passed v.view.node b) refl;
         }
 

@@ -39,7 +39,9 @@ use Rattle.link_core.specs.Others.{Spared}
 use Rattle.link_core.specs.Promise.{Keeps}
 use Rattle.link_core.specs.Shown.{has_line, Shows}
 use Rattle.link_core.proofs.Cases.{step_allowed}
-use Rattle.link_core.proofs.Orders.{get_request, request_got}
+use Rattle.link_core.proofs.Found.{found}
+use Rattle.link_core.proofs.Orders.{get_request, request_got, last_once}
+use Rattle.qolb_model.specs.declared.terms.Terms.{Terms}
 use Rattle.link_core.proofs.Sound.{step_sizes}
 use Rattle.link_core.proofs.Steady.{step_shows, after_is}
 use Rattle.link_line.specs.declared.known.Known.{Known}
@@ -95,6 +97,48 @@ freed_stays {c} (row.roll n a at un) m ne f = freed_set c.entries n m _ (λ z. z
 freed_stays {c} (row.freed n x rest a at ps) m ne f = freed_set c.entries x m _ (λ z. refl) f
 freed_stays _ m ne f = f
 
+-- an entry that is done and has no link was so before, where its node has withdrawn and its request has ended
+record IsBoxed (w : Entry) : Type 0 where
+  done : w.done ≡ true
+  unlinked : w.link ≡ 0
+
+boxed_set : (es : List Entry) (k m : ℕ) (w : Entry) → (k ≡ m → IsBoxed w → IsBoxed (slice_index_or es m empty)) → IsBoxed (slice_index_or (slice_set es k w) m empty) → IsBoxed (slice_index_or es m empty)
+boxed_set [] k m w f b = b
+boxed_set (x ∷ xs) zero zero w f b = f refl b
+boxed_set (x ∷ xs) zero (suc m) w f b = b
+boxed_set (x ∷ xs) (suc k) zero w f b = b
+boxed_set (x ∷ xs) (suc k) (suc m) w f b = boxed_set xs k m w (λ e. f (ap suc e)) b
+
+-- where the entry's link and flag stay
+boxed_same : (c : Core) (k m : ℕ) (w : Entry) → w.done ≡ (entry c k).done → w.link ≡ (entry c k).link → k ≡ m → IsBoxed w → IsBoxed (entry c m)
+boxed_same c k m w a b e o = subst (λ (q : ℕ). IsBoxed (entry c q)) e (record { done = sym a ∙ o.done; unlinked = sym b ∙ o.unlinked })
+
+module _ {terms : Terms} {c : Core} {q : Queue} (s : Shows terms c q) (m p : ℕ) (rolled : point c m ≡ Rolled) (last : IsLast q.order m p) (over : p < length q.ends) where
+  -- no release comes to it
+  unmarked : {A : Type 0} (n e : ℕ) → IsNode c n → point c n ≡ Marking e → e ≡ m → A
+  unmarked n e a at same =
+      let turn = subst (λ (x : ℕ). IsLast q.order x (length q.ends)) (((found s).marks n e a at).0 ∙ same) ((found s).turn n a (ap has_line at)) in
+      let here = last_once q.order m p (length q.ends) last turn in
+      absurd (omega arith)
+
+  boxed_back : {d : Core} {e : Event} {t : Answer} (k : Step c e t d) → IsBoxed (entry d m) → IsBoxed (entry c m)
+  boxed_back (row.reset n a (inl at)) = boxed_set c.entries n m _ (λ e o. let z : Idle ≡ Rolled = sym at ∙ ap (point c) e ∙ rolled in cc)
+  boxed_back (row.reset n a (inr at)) = boxed_set c.entries n m _ (λ e o. let z : Shut ≡ Rolled = sym at ∙ ap (point c) e ∙ rolled in cc)
+  boxed_back (row.link_done n x a at dn) = boxed_set c.entries x m _ (λ e o. let l = o.unlinked in let b = a.0 in absurd (omega arith))
+  boxed_back (row.link n x a at dn) = boxed_set c.entries x m _ (λ e o. let l = o.unlinked in let b = a.0 in absurd (omega arith))
+  boxed_back (row.done_left n x a at un g) = boxed_set c.entries x m _ (λ e o. unmarked n x a at e)
+  boxed_back (row.done_rolled n x a at un g) = boxed_set c.entries x m _ (λ e o. unmarked n x a at e)
+  boxed_back (row.done_linked n x a at un) = boxed_set c.entries x m _ (λ e o. unmarked n x a at e)
+  boxed_back (row.grant n x a at un) = boxed_set c.entries x m _ (boxed_same c x m _ refl refl)
+  boxed_back (row.grant_rolled n x a at ro) = boxed_set c.entries x m _ (boxed_same c x m _ refl refl)
+  boxed_back (row.roll_granted n a at gr) = boxed_set c.entries n m _ (boxed_same c n m _ refl refl)
+  boxed_back (row.roll n a at un) = boxed_set c.entries n m _ (boxed_same c n m _ refl refl)
+  boxed_back (row.freed n x rest a at ps) = boxed_set c.entries x m _ (boxed_same c x m _ refl refl)
+  boxed_back _ = λ o. o
+
+  pub was_boxed : {d : Core} {e : Event} {t : Answer} (k : Step c e t d) → (entry d m).done ≡ true → (entry d m).link ≡ 0 → ((entry c m).done ≡ true) × ((entry c m).link ≡ 0)
+  was_boxed k a b = let o = boxed_back k (record { done = a; unlinked = b }) in (o.done, o.unlinked)
+
 -- only a node that is ready asks
 unasked : {c d : Core} {e : Event} {t : Answer} (k : Step c e t d) (q : Queue) → point c (node_of e) ≢ Ready → (made q (move_of k q.order)).order ≡ q.order
 unasked (row.prepend_first n a at z) q ne = absurd (ne at)
@@ -118,6 +162,11 @@ map_at : (g : ℕ → ℕ) (xs : List ℕ) (i p : ℕ) → At xs i p → (i < le
 map_at g [] i p e = let z : None ≡ Some p = e in cc z
 map_at g (x ∷ xs) zero p e = (omega arith, ap g (same_some e))
 map_at g (x ∷ xs) (suc i) p e = let k = map_at g xs i p e in (let l = k.0 in omega arith, k.1)
+
+pub map_get : (g : ℕ → ℕ) (xs : List ℕ) (i p z : ℕ) → At xs i p → At (map g xs) i z → z ≡ g p
+map_get g [] i p z a b = let e : None ≡ Some p = a in cc e
+map_get g (x ∷ xs) zero p z a b = sym (same_some b) ∙ ap g (same_some a)
+map_get g (x ∷ xs) (suc i) p z a b = map_get g xs i p z a b
 
 pub map_same : (g h : ℕ → ℕ) (xs : List ℕ) → ((i p : ℕ) → At xs i p → g p ≡ h p) → map g xs ≡ map h xs
 map_same g h [] e = refl
@@ -256,21 +305,6 @@ module _ (allows : List ℕ → List ℕ → Type 0) (about : Setup) (few : abou
           freed_last = λ r h now. elim (grows.new_late r now) [ inl old ↦ ok.joins.freed_last r h old | inr new ↦ absurd (new.1 (ok.joins.all_freed r h)) ];
         }
 
-        standing : Standing d on.after.ends m v
-        standing = record {
-          seat = ok.stands.seat ∙ sym (on.spared.seats m ne);
-          state = ok.stands.state;
-          holds = λ l. ok.stands.holds l ∙ sym (line l).4;
-          unwritten = λ h. (line (ap has_line h)).2 ∙ ok.stands.unwritten h;
-          carries = λ l. let z = line (leaving_lined v.seat.point l) in let c = ok.stands.carries l in record {
-            bytes = c.bytes ∙ sym z.0;
-            closed = c.closed ∙ sym z.1;
-            turns = c.turns ∙ (λ i. left_after (sym z.3 i) (sym (on.spared.seats m ne) i).reason (sym (on.spared.seats m ne) i).passed);
-            mask = λ s. c.mask s ∙ sym z.2;
-            shut = c.shut;
-          };
-        }
-
         -- a passed request stays its node's last
         module _ (i p : ℕ) (at : At v.passed i p) where
           was : IsLast x.queue.order (asker x.queue.order p) p
@@ -289,6 +323,27 @@ module _ (allows : List ℕ → List ℕ → Type 0) (about : Setup) (few : abou
               let k = map_at (asker x.queue.order) v.passed i p at in
               let same : (seat x.core m).passed ≡ map (asker x.queue.order) v.passed = sym (ap (λ (s : Seat). s.passed) ok.stands.seat) ∙ ok.passes.places in
               subst (λ (n : ℕ). point x.core n ≡ Rolled) (ap (λ (ps : List ℕ). slice_index_or ps i 0) same ∙ k.1) (f.shown.matches.passes m i node (subst (λ (ps : List ℕ). i < length ps) (sym same) k.0)).point
+
+        standing : Standing d on.after.ends m v
+        standing = record {
+          seat = ok.stands.seat ∙ sym (on.spared.seats m ne);
+          state = ok.stands.state;
+          holds = λ l. ok.stands.holds l ∙ sym (line l).4;
+          unwritten = λ h. (line (ap has_line h)).2 ∙ ok.stands.unwritten h;
+          carries = λ l. let z = line (leaving_lined v.seat.point l) in let c = ok.stands.carries l in record {
+            bytes = c.bytes ∙ sym z.0;
+            closed = c.closed ∙ sym z.1;
+            turns = c.turns ∙ (λ i. left_after (sym z.3 i) (sym (on.spared.seats m ne) i).reason (sym (on.spared.seats m ne) i).passed);
+            mask = λ s. c.mask s ∙ sym z.2;
+            shut = c.shut;
+          };
+          left = λ fr i z p a b dn un.
+              let same : z ≡ asker x.queue.order p = map_get (asker x.queue.order) v.passed i p z b (subst (λ (ps : List ℕ). At ps i z) ok.passes.places a) in
+              let e = ok.passes.ended fr i p b in
+              let l = prefix_length v.view.ends x.queue.ends ok.knows.endings in
+              let o = was_boxed f.shown (asker x.queue.order p) p (rolled i p b) (was i p b) (omega arith) k (ap (λ (n : ℕ). (entry d n).done) (sym same) ∙ dn) (ap (λ (n : ℕ). (entry d n).link) (sym same) ∙ un) in
+              ok.stands.left fr i z p a b (ap (λ (n : ℕ). (entry x.core n).done) same ∙ o.0) (ap (λ (n : ℕ). (entry x.core n).link) same ∙ o.1);
+        }
 
         passing : Passing on.after.order v
         passing = record {

@@ -1,5 +1,5 @@
 -- A release grants the next entry: the line goes to that node, unless its request is withdrawn, which is passed.
-use Rattle.std.proofs.Common.{◌≡◌, ◌≢◌, ℕ, zero, suc, ◌+◌, ◌*◌, ◌%◌, ◌^◌, ◌<◌, ◌≤◌, Option, List, [], ◌∷◌, ◌++◌, length, map, set, slice_index, true, false, sym, refl, ap, ◌∙◌, subst, inl, inr, arith, Some, length-set, length-append, get_or-set_same}
+use Rattle.std.proofs.Common.{◌≡◌, ◌≢◌, ◌⊎◌, ℕ, zero, suc, ◌+◌, ◌*◌, ◌%◌, ◌^◌, ◌<◌, ◌≤◌, Option, List, [], ◌∷◌, ◌++◌, length, map, set, slice_index, true, false, sym, refl, ap, ◌∙◌, subst, inl, inr, arith, Some, length-set, length-append, get_or-set_same}
 use mathlib.Core.Option.{some, none}
 use lib.ListN.{get_elem?}
 use Rattle.std.proofs.lemmas.Bool.{cases_Bool}
@@ -16,7 +16,7 @@ use Rattle.qolb_model.specs.Requests.{Lacks, last_of, count_of}
 use Rattle.qolb_model.proofs.Lists.{push_cases, never}
 use Rattle.link_core.specs.declared.point.Point.{Point}
 use Rattle.link_core.specs.declared.point.Point.TheVariants.{Linking, Holding, Leaving, Granting, Freeing}
-use Rattle.link_core.specs.declared.place.Place.TheVariants.{Mailbox, Hand}
+use Rattle.link_core.specs.declared.place.Place.TheVariants.{Home, Mailbox, Hand}
 use Rattle.link_core.specs.declared.seat.Reason.{Reason}
 use Rattle.link_core.specs.declared.seat.Reason.TheVariants.{Own, Closing, Refused}
 use Rattle.link_core.specs.declared.seat.Seat.{Seat}
@@ -154,7 +154,8 @@ module _ (good : List ℕ → Type 0) (allows : List ℕ → List ℕ → Type 0
         let quiet = end_quiet (seat r.past.core n).reason in
         let own = own_seat (seat_at_close p (seat r.past.core n)) in
         let homes : Homes = set s.homes 0 (some z) in
-        let t = out_turned good allows about s r me v at z r.past h k refl order ends p quiet own (set s.words (entry_at m) word) homes
+        let behind : (Mailbox m ≡ Home) ⊎ (length y.queue.ends < length y.queue.order) = inr (let a = next.0 in let b = longer good allows about s r me v at z r.past h k refl order ends in let c = ap (λ (o : List Request). length o) order in omega arith) in
+        let t = out_turned good allows about s r me v at z r.past h k refl order ends p quiet own behind (set s.words (entry_at m) word) homes
             (laid y.core homes refl refl refl (length-set s.homes 0 (some z) ∙ r.laid.deep) (record { line = z; at = set_here s.homes 0 (some z) (let d = r.laid.deep in omega arith); bytes = h.bytes; closed = h.closed; turns = h.turns })) in
         let w : Known = view_after good allows about s r me v at z r.past h k refl v.passed in
         (
@@ -166,7 +167,7 @@ module _ (good : List ℕ → Type 0) (allows : List ℕ → List ℕ → Type 0
             goes_step allows v w (with_line z) [] t.continues refl,
             (λ y' has. (
               subst (λ (q : Parcel). Ended v w q) (line_is z y' has) (ended good allows about s r me v at z r.past h k refl order ends v.passed),
-              (λ _. (refl, subst (λ (q : Parcel). GoesOut v w q) (line_is z y' has) (goes_out good allows about s r me v at z r.past h k refl order ends p quiet own refl no_hand))),
+              (λ _. (refl, subst (λ (q : Parcel). GoesOut v w q) (line_is z y' has) (goes_out good allows about s r me v at z r.past h k refl order ends p quiet own behind refl no_hand))),
               (λ f. absurd (never f (rolled_as ∙ un))),
             )),
           ),
@@ -206,6 +207,7 @@ module _ (good : List ℕ → Type 0) (allows : List ℕ → List ℕ → Type 0
             mask = λ a. not_none (seat r.past.core n).passed m (ap (λ (s : Seat). s.passed) (sym own) ∙ a.passed);
             shut = h.shut ∙ ap (λ (s : Seat). is_shut_by s.reason) (sym own);
           };
+          left = λ e. unfreeing (ap (λ (s : Seat). s.point) (sym own) ∙ e);
           passes = passing';
         } in
         let t = turned good allows about s r me v at r.past h.via k refl r.past.joined r.past.early r.past.late (grows_none r.past y n refl refl refl) v.view.count v.view.joined passed z owes (set s.words (entry_at m) word) s.homes
@@ -242,6 +244,9 @@ module _ (good : List ℕ → Type 0) (allows : List ℕ → List ℕ → Type 0
       where
         unlinked : {A : Type 0} (q : ℕ) → Leaving m ≡ Linking q → A
         unlinked q e = cc
+
+        unfreeing : {A : Type 0} → Leaving m ≡ Freeing → A
+        unfreeing e = cc
 
         unheld : {A : Type 0} → Leaving m ≡ Holding → A
         unheld e = cc

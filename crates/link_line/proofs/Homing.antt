@@ -86,7 +86,7 @@ module _ (good : List ℕ → Type 0) (allows : List ℕ → List ℕ → Type 0
         let quiet = end_quiet (seat x.core n).reason in
         let own = own_seat (seat_at_close p (seat x.core n)) in
         let homes : Homes = set s.homes 0 (some z) in
-        let t = out_turned good allows about s r me v at z x h k refl order ends p quiet own (set s.words home_at 0) homes
+        let t = out_turned good allows about s r me v at z x h k refl order ends p quiet own (inl refl) (set s.words home_at 0) homes
             (laid y.core homes 0 refl refl refl (length-set s.homes 0 (some z) ∙ r.laid.deep) (record { line = z; at = set_here s.homes 0 (some z) (let d = r.laid.deep in omega arith); bytes = h.bytes; closed = h.closed; turns = h.turns })) in
         let w : Known = view_after good allows about s r me v at z x h k refl v.passed in
         (
@@ -100,7 +100,7 @@ module _ (good : List ℕ → Type 0) (allows : List ℕ → List ℕ → Type 0
               (λ _. (
                 refl,
                 subst (λ (q : Parcel). Ended v w q) (line_is z y' has) (ended good allows about s r me v at z x h k refl order ends v.passed),
-                subst (λ (q : Parcel). GoesOut v w q) (line_is z y' has) (goes_out good allows about s r me v at z x h k refl order ends p quiet own refl no_hand),
+                subst (λ (q : Parcel). GoesOut v w q) (line_is z y' has) (goes_out good allows about s r me v at z x h k refl order ends p quiet own (inl refl) refl no_hand),
               )),
               (λ ne. absurd (ne f)),
             )),

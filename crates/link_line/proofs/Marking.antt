@@ -1,5 +1,5 @@
 -- A release adds done to the entry that it has come to: it goes on at the node that is linked there, or leaves the line for a late linker.
-use Rattle.std.proofs.Common.{◌≡◌, ◌≢◌, ℕ, ◌+◌, ◌*◌, ◌%◌, ◌^◌, ◌<◌, ◌≤◌, List, [], ◌∷◌, ◌++◌, length, map, set, slice_index, true, false, sym, refl, ap, ◌∙◌, subst, inl, inr, arith, Some, length-set, get_or-set_same}
+use Rattle.std.proofs.Common.{◌≡◌, ◌≢◌, ◌⊎◌, ℕ, ◌+◌, ◌*◌, ◌%◌, ◌^◌, ◌<◌, ◌≤◌, List, [], ◌∷◌, ◌++◌, length, map, set, slice_index, true, false, sym, refl, ap, ◌∙◌, subst, inl, inr, arith, Some, length-set, get_or-set_same}
 use mathlib.Core.Option.{some, none}
 use mathlib.Core.Logic.{dite}
 use native.Mathlib.Decide.{ℕ_discrete}
@@ -7,11 +7,12 @@ use lib.ListN.{get_elem?}
 use Rattle.atomic_table.specs.Table.{step, Act, keeps, gives, Valid, stepped, carried_after, Allows}
 use Rattle.atomic_table.proofs.Lists.{set_here}
 use Rattle.qolb_model.specs.declared.terms.TheConstants.{MOST_NODES}
+use Rattle.qolb_model.specs.declared.request.Request.{Request}
 use Rattle.qolb_model.specs.Queue.{Queue}
 use Rattle.link_core.specs.declared.point.Point.{Point}
 use Rattle.link_core.specs.declared.point.Point.TheVariants.{Linking, Marking, Granting, Left, Rolled}
 use Rattle.link_core.specs.declared.place.Place.{Place}
-use Rattle.link_core.specs.declared.place.Place.TheVariants.{Mailbox, Hand}
+use Rattle.link_core.specs.declared.place.Place.TheVariants.{Home, Mailbox, Hand}
 use Rattle.link_core.specs.declared.seat.Seat.{Seat}
 use Rattle.link_core.specs.declared.entry.Entry.{Entry}
 use Rattle.link_core.specs.declared.state.State.{State as Core}
@@ -137,7 +138,8 @@ module _ (good : List ℕ → Type 0) (allows : List ℕ → List ℕ → Type 0
           let y : Past = after good allows about s r me v at z r.past h k refl in
           let own = own_seat (seat_at_close p (seat r.past.core n)) in
           let homes : Homes = set s.homes 0 (some z) in
-          let t = out_turned good allows about s r me v at z r.past h k refl order ends p quiet own (set s.words (entry_at e) word) homes
+          let behind : (Mailbox e ≡ Home) ⊎ (length y.queue.ends < length y.queue.order) = inr (let a = ((found r.fine.shown).marks n e node here).1 in let b = longer good allows about s r me v at z r.past h k refl order ends in let c = ap (λ (o : List Request). length o) order in omega arith) in
+          let t = out_turned good allows about s r me v at z r.past h k refl order ends p quiet own behind (set s.words (entry_at e) word) homes
               (laid y.core homes refl refl refl (length-set s.homes 0 (some z) ∙ r.laid.deep) (record { line = z; at = set_here s.homes 0 (some z) (let d = r.laid.deep in omega arith); bytes = h.bytes; closed = h.closed; turns = h.turns })) in
           let w : Known = view_after good allows about s r me v at z r.past h k refl v.passed in
           let late = (found r.fine.shown).late n e node here un in
@@ -154,7 +156,7 @@ module _ (good : List ℕ → Type 0) (allows : List ℕ → List ℕ → Type 0
                 (λ _. (
                   refl,
                   subst (λ (q : Parcel). Ended v w q) (line_is z y' has) (ended good allows about s r me v at z r.past h k refl order ends v.passed),
-                  subst (λ (q : Parcel). IsLeft v w q) (line_is z y' has) (is_left good allows about s r me v at z r.past h k refl order ends p quiet own e' (λ m f. no_hand m f) short),
+                  subst (λ (q : Parcel). IsLeft v w q) (line_is z y' has) (is_left good allows about s r me v at z r.past h k refl order ends p quiet own behind e' (λ m f. no_hand m f) short),
                 )),
                 (λ ne. absurd (ne (link_as ∙ un))),
               )),

@@ -17,7 +17,7 @@ use Rattle.qolb_model.proofs.Lists.{slice_get-push}
 use Rattle.qolb_model.proofs.Prefixes.{prefix_length}
 use Rattle.qolb_model.proofs.Requests.{has_at, has_last, has_prefix, lacks_from, count_of-push_same, number_le_count_all}
 use Rattle.link_core.specs.declared.point.Point.{Point}
-use Rattle.link_core.specs.declared.point.Point.TheVariants.{Ready, Linking, Holding}
+use Rattle.link_core.specs.declared.point.Point.TheVariants.{Ready, Linking, Holding, Freeing}
 use Rattle.link_core.specs.declared.place.Place.TheVariants.{Home, Hand}
 use Rattle.link_core.specs.declared.seat.Seat.{Seat}
 use Rattle.link_core.specs.declared.state.State.{State as Core}
@@ -166,6 +166,7 @@ module _ (good : List ℕ → Type 0) (allows : List ℕ → List ℕ → Type 0
           joins = joins_same about r.past y v ok refl;
           unwritten = λ z. let l : Linking r.past.core.home ≡ Holding = sym own' ∙ z in cc;
           carries = λ z. let l : is_leaving (Linking r.past.core.home) ≡ true = ap is_leaving (sym own') ∙ z in cc;
+          left = λ z. let l : Linking r.past.core.home ≡ Freeing = sym own' ∙ z in cc;
           passes = passes_none y.queue.order _ (step'.shows.matches.unpassed n node (ap (λ (z : Point). has_line z || is_freeing z) own')) refl;
         } in
         let t = turned good allows about s r me v at r.past (via_none good allows about r.past v r.fine) k refl r.past.joined r.past.early r.past.late (grows_none r.past y n refl refl refl) (v.view.count + 1) v.view.joined [] v.line owes (set s.words home_at n) s.homes

@@ -72,6 +72,7 @@ module _ (good : List ℕ → Type 0) (allows : List ℕ → List ℕ → Type 0
     joins = j;
     unwritten = λ z. absurd (quiet_not p Holding quiet refl (sym is ∙ z));
     carries = λ z. absurd (quiet_unleaving p quiet (ap is_leaving (sym is) ∙ z));
+    left = λ z. absurd (quiet_not p Freeing quiet refl (sym is ∙ z));
     passes = passes_none y.queue.order _ (s.matches.unpassed v.view.node node (ap (λ (z : Point). has_line z || is_freeing z) is ∙ quiet_unlined p quiet)) refl;
   }
 

@@ -1,5 +1,5 @@
 -- What the steps of a release have in common: the turn ends, or the line stays in the node's hand.
-use Rattle.std.proofs.Common.{◌≡◌, ◌≢◌, ◌||◌, ℕ, ◌+◌, ◌<◌, ◌≤◌, Bool, true, false, List, [], ◌∷◌, ◌++◌, length, map, set, sym, refl, ap, ◌∙◌, subst, Option, Some, slice_get, arith, length-append}
+use Rattle.std.proofs.Common.{◌≡◌, ◌≢◌, ◌⊎◌, inl, inr, ◌||◌, ℕ, ◌+◌, ◌<◌, ◌≤◌, Bool, true, false, List, [], ◌∷◌, ◌++◌, length, map, set, sym, refl, ap, ◌∙◌, subst, Option, Some, slice_get, arith, length-append}
 use mathlib.Core.Option.{some}
 use mathlib.Core.List.{IsPrefix}
 use lib.ListN.{get_elem?}
@@ -25,7 +25,7 @@ use Rattle.qolb_model.proofs.Requests.{lacks_from}
 use Rattle.qolb_model.proofs.Writes.{allowed-append}
 use Rattle.link_core.specs.declared.point.Point.{Point}
 use Rattle.link_core.specs.declared.point.Point.TheVariants.{Idle, Ready, Linking, Queued, Holding, Leaving, Marking, Granting, Freeing, Left, Rolled, Shut}
-use Rattle.link_core.specs.declared.place.Place.TheVariants.{Hand}
+use Rattle.link_core.specs.declared.place.Place.TheVariants.{Home, Mailbox, Hand}
 use Rattle.link_core.specs.declared.seat.Reason.{Reason}
 use Rattle.link_core.specs.declared.seat.Reason.TheVariants.{Own, Closing, Refused}
 use Rattle.link_core.specs.declared.seat.Seat.{Seat}
@@ -47,7 +47,7 @@ use Rattle.link_line.specs.declared.parcel.Parcel.{Parcel}
 use Rattle.link_line.specs.declared.rule.Setup.{Setup}
 use Rattle.link_line.specs.Links.{At, Past, NodeOk, PastOk, Passing, IsInHand, Laid, Homes, MayServe, serves, is_leaving, is_shut_by, state_of, state_at, state_in_release}
 use Rattle.link_line.specs.Steps.{Ended, GoesOut, IsLeft, Carries, IsOneLeft, end_of, next_end, after_release, left_in}
-use Rattle.link_line.proofs.Going.{next, on, leaving_lined}
+use Rattle.link_line.proofs.Going.{next, on, leaving_lined, map_get}
 use Rattle.link_line.proofs.Laying.{St, Rule, mine_ok, is_node}
 use Rattle.link_line.proofs.Quiet.{is_quiet, quiet_unlined, quiet_not}
 use Rattle.link_line.proofs.Turning.{whole, grows_none, joins_same, Owes, Via, via_none, Turned, turned, own_at}
@@ -104,7 +104,7 @@ out_point g Closing [] shut e = rw e refl
 out_point g Refused [] shut e = rw e refl
 out_point g r (p ∷ ps) shut e = refl
 
-out_state : (g : ℕ → ℕ) (r : Reason) (places : List ℕ) (shut : Bool) → shut ≡ is_shut_by r → state_of (seat_with (map g places) (point_at_end r) r) ≡ left_by shut
+pub out_state : (g : ℕ → ℕ) (r : Reason) (places : List ℕ) (shut : Bool) → shut ≡ is_shut_by r → state_of (seat_with (map g places) (point_at_end r) r) ≡ left_by shut
 out_state g Own [] shut e = rw e refl
 out_state g Closing [] shut e = rw e refl
 out_state g Refused [] shut e = rw e refl
@@ -270,7 +270,7 @@ module _ (good : List ℕ → Type 0) (allows : List ℕ → List ℕ → Type 0
             ∙ shows.matches.clears n (length v.view.ends) after_node (own_last none) ∙ ap (λ (q : Point). is_clear q (entry d n)) here ∙ clear (entry d n)
 
         -- and the line has left the node
-        module _ (p : Point) (quiet : is_quiet p ≡ true) (own_seat : seat d n ≡ seat_at_close p st) where
+        module _ (p : Point) (quiet : is_quiet p ≡ true) (own_seat : seat d n ≡ seat_at_close p st) (behind : (d.place ≡ Home) ⊎ (length after.queue.ends < length after.queue.order)) where
           unlined : has_line (point d n) ≡ false
           unlined = ap (λ (s : Seat). has_line s.point) own_seat ∙ close_not has_line st.passed p st.reason (quiet_lineless p quiet) refl
             where
@@ -295,6 +295,21 @@ module _ (good : List ℕ → Type 0) (allows : List ℕ → List ℕ → Type 0
               quiet_linkless (Linking q) a = cc
               quiet_linkless _ a = refl
 
+          -- the line is at home, or another request follows
+          left_behind : (x p : ℕ) → IsNode d x → p < length after.queue.ends → (entry d x).done ≡ true → (entry d x).link ≡ 0 → p + 1 < length after.queue.order
+          left_behind x p a l dn un = elim behind [
+            | inl home ↦ let y : Home ≡ Mailbox x = sym home ∙ shows.matches.settled.boxed x a dn un in cc
+            | inr more ↦ omega arith
+          ]
+
+          out_passing : Passing after.queue.order (view_after v.passed)
+          out_passing = passing v.passed refl (ap (λ (s : Seat). s.passed) own_seat ∙ close_passed st.passed p st.reason) (let l = view_longer in omega arith) (λ _. let l = view_longer in omega arith)
+
+          out_left : point d n ≡ Freeing → (i x p : ℕ) → At (seat d n).passed i x → At v.passed i p → (entry d x).done ≡ true → (entry d x).link ≡ 0 → p + 1 < length after.queue.order
+          out_left fr i x p a b dn un =
+              let same : x ≡ asker after.queue.order p = map_get (asker after.queue.order) v.passed i p x b (subst (λ (ps : List ℕ). At ps i x) out_passing.places a) in
+              left_behind x p (subst (λ (m : ℕ). IsNode d m) (sym same) (shows.matches.nodes p (out_passing.last i p b).known)) (out_passing.ended fr i p b) dn un
+
           out_owes : Owes good allows about after v v.view.count v.view.joined v.passed z
           out_owes = record {
             kept = kept;
@@ -304,7 +319,8 @@ module _ (good : List ℕ → Type 0) (allows : List ℕ → List ℕ → Type 0
             joins = joins_same about r.past after v ok h.via.joined;
             unwritten = λ e. absurd (never (ap has_line e) unlined);
             carries = λ e. absurd (never (leaving_lined (point d n) e) unlined);
-            passes = passing v.passed refl (ap (λ (s : Seat). s.passed) own_seat ∙ close_passed st.passed p st.reason) (let l = view_longer in omega arith) (λ _. let l = view_longer in omega arith);
+            left = out_left;
+            passes = out_passing;
           }
 
           pub out_turned : (words : List ℕ) (homes : Homes) → Laid d words homes → Done v.passed words homes
@@ -348,6 +364,7 @@ module _ (good : List ℕ → Type 0) (allows : List ℕ → List ℕ → Type 0
             mask = λ m. let w : MayServe (record st { point = p }) = subst MayServe own_seat m in h.mask w.passed w.serves ∙ sym mask;
             shut = h.shut ∙ ap (λ (s : Seat). is_shut_by s.reason) (sym own_seat);
           };
+          left = λ f. let w : is_leaving Freeing ≡ true = ap is_leaving (sym f) ∙ ap (λ (s : Seat). is_leaving s.point) own_seat ∙ leaving in cc;
           passes = passing v.passed refl (ap (λ (s : Seat). s.passed) own_seat) (let l = ap (λ (es : List End). length es) (ends ∙ sym h.ends) in omega arith) (λ f. let w : is_leaving Freeing ≡ true = ap is_leaving (sym f) ∙ ap (λ (s : Seat). is_leaving s.point) own_seat ∙ leaving in cc);
         }
 

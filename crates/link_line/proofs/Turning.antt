@@ -32,7 +32,7 @@ use Rattle.link_core.specs.declared.seat.Seat.{Seat}
 use Rattle.link_core.specs.declared.state.State.{State as Core}
 use Rattle.link_core.specs.declared.told.Told.{Told as Answer}
 use Rattle.link_core.specs.declared.event.Event.{Event}
-use Rattle.link_core.specs.State.{seat, point, IsNode, last_or, no_mask}
+use Rattle.link_core.specs.State.{entry, seat, point, IsNode, last_or, no_mask}
 use Rattle.link_core.specs.Steps.{Step, node_of, seat_at_arrival, turns_after}
 use Rattle.link_core.specs.Places.{request, asker, IsLast}
 use Rattle.link_core.specs.Shown.{has_line, is_rolled, is_freeing, Shows}
@@ -152,6 +152,10 @@ pub arrival_unlinked : (n q : ℕ) (b : Bool) → (seat_at_arrival n b).point �
 arrival_unlinked n q true e = cc
 arrival_unlinked n q false e = cc
 
+pub arrival_unfreeing : (n : ℕ) (b : Bool) → (seat_at_arrival n b).point ≡ Freeing → ⊥
+arrival_unfreeing n true e = cc
+arrival_unfreeing n false e = cc
+
 module _ (good : List ℕ → Type 0) (allows : List ℕ → List ℕ → Type 0) (about : Setup) where
   -- what an event owes that leads to the past y, with its node's count of requests, those that it knows to be joined, the places that it
   -- has passed, and the line in its hand
@@ -164,6 +168,7 @@ module _ (good : List ℕ → Type 0) (allows : List ℕ → List ℕ → Type 0
     pub unwritten : point y.core v.view.node ≡ Holding → y.core.mask ≡ no_mask
     pub carries : is_leaving (point y.core v.view.node) ≡ true → IsInHand y.core v.view.node (seat y.core v.view.node) line
     pub passes : Passing y.queue.order (whole y v count joined passed line)
+    pub left : point y.core v.view.node ≡ Freeing → (i x p : ℕ) → At (seat y.core v.view.node).passed i x → At passed i p → (entry y.core x).done ≡ true → (entry y.core x).link ≡ 0 → p + 1 < length y.queue.order
 
   -- a past that differs from the rule's by what the node did in its hand
   pub record Via (x0 : Past) (v : Known) (x : Past) : Type 0 where
@@ -268,7 +273,7 @@ module _ (good : List ℕ → Type 0) (allows : List ℕ → List ℕ → Type 0
                 | inr new ↦ new.0
               ];
             };
-            stands = record { seat = refl; state = refl; holds = λ _. refl; unwritten = o.unwritten; carries = o.carries };
+            stands = record { seat = refl; state = refl; holds = λ _. refl; unwritten = o.unwritten; carries = o.carries; left = o.left };
             passes = o.passes;
           }
 
