@@ -14,3 +14,4 @@ pub mod Releasing
 pub mod Marking
 pub mod Granting
 pub mod Homing
+pub mod Freeing
