@@ -1,20 +1,19 @@
 -- The line comes to a node: by an event that takes it out of the slot.
-use Rattle.std.proofs.Common.{◌≡◌, ◌≢◌, ℕ, ◌+◌, ◌<◌, ◌≤◌, Bool, true, false, List, [], ◌∷◌, length, set, sym, refl, ap, ◌∙◌, subst, Some, None, slice_get, arith}
+use Rattle.std.proofs.Common.{◌≡◌, ◌≢◌, ℕ, ◌≤◌, Bool, true, false, List, [], ◌∷◌, length, sym, refl, ap, ◌∙◌, subst, arith}
 use mathlib.Core.Option.{some}
 use lib.ListN.{get_elem?}
 use Rattle.line_lanes.specs.declared.line.Line64.{Line64}
 use Rattle.qolb_model.specs.declared.request.Request.{Request}
-use Rattle.qolb_model.specs.declared.end.End.{End}
 use Rattle.qolb_model.specs.declared.terms.Terms.{Terms}
 use Rattle.qolb_model.specs.Ends.{is_closed, bytes_after}
 use Rattle.qolb_model.specs.Kept.{AreAllowed}
 use Rattle.qolb_model.specs.Leases.{turns_left}
-use Rattle.qolb_model.specs.Requests.{Has, Lacks, has, count_of}
+use Rattle.qolb_model.specs.Requests.{count_of}
 use Rattle.qolb_model.specs.Turns.{IsQueued, IsWithdrawn}
 use Rattle.qolb_model.proofs.Agreed.{length-bytes_after}
 use Rattle.qolb_model.proofs.Leases.{open_has_turns}
 use Rattle.link_core.specs.declared.point.Point.{Point}
-use Rattle.link_core.specs.declared.point.Point.TheVariants.{Queued, Holding, Leaving, Rolled}
+use Rattle.link_core.specs.declared.point.Point.TheVariants.{Queued, Rolled}
 use Rattle.link_core.specs.declared.seat.Seat.{Seat}
 use Rattle.link_core.specs.declared.place.Place.TheVariants.{Hand}
 use Rattle.link_core.specs.declared.state.State.{State as Core}
@@ -30,7 +29,7 @@ use Rattle.link_core.proofs.Found.{found}
 use Rattle.link_line.specs.declared.known.Known.{Known}
 use Rattle.link_line.specs.declared.parcel.Parcel.{Parcel}
 use Rattle.link_line.specs.declared.rule.Setup.{Setup}
-use Rattle.link_line.specs.Links.{At, Past, NodeOk, PastOk, IsInHand, Laid, HasLine, Homes, MayServe, is_leaving, is_shut_by, state_of, state_at}
+use Rattle.link_line.specs.Links.{Past, NodeOk, IsInHand, Laid, HasLine, Homes, MayServe, is_leaving, is_shut_by, state_of, state_at}
 use Rattle.link_line.specs.Steps.{Comes, point_at_arrival}
 use Rattle.link_line.proofs.Going.{SetsGrow, next, on}
 use Rattle.link_line.proofs.Laying.{St, Rule, mine_ok, is_node}

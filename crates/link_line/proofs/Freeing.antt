@@ -1,13 +1,12 @@
 -- A node frees the first of those that its release has passed.
-use Rattle.std.proofs.Common.{◌≡◌, ◌≢◌, ◌⊎◌, ◌||◌, inl, inr, ℕ, zero, suc, ◌+◌, ◌*◌, ◌%◌, ◌^◌, ◌<◌, ◌≤◌, Bool, List, [], ◌∷◌, ◌++◌, length, map, set, slice_index, slice_get, true, false, sym, refl, ap, ◌∙◌, subst, arith, Some, None, get_or-set_same, get_or-set_other, ne_eqb, drop}
-use Rattle.std.specs.Prelude.{◌==◌, not, slice_index_or}
+use Rattle.std.proofs.Common.{◌≡◌, ◌≢◌, ◌⊎◌, inl, inr, ℕ, suc, ◌+◌, ◌%◌, ◌^◌, ◌<◌, ◌≤◌, Bool, List, [], ◌∷◌, ◌++◌, length, map, set, slice_index, slice_get, true, false, sym, refl, ap, ◌∙◌, subst, arith, get_or-set_same, get_or-set_other, ne_eqb, drop}
+use Rattle.std.specs.Prelude.{not, slice_index_or}
 use mathlib.Core.Option.{some, none}
 use mathlib.Core.List.{IsPrefix}
 use mathlib.Core.Logic.{dite}
 use native.Mathlib.Decide.{ℕ_discrete}
 use lib.ListN.{get_elem?}
 use Rattle.std.proofs.lemmas.Bool.{cases_Bool}
-use Rattle.std.proofs.lemmas.Option.{slice_get_within}
 use Rattle.atomic_table.specs.Table.{step, Act, keeps, Valid, stepped, carried_after, Allows}
 use Rattle.qolb_model.specs.declared.request.Request.{Request}
 use Rattle.qolb_model.specs.declared.end.End.{End}
@@ -23,7 +22,7 @@ use Rattle.qolb_model.proofs.Lists.{element_at, never}
 use Rattle.qolb_model.proofs.Prefixes.{prefix_self, prefix_get, prefix_length, prefix_trans}
 use Rattle.qolb_model.proofs.Requests.{has_push, has_left, has_last, has_prefix, lacks_from}
 use Rattle.link_core.specs.declared.point.Point.{Point}
-use Rattle.link_core.specs.declared.point.Point.TheVariants.{Idle, Linking, Queued, Holding, Freeing, Rolled, Shut}
+use Rattle.link_core.specs.declared.point.Point.TheVariants.{Linking, Queued, Freeing, Rolled}
 use Rattle.link_core.specs.declared.place.Place.TheVariants.{Home, Mailbox, Hand}
 use Rattle.link_core.specs.declared.seat.Reason.{Reason}
 use Rattle.link_core.specs.declared.seat.Reason.TheVariants.{Own, Closing, Refused}
@@ -40,22 +39,22 @@ use Rattle.link_core.specs.Shown.{has_line, Lies, at_home, in_hand, granted, lef
 use Rattle.link_core.proofs.Close.{close_passed}
 use Rattle.link_core.proofs.Follows.{sits_at, rolled_unfreed}
 use Rattle.link_core.proofs.Found.{found, unset}
-use Rattle.link_core.proofs.Orders.{request_got, last_once, last_is, has_ended}
+use Rattle.link_core.proofs.Orders.{request_got, last_once, last_is}
 use Rattle.link_core.proofs.Steady.{after_is}
 use Rattle.link_line.specs.declared.known.Known.{Known}
 use Rattle.link_line.specs.declared.parcel.Parcel.{Parcel}
 use Rattle.link_line.specs.declared.rule.Setup.{Setup}
 use Rattle.link_line.specs.declared.words.TheConstants.{FREED}
 use Rattle.link_line.specs.Words.{entry_at, pack}
-use Rattle.link_line.specs.Links.{At, Past, NodeOk, PastOk, Knowing, Passing, IsFreed, Laid, InSlot, Homes, MayServe, is_leaving, state_of, state_at, is_shut_by}
-use Rattle.link_line.specs.Steps.{Contents, sole, freed, Frees, after_release, point_by}
-use Rattle.link_line.proofs.Going.{SetsGrow, next, on, wide, fine_next, leaving_lined, map_get, was_boxed}
-use Rattle.link_line.proofs.Histories.{at_point, clear_is, own_at}
+use Rattle.link_line.specs.Links.{At, Past, NodeOk, PastOk, Knowing, Passing, IsFreed, state_of, state_at, is_shut_by}
+use Rattle.link_line.specs.Steps.{Contents, freed, Frees, after_release}
+use Rattle.link_line.proofs.Going.{SetsGrow, next, on, wide, fine_next, leaving_lined}
+use Rattle.link_line.proofs.Histories.{at_point, clear_is}
 use Rattle.link_line.proofs.Lists.{at_same}
 use Rattle.link_line.proofs.Packed.{add_freed}
 use Rattle.link_line.proofs.Laying.{St, Rule, mine_ok, is_node, entry_laid, in_slot}
-use Rattle.link_line.proofs.Turning.{goes_step, via_none, Turned, turned_by, whole_by, between}
-use Rattle.link_line.proofs.Releasing.{close_not, is_linking, end_clear, end_quiet, out_state}
+use Rattle.link_line.proofs.Turning.{goes_step, via_none, turned_by, between}
+use Rattle.link_line.proofs.Releasing.{close_not, is_linking, end_clear, out_state}
 
 -- where the node is then, and what its port shows
 free_point : (g : ℕ → ℕ) (r : Reason) (ps : List ℕ) → (seat_with (map g ps) (point_at_end r) r).point ≡ after_release (left_by (is_shut_by r)) ps
@@ -110,8 +109,7 @@ module _ {terms : Terms} {c : Core} {q : Queue} (s : Shows terms c q) (joined : 
           let before = sits_at s.matches t (Linking z) n i in
           let at : before.at ≡ f.at = last_once q.order z before.at f.at before.before (subst (λ (m : ℕ). IsLast q.order m f.at) (sym it) f.last) in
           let turn : length q.ends ≡ before.at + 1 = last_once q.order t (length q.ends) (before.at + 1) (subst (λ (m : ℕ). IsLast q.order m (length q.ends)) b (s.matches.distinct (length q.ends) (omega arith) a)) before.own in
-          let made = last_is terms.lease q.order q.ends t (before.at + 1) s.legal before.own in
-          (
+          let made = last_is terms.lease q.order q.ends t (before.at + 1) s.legal before.own in (
             turn ∙ ap (λ k. k + 1) at,
             (λ next here. subst (λ (z : Request). Lacks joined z) (sym made ∙ ap (λ (k : ℕ). request q.order (k + 1)) at ∙ request_got q.order (f.at + 1) next here) (unjoined t z n i)),
           )
@@ -349,9 +347,8 @@ module _ (good : List ℕ → Type 0) (allows : List ℕ → List ℕ → Type 0
       freed_goal : (w' : List Known) × (act : Act Parcel) × Valid s.homes carried act × Rule good allows about (stepped s (entry_at x) word me carried w' act) × freed allows (step slots (entry_at x) FREED 0 none) (v ∷ [], carried) (slice_index s.words (entry_at x)) (w', carried_after carried act)
       freed_goal =
           let t = turned_by good allows about s r me v at r.past (via_none good allows about r.past v r.fine) k refl r.past.joined early late grows fine w refl own_ok (prefix_self v.view.order) (prefix_self v.view.ends) clear_grows (λ z h. h) (λ z h. h) (λ z h. has_left v.view.freed (a ∷ []) z h)
-              (set s.words (entry_at x) word) s.homes
-              (entry_laid r.past.core d s.words s.homes s.homes x word with_freed r.laid passed_node few (let w = inside.entries in let l = passed_node.1 in omega arith) new_word refl refl refl r.laid.deep (in_slot r.past.core d s.homes r.past.core.place refl refl refl r.laid.slot)) in
-          (
+          (set s.words (entry_at x) word) s.homes
+          (entry_laid r.past.core d s.words s.homes s.homes x word with_freed r.laid passed_node few (let w = inside.entries in let l = passed_node.1 in omega arith) new_word refl refl refl r.laid.deep (in_slot r.past.core d s.homes r.past.core.place refl refl refl r.laid.slot)) in (
             w ∷ [],
             keeps,
             tt,
@@ -414,8 +411,7 @@ module _ (good : List ℕ → Type 0) (allows : List ℕ → List ℕ → Type 0
             let o = over in
             let b = behind.0 in
             let here : length v.view.ends ≡ p + 1 = omega arith in
-            let z = element_at v.view.order (p + 1) more in
-            (
+            let z = element_at v.view.order (p + 1) more in (
               sym here,
               (
                 z.0,

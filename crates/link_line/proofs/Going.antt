@@ -1,10 +1,9 @@
 -- What an event of the core leaves of the past, and to the other nodes.
-use Rattle.std.proofs.Common.{◌≡◌, ◌≢◌, ◌⊎◌, ℕ, zero, suc, ◌+◌, ◌<◌, ◌≤◌, inl, inr, ⊎_elim, Bool, true, false, List, [], ◌∷◌, length, map, set, sym, refl, ap, ◌∙◌, subst, Option, Some, None, slice_get, arith, get_or-set_other}
+use Rattle.std.proofs.Common.{◌≡◌, ◌≢◌, ◌⊎◌, ℕ, zero, suc, ◌+◌, ◌<◌, ◌≤◌, inl, inr, true, false, List, [], ◌∷◌, length, map, sym, refl, ap, ◌∙◌, subst, Option, Some, None, arith, get_or-set_other}
 use Rattle.std.specs.Prelude.{slice_index_or, slice_set}
 use Rattle.std.proofs.lemmas.Bool.{cases_lt}
 use Rattle.std.proofs.lemmas.Option.{slice_get_within}
 use mathlib.Core.Logic.{dite}
-use mathlib.Core.List.{IsPrefix}
 use native.Mathlib.Decide.{ℕ_discrete}
 use Rattle.line_lanes.specs.declared.line.Line64.{Line64}
 use Rattle.qolb_model.specs.declared.request.Request.{Request}
@@ -15,7 +14,7 @@ use Rattle.qolb_model.specs.Ends.{bytes_after}
 use Rattle.qolb_model.specs.Histories.{Clears}
 use Rattle.qolb_model.specs.Kept.{AreAllowed}
 use Rattle.qolb_model.specs.Queue.{Queue, Move, ask, mark, finish}
-use Rattle.qolb_model.specs.Requests.{Has, Lacks, has, count_of, last_of}
+use Rattle.qolb_model.specs.Requests.{Has, Lacks, has, last_of}
 use Rattle.qolb_model.specs.Views.{IsSubset}
 use Rattle.qolb_model.proofs.Clearing.{clears_later}
 use Rattle.qolb_model.proofs.Lists.{never, same_some}
@@ -35,7 +34,6 @@ use Rattle.link_core.specs.Steps.{Step, node_of, allows, left_after}
 use Rattle.link_core.specs.Steps as row
 use Rattle.link_core.specs.Moves.{move_of, made}
 use Rattle.link_core.specs.Places.{request, asker, IsLast}
-use Rattle.link_core.specs.Others.{Spared}
 use Rattle.link_core.specs.Promise.{Keeps}
 use Rattle.link_core.specs.Shown.{has_line, Shows}
 use Rattle.link_core.proofs.Cases.{step_allowed}
@@ -45,9 +43,8 @@ use Rattle.qolb_model.specs.declared.terms.Terms.{Terms}
 use Rattle.link_core.proofs.Sound.{step_sizes}
 use Rattle.link_core.proofs.Steady.{step_shows, after_is}
 use Rattle.link_line.specs.declared.known.Known.{Known}
-use Rattle.link_line.specs.declared.parcel.Parcel.{Parcel}
 use Rattle.link_line.specs.declared.rule.Setup.{Setup}
-use Rattle.link_line.specs.Links.{At, Past, NodeOk, Standing, Passing, Joining, Knowing, IsInHand, PastOk, IsFreed, MayServe, is_leaving}
+use Rattle.link_line.specs.Links.{At, Past, NodeOk, Standing, Passing, Joining, Knowing, PastOk, IsFreed, MayServe, is_leaving}
 use Rattle.link_line.proofs.Histories.{clear_is, asked_by, joined_clear}
 
 pub leaving_lined : (p : Point) → is_leaving p ≡ true → has_line p ≡ true

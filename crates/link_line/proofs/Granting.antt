@@ -1,5 +1,5 @@
 -- A release grants the next entry: the line goes to that node, unless its request is withdrawn, which is passed.
-use Rattle.std.proofs.Common.{◌≡◌, ◌≢◌, ◌⊎◌, ℕ, zero, suc, ◌+◌, ◌*◌, ◌%◌, ◌^◌, ◌<◌, ◌≤◌, Option, List, [], ◌∷◌, ◌++◌, length, map, set, slice_index, true, false, sym, refl, ap, ◌∙◌, subst, inl, inr, arith, Some, length-set, length-append, get_or-set_same}
+use Rattle.std.proofs.Common.{◌≡◌, ◌⊎◌, ℕ, ◌+◌, ◌%◌, ◌^◌, ◌<◌, ◌≤◌, Option, List, [], ◌∷◌, ◌++◌, length, map, set, slice_index, true, false, sym, refl, ap, ◌∙◌, subst, inl, inr, arith, length-set, get_or-set_same}
 use mathlib.Core.Option.{some, none}
 use lib.ListN.{get_elem?}
 use Rattle.std.proofs.lemmas.Bool.{cases_Bool}
@@ -9,10 +9,8 @@ use Rattle.atomic_table.proofs.Lists.{set_here}
 use Rattle.qolb_model.specs.declared.request.Request.{Request}
 use Rattle.qolb_model.specs.declared.end.End.{End}
 use Rattle.qolb_model.specs.declared.terms.TheConstants.{MOST_NODES}
-use Rattle.qolb_model.specs.Kept.{AreAllowed}
 use Rattle.qolb_model.specs.PortStates.{left_by}
 use Rattle.qolb_model.specs.Queue.{Queue}
-use Rattle.qolb_model.specs.Requests.{Lacks, last_of, count_of}
 use Rattle.qolb_model.proofs.Lists.{push_cases, never}
 use Rattle.link_core.specs.declared.point.Point.{Point}
 use Rattle.link_core.specs.declared.point.Point.TheVariants.{Linking, Holding, Leaving, Granting, Freeing}
@@ -22,10 +20,9 @@ use Rattle.link_core.specs.declared.seat.Reason.TheVariants.{Own, Closing, Refus
 use Rattle.link_core.specs.declared.seat.Seat.{Seat}
 use Rattle.link_core.specs.declared.entry.Entry.{Entry}
 use Rattle.link_core.specs.declared.state.State.{State as Core}
-use Rattle.link_core.specs.State.{unused, empty, entry, seat, point, IsNode, IsWide}
+use Rattle.link_core.specs.State.{unused, entry, seat, point, IsNode, IsWide}
 use Rattle.link_core.specs.Steps.{Step, Names, seat_at_close, point_at_end, turns_after, left_after}
 use Rattle.link_core.specs.Steps as row
-use Rattle.link_core.specs.Moves.{end_by}
 use Rattle.link_core.specs.Places.{request, asker, IsLast}
 use Rattle.link_core.specs.Shown.{has_line}
 use Rattle.qolb_model.specs.declared.terms.Terms.{Terms}
@@ -38,13 +35,13 @@ use Rattle.link_line.specs.declared.parcel.Parcel.{Parcel}
 use Rattle.link_line.specs.declared.rule.Setup.{Setup}
 use Rattle.link_line.specs.declared.words.TheConstants.{GRANTED}
 use Rattle.link_line.specs.Words.{entry_at, pack, is_rolled}
-use Rattle.link_line.specs.Links.{At, Past, NodeOk, Passing, IsInHand, MayServe, Laid, InSlot, Homes, is_leaving, is_shut_by, state_of, state_in_release}
-use Rattle.link_line.specs.Steps.{Contents, sole, granted, Ended, GoesOut, Passes}
+use Rattle.link_line.specs.Links.{At, Past, NodeOk, Passing, Laid, InSlot, Homes, is_leaving, is_shut_by, state_of, state_in_release}
+use Rattle.link_line.specs.Steps.{Contents, granted, Ended, GoesOut}
 use Rattle.link_line.proofs.Going.{on, wide}
 use Rattle.link_line.proofs.Histories.{at_point}
 use Rattle.link_line.proofs.Packed.{rolled_is, add_granted}
-use Rattle.link_line.proofs.Laying.{St, Rule, mine_ok, is_node, entry_laid, in_slot}
-use Rattle.link_line.proofs.Turning.{goes_step, grows_none, joins_same, Owes, Turned, turned}
+use Rattle.link_line.proofs.Laying.{St, Rule, mine_ok, is_node, entry_laid}
+use Rattle.link_line.proofs.Turning.{goes_step, grows_none, joins_same, Owes, turned}
 use Rattle.link_line.proofs.Releasing.{Holds, holds_so, after, view_after, kept, counts, ended, longer, out_turned, goes_out, end_quiet, with_line, line_is}
 
 -- with one passed more there is one
@@ -156,9 +153,8 @@ module _ (good : List ℕ → Type 0) (allows : List ℕ → List ℕ → Type 0
         let homes : Homes = set s.homes 0 (some z) in
         let behind : (Mailbox m ≡ Home) ⊎ (length y.queue.ends < length y.queue.order) = inr (let a = next.0 in let b = longer good allows about s r me v at z r.past h k refl order ends in let c = ap (λ (o : List Request). length o) order in omega arith) in
         let t = out_turned good allows about s r me v at z r.past h k refl order ends p quiet own behind (set s.words (entry_at m) word) homes
-            (laid y.core homes refl refl refl (length-set s.homes 0 (some z) ∙ r.laid.deep) (record { line = z; at = set_here s.homes 0 (some z) (let d = r.laid.deep in omega arith); bytes = h.bytes; closed = h.closed; turns = h.turns })) in
-        let w : Known = view_after good allows about s r me v at z r.past h k refl v.passed in
-        (
+        (laid y.core homes refl refl refl (length-set s.homes 0 (some z) ∙ r.laid.deep) (record { line = z; at = set_here s.homes 0 (some z) (let d = r.laid.deep in omega arith); bytes = h.bytes; closed = h.closed; turns = h.turns })) in
+        let w : Known = view_after good allows about s r me v at z r.past h k refl v.passed in (
           w ∷ [],
           gives,
           tt,
@@ -192,7 +188,7 @@ module _ (good : List ℕ → Type 0) (allows : List ℕ → List ℕ → Type 0
         let more : length y.queue.ends < length y.queue.order = let a = next.0 in let b = ap (λ (o : List Request). length o) order in omega arith in
         let its : asker y.queue.order (length y.queue.ends) ≡ m = (λ i. asker (order i) (long i)) ∙ next.1 in
         let passing' : Passing y.queue.order w = passing_more r.past y v w m ok.passes order refl its (step'.shows.matches.distinct (length y.queue.ends) (omega arith) more)
-            (ap (λ (s : Seat). s.passed) own ∙ ap (λ (ps : List ℕ). ps ++ m ∷ []) h.passed) (ap (λ (s : Seat). s.point) own) refl refl (let a = ap (λ (es : List End). length es) h.ends in omega arith) in
+        (ap (λ (s : Seat). s.passed) own ∙ ap (λ (ps : List ℕ). ps ++ m ∷ []) h.passed) (ap (λ (s : Seat). s.point) own) refl refl (let a = ap (λ (es : List End). length es) h.ends in omega arith) in
         let owes : Owes good allows about y v v.view.count v.view.joined passed z = record {
           kept = kept good allows about s r me v at z r.past h k refl order ends;
           lawful = λ a. not_none (seat r.past.core n).passed m (ap (λ (s : Seat). s.passed) (sym own) ∙ a.passed);
@@ -211,11 +207,10 @@ module _ (good : List ℕ → Type 0) (allows : List ℕ → List ℕ → Type 0
           passes = passing';
         } in
         let t = turned good allows about s r me v at r.past h.via k refl r.past.joined r.past.early r.past.late (grows_none r.past y n refl refl refl) v.view.count v.view.joined passed z owes (set s.words (entry_at m) word) s.homes
-            (laid y.core s.homes refl refl refl r.laid.deep (subst (InSlot y.core s.homes) (sym ((found r.fine.shown).hand n node (ap has_line here))) tt)) in
+        (laid y.core s.homes refl refl refl r.laid.deep (subst (InSlot y.core s.homes) (sym ((found r.fine.shown).hand n node (ap has_line here))) tt)) in
         let fewer : length passed + 1 ≤ about.terms.nodes = let a = (short step'.shows.matches).passed n (node.0, subst (λ (q : ℕ). n ≤ q) (sym step'.spared.nodes) node.1) in
-            let b : length (seat y.core n).passed ≡ length passed = ap (λ (ps : List ℕ). length ps) passing'.places ∙ length-map passed (asker y.queue.order) in
-            let c = step'.shows.matches.size in omega arith in
-        (
+        let b : length (seat y.core n).passed ≡ length passed = ap (λ (ps : List ℕ). length ps) passing'.places ∙ length-map passed (asker y.queue.order) in
+        let c = step'.shows.matches.size in omega arith in (
           w ∷ [],
           keeps,
           tt,
@@ -253,7 +248,6 @@ module _ (good : List ℕ → Type 0) (allows : List ℕ → List ℕ → Type 0
 
         next_is : (a b : ℕ) → Granting a ≡ Granting b → a ≡ b
         next_is a b e = cc
-
 
   pub grants_next : (me slots i : ℕ) (m' : Contents) → m' ≡ (v ∷ [], with_line v.line) → i ≡ entry_at m → Allows (Rule good allows about) slots me m' i (λ k. (k + GRANTED) % 2 ^ 64) (granted allows (step slots i GRANTED 0 none) m')
   grants_next me slots i m' is word = subst (λ (z : ℕ × Contents). Allows (Rule good allows about) slots me z.1 z.0 (λ k. (k + GRANTED) % 2 ^ 64) (granted allows (step slots z.0 GRANTED 0 none) z.1)) (λ j. (sym word j, sym is j))

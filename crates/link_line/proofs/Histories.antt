@@ -1,11 +1,9 @@
 -- What the rule says of nodes makes their ports' views of one history.
-use Rattle.std.proofs.Common.{◌≡◌, ◌≢◌, ◌⊎◌, ℕ, ◌+◌, ◌<◌, ◌≤◌, inl, inr, ⊎_elim, Bool, true, false, List, [], ◌∷◌, length, sym, refl, ap, ◌∙◌, subst, Some, slice_get, arith, ne_eqb}
-use Rattle.std.specs.Prelude.{◌==◌, ◌&&◌, not}
-use Rattle.std.proofs.lemmas.Bool.{cases_lt, cases_Bool}
+use Rattle.std.proofs.Common.{◌≡◌, ◌⊎◌, ℕ, ◌+◌, ◌<◌, ◌≤◌, inl, inr, ⊎_elim, Bool, true, false, List, [], ◌∷◌, length, sym, refl, ap, ◌∙◌, subst, Some, arith, ne_eqb}
+use Rattle.std.specs.Prelude.{not}
+use Rattle.std.proofs.lemmas.Bool.{cases_lt}
 use Rattle.std.proofs.lemmas.Option.{slice_get_within}
-use mathlib.Core.Logic.{dite}
 use mathlib.Core.List.{IsPrefix}
-use native.Mathlib.Decide.{ℕ_discrete}
 use Rattle.qolb_model.specs.declared.request.Request.{Request}
 use Rattle.qolb_model.specs.declared.end.End.{End}
 use Rattle.qolb_model.specs.declared.end.End.TheVariants.{Served, Gone, Told}
@@ -33,8 +31,8 @@ use Rattle.link_core.specs.declared.seat.Reason.TheVariants.{Own, Closing, Refus
 use Rattle.link_core.specs.declared.place.Place.TheVariants.{Home, Mailbox, Hand}
 use Rattle.link_core.specs.declared.state.State.{State as Core}
 use Rattle.link_core.specs.declared.entry.Entry.{Entry}
-use Rattle.link_core.specs.State.{entry, seat, point, IsNode, current, last_or, is_clear}
-use Rattle.link_core.specs.Places.{request, asker, IsLast}
+use Rattle.link_core.specs.State.{entry, seat, point, IsNode, last_or, is_clear}
+use Rattle.link_core.specs.Places.{request, IsLast}
 use Rattle.link_core.specs.Shown.{has_line, is_rolled, Lies, at_home, in_hand, granted, left, Sits, Shows, AreMarked, IsCarried}
 use Rattle.link_core.proofs.Follows.{sits_at}
 use Rattle.link_core.proofs.Found.{found}

@@ -1,5 +1,5 @@
 -- A release tries to send the line home, where home names the entry that it has come to.
-use Rattle.std.proofs.Common.{◌≡◌, ◌≢◌, ◌⊎◌, ℕ, ◌+◌, ◌<◌, ◌≤◌, Bool, List, [], ◌∷◌, ◌++◌, length, set, slice_index, true, false, sym, refl, ap, ◌∙◌, subst, inl, inr, arith, Some, eqb, length-set, get_or-set_same}
+use Rattle.std.proofs.Common.{◌≡◌, ◌≢◌, ℕ, ◌+◌, ◌<◌, ◌≤◌, List, [], ◌∷◌, length, set, slice_index, true, false, sym, refl, ap, ◌∙◌, subst, inl, inr, arith, eqb, length-set, get_or-set_same}
 use mathlib.Core.Option.{some, none}
 use mathlib.Core.Logic.{dite}
 use native.Mathlib.Decide.{ℕ_discrete}
@@ -13,11 +13,9 @@ use Rattle.line_lanes.specs.Line.{merged}
 use Rattle.line_lanes.specs.declared.line.Line64.{Line64}
 use Rattle.line_lanes.specs.declared.line.Mask.{Mask}
 use Rattle.line_lanes.proofs.Masked.{merged-none}
-use Rattle.qolb_model.specs.declared.end.End.{End}
 use Rattle.qolb_model.specs.declared.terms.Terms.{Terms}
-use Rattle.qolb_model.specs.declared.terms.TheConstants.{MOST_NODES}
 use Rattle.qolb_model.specs.declared.answer.PortState.TheVariants as shows
-use Rattle.qolb_model.specs.Ends.{is_closed, bytes_after}
+use Rattle.qolb_model.specs.Ends.{bytes_after}
 use Rattle.qolb_model.specs.Kept.{AreAllowed}
 use Rattle.qolb_model.specs.Leases.{is_last_turn, turns_left}
 use Rattle.qolb_model.specs.Queue.{Queue}
@@ -33,7 +31,7 @@ use Rattle.link_core.specs.declared.seat.Reason.{Reason}
 use Rattle.link_core.specs.declared.seat.Reason.TheVariants.{Own, Closing}
 use Rattle.link_core.specs.declared.seat.Seat.{Seat}
 use Rattle.link_core.specs.declared.state.State.{State as Core}
-use Rattle.link_core.specs.State.{unused, seat, point, IsNode, IsWide, last_or, no_mask}
+use Rattle.link_core.specs.State.{unused, seat, point, IsNode, IsWide}
 use Rattle.link_core.specs.Steps.{Step, Releases, holding, leaving, either, seat_at_close, point_at_end, left_after, turns_after}
 use Rattle.link_core.specs.Steps as row
 use Rattle.link_core.specs.Shown.{has_line, IsCarried}
@@ -44,11 +42,11 @@ use Rattle.link_line.specs.declared.parcel.Parcel.{Parcel}
 use Rattle.link_line.specs.declared.rule.Setup.{Setup}
 use Rattle.link_line.specs.Words.{home_at}
 use Rattle.link_line.specs.Links.{Past, NodeOk, PastOk, Laid, InSlot, Homes, is_leaving, is_shut_by, state_at, state_in_release}
-use Rattle.link_line.specs.Steps.{Contents, sole, homed, Ended, GoesOut, Carries, IsOneLeft, TurnIsOver, MayLetGo}
+use Rattle.link_line.specs.Steps.{Contents, homed, Ended, GoesOut, Carries, TurnIsOver, MayLetGo}
 use Rattle.link_line.proofs.Going.{SetsGrow, next, on, wide, fine_next, others_next}
 use Rattle.link_line.proofs.Histories.{at_point}
 use Rattle.link_line.proofs.Laying.{St, Rule, mine_ok, is_node, home_laid}
-use Rattle.link_line.proofs.Turning.{goes_step, grows_none, Via}
+use Rattle.link_line.proofs.Turning.{goes_step, grows_none}
 use Rattle.link_line.proofs.Releasing.{Holds, holds_so, after, view_after, node, few_passed, ended, out_turned, goes_out, stays_turned, carries_on, end_quiet, with_line, line_is}
 
 module _ (good : List ℕ → Type 0) (allows : List ℕ → List ℕ → Type 0) (about : Setup) (v : Known) (z : Parcel) (e : ℕ) where
@@ -87,9 +85,8 @@ module _ (good : List ℕ → Type 0) (allows : List ℕ → List ℕ → Type 0
         let own = own_seat (seat_at_close p (seat x.core n)) in
         let homes : Homes = set s.homes 0 (some z) in
         let t = out_turned good allows about s r me v at z x h k refl order ends p quiet own (inl refl) (set s.words home_at 0) homes
-            (laid y.core homes 0 refl refl refl (length-set s.homes 0 (some z) ∙ r.laid.deep) (record { line = z; at = set_here s.homes 0 (some z) (let d = r.laid.deep in omega arith); bytes = h.bytes; closed = h.closed; turns = h.turns })) in
-        let w : Known = view_after good allows about s r me v at z x h k refl v.passed in
-        (
+        (laid y.core homes 0 refl refl refl (length-set s.homes 0 (some z) ∙ r.laid.deep) (record { line = z; at = set_here s.homes 0 (some z) (let d = r.laid.deep in omega arith); bytes = h.bytes; closed = h.closed; turns = h.turns })) in
+        let w : Known = view_after good allows about s r me v at z x h k refl v.passed in (
           w ∷ [],
           gives,
           tt,
@@ -125,10 +122,9 @@ module _ (good : List ℕ → Type 0) (allows : List ℕ → List ℕ → Type 0
         let ends = ap (λ (q : Queue). q.ends) is in
         let own = own_seat (record (seat x.core n) { point = Marking e }) in
         let t = stays_turned good allows about s r me v at z x h k refl order ends (Marking e) refl own refl refl refl refl (set s.words home_at (slice_index s.words home_at)) s.homes
-            (laid y.core s.homes (slice_index s.words home_at) refl refl (r.laid.home ∙ sym h.home) r.laid.deep (subst (InSlot y.core s.homes) (sym ((found h.via.fine.shown).hand n its h.lined)) tt)) in
+        (laid y.core s.homes (slice_index s.words home_at) refl refl (r.laid.home ∙ sym h.home) r.laid.deep (subst (InSlot y.core s.homes) (sym ((found h.via.fine.shown).hand n its h.lined)) tt)) in
         let w : Known = view_after good allows about s r me v at z x h k refl v.passed in
-        let c = carries_on good allows about s r me v at z x h k refl order ends (Marking e) refl own refl refl refl refl in
-        (
+        let c = carries_on good allows about s r me v at z x h k refl order ends (Marking e) refl own refl refl refl refl in (
           w ∷ [],
           keeps,
           tt,

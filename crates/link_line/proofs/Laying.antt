@@ -1,5 +1,5 @@
 -- How a step leaves the words and the slot, and keeps the rule.
-use Rattle.std.proofs.Common.{◌≡◌, ◌≢◌, ℕ, ◌+◌, ◌*◌, ◌<◌, ◌≤◌, List, [], ◌∷◌, length, set, slice_index, sym, refl, ap, ◌∙◌, subst, arith, length-set, get_or-set_same, get_or-set_other}
+use Rattle.std.proofs.Common.{◌≡◌, ◌≢◌, ℕ, ◌<◌, ◌≤◌, List, [], ◌∷◌, length, set, slice_index, sym, refl, ap, ◌∙◌, subst, arith, length-set, get_or-set_same, get_or-set_other}
 use mathlib.Core.Logic.{dite}
 use mathlib.Core.Option.{some, none}
 use native.Mathlib.Decide.{ℕ_discrete}
@@ -15,9 +15,8 @@ use Rattle.link_core.specs.State.{empty, entry, IsNode}
 use Rattle.link_line.specs.declared.known.Known.{Known}
 use Rattle.link_line.specs.declared.parcel.Parcel.{Parcel}
 use Rattle.link_line.specs.declared.rule.Setup.{Setup}
-use Rattle.link_line.specs.declared.words.TheConstants.{ENTRY_STRIDE}
 use Rattle.link_line.specs.Words.{home_at, entry_at, pack}
-use Rattle.link_line.specs.Links.{Past, NodeOk, PastOk, Laid, InSlot, HasLine, Homes, LinkRule}
+use Rattle.link_line.specs.Links.{Past, NodeOk, PastOk, Laid, InSlot, Homes, LinkRule}
 use Rattle.link_line.proofs.Lists.{put, put_here, put_else, members_step}
 
 -- only the home word changes

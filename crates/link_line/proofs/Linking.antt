@@ -1,5 +1,5 @@
 -- A node links its request to the one before: its number is added to the entry of that one's node.
-use Rattle.std.proofs.Common.{◌≡◌, ◌≢◌, ℕ, ◌+◌, ◌*◌, ◌%◌, ◌^◌, ◌<◌, ◌≤◌, List, [], ◌∷◌, ◌++◌, length, set, slice_index, true, false, sym, refl, ap, ◌∙◌, subst, inl, inr, arith, Some, get_or-set_same}
+use Rattle.std.proofs.Common.{◌≡◌, ℕ, ◌+◌, ◌*◌, ◌%◌, ◌^◌, ◌<◌, ◌≤◌, List, [], ◌∷◌, ◌++◌, length, set, slice_index, true, false, sym, refl, ap, ◌∙◌, subst, inl, inr, arith, get_or-set_same}
 use mathlib.Core.Option.{some, none}
 use lib.ListN.{get_elem?}
 use Rattle.std.proofs.lemmas.Bool.{cases_Bool}
@@ -11,7 +11,6 @@ use Rattle.qolb_model.specs.Requests.{Has, count_of}
 use Rattle.qolb_model.specs.Views.{own}
 use Rattle.qolb_model.specs.Linking.{Links}
 use Rattle.qolb_model.proofs.Requests.{has_at, has_last}
-use Rattle.link_core.specs.declared.point.Point.{Point}
 use Rattle.link_core.specs.declared.point.Point.TheVariants.{Linking, Queued}
 use Rattle.link_core.specs.declared.place.Place.TheVariants.{Mailbox, Hand}
 use Rattle.link_core.specs.declared.seat.Seat.{Seat}
@@ -19,7 +18,7 @@ use Rattle.link_core.specs.declared.entry.Entry.{Entry}
 use Rattle.link_core.specs.declared.state.State.{State as Core}
 use Rattle.link_core.specs.declared.told.Told.{Told as Answer}
 use Rattle.link_core.specs.declared.event.Event.{Event}
-use Rattle.link_core.specs.State.{unused, empty, entry, seat, point, IsNode, IsWide, no_mask}
+use Rattle.link_core.specs.State.{unused, entry, seat, point, IsNode, IsWide}
 use Rattle.link_core.specs.Steps.{Step, node_of, seat_at_arrival}
 use Rattle.link_core.specs.Steps as row
 use Rattle.link_core.specs.Shown.{IsBehind}
@@ -31,14 +30,14 @@ use Rattle.link_line.specs.declared.rule.Setup.{Setup}
 use Rattle.link_line.specs.declared.words.TheConstants.{LINK}
 use Rattle.link_line.specs.Words.{entry_at, pack, is_done}
 use Rattle.link_line.specs.Links.{Past, NodeOk, Laid, InSlot, HasLine, Homes}
-use Rattle.link_line.specs.Steps.{Contents, sole, linked}
+use Rattle.link_line.specs.Steps.{Contents, linked}
 use Rattle.link_line.proofs.Going.{SetsGrow, next, on, wide}
 use Rattle.link_line.proofs.Histories.{at_point, own_at}
 use Rattle.link_line.proofs.Packed.{done_is, add_link}
 use Rattle.link_line.proofs.Laying.{St, Rule, mine_ok, is_node, entry_laid, deep_taken, in_slot}
-use Rattle.link_line.proofs.Turning.{whole, goes_step, grows_joined, joins_push, via_none, Turned, turned}
+use Rattle.link_line.proofs.Turning.{whole, goes_step, grows_joined, joins_push, via_none, turned}
 use Rattle.link_line.proofs.Quiet.{quiet_owes}
-use Rattle.link_line.proofs.Arriving.{came, view_come, Arrives, comes, come_turned, queued_at}
+use Rattle.link_line.proofs.Arriving.{view_come, Arrives, comes, come_turned, queued_at}
 
 module _ (good : List ℕ → Type 0) (allows : List ℕ → List ℕ → Type 0) (about : Setup) (v : Known) (p : ℕ) (linking : v.seat.point ≡ Linking p) where
   module _ (me slots : ℕ) (carried : List (ℕ × Parcel)) (s : St good allows about) (r : Rule good allows about s) (at : get_elem? s.views me ≡ some (v ∷ [])) (small : slice_index s.words (entry_at p) < 18446744073709551616) where
@@ -125,9 +124,8 @@ module _ (good : List ℕ → Type 0) (allows : List ℕ → List ℕ → Type 0
           joins_are = joins_push about r.past y v (own v.view) ok refl;
         } in
         let t = come_turned good allows about s r me v at k refl joined v.view.count joins line a (set s.words (entry_at p) word) (set s.homes 0 none)
-            (laid y.core (set s.homes 0 none) refl refl refl (deep_taken s.homes r.laid.deep) tt) in
-        let w : Known = view_come good allows about s r me v at k refl joined v.view.count joins line in
-        (
+        (laid y.core (set s.homes 0 none) refl refl refl (deep_taken s.homes r.laid.deep) tt) in
+        let w : Known = view_come good allows about s r me v at k refl joined v.view.count joins line in (
           w ∷ [],
           takes 0 line.line,
           line.at,
@@ -149,10 +147,9 @@ module _ (good : List ℕ → Type 0) (allows : List ℕ → List ℕ → Type 0
         let own' = ap (λ (z : Seat). z.point) (own_seat (record (seat r.past.core v.view.node) { point = Queued })) in
         let order = ap (λ (q : Queue). q.order) is in
         let t = turned good allows about s r me v at r.past (via_none good allows about r.past v r.fine) k refl joined r.past.early r.past.late (grows k refl order) v.view.count joins [] v.line
-            (quiet_owes good allows about r.past y v Queued joins r.fine ok step'.shows node own' refl order (ap (λ (q : Queue). q.ends) is) (joins_push about r.past y v (own v.view) ok refl))
-            (set s.words (entry_at p) word) s.homes
-            (laid y.core s.homes refl refl refl r.laid.deep (in_slot r.past.core y.core s.homes r.past.core.place refl refl refl r.laid.slot)) in
-        (
+        (quiet_owes good allows about r.past y v Queued joins r.fine ok step'.shows node own' refl order (ap (λ (q : Queue). q.ends) is) (joins_push about r.past y v (own v.view) ok refl))
+        (set s.words (entry_at p) word) s.homes
+        (laid y.core s.homes refl refl refl r.laid.deep (in_slot r.past.core y.core s.homes r.past.core.place refl refl refl r.laid.slot)) in (
           whole y v v.view.count joins [] v.line ∷ [],
           keeps,
           tt,

@@ -1,5 +1,5 @@
 -- A release adds done to the entry that it has come to: it goes on at the node that is linked there, or leaves the line for a late linker.
-use Rattle.std.proofs.Common.{◌≡◌, ◌≢◌, ◌⊎◌, ℕ, ◌+◌, ◌*◌, ◌%◌, ◌^◌, ◌<◌, ◌≤◌, List, [], ◌∷◌, ◌++◌, length, map, set, slice_index, true, false, sym, refl, ap, ◌∙◌, subst, inl, inr, arith, Some, length-set, get_or-set_same}
+use Rattle.std.proofs.Common.{◌≡◌, ◌≢◌, ◌⊎◌, ℕ, ◌+◌, ◌%◌, ◌^◌, ◌<◌, ◌≤◌, List, [], ◌∷◌, ◌++◌, length, map, set, slice_index, true, sym, refl, ap, ◌∙◌, subst, inl, inr, arith, length-set, get_or-set_same}
 use mathlib.Core.Option.{some, none}
 use mathlib.Core.Logic.{dite}
 use native.Mathlib.Decide.{ℕ_discrete}
@@ -11,14 +11,13 @@ use Rattle.qolb_model.specs.declared.request.Request.{Request}
 use Rattle.qolb_model.specs.Queue.{Queue}
 use Rattle.link_core.specs.declared.point.Point.{Point}
 use Rattle.link_core.specs.declared.point.Point.TheVariants.{Linking, Marking, Granting, Left, Rolled}
-use Rattle.link_core.specs.declared.place.Place.{Place}
 use Rattle.link_core.specs.declared.place.Place.TheVariants.{Home, Mailbox, Hand}
 use Rattle.link_core.specs.declared.seat.Seat.{Seat}
 use Rattle.link_core.specs.declared.entry.Entry.{Entry}
 use Rattle.link_core.specs.declared.state.State.{State as Core}
 use Rattle.link_core.specs.declared.told.Told.{Told as Answer}
 use Rattle.link_core.specs.declared.event.Event.TheVariants as event
-use Rattle.link_core.specs.State.{unused, empty, entry, seat, point, IsNode, IsWide, last_or, put_seat, put_entry}
+use Rattle.link_core.specs.State.{unused, entry, seat, point, IsNode, IsWide, last_or, put_seat, put_entry}
 use Rattle.link_core.specs.Steps.{Step, Names, seat_at_close, point_at_end, turns_after}
 use Rattle.link_core.specs.Steps as row
 use Rattle.link_core.specs.Moves.{end_by}
@@ -32,7 +31,7 @@ use Rattle.link_line.specs.declared.rule.Setup.{Setup}
 use Rattle.link_line.specs.declared.words.TheConstants.{DONE}
 use Rattle.link_line.specs.Words.{entry_at, pack, link_of}
 use Rattle.link_line.specs.Links.{Past, NodeOk, Laid, InSlot, Homes, is_leaving}
-use Rattle.link_line.specs.Steps.{Contents, sole, marked, Carries, Ended, IsLeft}
+use Rattle.link_line.specs.Steps.{Contents, marked, Carries, Ended, IsLeft}
 use Rattle.link_line.proofs.Going.{on, wide}
 use Rattle.link_line.proofs.Histories.{at_point}
 use Rattle.link_line.proofs.Packed.{link_is, add_done}
@@ -107,10 +106,9 @@ module _ (good : List ℕ → Type 0) (allows : List ℕ → List ℕ → Type 0
         let p : Point = Granting (entry r.past.core e).link in
         let own = own_seat (record (seat r.past.core n) { point = p }) in
         let t = stays_turned good allows about s r me v at z r.past h k refl order ends p refl own refl refl refl refl (set s.words (entry_at e) word) s.homes
-            (laid y.core s.homes refl refl refl r.laid.deep (in_slot r.past.core y.core s.homes r.past.core.place refl refl refl r.laid.slot)) in
+        (laid y.core s.homes refl refl refl r.laid.deep (in_slot r.past.core y.core s.homes r.past.core.place refl refl refl r.laid.slot)) in
         let w : Known = view_after good allows about s r me v at z r.past h k refl v.passed in
-        let c = carries_on good allows about s r me v at z r.past h k refl order ends p refl own refl refl refl refl in
-        (
+        let c = carries_on good allows about s r me v at z r.past h k refl order ends p refl own refl refl refl refl in (
           w ∷ [],
           keeps,
           tt,
@@ -140,12 +138,11 @@ module _ (good : List ℕ → Type 0) (allows : List ℕ → List ℕ → Type 0
           let homes : Homes = set s.homes 0 (some z) in
           let behind : (Mailbox e ≡ Home) ⊎ (length y.queue.ends < length y.queue.order) = inr (let a = ((found r.fine.shown).marks n e node here).1 in let b = longer good allows about s r me v at z r.past h k refl order ends in let c = ap (λ (o : List Request). length o) order in omega arith) in
           let t = out_turned good allows about s r me v at z r.past h k refl order ends p quiet own behind (set s.words (entry_at e) word) homes
-              (laid y.core homes refl refl refl (length-set s.homes 0 (some z) ∙ r.laid.deep) (record { line = z; at = set_here s.homes 0 (some z) (let d = r.laid.deep in omega arith); bytes = h.bytes; closed = h.closed; turns = h.turns })) in
+          (laid y.core homes refl refl refl (length-set s.homes 0 (some z) ∙ r.laid.deep) (record { line = z; at = set_here s.homes 0 (some z) (let d = r.laid.deep in omega arith); bytes = h.bytes; closed = h.closed; turns = h.turns })) in
           let w : Known = view_after good allows about s r me v at z r.past h k refl v.passed in
           let late = (found r.fine.shown).late n e node here un in
           let others = (on allows about r.may_open.nodes.few r.past h.via.fine k).spared.seats (asker r.past.queue.order (length r.past.queue.ends + 1)) (λ i. let q : Linking e ≡ Marking e = sym late ∙ ap (point r.past.core) i ∙ here in cc) in
-          let short = left_short good allows about s r me v at z r.past h here un y w t.fine (others, order, longer good allows about s r me v at z r.past h k refl order ends) refl refl (λ q j. ok.joins.all_joined q j) in
-          (
+          let short = left_short good allows about s r me v at z r.past h here un y w t.fine (others, order, longer good allows about s r me v at z r.past h k refl order ends) refl refl (λ q j. ok.joins.all_joined q j) in (
             w ∷ [],
             gives,
             tt,
@@ -172,15 +169,15 @@ module _ (good : List ℕ → Type 0) (allows : List ℕ → List ℕ → Type 0
             let k = row.done_left n e node here un (sym ((found r.fine.shown).marks n e node here).0 ∙ own.1) in
             let is = after_is (on allows about r.may_open.nodes.few r.past h.via.fine k) in
             leaves Left refl (λ _. refl) k (ap (λ (q : Queue). q.order) is) (ap (λ (q : Queue). q.ends) is)
-        )
+            )
         | inr passed ↦ (
             let ne : e ≢ n = λ same. let q : Rolled ≡ Marking e = sym passed.point ∙ ap (point r.past.core) (((found r.fine.shown).marks n e node here).0 ∙ same) ∙ here in cc in
             let k = row.done_rolled n e node here un ne in
             let is = after_is (on allows about r.may_open.nodes.few r.past h.via.fine k) in
             leaves (point_at_end (seat r.past.core n).reason) (end_quiet (seat r.past.core n).reason)
-                (λ none. absurd (ne (sym ((found r.fine.shown).marks n e node here).0 ∙ ap (last_or n) (places good allows about s r me v at z r.past h ∙ ap (map (asker r.past.queue.order)) none))))
-                k (ap (λ (q : Queue). q.order) is) (ap (λ (q : Queue). q.ends) is)
-        )
+            (λ none. absurd (ne (sym ((found r.fine.shown).marks n e node here).0 ∙ ap (last_or n) (places good allows about s r me v at z r.past h ∙ ap (map (asker r.past.queue.order)) none))))
+            k (ap (λ (q : Queue). q.order) is) (ap (λ (q : Queue). q.ends) is)
+            )
       ]
 
   pub marks_next : (me slots i : ℕ) (m : Contents) → m ≡ (v ∷ [], with_line v.line) → i ≡ entry_at e → Allows (Rule good allows about) slots me m i (λ k. (k + DONE) % 2 ^ 64) (marked allows (step slots i DONE 0 none) m)

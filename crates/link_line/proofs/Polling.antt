@@ -1,5 +1,5 @@
 -- A node that waits looks at its entry, or withdraws: where the entry is granted the line comes.
-use Rattle.std.proofs.Common.{◌≡◌, ◌≢◌, ℕ, ◌+◌, ◌*◌, ◌%◌, ◌^◌, ◌<◌, ◌≤◌, List, [], ◌∷◌, length, set, slice_index, true, false, sym, refl, ap, ◌∙◌, subst, inl, inr, arith, Some, get_or-set_same}
+use Rattle.std.proofs.Common.{◌≡◌, ◌≢◌, ℕ, ◌+◌, ◌%◌, ◌^◌, ◌<◌, ◌≤◌, List, [], ◌∷◌, length, set, slice_index, true, false, sym, refl, ap, ◌∙◌, subst, inl, inr, arith, get_or-set_same}
 use mathlib.Core.Option.{some, none}
 use lib.ListN.{get_elem?}
 use Rattle.std.proofs.lemmas.Bool.{cases_Bool}
@@ -7,15 +7,12 @@ use Rattle.atomic_table.specs.Table.{step, Act, keeps, takes, Valid, stepped, ca
 use Rattle.qolb_model.specs.declared.terms.TheConstants.{MOST_NODES}
 use Rattle.qolb_model.specs.declared.request.Request.{Request}
 use Rattle.qolb_model.specs.Queue.{Queue}
-use Rattle.qolb_model.specs.Requests.{Has, count_of}
-use Rattle.qolb_model.specs.Views.{own}
-use Rattle.link_core.specs.declared.point.Point.{Point}
+use Rattle.qolb_model.specs.Requests.{count_of}
 use Rattle.link_core.specs.declared.point.Point.TheVariants.{Queued, Rolled}
 use Rattle.link_core.specs.declared.place.Place.TheVariants.{Mailbox, Hand}
 use Rattle.link_core.specs.declared.seat.Seat.{Seat}
-use Rattle.link_core.specs.declared.entry.Entry.{Entry}
 use Rattle.link_core.specs.declared.state.State.{State as Core}
-use Rattle.link_core.specs.State.{unused, empty, entry, seat, point, IsNode, IsWide, no_mask}
+use Rattle.link_core.specs.State.{unused, entry, seat, point, IsNode, IsWide, no_mask}
 use Rattle.link_core.specs.declared.told.Told.{Told as Answer}
 use Rattle.link_core.specs.declared.event.Event.{Event}
 use Rattle.link_core.specs.Steps.{Step, node_of, seat_at_arrival}
@@ -27,15 +24,15 @@ use Rattle.link_line.specs.declared.parcel.Parcel.{Parcel}
 use Rattle.link_line.specs.declared.rule.Setup.{Setup}
 use Rattle.link_line.specs.declared.words.TheConstants.{ROLLED}
 use Rattle.link_line.specs.Words.{entry_at, pack, is_granted}
-use Rattle.link_line.specs.Links.{Past, NodeOk, Laid, InSlot, HasLine, Homes}
-use Rattle.link_line.specs.Steps.{Contents, sole, loaded, rolled}
+use Rattle.link_line.specs.Links.{Past, NodeOk, InSlot, HasLine}
+use Rattle.link_line.specs.Steps.{Contents, loaded, rolled}
 use Rattle.link_line.proofs.Going.{on, wide}
 use Rattle.link_line.proofs.Histories.{at_point}
 use Rattle.link_line.proofs.Packed.{granted_is, add_rolled}
 use Rattle.link_line.proofs.Laying.{St, Rule, mine_ok, is_node, entry_laid, same_laid, deep_taken, in_slot}
-use Rattle.link_line.proofs.Turning.{goes_step, grows_none, joins_same, Turned}
+use Rattle.link_line.proofs.Turning.{goes_step, grows_none, joins_same}
 use Rattle.link_line.proofs.Quiet.{after, view_after, quiet_turned}
-use Rattle.link_line.proofs.Arriving.{came, view_come, Arrives, comes, come_turned, queued_at, withdrawn_at}
+use Rattle.link_line.proofs.Arriving.{view_come, Arrives, comes, come_turned, queued_at, withdrawn_at}
 
 module _ (good : List ℕ → Type 0) (allows : List ℕ → List ℕ → Type 0) (about : Setup) (v : Known) (queued : v.seat.point ≡ Queued) where
   module _ (me slots : ℕ) (carried : List (ℕ × Parcel)) (s : St good allows about) (r : Rule good allows about s) (at : get_elem? s.views me ≡ some (v ∷ [])) (small : slice_index s.words (entry_at v.view.node) < 18446744073709551616) where
@@ -107,9 +104,8 @@ module _ (good : List ℕ → Type 0) (allows : List ℕ → List ℕ → Type 0
           let is = after_is (on allows about r.may_open.nodes.few r.past r.fine k) in
           let a = arrives k refl (own_seat (seat_at_arrival v.view.node r.past.core.closed)) refl refl refl refl refl refl (ap (λ (q : Queue). q.order) is) (ap (λ (q : Queue). q.ends) is) in
           let t = come_turned good allows about s r me v at k refl r.past.joined v.view.count v.view.joined line a (set s.words word (slice_index s.words word)) (set s.homes 0 none)
-              (same_laid r.past.core y.core s.words s.homes (set s.homes 0 none) v.view.node r.laid node few refl refl refl (deep_taken s.homes r.laid.deep) tt) in
-          let w : Known = view_come good allows about s r me v at k refl r.past.joined v.view.count v.view.joined line in
-          (
+          (same_laid r.past.core y.core s.words s.homes (set s.homes 0 none) v.view.node r.laid node few refl refl refl (deep_taken s.homes r.laid.deep) tt) in
+          let w : Known = view_come good allows about s r me v at k refl r.past.joined v.view.count v.view.joined line in (
             w ∷ [],
             takes 0 line.line,
             line.at,
@@ -129,9 +125,8 @@ module _ (good : List ℕ → Type 0) (allows : List ℕ → List ℕ → Type 0
           let is = after_is (on allows about r.may_open.nodes.few r.past r.fine k) in
           let a = arrives k refl (own_seat (seat_at_arrival v.view.node r.past.core.closed)) refl refl refl refl refl refl (ap (λ (q : Queue). q.order) is) (ap (λ (q : Queue). q.ends) is) in
           let t = come_turned good allows about s r me v at k refl r.past.joined v.view.count v.view.joined line a (set s.words word ((slice_index s.words word + ROLLED) % 2 ^ 64)) (set s.homes 0 none)
-              (entry_laid r.past.core y.core s.words s.homes (set s.homes 0 none) v.view.node _ (record (entry r.past.core v.view.node) { rolled = true }) r.laid node few inside_entries with_rolled refl refl refl (deep_taken s.homes r.laid.deep) tt) in
-          let w : Known = view_come good allows about s r me v at k refl r.past.joined v.view.count v.view.joined line in
-          (
+          (entry_laid r.past.core y.core s.words s.homes (set s.homes 0 none) v.view.node _ (record (entry r.past.core v.view.node) { rolled = true }) r.laid node few inside_entries with_rolled refl refl refl (deep_taken s.homes r.laid.deep) tt) in
+          let w : Known = view_come good allows about s r me v at k refl r.past.joined v.view.count v.view.joined line in (
             w ∷ [],
             takes 0 line.line,
             line.at,
@@ -152,8 +147,7 @@ module _ (good : List ℕ → Type 0) (allows : List ℕ → List ℕ → Type 0
           let step' = on allows about r.may_open.nodes.few r.past r.fine k in
           let is = after_is step' in
           let t = quiet_turned good allows about s r me v at k refl Queued here refl node (ap (λ (q : Queue). q.order) is) (ap (λ (q : Queue). q.ends) is) (set s.words word (slice_index s.words word)) s.homes
-              (same_laid r.past.core y.core s.words s.homes s.homes v.view.node r.laid node few refl refl refl r.laid.deep r.laid.slot) in
-          (
+          (same_laid r.past.core y.core s.words s.homes s.homes v.view.node r.laid node few refl refl refl r.laid.deep r.laid.slot) in (
             view_after good allows about s r me v at k ∷ [],
             keeps,
             tt,
@@ -174,8 +168,7 @@ module _ (good : List ℕ → Type 0) (allows : List ℕ → List ℕ → Type 0
           let is = after_is step' in
           let own = ap (λ (z : Seat). z.point) (own_seat (record (seat r.past.core v.view.node) { point = Rolled })) in
           let t = quiet_turned good allows about s r me v at k refl Rolled own refl node (ap (λ (q : Queue). q.order) is) (ap (λ (q : Queue). q.ends) is) (set s.words word ((slice_index s.words word + ROLLED) % 2 ^ 64)) s.homes
-              (entry_laid r.past.core y.core s.words s.homes s.homes v.view.node _ (record (entry r.past.core v.view.node) { rolled = true }) r.laid node few inside_entries with_rolled refl refl refl r.laid.deep (in_slot r.past.core y.core s.homes r.past.core.place refl refl refl r.laid.slot)) in
-          (
+          (entry_laid r.past.core y.core s.words s.homes s.homes v.view.node _ (record (entry r.past.core v.view.node) { rolled = true }) r.laid node few inside_entries with_rolled refl refl refl r.laid.deep (in_slot r.past.core y.core s.homes r.past.core.place refl refl refl r.laid.slot)) in (
             view_after good allows about s r me v at k ∷ [],
             keeps,
             tt,

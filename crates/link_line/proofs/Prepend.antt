@@ -1,5 +1,5 @@
 -- A node asks: its number is put into the home word. Where that was idle the line comes, else the request is to be linked.
-use Rattle.std.proofs.Common.{◌≡◌, ◌≢◌, ◌||◌, slice_get, ℕ, ◌+◌, ◌<◌, ◌≤◌, List, [], ◌∷◌, ◌++◌, length, set, slice_index, true, false, sym, refl, ap, ◌∙◌, subst, inl, inr, arith, Some, get_or-set_same}
+use Rattle.std.proofs.Common.{◌≡◌, ◌≢◌, ◌||◌, slice_get, ℕ, ◌+◌, ◌<◌, ◌≤◌, List, [], ◌∷◌, ◌++◌, length, set, slice_index, true, sym, refl, ap, ◌∙◌, subst, arith, Some, get_or-set_same}
 use mathlib.Core.Option.{some, none}
 use mathlib.Core.Logic.{dite}
 use native.Mathlib.Decide.{ℕ_discrete}
@@ -10,7 +10,7 @@ use Rattle.qolb_model.specs.declared.request.Request.{Request}
 use Rattle.qolb_model.specs.declared.end.End.{End}
 use Rattle.qolb_model.specs.Kept.{AreAllowed}
 use Rattle.qolb_model.specs.Queue.{Queue}
-use Rattle.qolb_model.specs.Requests.{Has, Lacks, has, count_of, last_of, next_of}
+use Rattle.qolb_model.specs.Requests.{Has, Lacks, has, count_of, next_of}
 use Rattle.qolb_model.specs.Views.{own}
 use Rattle.qolb_model.specs.Asking.{Asks}
 use Rattle.qolb_model.proofs.Lists.{slice_get-push}
@@ -23,10 +23,10 @@ use Rattle.link_core.specs.declared.seat.Seat.{Seat}
 use Rattle.link_core.specs.declared.state.State.{State as Core}
 use Rattle.link_core.specs.declared.told.Told.{Told as Answer}
 use Rattle.link_core.specs.declared.event.Event.{Event}
-use Rattle.link_core.specs.State.{unused, empty, entry, seat, point, IsNode, IsWide, is_clear}
+use Rattle.link_core.specs.State.{unused, entry, seat, point, IsNode, IsWide, is_clear}
 use Rattle.link_core.specs.Steps.{Step, node_of, seat_at_arrival, Names}
 use Rattle.link_core.specs.Steps as row
-use Rattle.link_core.specs.Places.{request, IsLast}
+use Rattle.link_core.specs.Places.{IsLast}
 use Rattle.link_core.specs.Shown.{has_line, is_rolled, is_freeing}
 use Rattle.link_core.proofs.Found.{found}
 use Rattle.link_core.proofs.Orders.{last_new, last_place}
@@ -34,13 +34,13 @@ use Rattle.link_core.proofs.Steady.{after_is}
 use Rattle.link_line.specs.declared.known.Known.{Known}
 use Rattle.link_line.specs.declared.parcel.Parcel.{Parcel}
 use Rattle.link_line.specs.declared.rule.Setup.{Setup}
-use Rattle.link_line.specs.Words.{home_at, entry_at}
-use Rattle.link_line.specs.Links.{At, Past, NodeOk, Laid, InSlot, HasLine, Homes, state_at, is_leaving}
-use Rattle.link_line.specs.Steps.{Contents, sole, prepended, LinksTo}
-use Rattle.link_line.proofs.Going.{SetsGrow, next, on, wide}
+use Rattle.link_line.specs.Words.{home_at}
+use Rattle.link_line.specs.Links.{At, Past, NodeOk, InSlot, HasLine, state_at, is_leaving}
+use Rattle.link_line.specs.Steps.{Contents, prepended, LinksTo}
+use Rattle.link_line.proofs.Going.{next, on, wide}
 use Rattle.link_line.proofs.Histories.{at_point}
 use Rattle.link_line.proofs.Laying.{St, Rule, mine_ok, is_node, home_laid, deep_taken, in_slot}
-use Rattle.link_line.proofs.Turning.{whole, goes_step, grows_none, grows_joined, joins_same, joins_push, passes_none, Owes, via_none, Turned, turned, own_marked}
+use Rattle.link_line.proofs.Turning.{whole, goes_step, grows_none, grows_joined, joins_same, joins_push, passes_none, Owes, via_none, turned, own_marked}
 use Rattle.link_line.proofs.Arriving.{view_come, Arrives, comes, come_turned}
 
 module _ (good : List ℕ → Type 0) (allows : List ℕ → List ℕ → Type 0) (about : Setup) (v : Known) (ready : v.seat.point ≡ Ready) where
@@ -94,7 +94,7 @@ module _ (good : List ℕ → Type 0) (allows : List ℕ → List ℕ → Type 0
           was_clear = λ more.
               let p = last_place about.terms.lease q.order q.ends n r.fine.shown.legal (subst (λ (c : ℕ). 1 ≤ c) (sym ok.knows.counts) more) in
               has_prefix q.clear past_after.queue.clear (own v.view) (on allows about r.may_open.nodes.few r.past r.fine k).spared.clear
-                  (ap (has q.clear) (λ i. record { node = n; number = sym ok.knows.counts i }) ∙ ap (has q.clear) (sym p.2) ∙ r.fine.shown.matches.clears n p.0 node p.1 ∙ ap (λ (z : Point). is_clear z (entry r.past.core n)) here);
+              (ap (has q.clear) (λ i. record { node = n; number = sym ok.knows.counts i }) ∙ ap (has q.clear) (sym p.2) ∙ r.fine.shown.matches.clears n p.0 node p.1 ∙ ap (λ (z : Point). is_clear z (entry r.past.core n)) here);
           count = refl;
           behind = (length q.order, prefix_length v.view.order q.order ok.knows.orders, asked_at);
         }
@@ -131,9 +131,8 @@ module _ (good : List ℕ → Type 0) (allows : List ℕ → List ℕ → Type 0
           joins_are = joins_push about r.past y v asked ok refl;
         } in
         let t = come_turned good allows about s r me v at k refl joined (v.view.count + 1) joins line a (set s.words home_at n) (set s.homes 0 none)
-            (home_laid r.past.core y.core s.words s.homes (set s.homes 0 none) n r.laid refl refl refl (deep_taken s.homes r.laid.deep) tt) in
-        let w : Known = view_come good allows about s r me v at k refl joined (v.view.count + 1) joins line in
-        (
+        (home_laid r.past.core y.core s.words s.homes (set s.homes 0 none) n r.laid refl refl refl (deep_taken s.homes r.laid.deep) tt) in
+        let w : Known = view_come good allows about s r me v at k refl joined (v.view.count + 1) joins line in (
           w ∷ [],
           takes 0 line.line,
           line.at,
@@ -170,7 +169,7 @@ module _ (good : List ℕ → Type 0) (allows : List ℕ → List ℕ → Type 0
           passes = passes_none y.queue.order _ (step'.shows.matches.unpassed n node (ap (λ (z : Point). has_line z || is_freeing z) own')) refl;
         } in
         let t = turned good allows about s r me v at r.past (via_none good allows about r.past v r.fine) k refl r.past.joined r.past.early r.past.late (grows_none r.past y n refl refl refl) (v.view.count + 1) v.view.joined [] v.line owes (set s.words home_at n) s.homes
-            (home_laid r.past.core y.core s.words s.homes s.homes n r.laid refl refl refl r.laid.deep (in_slot r.past.core y.core s.homes r.past.core.place refl refl refl r.laid.slot)) in
+        (home_laid r.past.core y.core s.words s.homes s.homes n r.laid refl refl refl r.laid.deep (in_slot r.past.core y.core s.homes r.past.core.place refl refl refl r.laid.slot)) in
         let w : Known = whole y v (v.view.count + 1) v.view.joined [] v.line in
         let links : LinksTo r.past.core.home w = record {
           point = own';
@@ -181,8 +180,7 @@ module _ (good : List ℕ → Type 0) (allows : List ℕ → List ℕ → Type 0
             unjoined = lacks_from v.view.joined asked (λ h. not_joined (ok.joins.all_joined asked h));
             unmarked = own_marked good allows about y v (v.view.count + 1) (length q.order) step'.shows number (last k r.past.joined order) (omega arith) ∙ ap is_rolled own';
           };
-        } in
-        (
+        } in (
           w ∷ [],
           keeps,
           tt,

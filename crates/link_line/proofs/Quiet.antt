@@ -1,18 +1,16 @@
 -- An event after which its node neither has the line nor is about to link or to free others.
-use Rattle.std.proofs.Common.{◌≡◌, ◌≢◌, ℕ, ◌≤◌, Bool, true, false, ◌||◌, List, [], ◌∷◌, length, set, sym, refl, ap, ◌∙◌, subst, arith}
+use Rattle.std.proofs.Common.{◌≡◌, ◌≢◌, ℕ, Bool, true, false, ◌||◌, List, [], ◌∷◌, sym, refl, ap, ◌∙◌, subst}
 use mathlib.Core.Option.{some}
 use lib.ListN.{get_elem?}
 use Rattle.qolb_model.specs.declared.request.Request.{Request}
-use Rattle.qolb_model.specs.declared.end.End.{End}
 use Rattle.qolb_model.specs.Kept.{AreAllowed}
-use Rattle.qolb_model.specs.Requests.{Has, count_of}
+use Rattle.qolb_model.specs.Requests.{count_of}
 use Rattle.link_core.specs.declared.point.Point.{Point}
 use Rattle.link_core.specs.declared.point.Point.TheVariants.{Idle, Ready, Linking, Queued, Holding, Leaving, Marking, Granting, Freeing, Left, Rolled, Shut}
-use Rattle.link_core.specs.declared.seat.Seat.{Seat}
 use Rattle.link_core.specs.declared.state.State.{State as Core}
 use Rattle.link_core.specs.declared.told.Told.{Told as Answer}
 use Rattle.link_core.specs.declared.event.Event.{Event}
-use Rattle.link_core.specs.State.{seat, point, IsNode}
+use Rattle.link_core.specs.State.{point, IsNode}
 use Rattle.link_core.specs.Steps.{Step, node_of}
 use Rattle.link_core.specs.Shown.{has_line, is_freeing, Shows}
 use Rattle.link_line.specs.declared.known.Known.{Known}
@@ -87,4 +85,4 @@ module _ (good : List ℕ → Type 0) (allows : List ℕ → List ℕ → Type 0
         → Turned good allows about s r me v at r.past (via_none good allows about r.past v r.fine) (after k) (view_after k) words homes
     quiet_turned {e} {t} {d} k is p here quiet node order ends words homes laid =
         turned good allows about s r me v at r.past (via_none good allows about r.past v r.fine) k is r.past.joined r.past.early r.past.late (grows_none r.past (after k) (node_of e) refl refl refl) v.view.count v.view.joined [] v.line
-            (quiet_owes r.past (after k) v p v.view.joined r.fine (mine_ok good allows about s r me v at) (on allows about r.may_open.nodes.few r.past r.fine k).shows node here quiet order ends (joins_same about r.past (after k) v (mine_ok good allows about s r me v at) refl)) words homes laid
+        (quiet_owes r.past (after k) v p v.view.joined r.fine (mine_ok good allows about s r me v at) (on allows about r.may_open.nodes.few r.past r.fine k).shows node here quiet order ends (joins_same about r.past (after k) v (mine_ok good allows about s r me v at) refl)) words homes laid

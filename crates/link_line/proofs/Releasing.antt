@@ -1,24 +1,20 @@
 -- What the steps of a release have in common: the turn ends, or the line stays in the node's hand.
-use Rattle.std.proofs.Common.{◌≡◌, ◌≢◌, ◌⊎◌, inl, inr, ◌||◌, ℕ, ◌+◌, ◌<◌, ◌≤◌, Bool, true, false, List, [], ◌∷◌, ◌++◌, length, map, set, sym, refl, ap, ◌∙◌, subst, Option, Some, slice_get, arith, length-append}
+use Rattle.std.proofs.Common.{◌≡◌, ◌≢◌, ◌⊎◌, inl, inr, ℕ, ◌+◌, ◌<◌, ◌≤◌, Bool, true, false, List, [], ◌∷◌, ◌++◌, length, map, sym, refl, ap, ◌∙◌, subst, Some, slice_get, arith, length-append}
 use mathlib.Core.Option.{some}
-use mathlib.Core.List.{IsPrefix}
 use lib.ListN.{get_elem?}
 use Rattle.std.proofs.lemmas.List.{length-map}
 use Rattle.std.proofs.lemmas.Option.{slice_get_within}
 use Rattle.line_lanes.specs.declared.line.Line64.{Line64}
-use Rattle.line_lanes.specs.declared.line.Mask.{Mask}
 use Rattle.qolb_model.specs.declared.request.Request.{Request}
 use Rattle.qolb_model.specs.declared.end.End.{End}
-use Rattle.qolb_model.specs.declared.end.End.TheVariants.{Served, Gone, Told}
+use Rattle.qolb_model.specs.declared.end.End.TheVariants.{Served}
 use Rattle.qolb_model.specs.declared.terms.Terms.{Terms}
-use Rattle.qolb_model.specs.declared.terms.TheConstants.{MOST_NODES}
 use Rattle.qolb_model.specs.Ends.{is_closed, bytes_after}
 use Rattle.qolb_model.specs.Histories.{turn_of}
 use Rattle.qolb_model.specs.Kept.{AreAllowed}
 use Rattle.qolb_model.specs.PortStates.{left_by}
 use Rattle.qolb_model.specs.Queue.{Queue}
-use Rattle.qolb_model.specs.Requests.{Has, Lacks, has, count_of, last_of}
-use Rattle.qolb_model.specs.Views.{own}
+use Rattle.qolb_model.specs.Requests.{Has, Lacks, has, count_of}
 use Rattle.qolb_model.specs.LettingGo.{IsShort}
 use Rattle.qolb_model.proofs.Lists.{never}
 use Rattle.qolb_model.proofs.Requests.{lacks_from}
@@ -33,23 +29,23 @@ use Rattle.link_core.specs.declared.entry.Entry.{Entry}
 use Rattle.link_core.specs.declared.state.State.{State as Core}
 use Rattle.link_core.specs.declared.told.Told.{Told as Answer}
 use Rattle.link_core.specs.declared.event.Event.{Event}
-use Rattle.link_core.specs.State.{entry, seat, point, IsNode, last_or, is_clear, no_mask}
+use Rattle.link_core.specs.State.{entry, seat, point, IsNode, last_or, is_clear}
 use Rattle.link_core.specs.Steps.{Step, node_of, seat_with, seat_at_close, point_at_end, turns_after, left_after}
 use Rattle.link_core.specs.Moves.{end_by}
 use Rattle.link_core.specs.Places.{request, asker, IsLast}
-use Rattle.link_core.specs.Shown.{has_line, is_rolled, is_freeing, IsCarried, Lies, at_home, in_hand, granted, left, Shows}
-use Rattle.link_core.proofs.Close.{close_passed, close_reason}
+use Rattle.link_core.specs.Shown.{has_line, is_rolled, IsCarried, Lies, at_home, in_hand, granted, left, Shows}
+use Rattle.link_core.proofs.Close.{close_passed}
 use Rattle.link_core.proofs.Found.{found}
 use Rattle.link_core.proofs.Orders.{get_request, request_got, last_is}
 use Rattle.link_core.proofs.Short.{short}
 use Rattle.link_line.specs.declared.known.Known.{Known}
 use Rattle.link_line.specs.declared.parcel.Parcel.{Parcel}
 use Rattle.link_line.specs.declared.rule.Setup.{Setup}
-use Rattle.link_line.specs.Links.{At, Past, NodeOk, PastOk, Passing, IsInHand, Laid, Homes, MayServe, serves, is_leaving, is_shut_by, state_of, state_at, state_in_release}
-use Rattle.link_line.specs.Steps.{Ended, GoesOut, IsLeft, Carries, IsOneLeft, end_of, next_end, after_release, left_in}
+use Rattle.link_line.specs.Links.{At, Past, NodeOk, PastOk, Passing, Laid, Homes, MayServe, serves, is_leaving, is_shut_by, state_of, state_at, state_in_release}
+use Rattle.link_line.specs.Steps.{Ended, GoesOut, IsLeft, Carries, end_of, next_end, after_release, left_in}
 use Rattle.link_line.proofs.Going.{next, on, leaving_lined, map_get}
 use Rattle.link_line.proofs.Laying.{St, Rule, mine_ok, is_node}
-use Rattle.link_line.proofs.Quiet.{is_quiet, quiet_unlined, quiet_not}
+use Rattle.link_line.proofs.Quiet.{is_quiet}
 use Rattle.link_line.proofs.Turning.{whole, grows_none, joins_same, Owes, Via, via_none, Turned, turned, own_at}
 
 -- while the line is in no hand, the request at its turn is not withdrawn
@@ -400,8 +396,7 @@ module _ (good : List ℕ → Type 0) (allows : List ℕ → List ℕ → Type 0
         let late : point y.core t ≡ Linking e = ap (λ (s : Seat). s.point) same.0 ∙ (found sh).late n e node marking un in
         let its : asker y.queue.order (length y.queue.ends) ≡ t = λ i. asker (same.1 i) (same.2 i) in
         let last : IsLast y.queue.order t (length y.queue.ends) = subst (λ (m : ℕ). IsLast y.queue.order m (length y.queue.ends)) its (fine.shown.matches.distinct (length y.queue.ends) (omega arith) here) in
-        let made = last_is about.terms.lease y.queue.order y.queue.ends t (length y.queue.ends) fine.shown.legal last in
-        (
+        let made = last_is about.terms.lease y.queue.order y.queue.ends t (length y.queue.ends) fine.shown.legal last in (
           request y.queue.order (length y.queue.ends),
           (λ i. slice_get (order i) (length (ends i))) ∙ get_request y.queue.order (length y.queue.ends) here,
           lacks_from w.view.joined (request y.queue.order (length y.queue.ends)) (λ j. never (subst (Has y.joined) made (joined (request y.queue.order (length y.queue.ends)) j)) (fine.unjoined t e (subst (λ (m : ℕ). IsNode y.core m) its (fine.shown.matches.nodes (length y.queue.ends) here)) late)),

@@ -1,38 +1,35 @@
 -- A node clears its entry before it asks; and it looks whether the entry of its last request is clear.
-use Rattle.std.proofs.Common.{◌≡◌, ◌⊎◌, ℕ, ◌+◌, ◌<◌, ◌≤◌, List, [], ◌∷◌, length, set, slice_index, true, false, sym, refl, ap, ◌∙◌, subst, inl, inr, ⊎_elim, Some, slice_get, arith, get_or-set_same}
+use Rattle.std.proofs.Common.{◌≡◌, ◌⊎◌, ℕ, ◌≤◌, List, [], ◌∷◌, set, slice_index, true, false, sym, refl, ap, ◌∙◌, subst, inl, inr, arith, get_or-set_same}
 use mathlib.Core.Option.{some, none}
 use lib.ListN.{get_elem?}
 use Rattle.std.proofs.lemmas.Bool.{cases_Bool, cases_lt}
 use Rattle.atomic_table.specs.Table.{step, Act, keeps, Valid, stepped, carried_after, Allows}
 use Rattle.qolb_model.specs.declared.terms.TheConstants.{MOST_NODES}
-use Rattle.qolb_model.specs.declared.request.Request.{Request}
 use Rattle.qolb_model.specs.Queue.{Queue}
-use Rattle.qolb_model.specs.Requests.{Has, Lacks, has, count_of}
+use Rattle.qolb_model.specs.Requests.{Lacks, has}
 use Rattle.qolb_model.proofs.Clearing.{clears_ended}
 use Rattle.qolb_model.proofs.Requests.{lacks_from}
 use Rattle.link_core.specs.declared.point.Point.{Point}
 use Rattle.link_core.specs.declared.point.Point.TheVariants.{Idle, Ready, Left, Rolled, Shut}
 use Rattle.link_core.specs.declared.seat.Seat.{Seat}
-use Rattle.link_core.specs.declared.state.State.{State as Core}
 use Rattle.link_core.specs.State.{unused, empty, entry, seat, point, IsNode, IsWide, is_clear}
 use Rattle.link_core.specs.Steps.{Step}
 use Rattle.link_core.specs.Steps as row
-use Rattle.link_core.specs.Places.{request, IsLast}
 use Rattle.link_core.specs.Promise.{Says}
 use Rattle.link_core.specs.declared.told.Told.TheVariants as told
-use Rattle.link_core.proofs.Orders.{last_is, last_place}
+use Rattle.link_core.proofs.Orders.{last_place}
 use Rattle.link_core.proofs.Steady.{after_is}
 use Rattle.link_line.specs.declared.known.Known.{Known}
 use Rattle.link_line.specs.declared.parcel.Parcel.{Parcel}
 use Rattle.link_line.specs.declared.rule.Setup.{Setup}
 use Rattle.link_line.specs.Words.{entry_at, pack}
-use Rattle.link_line.specs.Links.{At, Past, NodeOk, PastOk, Laid, state_of, Homes}
-use Rattle.link_line.specs.Steps.{Contents, sole, readied, looked, is_free}
+use Rattle.link_line.specs.Links.{Past, NodeOk, PastOk, state_of}
+use Rattle.link_line.specs.Steps.{Contents, readied, looked, is_free}
 use Rattle.link_line.proofs.Going.{on, wide}
 use Rattle.link_line.proofs.Histories.{at_point}
 use Rattle.link_line.proofs.Packed.{pack_empty, done_is, freed_is, link_is}
 use Rattle.link_line.proofs.Laying.{St, Rule, mine_ok, is_node, entry_laid, same_laid, in_slot}
-use Rattle.link_line.proofs.Turning.{goes_step, Turned}
+use Rattle.link_line.proofs.Turning.{goes_step}
 use Rattle.link_line.proofs.Quiet.{is_quiet, after, view_after, quiet_turned}
 
 module _ (good : List ℕ → Type 0) (allows : List ℕ → List ℕ → Type 0) (about : Setup) (v : Known) where
@@ -66,8 +63,7 @@ module _ (good : List ℕ → Type 0) (allows : List ℕ → List ℕ → Type 0
         let st : Seat = record (seat r.past.core v.view.node) { point = Ready } in
         let own : seat y.core v.view.node ≡ st = own_seat st in
         let t = quiet_turned good allows about s r me v at k refl Ready (ap (λ (z : Seat). z.point) own) refl node (ap (λ (q : Queue). q.order) is) (ap (λ (q : Queue). q.ends) is) (set s.words word 0) s.homes
-            (entry_laid r.past.core y.core s.words s.homes s.homes v.view.node 0 empty r.laid node few (let w = inside.entries in let n = node.1 in omega arith) (sym pack_empty) refl refl refl r.laid.deep (in_slot r.past.core y.core s.homes r.past.core.place refl refl refl r.laid.slot)) in
-        (
+        (entry_laid r.past.core y.core s.words s.homes s.homes v.view.node 0 empty r.laid node few (let w = inside.entries in let n = node.1 in omega arith) (sym pack_empty) refl refl refl r.laid.deep (in_slot r.past.core y.core s.homes r.past.core.place refl refl refl r.laid.slot)) in (
           view_after good allows about s r me v at k ∷ [],
           keeps,
           tt,
@@ -117,8 +113,7 @@ module _ (good : List ℕ → Type 0) (allows : List ℕ → List ℕ → Type 0
           let st : Seat = record (seat r.past.core v.view.node) { point = Idle } in
           let own : seat y.core v.view.node ≡ st = own_seat st in
           let t = quiet_turned good allows about s r me v at k refl Idle (ap (λ (z : Seat). z.point) own) refl node (ap (λ (q : Queue). q.order) is) (ap (λ (q : Queue). q.ends) is) (set s.words word (slice_index s.words word)) s.homes
-              (same_laid r.past.core y.core s.words s.homes s.homes v.view.node r.laid node few refl refl refl r.laid.deep (in_slot r.past.core y.core s.homes r.past.core.place refl refl refl r.laid.slot)) in
-          (
+          (same_laid r.past.core y.core s.words s.homes s.homes v.view.node r.laid node few refl refl refl r.laid.deep (in_slot r.past.core y.core s.homes r.past.core.place refl refl refl r.laid.slot)) in (
             view_after good allows about s r me v at k ∷ [],
             keeps,
             tt,
@@ -141,8 +136,7 @@ module _ (good : List ℕ → Type 0) (allows : List ℕ → List ℕ → Type 0
           let step' = on allows about r.may_open.nodes.few r.past r.fine k in
           let is = after_is step' in
           let t = quiet_turned good allows about s r me v at k refl v.seat.point (here v.seat.point refl) (quiet_rest v.seat.point rest) node (ap (λ (q : Queue). q.order) is) (ap (λ (q : Queue). q.ends) is) (set s.words word (slice_index s.words word)) s.homes
-              (same_laid r.past.core y.core s.words s.homes s.homes v.view.node r.laid node few refl refl refl r.laid.deep r.laid.slot) in
-          (
+          (same_laid r.past.core y.core s.words s.homes s.homes v.view.node r.laid node few refl refl refl r.laid.deep r.laid.slot) in (
             view_after good allows about s r me v at k ∷ [],
             keeps,
             tt,

@@ -1,52 +1,38 @@
 -- An event of the core, by the seat of its node.
-use Rattle.std.proofs.Common.{◌≡◌, ◌≢◌, ◌⊎◌, ℕ, ◌+◌, ◌<◌, ◌≤◌, inl, inr, Bool, true, false, ◌||◌, List, [], ◌∷◌, length, map, ◌++◌, set, sym, refl, ap, ◌∙◌, subst, Option, Some, None, slice_get, arith}
+use Rattle.std.proofs.Common.{◌≡◌, ◌≢◌, ℕ, ◌+◌, ◌<◌, ◌≤◌, inl, inr, Bool, true, false, List, [], ◌∷◌, length, map, ◌++◌, set, sym, refl, ap, ◌∙◌, subst, Some, None, slice_get}
 use mathlib.Core.Option.{some}
 use mathlib.Core.List.{IsPrefix}
 use lib.ListN.{get_elem?}
 use Rattle.std.proofs.lemmas.Option.{slice_get_within}
-use Rattle.std.specs.Prelude.{slice_index_or}
-use Rattle.line_lanes.specs.declared.line.Line64.{Line64}
 use Rattle.qolb_model.specs.declared.request.Request.{Request}
-use Rattle.qolb_model.specs.declared.end.End.{End}
-use Rattle.qolb_model.specs.declared.terms.Terms.{Terms}
 use Rattle.qolb_model.specs.declared.terms.TheConstants.{MOST_NODES}
 use Rattle.qolb_model.specs.declared.answer.PortState.TheVariants as shows
-use Rattle.qolb_model.specs.declared.view.View.{View}
-use Rattle.qolb_model.specs.Ends.{is_closed, bytes_after}
+use Rattle.qolb_model.specs.Ends.{bytes_after}
 use Rattle.qolb_model.specs.Kept.{AreAllowed}
-use Rattle.qolb_model.specs.Leases.{turns_left}
 use Rattle.qolb_model.specs.Queue.{Queue}
 use Rattle.qolb_model.specs.Requests.{Has, Lacks, has, count_of, last_of}
 use Rattle.qolb_model.specs.Sound.{Continues}
-use Rattle.qolb_model.specs.Views.{own, IsSubset, Extends}
-use Rattle.qolb_model.specs.Turns.{IsClearBefore}
-use Rattle.qolb_model.proofs.Agreed.{length-bytes_after}
+use Rattle.qolb_model.specs.Views.{own, IsSubset}
 use Rattle.qolb_model.proofs.Agreeing.{extends_trans}
-use Rattle.qolb_model.proofs.Leases.{open_has_turns}
-use Rattle.qolb_model.proofs.Prefixes.{prefix_self, prefix_trans, prefix_length}
+use Rattle.qolb_model.proofs.Prefixes.{prefix_self, prefix_trans}
 use Rattle.qolb_model.proofs.Requests.{has_prefix, has_left, has_last, has_push}
-use Rattle.link_core.specs.declared.point.Point.{Point}
-use Rattle.link_core.specs.declared.point.Point.TheVariants.{Idle, Ready, Linking, Queued, Holding, Leaving, Marking, Granting, Freeing, Left, Rolled, Shut}
-use Rattle.link_core.specs.declared.place.Place.TheVariants.{Hand}
-use Rattle.link_core.specs.declared.seat.Seat.{Seat}
+use Rattle.link_core.specs.declared.point.Point.TheVariants.{Linking, Holding, Freeing}
 use Rattle.link_core.specs.declared.state.State.{State as Core}
 use Rattle.link_core.specs.declared.told.Told.{Told as Answer}
 use Rattle.link_core.specs.declared.event.Event.{Event}
-use Rattle.link_core.specs.State.{entry, seat, point, IsNode, last_or, no_mask}
-use Rattle.link_core.specs.Steps.{Step, node_of, seat_at_arrival, turns_after}
-use Rattle.link_core.specs.Places.{request, asker, IsLast}
-use Rattle.link_core.specs.Shown.{has_line, is_rolled, is_freeing, Shows}
-use Rattle.link_core.proofs.Found.{found}
+use Rattle.link_core.specs.State.{entry, seat, point, no_mask}
+use Rattle.link_core.specs.Steps.{Step, node_of, seat_at_arrival}
+use Rattle.link_core.specs.Places.{asker, IsLast}
+use Rattle.link_core.specs.Shown.{has_line, is_rolled, Shows}
 use Rattle.link_core.proofs.Orders.{get_request, last_is}
-use Rattle.link_core.proofs.Sound.{step_sizes}
 use Rattle.link_line.specs.declared.known.Known.{Known}
 use Rattle.link_line.specs.declared.parcel.Parcel.{Parcel}
 use Rattle.link_line.specs.declared.rule.Setup.{Setup}
-use Rattle.link_line.specs.Links.{At, Past, NodeOk, Passing, IsInHand, PastOk, Laid, HasLine, Homes, MayServe, is_leaving, state_of, IsFreed}
-use Rattle.link_line.specs.Steps.{Contents, sole, GoesOn, Comes, point_at_arrival}
+use Rattle.link_line.specs.Links.{At, Past, NodeOk, Passing, IsInHand, PastOk, Laid, Homes, MayServe, is_leaving, state_of}
+use Rattle.link_line.specs.Steps.{GoesOn, point_at_arrival}
 use Rattle.link_line.proofs.Histories.{joined_clear, continues}
-use Rattle.link_line.proofs.Going.{SetsGrow, next, on, wide, fine_next, others_next, marks_next, leaving_lined}
-use Rattle.link_line.proofs.Laying.{St, Rule, rule_step, low, mine_ok, is_node}
+use Rattle.link_line.proofs.Going.{SetsGrow, next, on, fine_next, others_next, marks_next}
+use Rattle.link_line.proofs.Laying.{St, Rule, rule_step, low, mine_ok}
 
 -- the view of a node that learns all that there is
 abbrev pub whole : Past → Known → ℕ → List Request → List ℕ → Parcel → Known
@@ -245,8 +231,8 @@ module _ (good : List ℕ → Type 0) (allows : List ℕ → List ℕ → Type 0
       pub turned : (grows : SetsGrow x y (node_of e)) (count : ℕ) (joins : List Request) (passed : List ℕ) (line : Parcel) → Owes y v count joins passed line → (words : List ℕ) (homes : Homes) → Laid d words homes → Turned y (whole y v count joins passed line) words homes
       turned grows count joins passed line o words homes laid =
           let fine : PastOk allows about y = fine_next allows about few x via.fine k joined early late grows o.kept
-              (λ z. o.lawful (subst (λ (n : ℕ). MayServe (seat d n)) is z))
-              (λ q z. subst (λ (n : ℕ). Lacks joined (last_of n y.queue.order)) (sym is) (o.unjoined q (ap (point d) (sym is) ∙ z))) in
+          (λ z. o.lawful (subst (λ (n : ℕ). MayServe (seat d n)) is z))
+          (λ q z. subst (λ (n : ℕ). Lacks joined (last_of n y.queue.order)) (sym is) (o.unjoined q (ap (point d) (sym is) ∙ z))) in
           let z = whole_by grows fine (whole y v count joins passed line) in
           turned_by grows fine (whole y v count joins passed line) refl (own fine) z.0 z.1 z.2 o.joins.more_joined z.3 (λ q h. h) words homes laid
         where

@@ -1,4 +1,4 @@
-use Rattle.std.proofs.Common.{rules, arith, sym, ap, ◌∙◌, subst, ℕ, ◌≤◌}
+use Rattle.std.proofs.Common.{rules, arith, sym, ◌∙◌, subst, ℕ, ◌≤◌}
 use Rattle.qolb_model.specs.declared.terms.TheConstants.{MOST_NODES}
 use Rattle.link_core.specs.declared.point.Point.TheVariants.{Granting}
 use Rattle.link_line.specs.Steps.{known_of, Carries}
