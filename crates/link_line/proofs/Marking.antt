@@ -17,7 +17,7 @@ use Rattle.link_core.specs.declared.entry.Entry.{Entry}
 use Rattle.link_core.specs.declared.state.State.{State as Core}
 use Rattle.link_core.specs.declared.told.Told.{Told as Answer}
 use Rattle.link_core.specs.declared.event.Event.TheVariants as event
-use Rattle.link_core.specs.State.{unused, entry, seat, point, IsNode, IsWide, last_or, put_seat, put_entry}
+use Rattle.link_core.specs.State.{unused, entry, seat, point, IsNode, IsWide, last_or, put_seat, put_entry, current}
 use Rattle.link_core.specs.Steps.{Step, Names, seat_at_close, point_at_end, turns_after}
 use Rattle.link_core.specs.Steps as row
 use Rattle.link_core.specs.Moves.{end_by}
@@ -163,19 +163,28 @@ module _ (good : List ℕ → Type 0) (allows : List ℕ → List ℕ → Type 0
           no_hand : (m : ℕ) → Mailbox e ≡ Hand m → ⊥
           no_hand m f = cc
 
+      at_entry : current r.past.core n ≡ e
+      at_entry = ((found r.fine.shown).marks n e node here).0
+
+      not_own : point r.past.core (current r.past.core n) ≡ Rolled → e ≢ n
+      not_own rolled same = let q : Rolled ≡ Marking e = sym rolled ∙ ap (point r.past.core) (at_entry ∙ same) ∙ here in cc
+
+      some_passed : e ≢ n → v.passed ≡ [] → ⊥
+      some_passed ne empty = ne (sym at_entry ∙ ap (last_or n) (places good allows about s r me v at z r.past h ∙ ap (map (asker r.past.queue.order)) empty))
+
       is_left_there : Goal
       is_left_there = elim (current_cases r.fine.shown.matches n node) [
         | inl own ↦ (
-            let k = row.done_left n e node here un (sym ((found r.fine.shown).marks n e node here).0 ∙ own.1) in
+            let k = row.done_left n e node here un (sym at_entry ∙ own.1) in
             let is = after_is (on allows about r.may_open.nodes.few r.past h.via.fine k) in
             leaves Left refl (λ _. refl) k (ap (λ (q : Queue). q.order) is) (ap (λ (q : Queue). q.ends) is)
             )
         | inr passed ↦ (
-            let ne : e ≢ n = λ same. let q : Rolled ≡ Marking e = sym passed.point ∙ ap (point r.past.core) (((found r.fine.shown).marks n e node here).0 ∙ same) ∙ here in cc in
+            let ne = not_own passed.point in
             let k = row.done_rolled n e node here un ne in
             let is = after_is (on allows about r.may_open.nodes.few r.past h.via.fine k) in
             leaves (point_at_end (seat r.past.core n).reason) (end_quiet (seat r.past.core n).reason)
-            (λ none. absurd (ne (sym ((found r.fine.shown).marks n e node here).0 ∙ ap (last_or n) (places good allows about s r me v at z r.past h ∙ ap (map (asker r.past.queue.order)) none))))
+            (λ none. absurd (some_passed ne none))
             k (ap (λ (q : Queue). q.order) is) (ap (λ (q : Queue). q.ends) is)
             )
       ]
