@@ -1,11 +1,9 @@
 -- What the rule says of nodes makes their ports' views of one history.
-use Rattle.std.proofs.Common.{◌≡◌, ◌≢◌, ◌⊎◌, ℕ, ◌+◌, ◌<◌, ◌≤◌, inl, inr, ⊎_elim, Bool, true, false, List, [], ◌∷◌, length, sym, refl, ap, ◌∙◌, subst, Some, slice_get, arith, ne_eqb}
-use Rattle.std.specs.Prelude.{◌==◌, ◌&&◌, not}
-use Rattle.std.proofs.lemmas.Bool.{cases_lt, cases_Bool}
+use Rattle.std.proofs.Common.{◌≡◌, ◌⊎◌, ℕ, ◌+◌, ◌<◌, ◌≤◌, inl, inr, ⊎_elim, Bool, true, false, List, [], ◌∷◌, length, sym, refl, ap, ◌∙◌, subst, Some, arith, ne_eqb}
+use Rattle.std.specs.Prelude.{not}
+use Rattle.std.proofs.lemmas.Bool.{cases_lt}
 use Rattle.std.proofs.lemmas.Option.{slice_get_within}
-use mathlib.Core.Logic.{dite}
 use mathlib.Core.List.{IsPrefix}
-use native.Mathlib.Decide.{ℕ_discrete}
 use Rattle.qolb_model.specs.declared.request.Request.{Request}
 use Rattle.qolb_model.specs.declared.end.End.{End}
 use Rattle.qolb_model.specs.declared.end.End.TheVariants.{Served, Gone, Told}
@@ -33,8 +31,8 @@ use Rattle.link_core.specs.declared.seat.Reason.TheVariants.{Own, Closing, Refus
 use Rattle.link_core.specs.declared.place.Place.TheVariants.{Home, Mailbox, Hand}
 use Rattle.link_core.specs.declared.state.State.{State as Core}
 use Rattle.link_core.specs.declared.entry.Entry.{Entry}
-use Rattle.link_core.specs.State.{entry, seat, point, IsNode, current, last_or, is_clear}
-use Rattle.link_core.specs.Places.{request, asker, IsLast}
+use Rattle.link_core.specs.State.{entry, seat, point, IsNode, last_or, is_clear}
+use Rattle.link_core.specs.Places.{request, IsLast}
 use Rattle.link_core.specs.Shown.{has_line, is_rolled, Lies, at_home, in_hand, granted, left, Sits, Shows, AreMarked, IsCarried}
 use Rattle.link_core.proofs.Follows.{sits_at}
 use Rattle.link_core.proofs.Found.{found}
@@ -44,17 +42,22 @@ use Rattle.link_line.specs.declared.rule.Setup.{Setup}
 use Rattle.link_line.specs.Links.{At, Past, NodeOk, PastOk, IsFreed, state_of, state_in_release}
 use Rattle.link_line.proofs.Lists.{at_same}
 
+-- a withdrawn request is clear as its entry says
+pub clear_is : {terms : Terms} {c : Core} {q : Queue} (s : Shows terms c q) (r : Request) → IsNode c r.node → IsFreed c q.order r → has q.clear r ≡ is_clear Rolled (entry c r.node)
+clear_is {c = c} {q = q} s r node f = ap (has q.clear) (sym (request_got q.order f.at r f.here)) ∙ s.matches.clears r.node f.at node f.last ∙ ap (λ (z : Point). is_clear z (entry c r.node)) f.rolled
+
+-- who made a request is a node
+pub asked_by : {terms : Terms} {c : Core} {q : Queue} (s : Shows terms c q) (p : ℕ) (r : Request) → At q.order p r → IsNode c r.node
+asked_by {c = c} {q = q} s p r here = subst (λ (z : Request). IsNode c z.node) (request_got q.order p r here) (s.matches.nodes p (slice_get_within q.order p r here))
+
 -- a freed request is clear once the one behind it is joined
 module _ {terms : Terms} {c : Core} {q : Queue} (s : Shows terms c q) (joined : List Request) (unjoined : (n x : ℕ) → IsNode c n → point c n ≡ Linking x → Lacks joined (last_of n q.order)) where
   module _ (p : ℕ) (r next : Request) (here : At q.order p r) (behind : At q.order (p + 1) next) (f : IsFreed c q.order r) (h : Has joined next) where
     node : IsNode c r.node
-    node = subst (λ (z : Request). IsNode c z.node) (request_got q.order p r here) (s.matches.nodes p (slice_get_within q.order p r here))
+    node = asked_by s p r here
 
     same : f.at ≡ p
     same = same_place q.order s.legal.numbered f.at p r f.here here
-
-    is : has q.clear r ≡ is_clear Rolled (entry c r.node)
-    is = ap (has q.clear) (sym (request_got q.order f.at r f.here)) ∙ s.matches.clears r.node f.at node f.last ∙ ap (λ (z : Point). is_clear z (entry c r.node)) f.rolled
 
     boxed : c.place ≡ Mailbox r.node → Lies terms c q.order q.ends → ⊥
     boxed box (at_home a b w) = let z : Home ≡ Mailbox r.node = sym b ∙ box in cc
@@ -78,7 +81,7 @@ module _ {terms : Terms} {c : Core} {q : Queue} (s : Shows terms c q) (joined : 
     unboxed true w fr d none = rw (fr, d) (ap not (ne_eqb w.link 0 (none d)))
 
     pub joined_clear : Has q.clear r
-    joined_clear = is ∙ unboxed (entry c r.node).done (entry c r.node) f.freed refl (λ d l. boxed (s.matches.settled.boxed r.node node d l) s.matches.lies)
+    joined_clear = clear_is s r node f ∙ unboxed (entry c r.node).done (entry c r.node) f.freed refl (λ d l. boxed (s.matches.settled.boxed r.node node d l) s.matches.lies)
 
 -- where a port shows that it holds, its node has the line, and has passed nobody
 holding_in : (reason : Reason) (passed : List ℕ) → state_in_release reason passed ≡ shows.Holding → passed ≡ []

@@ -7,3 +7,17 @@ pub mod Freed
 pub mod Walking
 pub mod Released
 pub mod Calling
+pub mod Going
+pub mod Laying
+pub mod Turning
+pub mod Quiet
+pub mod Resting
+pub mod Arriving
+pub mod Polling
+pub mod Linking
+pub mod Prepend
+pub mod Releasing
+pub mod Marking
+pub mod Granting
+pub mod Homing
+pub mod Freeing

@@ -1,5 +1,5 @@
 -- The rule of the list's table: its words and its slot are those of a core, which shows one queue of the line.
-use Rattle.std.specs.Prelude.{◌≡◌, ◌≢◌, ◌⊎◌, ℕ, zero, suc, ◌+◌, ◌<◌, ◌≤◌, Bool, true, false, List, [], ◌∷◌, map, length, slice_index, slice_get, Some, None}
+use Rattle.std.specs.Prelude.{◌≡◌, ◌⊎◌, ℕ, zero, suc, ◌+◌, ◌<◌, ◌≤◌, Bool, true, false, List, [], ◌∷◌, map, length, slice_index, slice_get, Some, None}
 use mathlib.Core.List.{IsPrefix}
 use mathlib.Core.Option.{some}
 use mathlib.Core.Option as maybe
@@ -147,13 +147,15 @@ pub record IsInHand (c : Core) (n : ℕ) (s : Seat) (line : Parcel) : Type 0 whe
   pub mask : MayServe s → line.mask ≡ c.mask
   pub shut : line.closed ≡ is_shut_by s.reason
 
--- where it is in its call, and the line that it has: what a holder has written is not in the core yet
+-- where it is in its call, and the line that it has: what a holder has written is not in the core yet; and where its release has left the
+-- line with a node that it passed, it knows the request behind
 pub record Standing (c : Core) (ends : List End) (n : ℕ) (e : Known) : Type 0 where
   pub seat : e.seat ≡ seat c n
   pub state : e.view.state ≡ state_of e.seat
   pub holds : has_line e.seat.point ≡ true → e.view.ends ≡ ends
   pub unwritten : e.seat.point ≡ Holding → c.mask ≡ no_mask
   pub carries : is_leaving e.seat.point ≡ true → IsInHand c n e.seat e.line
+  pub left : e.seat.point ≡ Freeing → (i x p : ℕ) → At e.seat.passed i x → At e.passed i p → (entry c x).done ≡ true → (entry c x).link ≡ 0 → p + 1 < length e.view.order
 
 -- the places of the requests that it has passed are those of their nodes' last ones
 pub record Passing (order : List Request) (e : Known) : Type 0 where

@@ -1,5 +1,5 @@
 -- What each step of a port tells it.
-use Rattle.std.specs.Prelude.{◌≡◌, ◌≢◌, ◌⊎◌, ℕ, ◌+◌, ◌<◌, ◌≤◌, ◌==◌, ◌&&◌, not, List, [], ◌∷◌, ◌++◌, length, Bool, true, false, Some, None}
+use Rattle.std.specs.Prelude.{◌≡◌, ◌≢◌, ◌⊎◌, ℕ, ◌+◌, ◌≤◌, ◌==◌, ◌&&◌, not, List, [], ◌∷◌, ◌++◌, length, Bool, true, false, Some, None}
 use Rattle.atomic_table.specs.Table.{Me, Step}
 use Rattle.atomic_table.specs.declared.shared.Seat.{Seat}
 use Rattle.atomic_table.specs.Seated.{TableId}
@@ -19,7 +19,7 @@ use Rattle.qolb_model.specs.Ends.{is_closed, written}
 use Rattle.qolb_model.specs.Histories.{turn_of}
 use Rattle.qolb_model.specs.Views.{own, bytes_of, Extends}
 use Rattle.qolb_model.specs.Sound.{Continues}
-use Rattle.qolb_model.specs.Asking.{Asks}
+use Rattle.qolb_model.specs.Asking.{Asks, IsJoined}
 use Rattle.qolb_model.specs.Linking.{IsLinking, Links}
 use Rattle.qolb_model.specs.Turns.{IsQueued, IsWithdrawn, IsClearBefore}
 use Rattle.qolb_model.specs.LettingGo.{IsShort}
@@ -119,7 +119,6 @@ pub record Comes (w : Known) (y : Parcel) : Type 0 where
   pub passed : w.passed ≡ []
   pub state : w.view.state ≡ shows.Holding
   pub turn : At w.view.order (length w.view.ends) (own w.view)
-  pub joined : Has w.view.joined (own w.view)
   pub unmarked : Lacks w.view.marked (own w.view)
   pub clear : IsClearBefore w.view (length w.view.ends)
   pub bytes : y.bytes.bytes ≡ bytes_of w.view
@@ -139,10 +138,10 @@ is_free Left w = not (link_of w == 0)
 is_free Rolled w = is_freed w && not (is_done w && (link_of w == 0))
 is_free _ w = false
 
--- the last request is clear, or it is not
+-- the node may ask, or its last request is not clear
 pub record IsStill (v : Known) (free : Bool) (w : Known) : Type 0 where
   pub count : w.view.count ≡ v.view.count
-  pub clear : free ≡ true → (w.seat.point ≡ Idle) × (w.view.state ≡ shows.Idle) × Has w.view.clear (own w.view)
+  pub clear : free ≡ true → (w.seat.point ≡ Idle) × (w.view.state ≡ shows.Idle)
   pub unclear : free ≡ false → (w.seat.point ≡ v.seat.point) × (w.view.state ≡ v.view.state) × Lacks w.view.clear (own w.view)
 
 -- what the turn wrote
@@ -258,7 +257,7 @@ module _ (allows : List ℕ → List ℕ → Type 0) where
 
   abbrev pub prepended : Step Parcel → Contents → ℕ → Contents → Type 0
   prepended st m n m' = GoesOn allows m m' 1 × Asks (sole m.0).view (sole m'.0).view
-      × (n ≡ 0 → (y : Parcel) × (m'.1 ≡ (0, y) ∷ m.1) × Comes (sole m'.0) y)
+      × (n ≡ 0 → IsJoined (sole m'.0).view × ((y : Parcel) × (m'.1 ≡ (0, y) ∷ m.1) × Comes (sole m'.0) y))
       × (n ≢ 0 → (m'.1 ≡ m.1) × LinksTo n (sole m'.0))
 
   abbrev pub linked : Step Parcel → Contents → ℕ → Contents → Type 0

@@ -1,5 +1,5 @@
 -- The words of the table: where they lie, and what an entry word says.
-use Rattle.std.specs.Prelude.{ℕ, ◌+◌, ◌*◌, ◌/◌, ◌%◌, ◌==◌, ◌&&◌, not, Bool, true, false}
+use Rattle.std.specs.Prelude.{ℕ, ◌+◌, ◌*◌, ◌/◌, ◌%◌, ◌==◌, Bool, true, false}
 use Rattle.qolb_model.specs.declared.terms.TheConstants.{MOST_NODES}
 use Rattle.link_core.specs.declared.entry.Entry.{Entry}
 use Rattle.link_line.specs.declared.words.TheConstants.{ENTRY_STRIDE, GRANTED, ROLLED, DONE, FREED, LINK}

@@ -2,7 +2,7 @@
 ghost use Rattle.std.specs.Prelude.{◌≡◌, ◌≢◌, ◌⊎◌, ℕ, ◌≤◌, ◌∷◌, [], List, true, false};
 ghost use Rattle.qolb_model.specs.declared.request.Request.{Request};
 ghost use Rattle.qolb_model.specs.declared.terms.TheConstants.{MOST_NODES};
-ghost use Rattle.qolb_model.specs.Asking.{Asks};
+ghost use Rattle.qolb_model.specs.Asking.{Asks, IsJoined};
 ghost use Rattle.qolb_model.specs.Linking.{Links};
 ghost use Rattle.link_core.specs.declared.point.Point.TheVariants.{Idle, Ready, Linking, Queued, Marking, Granting, Freeing, Left, Rolled, Shut};
 ghost use Rattle.link_line.specs.Links.{At};
@@ -39,6 +39,7 @@ pub(crate) fn prepend<K: Keep>(ground: &Ground<K>, seat: &mut LinkSeat, node: u6
     ensures same { SameSeat seat.old seat.new }
     ensures goes_on { GoesOn K.allows seat.old.me seat.new.me 1 }
     ensures asks { Asks (known_of seat.old).view (known_of seat.new).view }
+    ensures joined { result ≡ 0 → IsJoined (known_of seat.new).view }
     ensures comes { result ≡ 0 → (y : Parcel) × HasSlot seat.new y × Comes (known_of seat.new) y }
     ensures links { result ≢ 0 → HasNoSlot seat.new × LinksTo result (known_of seat.new) }
 {
