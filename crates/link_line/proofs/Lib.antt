@@ -9,3 +9,6 @@ pub mod Resting
 pub mod Arriving
 pub mod Polling
 pub mod Linking
+pub mod Seats
+pub mod Meets
+pub mod Lasting

@@ -1,3 +1,4 @@
 pub mod Words
 pub mod Links
 pub mod Steps
+pub mod Joins
