@@ -1,3 +1,6 @@
+pub mod Seats
+pub mod Meets
+pub mod Lasting
 pub mod Packed
 pub mod Lists
 pub mod Histories
@@ -9,6 +12,5 @@ pub mod Resting
 pub mod Arriving
 pub mod Polling
 pub mod Linking
-pub mod Seats
-pub mod Meets
-pub mod Lasting
+pub mod Prepend
+pub mod Releasing

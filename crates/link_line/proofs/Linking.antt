@@ -166,7 +166,7 @@ module _ (good : List ℕ → Type 0) (allows : List ℕ → List ℕ → Type 0
         )
 
   pub links_next : (me slots i node : ℕ) (m : Contents) → m.0 ≡ v ∷ [] → i ≡ entry_at p → node ≡ v.view.node → Allows (Rule good allows about) slots me m i (λ k. (k + LINK * node) % 2 ^ 64) (linked allows (step slots i (LINK * node) 0 none) m)
-  links_next me slots i node m is word its = subst (λ (z : ℕ × ℕ × Contents). Allows (Rule good allows about) slots me z.2 z.0 (λ k. (k + LINK * z.1) % 2 ^ 64) (linked allows (step slots z.0 (LINK * z.1) 0 none) z.2)) (λ j. (sym word j, sym its j, (sym is j, m.1)))
+  links_next me slots i number m is word its = subst (λ (z : ℕ × ℕ × Contents). Allows (Rule good allows about) slots me z.2 z.0 (λ k. (k + LINK * z.1) % 2 ^ 64) (linked allows (step slots z.0 (LINK * z.1) 0 none) z.2)) (λ j. (sym word j, sym its j, (sym is j, m.1)))
       (λ s r deep at small. elim (cases_Bool (entry r.past.core p).done) [
         | inl t ↦ link_comes me slots m.1 s r at small t
         | inr f ↦ link_waits me slots m.1 s r at small f

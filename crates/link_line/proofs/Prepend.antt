@@ -1,5 +1,5 @@
 -- A node asks: its number is put into the home word. Where that was idle the line comes, else the request is to be linked.
-use Rattle.std.proofs.Common.{◌≡◌, ◌≢◌, ℕ, ◌+◌, ◌<◌, ◌≤◌, List, [], ◌∷◌, ◌++◌, length, set, slice_index, true, false, sym, refl, ap, ◌∙◌, subst, inl, inr, arith, Some, get_or-set_same}
+use Rattle.std.proofs.Common.{◌≡◌, ◌≢◌, ◌||◌, slice_get, ℕ, ◌+◌, ◌<◌, ◌≤◌, List, [], ◌∷◌, ◌++◌, length, set, slice_index, true, false, sym, refl, ap, ◌∙◌, subst, inl, inr, arith, Some, get_or-set_same}
 use mathlib.Core.Option.{some, none}
 use mathlib.Core.Logic.{dite}
 use native.Mathlib.Decide.{ℕ_discrete}
@@ -24,7 +24,7 @@ use Rattle.link_core.specs.declared.state.State.{State as Core}
 use Rattle.link_core.specs.declared.told.Told.{Told as Answer}
 use Rattle.link_core.specs.declared.event.Event.{Event}
 use Rattle.link_core.specs.State.{unused, empty, entry, seat, point, IsNode, IsWide, is_clear}
-use Rattle.link_core.specs.Steps.{Step, node_of, seat_at_arrival}
+use Rattle.link_core.specs.Steps.{Step, node_of, seat_at_arrival, Names}
 use Rattle.link_core.specs.Steps as row
 use Rattle.link_core.specs.Places.{request, IsLast}
 use Rattle.link_core.specs.Shown.{has_line, is_rolled, is_freeing}
@@ -146,6 +146,60 @@ module _ (good : List ℕ → Type 0) (allows : List ℕ → List ℕ → Type 0
           ),
         )
 
-    module _ (busy : r.past.core.home ≢ 0) where
-      abbrev linking_step : Step r.past.core (row.Event.Prepend n) told.Went (record r.past.core { home = n; seats = set r.past.core.seats n (record (seat r.past.core n) { point = Linking r.past.core.home }) })
-      linking_step = row.prepend n node here busy
+    prepend_links : r.past.core.home ≢ 0 → Goal
+    prepend_links busy =
+        let k = row.prepend n node here busy in
+        let y : Past = past_after k r.past.joined in
+        let step' = on allows about r.may_open.nodes.few r.past r.fine k in
+        let is = after_is step' in
+        let order = ap (λ (q : Queue). q.order) is in
+        let ends = ap (λ (q : Queue). q.ends) is in
+        let own' : point y.core n ≡ Linking r.past.core.home = ap (λ (z : Seat). z.point) (own_seat (record (seat r.past.core n) { point = Linking r.past.core.home })) in
+        let number = counts k r.past.joined order in
+        let unjoined : Lacks r.past.joined asked = lacks_from r.past.joined asked not_joined in
+        let behind : length y.queue.ends < length q.order = let e = ap (λ (es : List End). length es) ends in let l = r.fine.shown.matches.known in open' (λ z. busy (r.fine.shown.matches.home_idle z)) e l in
+        let owes : Owes good allows about y v (v.view.count + 1) v.view.joined [] v.line = record {
+          kept = subst (AreAllowed allows about.terms.opening.bytes) (sym ends) r.fine.kept;
+          lawful = λ z. let l : is_leaving (Linking r.past.core.home) ≡ true = ap is_leaving (sym own') ∙ z.leaves in cc;
+          unjoined = λ _ _. ap (λ (c : ℕ). has r.past.joined (record { node = n; number = c })) number ∙ unjoined;
+          counts = number;
+          joins = joins_same about r.past y v ok refl;
+          unwritten = λ z. let l : Linking r.past.core.home ≡ Holding = sym own' ∙ z in cc;
+          carries = λ z. let l : is_leaving (Linking r.past.core.home) ≡ true = ap is_leaving (sym own') ∙ z in cc;
+          passes = passes_none y.queue.order _ (step'.shows.matches.unpassed n node (ap (λ (z : Point). has_line z || is_freeing z) own')) refl;
+        } in
+        let t = turned good allows about s r me v at r.past (via_none good allows about r.past v r.fine) k refl r.past.joined r.past.early r.past.late (grows_none r.past y n refl refl refl) (v.view.count + 1) v.view.joined [] v.line owes (set s.words home_at n) s.homes
+            (home_laid r.past.core y.core s.words s.homes s.homes n r.laid refl refl refl r.laid.deep (in_slot r.past.core y.core s.homes r.past.core.place refl refl refl r.laid.slot)) in
+        let w : Known = whole y v (v.view.count + 1) v.view.joined [] v.line in
+        let links : LinksTo r.past.core.home w = record {
+          point = own';
+          high = let z = subst (Names y.core) own' ((found step'.shows).names n node) in let f = few in let l = z.1 in omega arith;
+          linking = record {
+            state = ap (λ (p : Point). state_at p (seat y.core n).reason (seat y.core n).passed) own';
+            waits = (length q.order, behind, asked_at k r.past.joined order);
+            unjoined = lacks_from v.view.joined asked (λ h. not_joined (ok.joins.all_joined asked h));
+            unmarked = own_marked good allows about y v (v.view.count + 1) (length q.order) step'.shows number (last k r.past.joined order) (omega arith) ∙ ap is_rolled own';
+          };
+        } in
+        (
+          w ∷ [],
+          keeps,
+          tt,
+          t.rule,
+          (
+            goes_step allows v w carried carried t.continues refl,
+            asks k r.past.joined order v.view.joined v.line,
+            (λ idle. absurd (busy (sym found_word ∙ idle))),
+            (λ _. (refl, subst (λ (older : ℕ). LinksTo older w) (sym found_word) links)),
+          ),
+        )
+      where
+        few : r.past.core.nodes ≤ MOST_NODES
+        few = subst (λ (n : ℕ). n ≤ MOST_NODES) (sym r.fine.shown.matches.size) r.may_open.nodes.few
+
+        open' : (length q.ends ≡ length q.order → ⊥) → {a : ℕ} → a ≡ length q.ends → length q.ends ≤ length q.order → a < length q.order
+        open' ne e l = dite (ℕ_discrete (length q.ends) (length q.order)) (λ z. absurd (ne z)) (λ z. omega arith)
+
+  pub prepends_next : (me slots node : ℕ) (m : Contents) → m.0 ≡ v ∷ [] → node ≡ v.view.node → Allows (Rule good allows about) slots me m home_at (λ _. node) (prepended allows (step slots home_at node 0 none) m)
+  prepends_next me slots number m is its = subst (λ (z : ℕ × Contents). Allows (Rule good allows about) slots me z.1 home_at (λ _. z.0) (prepended allows (step slots home_at z.0 0 none) z.1)) (λ j. (sym its j, (sym is j, m.1)))
+      (λ s r deep at small. dite (ℕ_discrete r.past.core.home 0) (λ idle. prepend_comes me slots m.1 s r at idle) (λ busy. prepend_links me slots m.1 s r at busy))

@@ -31,7 +31,7 @@ is_quiet Rolled = true
 is_quiet Shut = true
 is_quiet _ = false
 
-quiet_unlined : (p : Point) → is_quiet p ≡ true → has_line p || is_freeing p ≡ false
+pub quiet_unlined : (p : Point) → is_quiet p ≡ true → has_line p || is_freeing p ≡ false
 quiet_unlined Idle a = refl
 quiet_unlined Ready a = refl
 quiet_unlined Queued a = refl
@@ -45,10 +45,10 @@ quiet_unlined (Marking e) a = cc
 quiet_unlined (Granting m) a = cc
 quiet_unlined Freeing a = cc
 
-quiet_not : (p q : Point) → is_quiet p ≡ true → is_quiet q ≡ false → p ≢ q
+pub quiet_not : (p q : Point) → is_quiet p ≡ true → is_quiet q ≡ false → p ≢ q
 quiet_not p q a b e = let z : true ≡ false = sym a ∙ ap is_quiet e ∙ b in cc
 
-quiet_unleaving : (p : Point) → is_quiet p ≡ true → is_leaving p ≡ true → ⊥
+pub quiet_unleaving : (p : Point) → is_quiet p ≡ true → is_leaving p ≡ true → ⊥
 quiet_unleaving (Leaving e) a b = cc
 quiet_unleaving (Marking e) a b = cc
 quiet_unleaving (Granting e) a b = cc
