@@ -1,6 +1,8 @@
 pub mod Seats
 pub mod Meets
 pub mod Lasting
+pub mod Splitting
+pub mod Finishing
 pub mod Packed
 pub mod Lists
 pub mod Histories

@@ -125,9 +125,8 @@ module _ (good : List ℕ → Type 0) (allows : List ℕ → List ℕ → Type 0
           joins_are = joins_push about r.past y v (own v.view) ok refl;
         } in
         let t = come_turned good allows about s r me v at k refl joined v.view.count joins line a (set s.words (entry_at p) word) (set s.homes 0 none)
-            (laid y.core (set s.homes 0 none) refl refl refl (deep_taken s.homes r.laid.deep) tt) in
-        let w : Known = view_come good allows about s r me v at k refl joined v.view.count joins line in
-        (
+        (laid y.core (set s.homes 0 none) refl refl refl (deep_taken s.homes r.laid.deep) tt) in
+        let w : Known = view_come good allows about s r me v at k refl joined v.view.count joins line in (
           w ∷ [],
           takes 0 line.line,
           line.at,
@@ -149,10 +148,9 @@ module _ (good : List ℕ → Type 0) (allows : List ℕ → List ℕ → Type 0
         let own' = ap (λ (z : Seat). z.point) (own_seat (record (seat r.past.core v.view.node) { point = Queued })) in
         let order = ap (λ (q : Queue). q.order) is in
         let t = turned good allows about s r me v at r.past (via_none good allows about r.past v r.fine) k refl joined r.past.early r.past.late (grows k refl order) v.view.count joins [] v.line
-            (quiet_owes good allows about r.past y v Queued joins r.fine ok step'.shows node own' refl order (ap (λ (q : Queue). q.ends) is) (joins_push about r.past y v (own v.view) ok refl))
-            (set s.words (entry_at p) word) s.homes
-            (laid y.core s.homes refl refl refl r.laid.deep (in_slot r.past.core y.core s.homes r.past.core.place refl refl refl r.laid.slot)) in
-        (
+        (quiet_owes good allows about r.past y v Queued joins r.fine ok step'.shows node own' refl order (ap (λ (q : Queue). q.ends) is) (joins_push about r.past y v (own v.view) ok refl))
+        (set s.words (entry_at p) word) s.homes
+        (laid y.core s.homes refl refl refl r.laid.deep (in_slot r.past.core y.core s.homes r.past.core.place refl refl refl r.laid.slot)) in (
           whole y v v.view.count joins [] v.line ∷ [],
           keeps,
           tt,

@@ -107,9 +107,8 @@ module _ (good : List ℕ → Type 0) (allows : List ℕ → List ℕ → Type 0
           let is = after_is (on allows about r.may_open.nodes.few r.past r.fine k) in
           let a = arrives k refl (own_seat (seat_at_arrival v.view.node r.past.core.closed)) refl refl refl refl refl refl (ap (λ (q : Queue). q.order) is) (ap (λ (q : Queue). q.ends) is) in
           let t = come_turned good allows about s r me v at k refl r.past.joined v.view.count v.view.joined line a (set s.words word (slice_index s.words word)) (set s.homes 0 none)
-              (same_laid r.past.core y.core s.words s.homes (set s.homes 0 none) v.view.node r.laid node few refl refl refl (deep_taken s.homes r.laid.deep) tt) in
-          let w : Known = view_come good allows about s r me v at k refl r.past.joined v.view.count v.view.joined line in
-          (
+          (same_laid r.past.core y.core s.words s.homes (set s.homes 0 none) v.view.node r.laid node few refl refl refl (deep_taken s.homes r.laid.deep) tt) in
+          let w : Known = view_come good allows about s r me v at k refl r.past.joined v.view.count v.view.joined line in (
             w ∷ [],
             takes 0 line.line,
             line.at,
@@ -129,9 +128,8 @@ module _ (good : List ℕ → Type 0) (allows : List ℕ → List ℕ → Type 0
           let is = after_is (on allows about r.may_open.nodes.few r.past r.fine k) in
           let a = arrives k refl (own_seat (seat_at_arrival v.view.node r.past.core.closed)) refl refl refl refl refl refl (ap (λ (q : Queue). q.order) is) (ap (λ (q : Queue). q.ends) is) in
           let t = come_turned good allows about s r me v at k refl r.past.joined v.view.count v.view.joined line a (set s.words word ((slice_index s.words word + ROLLED) % 2 ^ 64)) (set s.homes 0 none)
-              (entry_laid r.past.core y.core s.words s.homes (set s.homes 0 none) v.view.node _ (record (entry r.past.core v.view.node) { rolled = true }) r.laid node few inside_entries with_rolled refl refl refl (deep_taken s.homes r.laid.deep) tt) in
-          let w : Known = view_come good allows about s r me v at k refl r.past.joined v.view.count v.view.joined line in
-          (
+          (entry_laid r.past.core y.core s.words s.homes (set s.homes 0 none) v.view.node _ (record (entry r.past.core v.view.node) { rolled = true }) r.laid node few inside_entries with_rolled refl refl refl (deep_taken s.homes r.laid.deep) tt) in
+          let w : Known = view_come good allows about s r me v at k refl r.past.joined v.view.count v.view.joined line in (
             w ∷ [],
             takes 0 line.line,
             line.at,
@@ -152,8 +150,7 @@ module _ (good : List ℕ → Type 0) (allows : List ℕ → List ℕ → Type 0
           let step' = on allows about r.may_open.nodes.few r.past r.fine k in
           let is = after_is step' in
           let t = quiet_turned good allows about s r me v at k refl Queued here refl node (ap (λ (q : Queue). q.order) is) (ap (λ (q : Queue). q.ends) is) (set s.words word (slice_index s.words word)) s.homes
-              (same_laid r.past.core y.core s.words s.homes s.homes v.view.node r.laid node few refl refl refl r.laid.deep r.laid.slot) in
-          (
+          (same_laid r.past.core y.core s.words s.homes s.homes v.view.node r.laid node few refl refl refl r.laid.deep r.laid.slot) in (
             view_after good allows about s r me v at k ∷ [],
             keeps,
             tt,
@@ -174,8 +171,7 @@ module _ (good : List ℕ → Type 0) (allows : List ℕ → List ℕ → Type 0
           let is = after_is step' in
           let own = ap (λ (z : Seat). z.point) (own_seat (record (seat r.past.core v.view.node) { point = Rolled })) in
           let t = quiet_turned good allows about s r me v at k refl Rolled own refl node (ap (λ (q : Queue). q.order) is) (ap (λ (q : Queue). q.ends) is) (set s.words word ((slice_index s.words word + ROLLED) % 2 ^ 64)) s.homes
-              (entry_laid r.past.core y.core s.words s.homes s.homes v.view.node _ (record (entry r.past.core v.view.node) { rolled = true }) r.laid node few inside_entries with_rolled refl refl refl r.laid.deep (in_slot r.past.core y.core s.homes r.past.core.place refl refl refl r.laid.slot)) in
-          (
+          (entry_laid r.past.core y.core s.words s.homes s.homes v.view.node _ (record (entry r.past.core v.view.node) { rolled = true }) r.laid node few inside_entries with_rolled refl refl refl r.laid.deep (in_slot r.past.core y.core s.homes r.past.core.place refl refl refl r.laid.slot)) in (
             view_after good allows about s r me v at k ∷ [],
             keeps,
             tt,

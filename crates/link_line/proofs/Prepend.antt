@@ -94,7 +94,7 @@ module _ (good : List ℕ → Type 0) (allows : List ℕ → List ℕ → Type 0
           was_clear = λ more.
               let p = last_place about.terms.lease q.order q.ends n r.fine.shown.legal (subst (λ (c : ℕ). 1 ≤ c) (sym ok.knows.counts) more) in
               has_prefix q.clear past_after.queue.clear (own v.view) (on allows about r.may_open.nodes.few r.past r.fine k).spared.clear
-                  (ap (has q.clear) (λ i. record { node = n; number = sym ok.knows.counts i }) ∙ ap (has q.clear) (sym p.2) ∙ r.fine.shown.matches.clears n p.0 node p.1 ∙ ap (λ (z : Point). is_clear z (entry r.past.core n)) here);
+              (ap (has q.clear) (λ i. record { node = n; number = sym ok.knows.counts i }) ∙ ap (has q.clear) (sym p.2) ∙ r.fine.shown.matches.clears n p.0 node p.1 ∙ ap (λ (z : Point). is_clear z (entry r.past.core n)) here);
           count = refl;
           behind = (length q.order, prefix_length v.view.order q.order ok.knows.orders, asked_at);
         }
@@ -131,9 +131,8 @@ module _ (good : List ℕ → Type 0) (allows : List ℕ → List ℕ → Type 0
           joins_are = joins_push about r.past y v asked ok refl;
         } in
         let t = come_turned good allows about s r me v at k refl joined (v.view.count + 1) joins line a (set s.words home_at n) (set s.homes 0 none)
-            (home_laid r.past.core y.core s.words s.homes (set s.homes 0 none) n r.laid refl refl refl (deep_taken s.homes r.laid.deep) tt) in
-        let w : Known = view_come good allows about s r me v at k refl joined (v.view.count + 1) joins line in
-        (
+        (home_laid r.past.core y.core s.words s.homes (set s.homes 0 none) n r.laid refl refl refl (deep_taken s.homes r.laid.deep) tt) in
+        let w : Known = view_come good allows about s r me v at k refl joined (v.view.count + 1) joins line in (
           w ∷ [],
           takes 0 line.line,
           line.at,
@@ -169,7 +168,7 @@ module _ (good : List ℕ → Type 0) (allows : List ℕ → List ℕ → Type 0
           passes = passes_none y.queue.order _ (step'.shows.matches.unpassed n node (ap (λ (z : Point). has_line z || is_freeing z) own')) refl;
         } in
         let t = turned good allows about s r me v at r.past (via_none good allows about r.past v r.fine) k refl r.past.joined r.past.early r.past.late (grows_none r.past y n refl refl refl) (v.view.count + 1) v.view.joined [] v.line owes (set s.words home_at n) s.homes
-            (home_laid r.past.core y.core s.words s.homes s.homes n r.laid refl refl refl r.laid.deep (in_slot r.past.core y.core s.homes r.past.core.place refl refl refl r.laid.slot)) in
+        (home_laid r.past.core y.core s.words s.homes s.homes n r.laid refl refl refl r.laid.deep (in_slot r.past.core y.core s.homes r.past.core.place refl refl refl r.laid.slot)) in
         let w : Known = whole y v (v.view.count + 1) v.view.joined [] v.line in
         let links : LinksTo r.past.core.home w = record {
           point = own';
@@ -180,8 +179,7 @@ module _ (good : List ℕ → Type 0) (allows : List ℕ → List ℕ → Type 0
             unjoined = lacks_from v.view.joined asked (λ h. not_joined (ok.joins.all_joined asked h));
             unmarked = own_marked good allows about y v (v.view.count + 1) (length q.order) step'.shows number (last k r.past.joined order) (omega arith) ∙ ap is_rolled own';
           };
-        } in
-        (
+        } in (
           w ∷ [],
           keeps,
           tt,

@@ -86,4 +86,4 @@ module _ (good : List ℕ → Type 0) (allows : List ℕ → List ℕ → Type 0
         → Turned good allows about s r me v at r.past (via_none good allows about r.past v r.fine) (after k) (view_after k) words homes
     quiet_turned {e} {t} {d} k is p here quiet node order ends words homes laid =
         turned good allows about s r me v at r.past (via_none good allows about r.past v r.fine) k is r.past.joined r.past.early r.past.late (grows_none r.past (after k) (node_of e) refl refl refl) v.view.count v.view.joined [] v.line
-            (quiet_owes r.past (after k) v p v.view.joined r.fine (mine_ok good allows about s r me v at) (on allows about r.may_open.nodes.few r.past r.fine k).shows node here quiet order ends (joins_same about r.past (after k) v (mine_ok good allows about s r me v at) refl)) words homes laid
+        (quiet_owes r.past (after k) v p v.view.joined r.fine (mine_ok good allows about s r me v at) (on allows about r.may_open.nodes.few r.past r.fine k).shows node here quiet order ends (joins_same about r.past (after k) v (mine_ok good allows about s r me v at) refl)) words homes laid

@@ -383,8 +383,7 @@ module _ (good : List ℕ → Type 0) (allows : List ℕ → List ℕ → Type 0
         let late : point y.core t ≡ Linking e = ap (λ (s : Seat). s.point) same.0 ∙ (found sh).late n e node marking un in
         let its : asker y.queue.order (length y.queue.ends) ≡ t = λ i. asker (same.1 i) (same.2 i) in
         let last : IsLast y.queue.order t (length y.queue.ends) = subst (λ (m : ℕ). IsLast y.queue.order m (length y.queue.ends)) its (fine.shown.matches.distinct (length y.queue.ends) (omega arith) here) in
-        let made = last_is about.terms.lease y.queue.order y.queue.ends t (length y.queue.ends) fine.shown.legal last in
-        (
+        let made = last_is about.terms.lease y.queue.order y.queue.ends t (length y.queue.ends) fine.shown.legal last in (
           request y.queue.order (length y.queue.ends),
           (λ i. slice_get (order i) (length (ends i))) ∙ get_request y.queue.order (length y.queue.ends) here,
           lacks_from w.view.joined (request y.queue.order (length y.queue.ends)) (λ j. never (subst (Has y.joined) made (joined (request y.queue.order (length y.queue.ends)) j)) (fine.unjoined t e (subst (λ (m : ℕ). IsNode y.core m) its (fine.shown.matches.nodes (length y.queue.ends) here)) late)),

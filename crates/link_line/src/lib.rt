@@ -1,12 +1,19 @@
 //! A queued line over atomic words: nodes stand in a list, and the younger of two neighbours makes the link.
 #![tactic(auto)]
 
+mod finish;
 mod joins;
 mod known;
+mod line;
 mod meeting;
+mod open;
 mod parcel;
 mod plays;
+mod port;
 mod rule;
 mod slot;
 mod steps;
 mod words;
+
+pub use line::LinkLine;
+pub use port::Port;

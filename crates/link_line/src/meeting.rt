@@ -5,12 +5,43 @@ ghost use Rattle.qolb_model.specs.Calls.{TellEachOther};
 ghost use Rattle.link_core.specs.declared.point.Point.TheVariants.{Holding};
 ghost use Rattle.link_line.specs.Steps.{IsSeatOf, IsAt, HasSlot, HasNoSlot, Alone, known_of};
 ghost use Rattle.link_line.specs.Joins.{informed};
+ghost use Rattle.link_line.specs.Line.{IsPortOf};
 ghost use Rattle.link_line.specs.declared.parcel.Parcel.{Parcel};
 
 use crate::joins::{Blank, Cut, Glue, Meet, Park};
+use crate::line::LinkLine;
+use crate::port::Port;
 use crate::rule::{Ground, LinkSeat};
 use qolb_model::Keep;
 use std::mem;
+
+impl<K: Keep> LinkLine<K> {
+    /// Two ports of the line tell each other what they know.
+    pub fn meet(&self, a: &mut Port, b: &mut Port)
+        requires belongs_a { IsPortOf K.good K.allows self.now a.old }
+        requires belongs_b { IsPortOf K.good K.allows self.now b.old }
+        ensures belongs_a { IsPortOf K.good K.allows self.now a.new }
+        ensures belongs_b { IsPortOf K.good K.allows self.now b.new }
+        ensures tell { TellEachOther K.allows a.old.view b.old.view a.new.view b.new.view }
+        ensures turn_a { a.new.turn ≡ a.old.turn }
+        ensures turn_b { b.new.turn ≡ b.old.turn }
+        ensures steps_a { (a.new.steps ≡ a.old.steps) × (a.new.taken ≡ a.old.taken) }
+        ensures steps_b { (b.new.steps ≡ b.old.steps) × (b.new.taken ≡ b.old.taken) }
+    {
+        let ground = &self.table.shared;
+        if !b.holds() {
+            meet_seats(ground, &mut a.seat, &mut b.seat);
+        } else if !a.holds() {
+            meet_seats(ground, &mut b.seat, &mut a.seat);
+        } else {
+            // Not both hold, as the line is in one hand. But that is seen only where their views are compared, in one seat, and a seat
+            // can be joined to another only without the slot: so this one gives it up first.
+            park(ground, &mut b.seat);
+            meet_seats(ground, &mut a.seat, &mut b.seat);
+            unreachable!()
+        }
+    }
+}
 
 /// Two seats with a view each, of which the first may hold the slot, learn what the other knows.
 ///
