@@ -16,3 +16,7 @@ pub mod Polling
 pub mod Linking
 pub mod Prepend
 pub mod Releasing
+pub mod Stepping
+pub mod Handing
+pub mod Freeing
+pub mod Walking

@@ -66,7 +66,8 @@ module _ (good : List ℕ → Type 0) (allows : List ℕ → List ℕ → Type 0
         let st : Seat = record (seat r.past.core v.view.node) { point = Ready } in
         let own : seat y.core v.view.node ≡ st = own_seat st in
         let t = quiet_turned good allows about s r me v at k refl Ready (ap (λ (z : Seat). z.point) own) refl node (ap (λ (q : Queue). q.order) is) (ap (λ (q : Queue). q.ends) is) (set s.words word 0) s.homes
-        (entry_laid r.past.core y.core s.words s.homes s.homes v.view.node 0 empty r.laid node few (let w = inside.entries in let n = node.1 in omega arith) (sym pack_empty) refl refl refl r.laid.deep (in_slot r.past.core y.core s.homes r.past.core.place refl refl refl r.laid.slot)) in (
+            (entry_laid r.past.core y.core s.words s.homes s.homes v.view.node 0 empty r.laid node few (let w = inside.entries in let n = node.1 in omega arith) (sym pack_empty) refl refl refl r.laid.deep (in_slot r.past.core y.core s.homes r.past.core.place refl refl refl r.laid.slot)) in
+        (
           view_after good allows about s r me v at k ∷ [],
           keeps,
           tt,
@@ -116,7 +117,8 @@ module _ (good : List ℕ → Type 0) (allows : List ℕ → List ℕ → Type 0
           let st : Seat = record (seat r.past.core v.view.node) { point = Idle } in
           let own : seat y.core v.view.node ≡ st = own_seat st in
           let t = quiet_turned good allows about s r me v at k refl Idle (ap (λ (z : Seat). z.point) own) refl node (ap (λ (q : Queue). q.order) is) (ap (λ (q : Queue). q.ends) is) (set s.words word (slice_index s.words word)) s.homes
-          (same_laid r.past.core y.core s.words s.homes s.homes v.view.node r.laid node few refl refl refl r.laid.deep (in_slot r.past.core y.core s.homes r.past.core.place refl refl refl r.laid.slot)) in (
+              (same_laid r.past.core y.core s.words s.homes s.homes v.view.node r.laid node few refl refl refl r.laid.deep (in_slot r.past.core y.core s.homes r.past.core.place refl refl refl r.laid.slot)) in
+          (
             view_after good allows about s r me v at k ∷ [],
             keeps,
             tt,
@@ -139,7 +141,8 @@ module _ (good : List ℕ → Type 0) (allows : List ℕ → List ℕ → Type 0
           let step' = on allows about r.may_open.nodes.few r.past r.fine k in
           let is = after_is step' in
           let t = quiet_turned good allows about s r me v at k refl v.seat.point (here v.seat.point refl) (quiet_rest v.seat.point rest) node (ap (λ (q : Queue). q.order) is) (ap (λ (q : Queue). q.ends) is) (set s.words word (slice_index s.words word)) s.homes
-          (same_laid r.past.core y.core s.words s.homes s.homes v.view.node r.laid node few refl refl refl r.laid.deep r.laid.slot) in (
+              (same_laid r.past.core y.core s.words s.homes s.homes v.view.node r.laid node few refl refl refl r.laid.deep r.laid.slot) in
+          (
             view_after good allows about s r me v at k ∷ [],
             keeps,
             tt,

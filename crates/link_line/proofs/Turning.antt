@@ -240,8 +240,8 @@ module _ (good : List ℕ → Type 0) (allows : List ℕ → List ℕ → Type 0
       pub turned : (grows : SetsGrow x y (node_of e)) (count : ℕ) (joins : List Request) (passed : List ℕ) (line : Parcel) → Owes y v count joins passed line → (words : List ℕ) (homes : Homes) → Laid d words homes → Turned y (whole y v count joins passed line) words homes
       turned grows count joins passed line o words homes laid =
           let fine : PastOk allows about y = fine_next allows about few x via.fine k joined early late grows o.kept
-          (λ z. o.lawful (subst (λ (n : ℕ). MayServe (seat d n)) is z))
-          (λ q z. subst (λ (n : ℕ). Lacks joined (last_of n y.queue.order)) (sym is) (o.unjoined q (ap (point d) (sym is) ∙ z))) in
+              (λ z. o.lawful (subst (λ (n : ℕ). MayServe (seat d n)) is z))
+              (λ q z. subst (λ (n : ℕ). Lacks joined (last_of n y.queue.order)) (sym is) (o.unjoined q (ap (point d) (sym is) ∙ z))) in
           let z = whole_by grows fine (whole y v count joins passed line) in
           turned_by grows fine (whole y v count joins passed line) refl (own fine) z.0 z.1 z.2 o.joins.more_joined z.3 (λ q h. h) words homes laid
         where

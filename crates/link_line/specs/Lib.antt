@@ -6,3 +6,4 @@ pub mod Ports
 pub mod Line
 pub mod Opened
 pub mod Finish
+pub mod Releases

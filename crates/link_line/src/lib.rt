@@ -10,6 +10,7 @@ mod open;
 mod parcel;
 mod plays;
 mod port;
+mod release;
 mod rule;
 mod slot;
 mod steps;
