@@ -20,3 +20,5 @@ pub mod Stepping
 pub mod Handing
 pub mod Freeing
 pub mod Walking
+pub mod Marking
+pub mod Granting

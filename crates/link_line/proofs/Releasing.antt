@@ -50,7 +50,7 @@ use Rattle.link_line.specs.Steps.{Ended, GoesOut, IsLeft, Carries, IsOneLeft, en
 use Rattle.link_line.proofs.Going.{next, on, leaving_lined}
 use Rattle.link_line.proofs.Laying.{St, Rule, mine_ok, is_node}
 use Rattle.link_line.proofs.Quiet.{is_quiet, quiet_unlined, quiet_not}
-use Rattle.link_line.proofs.Turning.{whole, grows_none, joins_same, Owes, Via, Turned, turned, own_at}
+use Rattle.link_line.proofs.Turning.{whole, grows_none, joins_same, Owes, Via, via_none, Turned, turned, own_at}
 
 -- while the line is in no hand, the request at its turn is not withdrawn
 pub turn_unmarked : {terms : Terms} {c : Core} {q : Queue} → Shows terms c q → ((n : ℕ) → c.place ≢ Hand n) → (r : Request) → turn_of q.order q.ends ≡ Some r → Lacks q.marked r
@@ -132,7 +132,7 @@ none_from : (g : ℕ → ℕ) (places : List ℕ) → map g places ≡ [] → pl
 none_from g [] e = refl
 none_from g (p ∷ ps) e = let z : g p ∷ map g ps ≡ [] = e in cc
 
-leaving_state : (p : Point) (r : Reason) (ps : List ℕ) → is_leaving p ≡ true → state_at p r ps ≡ state_in_release r ps
+pub leaving_state : (p : Point) (r : Reason) (ps : List ℕ) → is_leaving p ≡ true → state_at p r ps ≡ state_in_release r ps
 leaving_state (Leaving e) r ps a = refl
 leaving_state (Marking e) r ps a = refl
 leaving_state (Granting e) r ps a = refl
@@ -192,7 +192,7 @@ module _ (good : List ℕ → Type 0) (allows : List ℕ → List ℕ → Type 0
   abbrev pub sh : Shows about.terms x.core x.queue
   sh = h.via.fine.shown
 
-  places : st.passed ≡ map (asker x.queue.order) v.passed
+  pub places : st.passed ≡ map (asker x.queue.order) v.passed
   places = h.passed ∙ ok.passes.places ∙ ap (λ (q : Queue). map (asker q.order) v.passed) (sym h.via.queue)
 
   carried : IsCarried about.terms x.core x.queue.order x.queue.ends n st.reason st.passed
@@ -215,7 +215,7 @@ module _ (good : List ℕ → Type 0) (allows : List ℕ → List ℕ → Type 0
     after_node = (node.0, subst (λ (q : ℕ). n ≤ q) (sym (on allows about r.may_open.nodes.few x h.via.fine k).spared.nodes) node.1)
 
     module _ (order : after.queue.order ≡ x.queue.order) where
-      counts : count_of n after.queue.order ≡ v.view.count
+      pub counts : count_of n after.queue.order ≡ v.view.count
       counts = ap (count_of n) (order ∙ ap (λ (q : Queue). q.order) h.via.queue) ∙ ok.knows.counts
 
       same_order : after.queue.order ≡ r.past.queue.order
@@ -388,3 +388,36 @@ module _ (good : List ℕ → Type 0) (allows : List ℕ → List ℕ → Type 0
           (λ i. slice_get (order i) (length (ends i))) ∙ get_request y.queue.order (length y.queue.ends) here,
           lacks_from w.view.joined (request y.queue.order (length y.queue.ends)) (λ j. never (subst (Has y.joined) made (joined (request y.queue.order (length y.queue.ends)) j)) (fine.unjoined t e (subst (λ (m : ℕ). IsNode y.core m) its (fine.shown.matches.nodes (length y.queue.ends) here)) late)),
         )
+
+-- in mid-release the line is as the view has it
+pub holds_so : (good : List ℕ → Type 0) (allows : List ℕ → List ℕ → Type 0) (about : Setup) (s : St good allows about) (r : Rule good allows about s) (me : ℕ) (v : Known) → get_elem? s.views me ≡ some (v ∷ []) → is_leaving v.seat.point ≡ true → Holds good allows about r.past v v.line r.past
+holds_so good allows about s r me v at leaving =
+    let ok : NodeOk about r.past v.view.node v = mine_ok good allows about s r me v at in
+    let node = is_node good allows about s r me v at in
+    let c = ok.stands.carries leaving in
+    record {
+      via = via_none good allows about r.past v r.fine;
+      home = refl;
+      entries = refl;
+      lined = ap (λ (s : Seat). has_line s.point) (sym ok.stands.seat) ∙ leaving_lined v.seat.point leaving;
+      passed = ap (λ (s : Seat). s.passed) (sym ok.stands.seat);
+      state = ok.stands.state ∙ leaving_state v.seat.point v.seat.reason v.seat.passed leaving ∙ ap (λ (s : Seat). state_in_release s.reason s.passed) ok.stands.seat;
+      ends = ok.stands.holds (leaving_lined v.seat.point leaving);
+      bytes = c.bytes;
+      closed = c.closed;
+      turns = c.turns;
+      mask = λ p w. c.mask (record { leaves = leaving; passed = ap (λ (s : Seat). s.passed) ok.stands.seat ∙ p; serves = ap (λ (s : Seat). serves s.reason) ok.stands.seat ∙ w });
+      shut = c.shut ∙ ap (λ (s : Seat). is_shut_by s.reason) ok.stands.seat;
+      may = λ p w. r.fine.lawful v.view.node node (record { leaves = ap (λ (s : Seat). is_leaving s.point) (sym ok.stands.seat) ∙ leaving; passed = p; serves = w });
+    }
+
+-- the slot in a hand has one line
+abbrev line_in : Parcel → List (ℕ × Parcel) → Parcel
+line_in d [] = d
+line_in d ((k, y) ∷ ys) = y
+
+abbrev pub with_line : Parcel → List (ℕ × Parcel)
+with_line z = (0, z) ∷ []
+
+pub line_is : (z y : Parcel) → with_line z ≡ with_line y → z ≡ y
+line_is z y e = ap (line_in z) e
