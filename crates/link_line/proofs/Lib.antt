@@ -1,12 +1,6 @@
 pub mod Packed
 pub mod Lists
 pub mod Histories
-pub mod Stepping
-pub mod Handing
-pub mod Freed
-pub mod Walking
-pub mod Released
-pub mod Calling
 pub mod Going
 pub mod Laying
 pub mod Turning
@@ -21,3 +15,14 @@ pub mod Marking
 pub mod Granting
 pub mod Homing
 pub mod Freeing
+pub mod Stepping
+pub mod Handing
+pub mod Walking
+pub mod Freed
+pub mod Released
+pub mod Calling
+pub mod Seats
+pub mod Meets
+pub mod Lasting
+pub mod Splitting
+pub mod Finishing

@@ -2,8 +2,12 @@
 #![tactic(auto)]
 
 mod calls;
+mod finish;
+mod joins;
 mod known;
 mod line;
+mod meeting;
+mod open;
 mod parcel;
 mod plays;
 mod port;

@@ -129,6 +129,7 @@ module _ (good : List ℕ → Type 0) (allows : List ℕ → List ℕ → Type 0
       refl,
       goes_step allows m v (ask_entry r.past) m.1 is learns refl,
       subst (λ u. Asked (sole u) (slice_index s.words ticket_at) (ask_entry r.past)) (sym is) record {
+        state = refl;
         point = refl;
         cell = ap cell_of r.shown.ticket ∙ mod-mod-pow (length r.past.order) 56 8;
         asks = record {

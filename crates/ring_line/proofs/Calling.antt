@@ -19,7 +19,7 @@ use Rattle.qolb_model.specs.LettingGo.{IsTold, EndsTurn}
 use Rattle.qolb_model.specs.Calls.{Releases}
 use Rattle.qolb_model.proofs.Leases.{last-is_one}
 use Rattle.qolb_model.proofs.Writes.{bytes_after-release}
-use Rattle.qolb_model.proofs.Going.{continues_sound, sound_goes, asks_goes, asks_from}
+use Rattle.qolb_model.proofs.Going.{continues_sound, sound_goes, asks_from}
 use Rattle.ring_line.specs.declared.entry.Entry.{Entry}
 use Rattle.ring_line.specs.declared.port.Port.TheInside.{Inside}
 use Rattle.ring_line.specs.declared.rule.Parcel.{Parcel}
@@ -52,10 +52,9 @@ module _ {good : List ℕ → Type 0} {allows : List ℕ → List ℕ → Type 0
     sound = sound_goes good allows key.label key.terms p.view (entry_of t).view b.sound call_continues;
   }
 
--- a node that was made ready, asked and loaded its cell has asked
-pub asking_asks : {p : Standing} {r a l : View} (q : Inside) → seen q ≡ p → Extends (known q) r → r.count ≡ (known q).count → Asks r a → Extends a l → l.count ≡ a.count → Asks p.view l
-asking_asks {r = r} {a = a} {l = l} q is ready same asks later count =
-    subst (λ (x : Standing). Asks x.view l) is (asks_goes (known q) a l (asks_from (known q) r a ready same asks) later count)
+-- a node that was made ready and asked has asked
+pub asking_asks : {p : Standing} {r a : View} (q : Inside) → seen q ≡ p → Extends (known q) r → r.count ≡ (known q).count → Asks r a → Asks p.view a
+asking_asks {r = r} {a = a} q is ready same asks = subst (λ (x : Standing). Asks x.view a) is (asks_from (known q) r a ready same asks)
 
 pub granted_of : (t : RingSeat) (z : Parcel) (cell before steps : ℕ) (state : PortState) → Arrived t z cell before steps state → state ≡ shows.Holding → IsGranted (entry_of t).view (write_of z) × (steps ≡ before)
 granted_of t z cell before steps shows.Idle a h = absurd a

@@ -99,6 +99,7 @@ pub record GoesOn (allows : List ℕ → List ℕ → Type 0) (old new : Content
 -- the node asked, and knows all that came before
 pub record Asked (v : Entry) (found : ℕ) (w : Entry) : Type 0 where
   pub point : w.point ≡ Queued
+  pub state : w.view.state ≡ shows.Queued
   pub cell : cell_of found ≡ cell_of w.place
   pub asks : Asks v.view w.view
   pub joined : Has w.view.joined (own w.view)
