@@ -2,15 +2,13 @@
 use Rattle.std.proofs.Common.{◌≡◌, ◌≢◌, ◌⊎◌, inl, inr, ⊎_elim, ℕ, ◌+◌, ◌*◌, ◌≤◌, List, sym, refl, ap, ◌∙◌, subst, Some, None, Bool, true, false, ◌||◌, bit_or}
 use Rattle.line_lanes.specs.Line.{merged}
 use Rattle.atomic_table.specs.Seated.{TableId}
-use Rattle.qolb_model.specs.declared.answer.Enq.{Enq}
-use Rattle.qolb_model.specs.declared.answer.Prep.TheVariants as prep
 use Rattle.qolb_model.specs.declared.answer.PortState.{PortState}
 use Rattle.qolb_model.specs.declared.answer.PortState.TheVariants as shows
 use Rattle.qolb_model.specs.declared.end.End.TheVariants.{Served}
 use Rattle.qolb_model.specs.declared.view.View.{View}
 use Rattle.qolb_model.specs.declared.write.Write.{Write}
 use Rattle.qolb_model.specs.Asking.{IsBusy, Asks}
-use Rattle.qolb_model.specs.Calls.{Enqueues, Prepends, LinksUp, Releases}
+use Rattle.qolb_model.specs.Calls.{Releases}
 use Rattle.qolb_model.specs.Ends.{is_closed, bytes_after, written}
 use Rattle.qolb_model.specs.Kept.{MayRelease}
 use Rattle.qolb_model.specs.Leases.{closes}
@@ -21,7 +19,7 @@ use Rattle.qolb_model.specs.Sound.{Continues}
 use Rattle.qolb_model.specs.Steps.{is_one}
 use Rattle.qolb_model.specs.Turns.{IsGranted}
 use Rattle.qolb_model.specs.Views.{bytes_of, Extends}
-use Rattle.qolb_model.proofs.Going.{continues_on, continues_sound, sound_goes, asks_goes, asks_from, joined_goes}
+use Rattle.qolb_model.proofs.Going.{continues_sound, sound_goes, asks_goes, asks_from, joined_goes}
 use Rattle.qolb_model.proofs.Leases.{last-is_one}
 use Rattle.qolb_model.proofs.Writes.{bytes_after-release}
 use Rattle.link_line.specs.declared.parcel.Parcel.{Parcel}
@@ -119,18 +117,6 @@ told_of t z before steps shows.Holding a h = absurd (h refl)
 told_of t z before steps shows.Left a h = (a.1.told, a.1.bound)
 told_of t z before steps shows.Rolled a h = absurd a
 told_of t z before steps shows.Shut a h = (a.1.told, a.1.bound)
-
--- a request that was made behind another, and then linked to it, was asked
-pub linked_asks : {allows : List ℕ → List ℕ → Type 0} {u v w : View} {before turn : Write} {answer : Enq} → Prepends allows u v before prep.Linking → LinksUp allows v w turn answer → Enqueues allows u w turn answer
-linked_asks {allows = allows} {u = u} {v = v} {w = w} p l = record {
-  continues = continues_on allows u v w p.continues.extends l.continues;
-  busy = λ e. absurd (l.never_busy e);
-  asks = λ _. asks_goes u v w (p.asks (λ e. cc e)) l.continues.extends l.links.count;
-  joined = λ _. l.links.joined;
-  granted = l.granted;
-  queued = l.queued;
-  told = l.told;
-}
 
 -- a holder's turns
 module _ {good : List ℕ → Type 0} {allows : List ℕ → List ℕ → Type 0} {key : Setup} {table_id : TableId} {p : Standing} (q : Inside) (b : BelongsTo good allows key table_id p) (is : seen q ≡ p) (between : IsBetween q) (held : p.view.state ≡ shows.Holding) where

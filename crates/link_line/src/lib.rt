@@ -15,6 +15,7 @@ mod release;
 mod rule;
 mod slot;
 mod steps;
+mod sync;
 mod words;
 
 pub use line::LinkLine;

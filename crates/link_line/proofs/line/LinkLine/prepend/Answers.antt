@@ -36,7 +36,7 @@ returns-then-holds-clause-prepends g c = let on = c.arrive-port-inside.ensures.g
     let first : c.prepend-port-inside.result ≡ 0 = search rules in
     prepends_granted (call_continues c.port.inside c.requires.belongs c.port.view_is c.arrive-port-inside.new.seat (c.in-Some.renewing + 1 + on.0) (c.arrive-port-inside.ensures.same.0 ∙ (c.prepend-port-inside.ensures.same.0 ∙ c.renew.ensures.same.0), c.arrive-port-inside.ensures.same.1 ∙ (c.prepend-port-inside.ensures.same.1 ∙ c.renew.ensures.same.1)) (goes_trans g.K.Keep.allows c.port.inside.seat.me c.prepend-port-inside.new.seat.me c.arrive-port-inside.new.seat.me (c.in-Some.renewing + 1) on.0 (goes_trans g.K.Keep.allows c.port.inside.seat.me c.renew.new.seat.me c.prepend-port-inside.new.seat.me c.in-Some.renewing 1 c.in-Some.ensures.goes_on c.prepend-port-inside.ensures.goes_on) on.2))
     (asking_asks c.port.inside c.port.view_is c.in-Some.ensures.goes_on.extends c.in-Some.ensures.renewed.0.count c.prepend-port-inside.ensures.asks on.2.extends c.arrive-port-inside.ensures.count)
-    (joined_goes (known_of c.prepend-port-inside.new.seat).view (known_of c.arrive-port-inside.new.seat).view (c.prepend-port-inside.ensures.comes first).2.joined on.2.extends c.arrive-port-inside.ensures.count)
+    (joined_goes (known_of c.prepend-port-inside.new.seat).view (known_of c.arrive-port-inside.new.seat).view (c.prepend-port-inside.ensures.joined first) on.2.extends c.arrive-port-inside.ensures.count)
     (granted_of c.arrive-port-inside.new.seat c.arrive-port-inside.new.parcel (c.in-Some.renewing + 1) c.arrive-port-inside.new.steps c.arrive-port-inside.result c.arrive-port-inside.ensures.arrived came).0
 
 pub returns-else-holds-clause-prepends : goal.returns-else-holds-clause-prepends
@@ -45,5 +45,5 @@ returns-else-holds-clause-prepends g c = let on = c.arrive-port-inside.ensures.g
     let first : c.prepend-port-inside.result ≡ 0 = search rules in
     prepends_told (call_continues c.port.inside c.requires.belongs c.port.view_is c.arrive-port-inside.new.seat (c.in-Some.renewing + 1 + on.0) (c.arrive-port-inside.ensures.same.0 ∙ (c.prepend-port-inside.ensures.same.0 ∙ c.renew.ensures.same.0), c.arrive-port-inside.ensures.same.1 ∙ (c.prepend-port-inside.ensures.same.1 ∙ c.renew.ensures.same.1)) (goes_trans g.K.Keep.allows c.port.inside.seat.me c.prepend-port-inside.new.seat.me c.arrive-port-inside.new.seat.me (c.in-Some.renewing + 1) on.0 (goes_trans g.K.Keep.allows c.port.inside.seat.me c.renew.new.seat.me c.prepend-port-inside.new.seat.me c.in-Some.renewing 1 c.in-Some.ensures.goes_on c.prepend-port-inside.ensures.goes_on) on.2))
     (asking_asks c.port.inside c.port.view_is c.in-Some.ensures.goes_on.extends c.in-Some.ensures.renewed.0.count c.prepend-port-inside.ensures.asks on.2.extends c.arrive-port-inside.ensures.count)
-    (joined_goes (known_of c.prepend-port-inside.new.seat).view (known_of c.arrive-port-inside.new.seat).view (c.prepend-port-inside.ensures.comes first).2.joined on.2.extends c.arrive-port-inside.ensures.count)
+    (joined_goes (known_of c.prepend-port-inside.new.seat).view (known_of c.arrive-port-inside.new.seat).view (c.prepend-port-inside.ensures.joined first) on.2.extends c.arrive-port-inside.ensures.count)
     (told_of c.arrive-port-inside.new.seat c.arrive-port-inside.new.parcel (c.in-Some.renewing + 1) c.arrive-port-inside.new.steps c.arrive-port-inside.result c.arrive-port-inside.ensures.arrived came).0
