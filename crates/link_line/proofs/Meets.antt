@@ -82,6 +82,7 @@ module _ (about : Setup) (x : Past) (n m : ℕ) (v u : Known) (ok : NodeOk about
       holds = λ e. longer_whole v.view.ends u.view.ends x.queue.ends (ok.stands.holds e) other.knows.endings;
       unwritten = ok.stands.unwritten;
       carries = ok.stands.carries;
+      left = λ f i m p at here done unlinked. let a = ok.stands.left f i m p at here done unlinked in let b = prefix_length v.view.order (longer v.view.order u.view.order) orders in omega arith;
     };
     passes = record {
       places = ok.passes.places;

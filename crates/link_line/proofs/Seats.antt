@@ -109,7 +109,7 @@ module _ (good : List ℕ → Type 0) (allows : List ℕ → List ℕ → Type 0
         joined_last = λ p q next at. absurd (at_none p q at);
         freed_last = λ q h. absurd (cc h);
       };
-      stands = record { seat = sym (seat_first PLACES n); state = refl; holds = λ z. absurd (cc z); unwritten = λ z. absurd (cc z); carries = λ z. absurd (cc z) };
+      stands = record { seat = sym (seat_first PLACES n); state = refl; holds = λ z. absurd (cc z); unwritten = λ z. absurd (cc z); carries = λ z. absurd (cc z); left = λ z. absurd (cc z) };
       passes = record {
         places = refl;
         last = λ i p at. absurd (at_none i p at);
