@@ -81,6 +81,17 @@ knows_whole order ends clear n w a b c count freed = record {
   freed_clear = λ r h. subst (λ rs. Has rs r) (sym c) (freed r h);
 }
 
+-- and goes on knowing, where another request is clear
+pub knows_clear : (order : List Request) (ends : List End) (clear : List Request) (n : ℕ) (w : View) (q : Request) → Knowing order ends clear n w → Knowing order ends (clear ++ q ∷ []) n w
+knows_clear order ends clear n w q k = record {
+  orders = k.orders;
+  endings = k.endings;
+  clears = prefix_more w.clear clear (q ∷ []) k.clears;
+  counts = k.counts;
+  own_ends = k.own_ends;
+  freed_clear = k.freed_clear;
+}
+
 module _ (about : Setup) (x : Past) (n : ℕ) (v : Entry) (ok : NodeOk about x n v) where
   -- the node's last request stands in the order
   pub placed_at : 0 < v.view.count → At x.order v.place (own v.view)
@@ -199,14 +210,7 @@ module _ (about : Setup) (x : Past) (n : ℕ) (v : Entry) (ok : NodeOk about x n
   pub others_clear : (q : Request) (place : ℕ) → q.node ≢ n → At x.order place q → x.marks place ≡ 0 → IsLegal about.terms.lease x.order x.ends → NodeOk about (record x { clear = x.clear ++ q ∷ [] }) n v
   others_clear q place other there unmarked legal = record {
     who = ok.who;
-    knows = record {
-      orders = ok.knows.orders;
-      endings = ok.knows.endings;
-      clears = prefix_more v.view.clear x.clear (q ∷ []) ok.knows.clears;
-      counts = ok.knows.counts;
-      own_ends = ok.knows.own_ends;
-      freed_clear = ok.knows.freed_clear;
-    };
+    knows = knows_clear x.order x.ends x.clear n v.view q ok.knows;
     stance = ok.stance;
     hand = ok.hand;
     passes = record {
@@ -271,14 +275,7 @@ module _ (about : Setup) (x : Past) (n : ℕ) (v : Entry) (ok : NodeOk about x n
   pub others_free : (m q : ℕ) (r : Request) → At x.order q r → x.passer q ≡ m → 0 < x.marks q → Lacks x.clear r → n ≢ m → IsLegal about.terms.lease x.order x.ends → NodeOk about (record x { clear = x.clear ++ r ∷ []; flags = put x.flags r.node 1 }) n v
   others_free m q r asked passer marked unclear other legal = record {
     who = ok.who;
-    knows = record {
-      orders = ok.knows.orders;
-      endings = ok.knows.endings;
-      clears = prefix_more v.view.clear x.clear (r ∷ []) ok.knows.clears;
-      counts = ok.knows.counts;
-      own_ends = ok.knows.own_ends;
-      freed_clear = ok.knows.freed_clear;
-    };
+    knows = knows_clear x.order x.ends x.clear n v.view r ok.knows;
     stance = ok.stance;
     hand = ok.hand;
     passes = record {

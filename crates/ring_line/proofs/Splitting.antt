@@ -1,15 +1,11 @@
 -- How the entries of all nodes are split into ports.
 use Rattle.std.proofs.Common.{◌≡◌, ℕ, ◌+◌, ◌-◌, ◌<◌, List, [], ◌∷◌, ◌++◌, sym, refl, ap, ◌∙◌, subst, ⊎_elim, arith, length-append, Some, option_map, All}
-use Rattle.std.proofs.lemmas.Option.{slice_get_within, slice_get-map, get_or_from_slice_get}
-use Rattle.std.proofs.lemmas.List.{length-map}
 use Rattle.atomic_table.specs.Seated.{TableId}
 use Rattle.qolb_model.specs.declared.answer.PortState.TheVariants as shows
-use Rattle.qolb_model.specs.declared.view.View.{View}
-use Rattle.qolb_model.specs.Sound.{IsSound}
 use Rattle.qolb_model.specs.Opening.{MayOpen, new_view}
 use Rattle.qolb_model.specs.Entries.{front, behind}
-use Rattle.qolb_model.proofs.Lists.{push_cases, element_at}
-use Rattle.qolb_model.proofs.Agreeing.{new_is_sound}
+use Rattle.qolb_model.proofs.Lists.{push_cases}
+use Rattle.qolb_model.proofs.Agreeing.{opens_new}
 use Rattle.qolb_model.proofs.Seats.{each_from_more}
 use Rattle.ring_line.specs.declared.rule.Setup.{Setup}
 use Rattle.ring_line.specs.declared.rule.Parcel.{Parcel}
@@ -44,17 +40,4 @@ one_more table_id about n ports first y d t is = record {
 -- the ports of a new line, which took no step
 module _ (good : List ℕ → Type 0) (allows : List ℕ → List ℕ → Type 0) (table_id : TableId) (about : Setup) (ports : List Standing) (d : AreSplit table_id about about.terms.nodes ports) where
   pub split_opens : MayOpen about.terms → good about.terms.opening.bytes → IsOpened good allows about table_id about.label about.terms ports
-  split_opens may fine = record {
-    label_is = refl;
-    terms_are = refl;
-    new = record {
-      count = length-map ports (λ (p : Standing). p.view) ∙ d.many;
-      each = λ i l. let at = element_at ports i (let m = d.many in omega arith) in slice_get-map (λ (p : Standing). p.view) ports i ∙ ap (option_map (λ (p : Standing). p.view)) at.1 ∙ ap Some (d.each i at.0 at.1).1;
-    };
-    belong = each_of (BelongsTo good allows about table_id) (λ k p at. let inside = slice_get_within ports k p at in let many = d.many in let e = d.each k p at in
-        record { table_is = e.0; sound = subst (IsSound good allows about.label about.terms) (sym e.1) (new_is_sound good allows about.label about.terms (k + 1) may fine (omega arith) (omega arith)) });
-    idle = each_of (λ (p : Standing). p.view.state ≡ shows.Idle) (λ k p at. ap (λ (v : View). v.state) (d.each k p at).1);
-  }
-    where
-      each_of : (P : Standing → Type 0) → ((k : ℕ) (p : Standing) → At ports k p → P p) → All P ports
-      each_of P h = λ k x l. let at = element_at ports k l in subst P (sym (get_or_from_slice_get ports k at.0 x at.1)) (h k at.0 at.1)
+  split_opens = opens_new (λ (p : Standing). p.view) (BelongsTo good allows about table_id) about.label about.terms ports d.many (λ k p at. (d.each k p at).1) (λ k p at sound. record { table_is = (d.each k p at).0; sound = sound })
