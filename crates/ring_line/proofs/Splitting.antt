@@ -1,5 +1,5 @@
 -- How the entries of all nodes are split into ports.
-use Rattle.std.proofs.Common.{◌≡◌, ℕ, ◌+◌, ◌-◌, ◌<◌, List, [], ◌∷◌, ◌++◌, sym, refl, ap, ◌∙◌, subst, ⊎_elim, arith, length-append, Some, option_map, All}
+use Rattle.std.proofs.Common.{◌≡◌, ℕ, ◌+◌, ◌-◌, ◌<◌, List, [], ◌∷◌, ◌++◌, sym, refl, ap, ◌∙◌, subst, ⊎_elim, length-append}
 use Rattle.atomic_table.specs.Seated.{TableId}
 use Rattle.qolb_model.specs.declared.answer.PortState.TheVariants as shows
 use Rattle.qolb_model.specs.Opening.{MayOpen, new_view}
@@ -9,7 +9,7 @@ use Rattle.qolb_model.proofs.Agreeing.{opens_new}
 use Rattle.qolb_model.proofs.Seats.{each_from_more}
 use Rattle.ring_line.specs.declared.rule.Setup.{Setup}
 use Rattle.ring_line.specs.declared.rule.Parcel.{Parcel}
-use Rattle.ring_line.specs.Ring.{At, newcomer, newcomers_from}
+use Rattle.ring_line.specs.Ring.{newcomer, newcomers_from}
 use Rattle.ring_line.specs.Steps.{RingSeat, sole}
 use Rattle.ring_line.specs.Ports.{Standing, standing, IsPort, AreSplit, IsOpened, BelongsTo}
 

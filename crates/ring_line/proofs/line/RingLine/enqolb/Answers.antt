@@ -1,4 +1,4 @@
-use Rattle.std.proofs.Common.{sym, subst, ◌∙◌, ◌+◌}
+use Rattle.std.proofs.Common.{sym, subst, ◌∙◌}
 use Rattle.qolb_model.specs.Calls.{Enqueues, Polls}
 use Rattle.qolb_model.proofs.Answering.{enqueues_busy, looked_granted, looked_queued, looked_told}
 use Rattle.ring_line.specs.Ports.{Standing}
