@@ -3,7 +3,7 @@ ghost use Rattle.std.specs.Prelude.{All, IfSome};
 ghost use Rattle.line_rows.specs.Opened.{IsNewPort};
 
 use crate::desks::{
-    across, late, leased, limits, lower_line_first, over, over_one, over_two, settle_with,
+    a_day, across, late, leased, limits, lower_line_first, over, over_one, over_two, settle_with,
 };
 use crate::transfers::{ACCOUNTS, PAID_IN, transfer_at_random};
 use line_accounts::{AccountLaw, Reply, SettleError};
@@ -13,6 +13,21 @@ use std::process::Abort;
 use std::sync::Wait;
 use std::test::Fail;
 use std::thread::Threads;
+
+/// A line for one node. Of the 100 that came in and the 10 that were paid out, 90 are left.
+pub(super) fn a_day_is_settled<R: Abort, L: LineSync<AccountLaw> + Drop>(
+    rt: &R,
+    alloc: Global,
+    opened: Option<(L, L::Port)>,
+) -> Result<(), Fail>
+where
+    L::Port: Drop,
+    requires { IfSome opened (λ made. IsNewPort L.belongs L.view made.0 made.1) }
+{
+    let (line, port) = opened.ok_or("opened")?;
+    assert_eq!(rt; a_day(alloc, line, port), Some(90));
+    Ok(())
+}
 
 /// A line for one node.
 pub(super) fn a_balance_has_a_limit<R: Abort, L: LineSync<AccountLaw> + Drop>(

@@ -96,6 +96,11 @@ fn shared_accounts(alloc: Global, lease: Option<u64>) -> Option<(RingLine<Accoun
 }
 
 #[test]
+fn a_day_is_settled(rt: HostRuntime) -> Result<(), Fail> {
+    desks::a_day_is_settled(&rt, rt.alloc(), accounts(rt.alloc(), None))
+}
+
+#[test]
 fn a_balance_has_a_limit(rt: HostRuntime) -> Result<(), Fail> {
     desks::a_balance_has_a_limit(&rt, rt.alloc(), accounts(rt.alloc(), None))
 }
