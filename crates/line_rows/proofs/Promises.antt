@@ -1,15 +1,12 @@
 -- What holds of all, one by one, and what promises say of results.
-use Rattle.std.proofs.Common.{◌≡◌, ℕ, ◌<◌, ◌+◌, List, [], ◌∷◌, ◌++◌, length, Bool, true, false, if◌then◌else◌, sym, ◌∙◌, ap, subst, map, All, IsTrue, slice_index_or, Vec, Global, Option, Some, IfSome}
+use Rattle.std.proofs.Common.{◌≡◌, ℕ, ◌<◌, List, [], ◌∷◌, ◌++◌, length, Bool, true, false, if◌then◌else◌, sym, ◌∙◌, subst, All, slice_index_or, Vec, Global, Option, IfSome}
 use Rattle.std.specs.Result.{IfOk, result_ok}
 use Rattle.std.specs.declared.result.Result.{Result}
 use Rattle.std.specs.declared.result.Result.TheVariants.{Ok, Err}
 use Rattle.std.specs.declared.thread.PromisedHandle.{PromisedHandle}
 use Rattle.std.specs.declared.thread.Promise as Promise
 use Rattle.std.specs.PromisedHandle.{KeepsEach}
-use Rattle.std.specs.Option.{option_map, option_map_or}
-use Rattle.std.proofs.lemmas.List.{length-map}
 use Rattle.std.proofs.lemmas.List.Elements.{All-head, All-push}
-use Rattle.std.proofs.lemmas.Option.{slice_get-map, slice_get-get_or}
 
 -- one more, if there was room
 pub all_pushed : {X : Type 0} (P : X → Type 0) (r : Bool) (xs ys : List X) (x : X) → ys ≡ (if r then xs ++ x ∷ [] else xs) → All P xs → P x → All P ys

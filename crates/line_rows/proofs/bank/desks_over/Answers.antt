@@ -1,4 +1,4 @@
-use Rattle.std.proofs.Common.{◌≡◌, [], All, Vec, Global, rules, sym, subst, is_ok}
+use Rattle.std.proofs.Common.{◌≡◌, [], All, Vec, Global, rules, is_ok}
 use Rattle.std.specs.Vec.Iter.{into_iter_items}
 use Rattle.std.proofs.lemmas.List.Elements.{All-nil, All-same, All-rest}
 use Rattle.line_accounts.specs.Desks.{DeskOf, IsDeskOver}
