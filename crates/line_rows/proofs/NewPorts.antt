@@ -1,5 +1,5 @@
 -- Ports of a ring that was just opened.
-use Rattle.std.proofs.Common.{◌≡◌, ℕ, zero, suc, lit≤, arith, ◌<◌, ◌+◌, List, [], ◌∷◌, ◌++◌, length, map, All, Option, Some, slice_index_or, refl, sym, ap, ◌∙◌, subst}
+use Rattle.std.proofs.Common.{◌≡◌, ℕ, zero, suc, lit≤, arith, ◌<◌, ◌+◌, List, [], ◌∷◌, ◌++◌, length, All, Option, Some, slice_index_or, refl, sym, ap, ◌∙◌, subst}
 use Rattle.std.specs.Option.{option_map, option_map_or}
 use Rattle.std.proofs.lemmas.List.{length-map, length-append, get_or_append_left, get_or_push}
 use Rattle.std.proofs.lemmas.Option.{slice_get-map, slice_get-get_or}

@@ -1,15 +1,12 @@
 -- What holds of all, one by one, and what promises say of results.
-use Rattle.std.proofs.Common.{◌≡◌, ℕ, ◌<◌, ◌+◌, List, [], ◌∷◌, ◌++◌, length, Bool, true, false, if◌then◌else◌, sym, ◌∙◌, ap, subst, map, All, IsTrue, slice_index_or, Vec, Global, Option, Some, IfSome}
+use Rattle.std.proofs.Common.{◌≡◌, ℕ, ◌<◌, List, [], ◌∷◌, ◌++◌, length, Bool, true, false, if◌then◌else◌, sym, ◌∙◌, subst, All, slice_index_or, Vec, Global, Option, IfSome}
 use Rattle.std.specs.Result.{IfOk, result_ok}
 use Rattle.std.specs.declared.result.Result.{Result}
 use Rattle.std.specs.declared.result.Result.TheVariants.{Ok, Err}
 use Rattle.std.specs.declared.thread.PromisedHandle.{PromisedHandle}
 use Rattle.std.specs.declared.thread.Promise as Promise
 use Rattle.std.specs.PromisedHandle.{KeepsEach}
-use Rattle.std.specs.Option.{option_map, option_map_or}
-use Rattle.std.proofs.lemmas.List.{length-map}
-use Rattle.std.proofs.lemmas.List.Elements.{All-push}
-use Rattle.std.proofs.lemmas.Option.{slice_get-map, slice_get-get_or}
+use Rattle.std.proofs.lemmas.List.Elements.{All-head, All-push}
 
 -- one more, if there was room
 pub all_pushed : {X : Type 0} (P : X → Type 0) (r : Bool) (xs ys : List X) (x : X) → ys ≡ (if r then xs ++ x ∷ [] else xs) → All P xs → P x → All P ys
@@ -26,3 +23,7 @@ all_kept {T} {P} g Q n hs rs hn rn all each = λ k d below.
 pub some_kept : {T P E : Type 0} (g : Promise.Ghosts P T) (Q : T → Type 0) (hs : Vec (PromisedHandle T P) Global) (r : Result (Vec T Global) E) (o : Option (Vec T Global)) → o ≡ result_ok r → IfOk r (λ (v : Vec T Global). v.len ≡ hs.len) → IfOk r (λ (v : Vec T Global). KeepsEach g hs.len hs.items v.items) → All (λ (h : PromisedHandle T P). (t : T) → g.kept_by h.promise t → Q t) hs.items → IfSome o (λ (v : Vec T Global). All Q v.items)
 some_kept {T} g Q hs (Ok v) o e len each all = subst (λ (o : Option (Vec T Global)). IfSome o (λ (v : Vec T Global). All Q v.items)) (sym e) (all_kept g Q hs.len hs.items v.items hs.ok.0 (sym v.ok.0 ∙ len) all each)
 some_kept {T} g Q hs (Err x) o e len each all = subst (λ (o : Option (Vec T Global)). IfSome o (λ (v : Vec T Global). All Q v.items)) (sym e) tt
+
+-- what holds of all holds of the first
+pub all_first : {X : Type 0} (P : X → Type 0) (x : X) (xs ys : List X) → ys ≡ x ∷ xs → All P ys → P x
+all_first P x xs ys e all = All-head P x xs (subst (All P) e all)

@@ -75,6 +75,19 @@ where
     Some(settle(alloc, lines, desks))
 }
 
+/// A day at a desk: 100 come into account 3, 40 of them go to account 5, and 10 are paid out of it. What is settled is what is left.
+pub fn a_day<L: LineSync<AccountLaw> + Drop>(alloc: Global, line: L, port: L::Port) -> Option<u128>
+where
+    L::Port: Drop,
+    requires { IsNewPort L.belongs L.view line port }
+{
+    let (lines, mut desk) = over_one(alloc, line, port)?;
+    deposit(&lines, &mut desk, 3, 100, 64);
+    transfer(&lines, &mut desk, 3, 5, 40, 64);
+    take_out(&lines, &mut desk, 5, 10, 64);
+    settle_with(alloc, lines, desk)?.ok()
+}
+
 /// All that an account holds, and one more; a payment out of an empty account; a transfer to the same account; an account beyond the line.
 pub fn limits<L: LineSync<AccountLaw>>(lines: &[L], desk: &mut Desk<L>) -> [Reply; 5]
     requires { IsDeskOver L.belongs L.view lines.now desk.old }

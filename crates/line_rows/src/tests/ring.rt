@@ -75,6 +75,11 @@ fn a_lease_ends_a_board(rt: HostRuntime) -> Result<(), Fail> {
     boards::a_lease_ends_a_board(&rt, board(rt.alloc(), Some(3)))
 }
 
+#[test]
+fn each_task_is_taken_once(rt: HostRuntime) -> Result<(), Fail> {
+    boards::each_task_is_taken_once(&rt, rt.alloc(), open::<BoardLaw>(rt.alloc(), 4, None))
+}
+
 /// A ring of empty accounts for one node.
 fn accounts(alloc: Global, lease: Option<u64>) -> Option<(RingLine<AccountLaw>, Port)>
     ensures { IfSome result (λ made. IsNewPort ⟦<RingLine<AccountLaw> as LineSync<AccountLaw>>⟧.belongs ⟦<RingLine<AccountLaw> as LineSync<AccountLaw>>⟧.view made.0 made.1) }
@@ -88,6 +93,11 @@ fn shared_accounts(alloc: Global, lease: Option<u64>) -> Option<(RingLine<Accoun
     ensures second { IfSome result (λ made. IsNewPort ⟦<RingLine<AccountLaw> as LineSync<AccountLaw>>⟧.belongs ⟦<RingLine<AccountLaw> as LineSync<AccountLaw>>⟧.view made.0 made.2) }
 {
     shared::<AccountLaw>(alloc, lease)
+}
+
+#[test]
+fn a_day_is_settled(rt: HostRuntime) -> Result<(), Fail> {
+    desks::a_day_is_settled(&rt, rt.alloc(), accounts(rt.alloc(), None))
 }
 
 #[test]
@@ -131,4 +141,28 @@ fn the_lower_line_is_asked_for_first(rt: HostRuntime) -> Result<(), Fail> {
         desks::the_lower_line_is_asked_for_first(&rt, alloc, first, second, from, to)?;
     }
     Ok(())
+}
+
+#[test]
+fn want_of_memory_is_answered(rt: HostRuntime) -> Result<(), Fail> {
+    let alloc = rt.alloc();
+    desks::want_of_memory_is_answered(&rt, alloc, accounts(alloc, None), accounts(alloc, None))
+}
+
+/// Eight rings of empty accounts for so many nodes.
+fn eight_lines(alloc: Global, nodes: u64) -> Option<Vec<(RingLine<AccountLaw>, Vec<Port>)>>
+    ensures { IfSome result (λ lines. All (λ line. All (IsNewPort ⟦<RingLine<AccountLaw> as LineSync<AccountLaw>>⟧.belongs ⟦<RingLine<AccountLaw> as LineSync<AccountLaw>>⟧.view line.0) line.1.items) lines.items) }
+{
+    let mut lines = Vec::with_capacity(alloc, 8).ok()?;
+    for _ in 0..8 {
+        let opened = open::<AccountLaw>(alloc, nodes, None)?;
+        lines.push(opened).ok()?;
+    }
+    Some(lines)
+}
+
+#[test]
+fn what_was_paid_in_is_settled(rt: HostRuntime) -> Result<(), Fail> {
+    let opened = eight_lines(rt.alloc(), desks::CUSTOMERS);
+    desks::what_was_paid_in_is_settled(&rt, rt.alloc(), opened)
 }

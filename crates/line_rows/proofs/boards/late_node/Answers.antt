@@ -1,4 +1,4 @@
-use Rattle.std.proofs.Common.{◌≡◌, refl}
+use Rattle.std.proofs.Common.{refl}
 use Rattle.line_board.specs.Law.{same_board}
 use Rattle.line_board.proofs.Turns.{found_board}
 use Rattle.line_rows.proofs.boards.late_node.Goals as goal

@@ -1,4 +1,3 @@
-use Rattle.qolb_model.specs.declared.terms.Terms.{Terms}
 use Rattle.ring_line.specs.declared.line.RingLine.{RingLine}
 use Rattle.ring_line.specs.Line.{IsPortOf}
 use Rattle.ring_line.specs.Ports.{Standing}
