@@ -2,4 +2,5 @@
 
 mod boards;
 mod desks;
+mod link;
 mod ring;

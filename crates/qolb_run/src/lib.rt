@@ -5,6 +5,7 @@ mod by_ports;
 mod input;
 mod line;
 mod meetings;
+mod opening;
 mod plain;
 mod replay;
 mod steps;

@@ -7,7 +7,7 @@ use Rattle.qolb_script.specs.Reply.{replay_start}
 use Rattle.qolb_run.specs.Tallies.{AreLinesOf}
 use Rattle.qolb_run.specs.declared.tally.TalliedLine.{TalliedLine}
 use Rattle.qolb_run.proofs.Replayed.{IsNew, one_more_opened}
-use Rattle.qolb_run.proofs.replay.open_rings.Goals as goal
+use Rattle.qolb_run.proofs.replay.open_ported.Goals as goal
 
 abbrev shows : List Stance → LineState → Type 0
 shows ports s = AreWhole s ports

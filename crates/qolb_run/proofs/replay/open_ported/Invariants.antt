@@ -3,7 +3,7 @@ use Rattle.qolb_model.specs.OneOwner.{LineState}
 use Rattle.qolb_model.specs.Whole.{Stance, AreWhole}
 use Rattle.qolb_script.specs.Reply.{replay_start}
 use Rattle.qolb_run.specs.Tallies.{AreLinesOf}
-use Rattle.qolb_run.proofs.replay.open_rings.Given as goal
+use Rattle.qolb_run.proofs.replay.open_ported.Given as goal
 
 abbrev pub invariant-loop-number : goal.invariant-loop-number
 invariant-loop-number g l = record {
