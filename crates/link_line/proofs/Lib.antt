@@ -26,3 +26,4 @@ pub mod Meets
 pub mod Lasting
 pub mod Splitting
 pub mod Finishing
+pub mod Trials

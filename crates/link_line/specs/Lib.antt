@@ -7,3 +7,4 @@ pub mod Line
 pub mod Opened
 pub mod Finish
 pub mod Releases
+pub mod Trial

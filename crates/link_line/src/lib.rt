@@ -20,3 +20,6 @@ mod words;
 
 pub use line::LinkLine;
 pub use port::Port;
+
+#[cfg(test)]
+mod tests;
