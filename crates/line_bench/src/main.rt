@@ -3,15 +3,14 @@
 
 mod law;
 mod rounds;
-mod runs;
+mod run;
 mod stress;
-mod together;
-mod turns;
+mod workers;
 
 use clap::{Arg, ArgMatches, Command};
 use line_lanes::lane;
 use rounds::Rounds;
-use runs::{RunError, open, run};
+use run::{RunError, open, run_task};
 use std::alloc::Global;
 use std::rt::Clock;
 use std::sync::Wait;
@@ -72,7 +71,7 @@ fn show<R: Threads + Wait + Clock + Print + Sync>(
 ) -> anyhow::Result<()> {
     let (line, ports) = open(alloc, threads)?;
     let task = Rounds { rounds: FEW_ROUNDS };
-    let last = run(rt, alloc, line, ports, &task)?;
+    let last = run_task(rt, alloc, line, ports, &task)?;
     println!(rt; "threads {threads} lane sum {}", lane(&last, 0))?;
     Ok(())
 }
@@ -86,7 +85,7 @@ fn measure<R: Threads + Wait + Clock + Print + Sync>(
 ) -> anyhow::Result<()> {
     let (line, ports) = open(alloc, threads)?;
     let start = Instant::now(rt)?;
-    let last = run(rt, alloc, line, ports, &Rounds { rounds })?;
+    let last = run_task(rt, alloc, line, ports, &Rounds { rounds })?;
     let nanos = start.elapsed(rt)?.as_nanos().max(1);
     let sum = lane(&last, 0);
     let all = (u128::from(threads) * u128::from(rounds)).max(1);
@@ -109,7 +108,7 @@ fn put_under_stress<R: Threads + Wait + Clock + Print + Sync>(
 ) -> anyhow::Result<()> {
     let (line, ports) = open(alloc, threads)?;
     let task = Stress::new(Instant::now(rt)?, Duration::from_secs(seconds));
-    let last = run(rt, alloc, line, ports, &task)?;
+    let last = run_task(rt, alloc, line, ports, &task)?;
     let counts = task.counts();
     let lost = counts.grants.abs_diff(lane(&last, 0));
     println!(rt;

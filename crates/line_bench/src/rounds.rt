@@ -6,10 +6,10 @@ ghost use Rattle.qolb_model.specs.Kept.{MayRelease};
 ghost use Rattle.line_bench.specs.Rising.{Rises};
 
 use crate::law::Rising;
-use crate::together::Task;
-use crate::turns::{Got, acquire};
+use crate::workers::Task;
 use line_lanes::{Line64, Mask, lane, with_lane};
 use qolb_model::{LineSync, PortState};
+use qolb_run::{Got, acquire};
 use std::rt::Clock;
 use std::sync::Wait;
 

@@ -5,7 +5,7 @@ ghost use Rattle.qolb_model.specs.Turns.{IsGranted};
 
 use crate::law::Rising;
 use crate::rounds::add_one;
-use crate::together::Task;
+use crate::workers::Task;
 use qolb_model::{Enq, LineSync, Out, Poll, PortState};
 use rand::{RngExt, SeedableRng};
 use rand_xoshiro::Xoshiro256PlusPlus;

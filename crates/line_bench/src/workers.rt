@@ -37,7 +37,7 @@ impl<L: LineSync<Rising>> Promise<L::Port> for OfLine<L> {
 }
 
 /// A thread for each port does the task. `None` where memory or a thread was refused.
-pub fn together<R: Threads + Wait + Clock + Sync, L: LineSync<Rising> + Sync, T: Task<L> + Sync>(
+pub fn work_all<R: Threads + Wait + Clock + Sync, L: LineSync<Rising> + Sync, T: Task<L> + Sync>(
     rt: &R,
     alloc: Global,
     line: &L,

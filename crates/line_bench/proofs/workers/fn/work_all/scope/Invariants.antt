@@ -1,7 +1,7 @@
 use Rattle.std.proofs.Common.{◌≡◌, IsTrue, All}
 use Rattle.std.specs.Vec.Iter.{into_iter_items}
 use Rattle.qolb_model.specs.PortStates.{may_ask}
-use Rattle.line_bench.proofs.together.fn.together.scope.Given as goal
+use Rattle.line_bench.proofs.workers.fn.work_all.scope.Given as goal
 
 abbrev pub invariant-loop-port : goal.invariant-loop-port
 invariant-loop-port g l =

@@ -1,11 +1,12 @@
 //! A run: a line is opened, its nodes do a task together, their ports meet, and the line is taken apart.
-ghost use Rattle.std.specs.Prelude.{◌≡◌, All, IfOk, IfSome, true, IsTrue};
+ghost use Rattle.std.specs.Prelude.{All, IfOk, IsTrue};
 ghost use Rattle.qolb_model.specs.PortStates.{may_ask};
 
 use crate::law::Rising;
-use crate::together::{Task, together};
+use crate::workers::{Task, work_all};
 use line_lanes::Line64;
 use qolb_model::{FinishError, LineSync, OpenError};
+use qolb_run::meet_all;
 use ring_line::{Port, RingLine};
 use std::alloc::Global;
 use std::rt::Clock;
@@ -38,55 +39,20 @@ pub fn open(alloc: Global, nodes: u64) -> Result<(RingLine<Rising>, Vec<Port>), 
 }
 
 /// Each node does the task; then all ports meet, and the line's last bytes are left.
-pub fn run<R: Threads + Wait + Clock + Sync, L: LineSync<Rising> + Sync + Drop, T: Task<L> + Sync>(
-    rt: &R,
-    alloc: Global,
-    line: L,
-    ports: Vec<L::Port>,
-    task: &T,
-) -> Result<Line64, RunError>
+pub fn run_task<
+    R: Threads + Wait + Clock + Sync,
+    L: LineSync<Rising> + Sync + Drop,
+    T: Task<L> + Sync,
+>(rt: &R, alloc: Global, line: L, ports: Vec<L::Port>, task: &T) -> Result<Line64, RunError>
 where
     L::Port: Send + Drop,
     requires ports { All (λ port. L.belongs line port) ports.items }
     requires state { All (λ port. IsTrue (may_ask (L.view port).state)) ports.items }
 {
-    let back = together(rt, alloc, &line, ports, task).ok_or(RunError::Refused)?;
-    let met = meet_all(alloc, &line, back).ok_or(RunError::Refused)?;
-    match line.finish(alloc, met) {
+    let mut ports = work_all(rt, alloc, &line, ports, task).ok_or(RunError::Refused)?;
+    meet_all(&line, ports.as_mut_slice());
+    match line.finish(alloc, ports) {
         Ok(last) => Ok(last),
         Err(back) => Err(RunError::Finish(back.why)),
     }
-}
-
-/// Each two ports meet. `None` where memory was refused.
-fn meet_all<L: LineSync<Rising>>(
-    alloc: Global,
-    line: &L,
-    ports: Vec<L::Port>,
-) -> Option<Vec<L::Port>>
-where
-    L::Port: Drop,
-    requires { All (λ port. L.belongs line.now port) ports.items }
-    ensures { IfSome result (λ met. All (λ port. L.belongs line.now port) met.items) }
-{
-    let mut met = Vec::with_capacity(alloc, ports.len()).ok()?;
-    for port in ports {
-        let port = meet_each(line, port, &mut met);
-        met.push(port).ok()?;
-    }
-    Some(met)
-}
-
-/// The port meets each of the others.
-fn meet_each<L: LineSync<Rising>>(line: &L, port: L::Port, others: &mut Vec<L::Port>) -> L::Port
-    requires belongs { L.belongs line.now port }
-    requires others { All (λ port. L.belongs line.now port) others.old.items }
-    ensures belongs { L.belongs line.now result }
-    ensures others { All (λ port. L.belongs line.now port) others.new.items }
-{
-    let mut port = port;
-    for other in others.iter_mut() {
-        line.meet(&mut port, other);
-    }
-    port
 }

@@ -3,9 +3,9 @@ use Rattle.std.specs.Vec.Iter.{into_iter_items}
 use Rattle.std.specs.declared.thread.PromisedHandle.{PromisedHandle}
 use Rattle.std.proofs.lemmas.List.Elements.{All-rest}
 use Rattle.qolb_model.specs.PortStates.{may_ask}
-use Rattle.line_bench.specs.declared.together.OfLine.{OfLine}
+use Rattle.line_bench.specs.declared.workers.OfLine.{OfLine}
 use Rattle.line_bench.proofs.Belonging.{all_pushed, some_kept}
-use Rattle.line_bench.proofs.together.fn.together.scope.Goals as goal
+use Rattle.line_bench.proofs.workers.fn.work_all.scope.Goals as goal
 
 pub loop-port-preserved : goal.loop-port-preserved
 loop-port-preserved g c = (
