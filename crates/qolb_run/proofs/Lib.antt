@@ -11,3 +11,4 @@ pub mod BoardTurns
 pub mod BoardFinished
 pub mod Gathering
 pub mod Summing
+pub mod Banking

@@ -8,3 +8,4 @@ pub mod Jobs
 pub mod Workers
 pub mod BoardWork
 pub mod Reports
+pub mod BankWork

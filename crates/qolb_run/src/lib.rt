@@ -1,6 +1,7 @@
 //! Runs over queued lines: waiting for a line, and replays of scripts.
 #![tactic(auto)]
 
+mod bank;
 mod board;
 mod by_ports;
 mod gate;

@@ -4,10 +4,13 @@ ghost use Rattle.line_lanes.specs.Line.{zeros};
 ghost use Rattle.qolb_run.specs.declared.work.RunError.TheVariants.{Memory};
 ghost use Rattle.qolb_run.specs.Workers.{MayStop, IsWithinLimits};
 ghost use Rattle.qolb_run.specs.BoardWork.{IsJustOpened};
+ghost use Rattle.qolb_run.specs.BankWork.{IsNewLine};
 ghost use Rattle.qolb_run.specs.Reports.{IsReportOf};
 
+use crate::bank::run_bank;
 use crate::board::run_board;
 use crate::gate::Gate;
+use line_accounts::AccountLaw;
 use line_board::BoardLaw;
 use line_lanes::Line64;
 use qolb_model::{LineSync, PortState};
@@ -61,7 +64,10 @@ pub fn run_work<R: Threads + Wait + Sync, G: Gate + Sync>(
             let (ring, ports) = open_board(alloc, work)?;
             run_board(rt, alloc, gate, work, ring, ports)
         }
-        (WorkKind::Bank, Lines::Ring) => Err(RunError::Memory),
+        (WorkKind::Bank, Lines::Ring) => {
+            let opened = open_bank(alloc, work)?;
+            run_bank(rt, alloc, gate, work, opened)
+        }
     }
 }
 
@@ -76,6 +82,40 @@ fn open_board(alloc: Global, work: &Work) -> Result<(RingLine<BoardLaw>, Vec<Por
     // That a script has no more jobs than it may is a fact of its reader.
     let _ = work.jobs();
     match RingLine::<BoardLaw>::open(alloc, 0, work.workers(), Line64::zero()) {
+        Ok(opened) => Ok(opened),
+        Err(_) => Err(RunError::Memory),
+    }
+}
+
+/// The rings of a bank, with zeros, and their ports, one for each worker.
+fn open_bank(alloc: Global, work: &Work) -> Result<Vec<(RingLine<AccountLaw>, Vec<Port>)>, RunError>
+    ensures limits { IsWithinLimits work.now }
+    ensures memory { IfErr result (λ error. error ≡ Memory) }
+    ensures new { IfOk result (λ opened. All (λ line. IsNewLine ⟦<RingLine<AccountLaw> as LineSync<AccountLaw>>⟧.belongs ⟦<RingLine<AccountLaw> as LineSync<AccountLaw>>⟧.view ⟦<RingLine<AccountLaw> as LineSync<AccountLaw>>⟧.terms_of line.0 line.1.items) opened.items) }
+{
+    // That a script has no more jobs than it may is a fact of its reader.
+    let _ = work.jobs();
+    let workers = work.workers();
+    let mut all = Vec::with_capacity(alloc, work.lines() as usize)?;
+    for label in 0..work.lines() {
+        let opened = open_ring(alloc, label, workers)?;
+        if all.push(opened).is_err() {
+            return Err(RunError::Memory);
+        }
+    }
+    Ok(all)
+}
+
+/// A ring of accounts, with zeros.
+fn open_ring(
+    alloc: Global,
+    label: u64,
+    workers: u64,
+) -> Result<(RingLine<AccountLaw>, Vec<Port>), RunError>
+    ensures memory { IfErr result (λ error. error ≡ Memory) }
+    ensures new { IfOk result (λ line. IsNewLine ⟦<RingLine<AccountLaw> as LineSync<AccountLaw>>⟧.belongs ⟦<RingLine<AccountLaw> as LineSync<AccountLaw>>⟧.view ⟦<RingLine<AccountLaw> as LineSync<AccountLaw>>⟧.terms_of line.0 line.1.items) }
+{
+    match RingLine::<AccountLaw>::open(alloc, label, workers, Line64::zero()) {
         Ok(opened) => Ok(opened),
         Err(_) => Err(RunError::Memory),
     }
