@@ -14,7 +14,7 @@ use Rattle.qolb_model.specs.Asking.{IsBusy, Asks}
 use Rattle.qolb_model.specs.Turns.{IsGranted}
 use Rattle.qolb_model.specs.LettingGo.{IsTold}
 use Rattle.qolb_model.specs.Calls.{Enqueues}
-use Rattle.line_board.proofs.Acquiring.{continues_on, own_on, asks_on, joined_on}
+use Rattle.qolb_model.proofs.Going.{continues_on, asks_goes, asks_from, joined_goes}
 use Rattle.qolb_run.specs.declared.waiting.Got.{Got}
 use Rattle.qolb_run.specs.declared.waiting.Got.TheVariants.{Granted, Closed}
 use Rattle.qolb_run.specs.Acquiring.{Acquires}
@@ -27,21 +27,13 @@ quiet_busy old new b = by b.was
     by (inl was) = ap may_ask (b.state ∙ was)
     by (inr was) = ap may_ask (b.state ∙ was)
 
--- what was asked after tries that made no request was asked from the first
-asks_later : (old mid new : View) → Extends old mid → mid.count ≡ old.count → Asks mid new → Asks old new
-asks_later old mid new e same a = record {
-  was_clear = λ one. subst (λ r. Has new.clear r) (own_on old mid e same) (a.was_clear (omega (arith, one, same)));
-  count = a.count ∙ ap (λ n. n + 1) same;
-  behind = (a.behind.0, (let long = length-append old.order e.order.0 in let more = ap length e.order.1 in let far = a.behind.1 in omega (arith, long, more, far)), a.behind.2);
-}
-
 -- granted or told at once
 pub acquired_once : (allows : List ℕ → List ℕ → Type 0) (old mid new : View) (turn : Write) (answer : Enq) (got : Got)
     → Extends old mid → mid.count ≡ old.count → Enqueues allows mid new turn answer → answer ≢ enq.Busy
     → (got ≡ Granted → answer ≡ enq.Granted) → (got ≡ Closed → answer ≡ enq.Closed) → Acquires allows old new turn got
 acquired_once allows old mid new turn answer got e same q asked granted closed = record {
   continues = continues_on allows old mid new e q.continues;
-  asks = asks_later old mid new e same (q.asks asked);
+  asks = asks_from old mid new e same (q.asks asked);
   joined = q.joined asked;
   granted = λ is. q.granted (granted is);
   told = λ is. q.told (closed is);
@@ -54,8 +46,8 @@ pub acquired_waiting : (allows : List ℕ → List ℕ → Type 0) (old mid now 
 acquired_waiting allows old mid now new first turn got e same q c count granted told =
     let some : enq.Queued ≢ enq.Busy = λ is. cc is in record {
       continues = continues_on allows old mid new e (continues_on allows mid now new q.continues.extends c);
-      asks = asks_later old mid new e same (asks_on mid now new (q.asks some) c.extends count);
-      joined = joined_on now new (q.joined some) c.extends count;
+      asks = asks_from old mid new e same (asks_goes mid now new (q.asks some) c.extends count);
+      joined = joined_goes now new (q.joined some) c.extends count;
       granted = granted;
       told = told;
     }

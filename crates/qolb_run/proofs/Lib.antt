@@ -6,3 +6,9 @@ pub mod StepsRun
 pub mod Rounds
 pub mod Forcing
 pub mod Acquiring
+pub mod Shares
+pub mod BoardTurns
+pub mod BoardFinished
+pub mod Gathering
+pub mod Summing
+pub mod Banking

@@ -4,3 +4,8 @@ pub mod StepRuns
 pub mod Stances
 pub mod Calls
 pub mod Acquiring
+pub mod Jobs
+pub mod Workers
+pub mod BoardWork
+pub mod Reports
+pub mod BankWork

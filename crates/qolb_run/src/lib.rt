@@ -1,7 +1,10 @@
 //! Runs over queued lines: waiting for a line, and replays of scripts.
 #![tactic(auto)]
 
+mod bank;
+mod board;
 mod by_ports;
+mod gate;
 mod input;
 mod line;
 mod meetings;
@@ -12,10 +15,14 @@ mod steps;
 mod tally;
 mod task;
 mod waiting;
+mod work;
+mod workers;
 
+pub use gate::{AlwaysOpen, Gate, MOST_REFUSALS};
 pub use input::{InputError, MOST_BYTES, read_all};
 pub use meetings::meet_all;
 pub use replay::{Kind, ReplayError, run_schedule};
 pub use steps::run_steps;
 pub use task::Task;
 pub use waiting::{Got, acquire};
+pub use work::{Lines, RunError, run_work};

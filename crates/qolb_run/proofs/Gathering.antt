@@ -1,0 +1,97 @@
+-- Workers' hands, gathered, summed up and freshly made.
+use Rattle.std.proofs.Common.{◌≡◌, ℕ, zero, suc, ◌+◌, ◌<◌, ◌≤◌, ◌==◌, List, [], ◌∷◌, ◌++◌, length, map, take, All, Option, Some, None, slice_get, get_or, refl, ap, sym, ◌∙◌, subst, arith}
+use Rattle.std.proofs.lemmas.List.{length-take-le}
+use Rattle.std.proofs.lemmas.List.Sums.{length-filter, count_by-le-length}
+use Rattle.std.proofs.lemmas.Option.{slice_get_within, slice_get-get_or, get_or_from_slice_get}
+use Rattle.std.specs.Prelude.{IfOk, IfSome, Vec}
+use Rattle.std.specs.Global.{Global}
+use Rattle.std.specs.Result.{result_ok}
+use Rattle.std.specs.declared.result.Result.{Result}
+use Rattle.std.specs.declared.result.Result.TheVariants.{Ok, Err}
+use Rattle.std.specs.declared.thread.PromisedHandle.{PromisedHandle}
+use Rattle.std.specs.declared.thread.Promise as Promise
+use Rattle.std.specs.PromisedHandle.{KeepsEach}
+use Rattle.qolb_model.proofs.Lists.{same_some}
+use Rattle.qolb_script.specs.declared.job.Job.{Job}
+use Rattle.qolb_script.specs.Jobs.{worker_of}
+use Rattle.qolb_script.specs.declared.schedule.TheConstants.{MOST_COMMANDS}
+use Rattle.qolb_model.specs.declared.terms.Terms.{Terms}
+use Rattle.qolb_model.specs.declared.view.View.{View}
+use Rattle.qolb_model.specs.Opening.{AreNew}
+use Rattle.qolb_run.specs.BoardWork.{IsJustOpened}
+use Rattle.qolb_run.specs.Jobs.{jobs_of}
+use Rattle.qolb_run.specs.Workers.{AreBack, AreDone, MayBeGone}
+use Rattle.qolb_run.specs.declared.work.RunError.TheVariants.{Stalled}
+
+-- a worker has fewer jobs behind it than a script may have
+pub few_done : (worker : ℕ) (jobs : List Job) (i : ℕ) → i < length jobs → length jobs ≤ MOST_COMMANDS → length (jobs_of worker (take i jobs)) < MOST_COMMANDS
+few_done worker jobs i lt most =
+    let kept = length-filter (λ job. worker_of job == worker) (take i jobs) in
+    let few = count_by-le-length (λ job. worker_of job == worker) (take i jobs) in
+    let long = length-take-le i jobs (omega (arith, lt)) in
+    omega (arith, kept, few, long, lt, most)
+
+-- the first that is gone, behind those that are there
+gone_at : {H : Type 0} (hands : List H) (rest : List (Option H)) → slice_get (map Some hands ++ None ∷ rest) (length hands) ≡ Some None
+gone_at [] rest = refl
+gone_at (h ∷ hands) rest = gone_at hands rest
+
+there : {H : Type 0} (hands : List H) (rest : List (Option H)) (j : ℕ) → j < length hands → (hand : H) × (slice_get (map Some hands ++ rest) j ≡ Some (Some hand))
+there [] rest j lt = absurd (omega (arith, lt))
+there (h ∷ hands) rest zero lt = (h, refl)
+there (h ∷ hands) rest (suc j) lt = there hands rest j (omega (arith, lt))
+
+pub first_gone : {H : Type 0} (hands : List H) (rest back : List (Option H)) (number : ℕ) → map Some hands ++ None ∷ rest ≡ back → number ≡ length hands + 1 → MayBeGone back (Stalled number)
+first_gone {H} hands rest back number is e = (
+  length hands,
+  e,
+  ap (λ b. slice_get b (length hands)) (sym is) ∙ gone_at hands rest,
+  λ j lt. let t = there hands (None ∷ rest) j lt in (t.0, ap (λ b. slice_get b j) (sym is) ∙ t.1),
+)
+
+-- who is back, where all are
+slice_get-map_some : {H : Type 0} (hands : List H) (k : ℕ) (hand : H) → slice_get hands k ≡ Some hand → slice_get (map Some hands) k ≡ Some (Some hand)
+slice_get-map_some [] k hand at = absurd (let no : None ≡ Some hand = at in cc no)
+slice_get-map_some (h ∷ hands) zero hand at = ap Some at
+slice_get-map_some (h ∷ hands) (suc k) hand at = slice_get-map_some hands k hand at
+
+pub done_of : {Site Hand : Type 0} (has_done : Site → Hand → List Job → Type 0) (site : Site) (jobs : List Job) (back : List (Option Hand)) (hands : List Hand)
+    → map Some hands ≡ back → AreBack has_done site jobs back → AreDone has_done site jobs hands
+done_of has_done site jobs back hands is all = λ k hand at. all k hand (ap (λ b. slice_get b k) (sym is) ∙ slice_get-map_some hands k hand at)
+
+-- what holds of each element, and of one more behind them
+pub each_pushed : {X : Type 0} (P : ℕ → X → Type 0) (xs : List X) (x : X) → ((k : ℕ) (y : X) → slice_get xs k ≡ Some y → P k y) → P (length xs) x → (k : ℕ) (y : X) → slice_get (xs ++ x ∷ []) k ≡ Some y → P k y
+each_pushed P [] x all own zero y at = subst (P 0) (same_some at) own
+each_pushed P [] x all own (suc k) y at = absurd (let no : None ≡ Some y = at in cc no)
+each_pushed P (z ∷ xs) x all own zero y at = all 0 y at
+each_pushed P (z ∷ xs) x all own (suc k) y at = each_pushed (λ n. P (suc n)) xs x (λ j i. all (suc j) i) own k y at
+
+-- threads that were joined: as many results as handles, and what each promised
+module _ {Site Hand P E : Type 0} (g : Promise.Ghosts P (Option Hand)) (has_done : Site → Hand → List Job → Type 0) (site : Site) (jobs : List Job) (hs : Vec (PromisedHandle (Option Hand) P) Global) where
+  pub as_many_back : (r : Result (Vec (Option Hand) Global) E) (o : Option (Vec (Option Hand) Global)) (n : ℕ) → o ≡ result_ok r → IfOk r (λ (v : Vec (Option Hand) Global). v.len ≡ hs.len) → hs.len ≡ n → IfSome o (λ (v : Vec (Option Hand) Global). v.len ≡ n)
+  as_many_back (Ok v) o n e len is = subst (λ (o : Option (Vec (Option Hand) Global)). IfSome o (λ (v : Vec (Option Hand) Global). v.len ≡ n)) (sym e) (len ∙ is)
+  as_many_back (Err x) o n e len is = subst (λ (o : Option (Vec (Option Hand) Global)). IfSome o (λ (v : Vec (Option Hand) Global). v.len ≡ n)) (sym e) tt
+
+  pub back_done : (r : Result (Vec (Option Hand) Global) E) (o : Option (Vec (Option Hand) Global)) → o ≡ result_ok r → IfOk r (λ (v : Vec (Option Hand) Global). v.len ≡ hs.len) → IfOk r (λ (v : Vec (Option Hand) Global). KeepsEach g hs.len hs.items v.items)
+      → ((k : ℕ) (h : PromisedHandle (Option Hand) P) → slice_get hs.items k ≡ Some h → (back : Option Hand) → g.kept_by h.promise back → IfSome back (λ hand. has_done site hand (jobs_of (k + 1) jobs)))
+      → IfSome o (λ (v : Vec (Option Hand) Global). AreBack has_done site jobs v.items)
+  back_done (Ok v) o e len each all = subst (λ (o : Option (Vec (Option Hand) Global)). IfSome o (λ (v : Vec (Option Hand) Global). AreBack has_done site jobs v.items)) (sym e) (λ k hand at.
+      let within = slice_get_within v.items k (Some hand) at in
+      let low : k < hs.len = omega (arith, within, v.ok.0, len) in
+      let below : k < length hs.items = omega (arith, low, hs.ok.0) in
+      let kept = (each k (Some hand) low).1 in
+      let at_handle = slice_get-get_or hs.items k kept.handle below ∙ ap Some (sym kept.handle_is) in
+      all k kept.handle at_handle (Some hand) (subst (λ back. g.kept_by kept.handle.promise back) (get_or_from_slice_get v.items k (Some hand) (Some hand) at) kept.kept))
+  back_done (Err x) o e len each all = subst (λ (o : Option (Vec (Option Hand) Global)). IfSome o (λ (v : Vec (Option Hand) Global). AreBack has_done site jobs v.items)) (sym e) tt
+
+-- ports as they were opened
+get_map : {P V : Type 0} (view : P → V) (ports : List P) (k : ℕ) (port : P) → slice_get ports k ≡ Some port → slice_get (map view ports) k ≡ Some (view port)
+get_map view [] k port at = absurd (let no : None ≡ Some port = at in cc no)
+get_map view (p ∷ ports) zero port at = ap (λ q. Some (view q)) (same_some at)
+get_map view (p ∷ ports) (suc k) port at = get_map view ports k port at
+
+pub just_opened : {P : Type 0} (view : P → View) (label : ℕ) (terms : Terms) (ports : List P) → AreNew label terms (map view ports) → All (λ port. IsJustOpened (view port)) ports
+just_opened view label terms ports new = λ k d below.
+    let at = get_map view ports k (get_or ports k d) (slice_get-get_or ports k d below) in
+    let within : k < terms.nodes = subst (λ n. k < n) new.count (slice_get_within (map view ports) k (view (get_or ports k d)) at) in
+    (label, terms, k + 1, same_some (sym at ∙ new.each k within))

@@ -1,0 +1,16 @@
+use Rattle.std.proofs.Common.{◌<◌, ◌≤◌, List, length, take, subst}
+use Rattle.qolb_script.specs.declared.job.Job.{Job}
+use Rattle.qolb_script.specs.declared.schedule.TheConstants.{MOST_COMMANDS}
+use Rattle.qolb_run.specs.Jobs.{jobs_of}
+use Rattle.qolb_run.proofs.Gathering.{few_done}
+use Rattle.qolb_run.proofs.workers.work_through.Goals as goal
+
+pub does-requires : goal.does-requires
+does-requires g c =
+    let is = c.jobs-job-items.ensures.jobs in (
+      jobs_of c.args.number (take c.loop-job.job-index c.args.work.now.jobs),
+      c.loop-job.invariant.0,
+      few_done c.args.number c.args.work.now.jobs c.loop-job.job-index
+          (subst (λ (js : List Job). c.loop-job.job-index < length js) is c.loop-job-test.true)
+          (subst (λ (js : List Job). length js ≤ MOST_COMMANDS) is c.jobs-job-items.ensures.most),
+    )

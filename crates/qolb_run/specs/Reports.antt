@@ -1,0 +1,23 @@
+-- What a report says of the work that was done. (Of this project.)
+use Rattle.std.specs.Prelude.{◌≡◌, ℕ, ◌+◌}
+use Rattle.qolb_script.specs.declared.job.WorkKind.TheVariants as kind
+use Rattle.qolb_script.specs.declared.report.Report.{Report}
+use Rattle.qolb_script.specs.declared.report.Report.TheVariants.{Board, Bank}
+use Rattle.qolb_script.specs.WorkScript.{WorkScript}
+use Rattle.qolb_run.specs.Jobs.{puts_in, takes_in}
+
+-- of a board: what was stored was taken or is left, each put was stored or found the board full, and each take had a task or found none
+pub record IsOfBoard (work : WorkScript) (stored full taken empty left : ℕ) : Type 0 where
+  pub of_board : work.kind ≡ kind.Board
+  pub kept : stored ≡ taken + left
+  pub puts : stored + full ≡ puts_in work.jobs
+  pub takes : taken + empty ≡ takes_in work.jobs
+
+-- of a bank: what was paid in was paid out or is there
+pub record IsOfBank (work : WorkScript) (paid_in paid_out total : ℕ) : Type 0 where
+  pub of_bank : work.kind ≡ kind.Bank
+  pub kept : paid_in ≡ paid_out + total
+
+abbrev pub IsReportOf : WorkScript → Report → Type 0
+IsReportOf work (Board stored full taken empty left) = IsOfBoard work stored full taken empty left
+IsReportOf work (Bank paid_in paid_out total) = IsOfBank work paid_in paid_out total

@@ -1,0 +1,34 @@
+-- Workers that come back from their jobs. (Of this project.)
+use Rattle.std.specs.Prelude.{◌≡◌, ℕ, ◌+◌, ◌<◌, ◌≤◌, List, length, Option, Some, None, slice_get}
+use Rattle.qolb_script.specs.declared.job.Job.{Job}
+use Rattle.qolb_script.specs.declared.schedule.TheConstants.{MOST_COMMANDS}
+use Rattle.qolb_script.specs.WorkScript.{WorkScript, AreOfIts}
+use Rattle.qolb_model.specs.declared.terms.TheConstants.{MOST_NODES}
+use Rattle.qolb_run.specs.Jobs.{jobs_of}
+use Rattle.qolb_run.specs.declared.work.RunError.{RunError}
+use Rattle.qolb_run.specs.declared.work.RunError.TheVariants.{Memory, Stalled}
+
+-- worker k + 1, at place k, has done all its jobs, unless it gave up
+abbrev pub AreBack : {Site Hand : Type 0} → (Site → Hand → List Job → Type 0) → Site → List Job → List (Option Hand) → Type 0
+AreBack {Site} {Hand} has_done site jobs back = (k : ℕ) (hand : Hand) → slice_get back k ≡ Some (Some hand) → has_done site hand (jobs_of (k + 1) jobs)
+
+-- all of them have
+abbrev pub AreDone : {Site Hand : Type 0} → (Site → Hand → List Job → Type 0) → Site → List Job → List Hand → Type 0
+AreDone {Site} {Hand} has_done site jobs hands = (k : ℕ) (hand : Hand) → slice_get hands k ≡ Some hand → has_done site hand (jobs_of (k + 1) jobs)
+
+-- why not all did: want of memory, or the first worker that gave up
+abbrev pub MayBeGone : {Hand : Type 0} → List (Option Hand) → RunError → Type 0
+MayBeGone back Memory = Unit {0}
+MayBeGone {Hand} back (Stalled worker) =
+    (k : ℕ) × (worker ≡ k + 1) × (slice_get back k ≡ Some None) × ((j : ℕ) → j < k → (hand : Hand) × (slice_get back j ≡ Some (Some hand)))
+
+-- why there is no report: want of memory, or one of the workers gave up
+abbrev pub MayStop : WorkScript → RunError → Type 0
+MayStop work Memory = Unit {0}
+MayStop work (Stalled worker) = (1 ≤ worker) × (worker ≤ work.workers)
+
+-- the work is of no more workers and jobs than a script may have, and each job is of one of them
+pub record IsWithinLimits (work : WorkScript) : Type 0 where
+  pub few : work.workers ≤ MOST_NODES
+  pub most : length work.jobs ≤ MOST_COMMANDS
+  pub its : AreOfIts work

@@ -1,0 +1,234 @@
+//! Workers at a bank.
+ghost use Rattle.std.specs.Prelude.{◌≡◌, ◌≢◌, ◌+◌, ◌*◌, ◌^◌, ◌≤◌, ◌∷◌, ◌++◌, [], All, IfOk, IfErr, IfSome, length, vec_len};
+ghost use Rattle.line_lanes.specs.Line.{zeros};
+ghost use Rattle.qolb_script.specs.declared.schedule.TheConstants.{MOST_COMMANDS};
+ghost use Rattle.qolb_model.specs.declared.terms.TheConstants.{MOST_NODES};
+ghost use Rattle.line_accounts.specs.Desks.{IsDeskOver};
+ghost use Rattle.line_accounts.specs.Settled.{all_paid_in, all_paid_out};
+ghost use Rattle.qolb_run.specs.Workers.{AreDone, MayStop, IsWithinLimits};
+ghost use Rattle.qolb_run.specs.BankWork.{HasBanked, Paid, ArePaid, IsNewLine, IsColumn};
+ghost use Rattle.qolb_run.specs.Reports.{IsReportOf};
+
+use crate::gate::Gate;
+use crate::work::RunError;
+use crate::workers::{PATIENCE, Site, all_done, work_all};
+use line_accounts::{AccountLaw, Desk, Reply, deposit, settle, take_out, transfer};
+use qolb_model::{LineSync, PortState};
+use qolb_script::{Job, Report, Work, WorkKind};
+use std::alloc::{AllocError, Global};
+use std::sync::Wait;
+use std::thread::{Threads, yield_now};
+
+/// A bank that workers share: lines of accounts.
+#[derive(Drop)]
+pub(crate) struct Bank<L> {
+    pub lines: Vec<L>,
+}
+
+impl<L: LineSync<AccountLaw>> Site for Bank<L> {
+    type Hand = Desk<L>;
+
+    ghost has_done = { λ bank desk jobs. HasBanked L.belongs L.view bank.lines.items desk jobs };
+
+    fn does<R: Wait>(&self, rt: &R, desk: &mut Desk<L>, job: &Job) -> bool {
+        for _ in rt.forever() {
+            match try_once(&self.lines, desk, job) {
+                Reply::Late | Reply::Busy => yield_now(),
+                Reply::Closed => return false,
+                _ => return true,
+            }
+        }
+        unreachable!()
+    }
+}
+
+/// Does the job at the desk, if its lines are granted in time. What it found short, over or missing counts as done.
+fn try_once<L: LineSync<AccountLaw>>(lines: &[L], desk: &mut Desk<L>, job: &Job) -> Reply
+    requires over { IsDeskOver L.belongs L.view lines.now desk.old }
+    ensures over { IsDeskOver L.belongs L.view lines.now desk.new }
+    ensures paid { Paid desk.old desk.new result }
+{
+    match *job {
+        Job::PayIn {
+            account,
+            amount,
+            ..
+        } => deposit(lines, desk, account, amount, PATIENCE),
+        Job::PayOut {
+            account,
+            amount,
+            ..
+        } => take_out(lines, desk, account, amount, PATIENCE),
+        Job::Move {
+            source,
+            target,
+            amount,
+            ..
+        } => transfer(lines, desk, source, target, amount, PATIENCE),
+        // A job of a board is none of a bank's.
+        Job::Put { .. } | Job::Take { .. } => Reply::Done,
+    }
+}
+
+/// What was paid in at all desks, and paid out.
+fn sum_up<L: LineSync<AccountLaw>>(desks: &[Desk<L>]) -> (u128, u128)
+    requires few { length desks.now ≤ MOST_NODES }
+    requires small { All (λ desk. ArePaid MOST_COMMANDS desk) desks.now }
+    ensures { (result.0 ≡ all_paid_in desks.now) × (result.1 ≡ all_paid_out desks.now) }
+{
+    let mut paid_in = 0u128;
+    let mut paid_out = 0u128;
+    for desk in desks {
+        paid_in += desk.paid_in();
+        paid_out += desk.paid_out();
+    }
+    (paid_in, paid_out)
+}
+
+/// The report of a bank whose workers have done all their jobs, which takes its lines apart.
+fn finish<L: LineSync<AccountLaw> + Drop>(
+    alloc: Global,
+    bank: Bank<L>,
+    work: &Work,
+    desks: Vec<Desk<L>>,
+) -> Result<Report, RunError>
+where
+    L::Port: Drop,
+    requires kind { work.now.kind ≡ WorkKind.Bank }
+    requires empty { All (λ line. (L.terms_of line).opening.bytes ≡ zeros) bank.lines.items }
+    requires limits { IsWithinLimits work.now }
+    requires as_many { vec_len desks ≡ work.now.workers }
+    requires done { AreDone (HasBanked L.belongs L.view) bank.lines.items work.now.jobs desks.items }
+    ensures report { IfOk result (IsReportOf work.now) }
+    ensures stalled { IfErr result (MayStop work.now) }
+{
+    let (paid_in, paid_out) = sum_up(desks.as_slice());
+    // Each worker's desk has a port of each line: nothing but want of memory is in the way.
+    let Ok(total) = settle(alloc, bank.lines, desks) else {
+        return Err(RunError::Memory);
+    };
+    Ok(Report::Bank {
+        paid_in,
+        paid_out,
+        total,
+    })
+}
+
+/// So many lists without a port.
+fn no_ports<P: Drop>(alloc: Global, workers: u64) -> Result<Vec<Vec<P>>, AllocError>
+    ensures as_many { IfOk result (λ columns. length columns.items ≡ workers) }
+    ensures empty { IfOk result (λ columns. All (λ ports. ports.items ≡ []) columns.items) }
+{
+    let mut columns = Vec::with_capacity(alloc, workers as usize)?;
+    for worker in 0..workers {
+        columns.push(Vec::new(alloc))?;
+    }
+    Ok(columns)
+}
+
+/// The lists with one more port each: those of the line, which comes behind the others.
+fn with_ports<L: LineSync<AccountLaw>>(
+    alloc: Global,
+    lines: &Vec<L>,
+    line: &L,
+    columns: Vec<Vec<L::Port>>,
+    ports: Vec<L::Port>,
+) -> Result<Vec<Vec<L::Port>>, AllocError>
+where
+    L::Port: Drop,
+    requires columns { All (λ ports. IsColumn L.belongs L.view lines.now.items ports.items) columns.items }
+    requires ports { IsNewLine L.belongs L.view L.terms_of line.now ports.items }
+    ensures as_many { IfOk result (λ wider. vec_len wider ≡ vec_len columns) }
+    ensures columns { IfOk result (λ wider. All (λ ports. IsColumn L.belongs L.view (lines.now.items ++ line.now ∷ []) ports.items) wider.items) }
+{
+    let mut wider = Vec::with_capacity(alloc, columns.len())?;
+    let mut ports = ports.into_iter();
+    for column in columns {
+        let Some(port) = ports.next() else {
+            return Err(AllocError);
+        };
+        let mut column = column;
+        column.push(port)?;
+        wider.push(column)?;
+    }
+    Ok(wider)
+}
+
+/// A desk with these ports, at which nothing was paid.
+fn new_desk<L: LineSync<AccountLaw>>(lines: &Vec<L>, ports: Vec<L::Port>) -> Option<Desk<L>>
+where
+    L::Port: Drop,
+    requires { IsColumn L.belongs L.view lines.now.items ports.items }
+    ensures { IfSome result (λ desk. HasBanked L.belongs L.view lines.now.items desk []) }
+{
+    let desk = Desk::new(ports);
+    // A new desk has paid nothing, of which its own contract does not speak.
+    if desk.paid_in() > 0 || desk.paid_out() > 0 {
+        return None;
+    }
+    Some(desk)
+}
+
+/// The lines, and a desk over them for each worker.
+fn desks_over<L: LineSync<AccountLaw> + Drop>(
+    alloc: Global,
+    opened: Vec<(L, Vec<L::Port>)>,
+    workers: u64,
+) -> Result<(Vec<L>, Vec<Desk<L>>), RunError>
+where
+    L::Port: Drop,
+    requires { All (λ line. IsNewLine L.belongs L.view L.terms_of line.0 line.1.items) opened.items }
+    ensures memory { IfErr result (λ error. error ≡ RunError.Memory) }
+    ensures empty { IfOk result (λ made. All (λ line. (L.terms_of line).opening.bytes ≡ zeros) made.0.items) }
+    ensures as_many { IfOk result (λ made. vec_len made.1 ≡ workers) }
+    ensures new { IfOk result (λ made. All (λ desk. HasBanked L.belongs L.view made.0.items desk []) made.1.items) }
+{
+    let mut columns = no_ports(alloc, workers)?;
+    let mut lines = Vec::with_capacity(alloc, opened.len())?;
+    for (line, ports) in opened {
+        columns = with_ports(alloc, &lines, &line, columns, ports)?;
+        if lines.push(line).is_err() {
+            return Err(RunError::Memory);
+        }
+    }
+    let mut desks = Vec::with_capacity(alloc, columns.len())?;
+    for ports in columns {
+        let Some(desk) = new_desk(&lines, ports) else {
+            return Err(RunError::Memory);
+        };
+        if desks.push(desk).is_err() {
+            return Err(RunError::Memory);
+        }
+    }
+    Ok((lines, desks))
+}
+
+/// Workers do their jobs at the bank of these lines, each at a desk of its own.
+pub(crate) fn run_bank<
+    R: Threads + Wait + Sync,
+    G: Gate + Sync,
+    L: LineSync<AccountLaw> + Sync + Drop,
+>(
+    rt: &R,
+    alloc: Global,
+    gate: &G,
+    work: &Work,
+    opened: Vec<(L, Vec<L::Port>)>,
+) -> Result<Report, RunError>
+where
+    L::Port: Send + Drop,
+    requires kind { work.now.kind ≡ WorkKind.Bank }
+    requires limits { IsWithinLimits work.now }
+    requires opened { All (λ line. IsNewLine L.belongs L.view L.terms_of line.0 line.1.items) opened.items }
+    ensures report { IfOk result (IsReportOf work.now) }
+    ensures stalled { IfErr result (MayStop work.now) }
+{
+    let (lines, desks) = desks_over(alloc, opened, work.workers())?;
+    let room = Vec::with_capacity(alloc, desks.len())?;
+    let bank = Bank { lines };
+    let Some(back) = work_all(rt, alloc, gate, &bank, work, desks) else {
+        return Err(RunError::Memory);
+    };
+    let desks = all_done(back, room)?;
+    finish(alloc, bank, work, desks)
+}

@@ -1,0 +1,252 @@
+//! Workers at a board.
+ghost use Rattle.std.specs.Prelude.{◌≡◌, ◌*◌, [], ◌≤◌, All, IfOk, IfErr, Some, true, false, length, map, vec_len};
+ghost use Rattle.line_lanes.specs.Line.{zeros};
+ghost use Rattle.qolb_script.specs.declared.schedule.TheConstants.{MOST_COMMANDS};
+ghost use Rattle.qolb_model.specs.declared.terms.TheConstants.{MOST_NODES};
+ghost use Rattle.line_accounts.specs.Desks.{IsAtRest};
+ghost use Rattle.qolb_run.specs.Workers.{AreDone, MayStop, IsWithinLimits};
+ghost use Rattle.qolb_run.specs.BoardWork.{Works, HasWorked, IsJustOpened, AreWithin, AreAdded, AreSums, no_counts};
+ghost use Rattle.qolb_run.specs.Reports.{IsReportOf};
+
+use crate::gate::Gate;
+use crate::work::RunError;
+use crate::workers::{PATIENCE, Site, all_done, work_all};
+use line_board::{BoardLaw, Put, Take, decode, put, take};
+use qolb_model::{LineSync, PortState};
+use qolb_script::{Job, Report, Work, WorkKind};
+use std::alloc::{AllocError, Global};
+use std::sync::Wait;
+use std::thread::{Threads, yield_now};
+
+/// A board that workers share.
+#[derive(Drop)]
+pub(crate) struct Board<L> {
+    pub line: L,
+}
+
+/// How often something came of a worker's puts and takes.
+#[derive(Clone, Copy, Debug, PartialEq, Eq)]
+pub(crate) struct BoardCounts {
+    /// Puts that stored a task, and that found the board full.
+    pub stored: u64,
+    pub full: u64,
+    /// Takes that took a task, and that found none.
+    pub taken: u64,
+    pub empty: u64,
+}
+
+/// What a worker of a board has in hand: its port, and its counts.
+#[derive(Drop)]
+pub(crate) struct BoardHand<P> {
+    pub port: P,
+    pub counts: BoardCounts,
+}
+
+impl<L: LineSync<BoardLaw>> Site for Board<L> {
+    type Hand = BoardHand<L::Port>;
+
+    ghost has_done = { λ board hand jobs. HasWorked L.belongs L.view board.line hand jobs };
+
+    fn does<R: Wait>(&self, rt: &R, hand: &mut BoardHand<L::Port>, job: &Job) -> bool {
+        match *job {
+            Job::Put { task, .. } => match put_at_last(rt, &self.line, &mut hand.port, task) {
+                Some(true) => hand.counts.stored += 1,
+                Some(false) => hand.counts.full += 1,
+                None => return false,
+            },
+            Job::Take { .. } => match take_at_last(rt, &self.line, &mut hand.port) {
+                Some(true) => hand.counts.taken += 1,
+                Some(false) => hand.counts.empty += 1,
+                None => return false,
+            },
+            // A job of a bank is none of a board's.
+            Job::PayIn { .. } | Job::PayOut { .. } | Job::Move { .. } => {}
+        }
+        true
+    }
+}
+
+/// Puts the task, and tries again while the board is late or the port busy. Whether it was stored; `None` where the line is closed.
+fn put_at_last<R: Wait, L: LineSync<BoardLaw>>(
+    rt: &R,
+    line: &L,
+    port: &mut L::Port,
+    task: u64,
+) -> Option<bool>
+    requires belongs { L.belongs line.now port.old }
+    requires at_rest { IsAtRest (L.view port.old) }
+    ensures belongs { L.belongs line.now port.new }
+    ensures stored { result ≡ Some true → Works (L.view port.old) (L.view port.new) 1 0 }
+    ensures full { result ≡ Some false → Works (L.view port.old) (L.view port.new) 0 0 }
+{
+    for _ in rt.forever() {
+        match put(line, port, task, PATIENCE) {
+            Put::Stored => return Some(true),
+            Put::Full => return Some(false),
+            Put::Late | Put::Busy => yield_now(),
+            Put::Closed => return None,
+        }
+    }
+    unreachable!()
+}
+
+/// Takes a task, and tries again while the board is late or the port busy. Whether there was one; `None` where the line is closed.
+fn take_at_last<R: Wait, L: LineSync<BoardLaw>>(
+    rt: &R,
+    line: &L,
+    port: &mut L::Port,
+) -> Option<bool>
+    requires belongs { L.belongs line.now port.old }
+    requires at_rest { IsAtRest (L.view port.old) }
+    ensures belongs { L.belongs line.now port.new }
+    ensures taken { result ≡ Some true → Works (L.view port.old) (L.view port.new) 0 1 }
+    ensures empty { result ≡ Some false → Works (L.view port.old) (L.view port.new) 0 0 }
+{
+    for _ in rt.forever() {
+        match take(line, port, PATIENCE) {
+            Take::Task(_) => return Some(true),
+            Take::Empty => return Some(false),
+            Take::Late | Take::Busy => yield_now(),
+            Take::Closed => return None,
+        }
+    }
+    unreachable!()
+}
+
+impl BoardCounts {
+    /// Nothing came of anything.
+    pub fn none() -> BoardCounts
+        ensures { result ≡ no_counts }
+    {
+        BoardCounts {
+            stored: 0,
+            full: 0,
+            taken: 0,
+            empty: 0,
+        }
+    }
+
+    /// These and the others.
+    fn add(&mut self, other: &BoardCounts)
+        requires mine { AreWithin (MOST_NODES * MOST_COMMANDS) self.old }
+        requires others { AreWithin MOST_COMMANDS other.now }
+        ensures { AreAdded self.old other.now self.new }
+    {
+        self.stored += other.stored;
+        self.full += other.full;
+        self.taken += other.taken;
+        self.empty += other.empty;
+    }
+}
+
+/// Hands that have done nothing, with these ports.
+fn fresh_hands<L: LineSync<BoardLaw>>(
+    alloc: Global,
+    line: &L,
+    ports: Vec<L::Port>,
+) -> Result<Vec<BoardHand<L::Port>>, AllocError>
+where
+    L::Port: Drop,
+    requires { All (λ port. L.belongs line.now port × IsJustOpened (L.view port)) ports.items }
+    ensures as_many { IfOk result (λ hands. vec_len hands ≡ vec_len ports) }
+    ensures fresh { IfOk result (λ hands. All (λ hand. HasWorked L.belongs L.view line.now hand []) hands.items) }
+{
+    let mut hands = Vec::with_capacity(alloc, ports.len())?;
+    for port in ports {
+        let counts = BoardCounts::none();
+        hands.push(BoardHand { port, counts })?;
+    }
+    Ok(hands)
+}
+
+/// The counts of all hands together.
+fn sum_up<P>(hands: &[BoardHand<P>]) -> BoardCounts
+    requires few { length hands.now ≤ MOST_NODES }
+    requires small { All (λ hand. AreWithin MOST_COMMANDS hand.counts) hands.now }
+    ensures { AreSums hands.now result }
+{
+    let mut all = BoardCounts::none();
+    for hand in hands {
+        all.add(&hand.counts);
+    }
+    all
+}
+
+/// The ports of all hands.
+fn ports_of<P: Drop>(alloc: Global, hands: Vec<BoardHand<P>>) -> Result<Vec<P>, AllocError>
+    ensures { IfOk result (λ ports. ports.items ≡ map (λ hand. hand.port) hands.items) }
+{
+    let mut ports = Vec::with_capacity(alloc, hands.len())?;
+    for hand in hands {
+        ports.push(hand.port)?;
+    }
+    Ok(ports)
+}
+
+/// The report of a board whose workers have done all their jobs, which takes the board's line apart.
+fn finish<L: LineSync<BoardLaw> + Drop>(
+    alloc: Global,
+    board: Board<L>,
+    work: &Work,
+    hands: Vec<BoardHand<L::Port>>,
+) -> Result<Report, RunError>
+where
+    L::Port: Drop,
+    requires kind { work.now.kind ≡ WorkKind.Board }
+    requires empty { (L.terms_of board.line).opening.bytes ≡ zeros }
+    requires limits { IsWithinLimits work.now }
+    requires as_many { vec_len hands ≡ work.now.workers }
+    requires done { AreDone (HasWorked L.belongs L.view) board.line work.now.jobs hands.items }
+    ensures report { IfOk result (IsReportOf work.now) }
+    ensures stalled { IfErr result (MayStop work.now) }
+{
+    let counts = sum_up(hands.as_slice());
+    let ports = ports_of(alloc, hands)?;
+    // Each node's port is here, and at rest: nothing but want of memory is in the way.
+    let Ok(last) = board.line.finish(alloc, ports) else {
+        return Err(RunError::Memory);
+    };
+    let Some(tasks) = decode(&last) else {
+        unreachable!();
+    };
+    Ok(Report::Board {
+        stored: counts.stored,
+        full: counts.full,
+        taken: counts.taken,
+        empty: counts.empty,
+        left: tasks.len() as u64,
+    })
+}
+
+/// Workers do their jobs at the board that lies in the line.
+pub(crate) fn run_board<
+    R: Threads + Wait + Sync,
+    G: Gate + Sync,
+    L: LineSync<BoardLaw> + Sync + Drop,
+>(
+    rt: &R,
+    alloc: Global,
+    gate: &G,
+    work: &Work,
+    line: L,
+    ports: Vec<L::Port>,
+) -> Result<Report, RunError>
+where
+    L::Port: Send + Drop,
+    requires kind { work.now.kind ≡ WorkKind.Board }
+    requires empty { (L.terms_of line).opening.bytes ≡ zeros }
+    requires limits { IsWithinLimits work.now }
+    requires as_many { vec_len ports ≡ work.now.workers }
+    requires new { All (λ port. L.belongs line port × IsJustOpened (L.view port)) ports.items }
+    ensures report { IfOk result (IsReportOf work.now) }
+    ensures stalled { IfErr result (MayStop work.now) }
+{
+    let hands = fresh_hands(alloc, &line, ports)?;
+    let room = Vec::with_capacity(alloc, hands.len())?;
+    let board = Board { line };
+    let Some(back) = work_all(rt, alloc, gate, &board, work, hands) else {
+        return Err(RunError::Memory);
+    };
+    let hands = all_done(back, room)?;
+    finish(alloc, board, work, hands)
+}

@@ -1,0 +1,157 @@
+//! Workers: each does its jobs at one site, in a thread of its own.
+ghost use Rattle.std.specs.Prelude.{◌≡◌, ◌++◌, ◌∷◌, [], ◌<◌, ◌≤◌, List, All, IsTrue, IfSome, IfOk, IfErr, Some, length, map, vec_len};
+ghost use Rattle.std.specs.Thread.{IsSync, IsSend};
+ghost use Rattle.qolb_script.specs.declared.job.Job.{Job};
+ghost use Rattle.qolb_script.specs.declared.schedule.TheConstants.{MOST_COMMANDS};
+ghost use Rattle.qolb_model.specs.declared.terms.TheConstants.{MOST_NODES};
+ghost use Rattle.qolb_run.specs.Jobs.{jobs_of};
+ghost use Rattle.qolb_run.specs.Workers.{AreBack, MayBeGone};
+
+use crate::gate::{Gate, passes};
+use crate::work::RunError;
+use qolb_script::{Job, Work};
+use std::alloc::Global;
+use std::snapshot::Snapshot;
+use std::sync::Wait;
+use std::thread;
+use std::thread::{Promise, PromisedHandle, Threads, join_promised};
+
+/// How often a worker looks for its turn at a line, before it withdraws and tries again.
+pub(crate) const PATIENCE: u64 = 64;
+
+/// Where workers work: a board, or a bank.
+pub(crate) trait Site {
+    /// What each worker has in hand.
+    type Hand;
+
+    /// With what it has in hand, a worker has done these jobs here.
+    ghost has_done: { Self → Self.Hand → List Job → Type 0 };
+
+    /// Does a job, for as long as that takes. `false` where the line is closed.
+    fn does<R: Wait>(&self, rt: &R, hand: &mut Self::Hand, job: &Job) -> bool
+        requires { (done : List Job) × has_done self.now hand.old done × (length done < MOST_COMMANDS) }
+        ensures { IsTrue result → (done : List Job) → has_done self.now hand.old done → has_done self.now hand.new (done ++ job.now ∷ []) };
+}
+
+/// A thread gives back what its worker has in hand once all its jobs are done, or nothing where it gave up.
+struct DoneAt<S> {
+    site: Snapshot<S>,
+    work: Snapshot<Work>,
+    number: u64,
+}
+
+impl<S> Drop for DoneAt<S> {
+    fn drop(self) {
+        let Self {
+            site: _,
+            work: _,
+            number: _,
+        } = self;
+    }
+}
+
+impl<S: Site> Promise<Option<S::Hand>> for DoneAt<S> {
+    ghost kept_by = { λ p back. IfSome back (λ hand. S.has_done p.site.value hand (jobs_of p.number p.work.value.jobs)) };
+}
+
+/// A thread for each hand, whose worker does its jobs. `None` where memory or a thread was refused; those that were started have ended then.
+pub(crate) fn work_all<R: Threads + Wait + Sync, G: Gate + Sync, S: Site + Sync>(
+    rt: &R,
+    alloc: Global,
+    gate: &G,
+    site: &S,
+    work: &Work,
+    hands: Vec<S::Hand>,
+) -> Option<Vec<Option<S::Hand>>>
+where
+    S::Hand: Send + Drop,
+    requires fresh { All (λ hand. S.has_done site.now hand []) hands.items }
+    requires few { vec_len hands ≤ MOST_NODES }
+    ensures as_many { IfSome result (λ back. vec_len back ≡ vec_len hands) }
+    ensures back { IfSome result (λ back. AreBack S.has_done site.now work.now.jobs back.items) }
+{
+    thread::scope(
+        thread::scope_env(),
+        rt,
+        |scope| -> Option<Vec<Option<S::Hand>>>
+            requires gate { IsSync G.row }
+            requires site { IsSync S.row }
+            requires hand { IsSend S.Hand.row }
+            requires fresh { All (λ hand. S.has_done site.now hand []) hands.items }
+            requires few { vec_len hands ≤ MOST_NODES }
+            ensures as_many { IfSome result (λ back. vec_len back ≡ vec_len hands) }
+            ensures back { IfSome result (λ back. AreBack S.has_done site.entry.now work.entry.now.jobs back.items) }
+        {
+            let mut handles: Vec<PromisedHandle<Option<S::Hand>, DoneAt<S>>> = Vec::with_capacity(
+                alloc,
+                hands.len(),
+            ).ok()?;
+            for hand in hands {
+                let number = handles.len() as u64 + 1;
+                let promise = DoneAt {
+                    site: Snapshot::of(site),
+                    work: Snapshot::of(work),
+                    number,
+                };
+                let Ok(handle) = scope.spawn_with(
+                    promise,
+                    move || work_through(rt, gate, site, work, number, hand),
+                ) else {
+                    return None;
+                };
+                if handles.push(handle).is_err() {
+                    return None;
+                }
+            }
+            join_promised(rt, handles).ok()
+        },
+    )
+}
+
+/// A worker does its jobs one after another, each once the gate lets it. `None` where it gives up.
+fn work_through<R: Wait, G: Gate, S: Site>(
+    rt: &R,
+    gate: &G,
+    site: &S,
+    work: &Work,
+    number: u64,
+    hand: S::Hand,
+) -> Option<S::Hand>
+where
+    S::Hand: Drop,
+    requires { S.has_done site.now hand [] }
+    ensures { IfSome result (λ hand. S.has_done site.now hand (jobs_of number work.now.jobs)) }
+{
+    let mut hand = hand;
+    let mut at = 0u64;
+    for job in work.jobs() {
+        if job.worker() == number {
+            if !passes(gate, number, at) || !site.does(rt, &mut hand, job) {
+                return None;
+            }
+            at += 1;
+        }
+    }
+    let _ = gate.may(number, at);
+    Some(hand)
+}
+
+/// What all workers have in hand, gathered into the room that there is; or the first that gave up.
+pub(crate) fn all_done<H: Drop>(back: Vec<Option<H>>, room: Vec<H>) -> Result<Vec<H>, RunError>
+    requires room { room.items ≡ [] }
+    requires few { vec_len back ≤ MOST_NODES }
+    ensures all { IfOk result (λ hands. map Some hands.items ≡ back.items) }
+    ensures stalled { IfErr result (MayBeGone back.items) }
+{
+    let mut hands = room;
+    for hand in back {
+        let number = hands.len() as u64 + 1;
+        let Some(hand) = hand else {
+            return Err(RunError::Stalled(number));
+        };
+        if hands.push(hand).is_err() {
+            return Err(RunError::Memory);
+        }
+    }
+    Ok(hands)
+}
