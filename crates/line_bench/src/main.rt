@@ -52,7 +52,10 @@ fn main(rt: HostRuntime) -> anyhow::Result<()> {
         words.push(word)?;
     }
     let matches = command(alloc)?.try_get_matches_from(words.as_slice())?;
-    let wanted = match (matches.get_one::<u64>("stress"), matches.get_one::<u64>("rounds")) {
+    let wanted = match (
+        matches.get_one::<u64>("stress"),
+        matches.get_one::<u64>("rounds"),
+    ) {
         (Some(seconds), _) => Wanted::Stress(seconds),
         (None, Some(rounds)) => Wanted::Times(rounds),
         (None, None) => Wanted::Sums,

@@ -29,7 +29,10 @@ pub enum RunError {
 }
 
 /// A ring of zeros with these many nodes.
-pub fn open_ring(alloc: Global, nodes: u64) -> Result<(RingLine<Rising>, Vec<ring_line::Port>), RunError>
+pub fn open_ring(
+    alloc: Global,
+    nodes: u64,
+) -> Result<(RingLine<Rising>, Vec<ring_line::Port>), RunError>
     ensures ports { IfOk result (λ r. All (λ port. ⟦<RingLine<Rising> as LineSync<Rising>>⟧.belongs r.0 port) r.1.items) }
     ensures state { IfOk result (λ r. All (λ port. IsTrue (may_ask (⟦<RingLine<Rising> as LineSync<Rising>>⟧.view port).state)) r.1.items) }
 {
@@ -40,7 +43,10 @@ pub fn open_ring(alloc: Global, nodes: u64) -> Result<(RingLine<Rising>, Vec<rin
 }
 
 /// A list of zeros with these many nodes.
-pub fn open_list(alloc: Global, nodes: u64) -> Result<(LinkLine<Rising>, Vec<link_line::Port>), RunError>
+pub fn open_list(
+    alloc: Global,
+    nodes: u64,
+) -> Result<(LinkLine<Rising>, Vec<link_line::Port>), RunError>
     ensures ports { IfOk result (λ r. All (λ port. ⟦<LinkLine<Rising> as LineSync<Rising>>⟧.belongs r.0 port) r.1.items) }
     ensures state { IfOk result (λ r. All (λ port. IsTrue (may_ask (⟦<LinkLine<Rising> as LineSync<Rising>>⟧.view port).state)) r.1.items) }
 {

@@ -8,8 +8,8 @@ use crate::opened::{with_last, with_two};
 use line_accounts::AccountLaw;
 use line_board::BoardLaw;
 use line_lanes::Line64;
+use link_line::{LinkLine, Port};
 use qolb_model::{Keep, LineSync, Terms};
-use link_line::{Port, LinkLine};
 use std::alloc::Global;
 use std::test::Fail;
 
