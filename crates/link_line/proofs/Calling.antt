@@ -1,12 +1,11 @@
 -- What a port's fields, and what its contract shows of them, are after a call.
-use Rattle.std.proofs.Common.{◌≡◌, ◌≢◌, ◌⊎◌, inl, inr, ⊎_elim, ℕ, ◌+◌, ◌*◌, ◌≤◌, List, sym, refl, ap, ◌∙◌, subst, Some, None, Bool, true, false, ◌||◌, bit_or}
+use Rattle.std.proofs.Common.{◌≡◌, ◌≢◌, ◌⊎◌, inl, inr, ⊎_elim, ℕ, ◌+◌, ◌*◌, ◌≤◌, List, sym, refl, ap, ◌∙◌, subst, None, Bool, true, false, ◌||◌, bit_or}
 use Rattle.line_lanes.specs.Line.{merged}
 use Rattle.atomic_table.specs.Seated.{TableId}
 use Rattle.qolb_model.specs.declared.answer.PortState.{PortState}
 use Rattle.qolb_model.specs.declared.answer.PortState.TheVariants as shows
 use Rattle.qolb_model.specs.declared.end.End.TheVariants.{Served}
 use Rattle.qolb_model.specs.declared.view.View.{View}
-use Rattle.qolb_model.specs.declared.write.Write.{Write}
 use Rattle.qolb_model.specs.Asking.{IsBusy, Asks}
 use Rattle.qolb_model.specs.Calls.{Releases}
 use Rattle.qolb_model.specs.Ends.{is_closed, bytes_after, written}

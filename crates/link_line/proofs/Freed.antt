@@ -1,5 +1,5 @@
 -- The freeing of the nodes of all requests that a release has passed.
-use Rattle.std.proofs.Common.{◌≡◌, ◌≢◌, ℕ, zero, suc, ◌+◌, ◌≤◌, ◌<◌, ◌⊎◌, inl, inr, ⊎_elim, length, drop, List, [], ◌∷◌, sym, refl, ap, ◌∙◌, subst, Some, get_or, slice_get, arith}
+use Rattle.std.proofs.Common.{◌≡◌, ◌≢◌, ℕ, zero, suc, ◌+◌, ◌≤◌, ◌<◌, ◌⊎◌, inl, inr, ⊎_elim, length, drop, List, [], ◌∷◌, sym, refl, ap, ◌∙◌, subst, get_or, slice_get, arith}
 use Rattle.std.proofs.lemmas.Option.{slice_get_within, slice_get-get_or}
 use Rattle.qolb_model.specs.declared.answer.PortState.{PortState}
 use Rattle.qolb_model.specs.declared.request.Request.{Request}

@@ -1,5 +1,5 @@
 -- What becomes of a line that is let go at an entry, by up to three steps: home, done, grant.
-use Rattle.std.proofs.Common.{◌≡◌, ℕ, ◌+◌, ◌≤◌, length, List, [], ◌∷◌, ◌++◌, sym, refl, ap, ◌∙◌, subst, inl, inr, arith}
+use Rattle.std.proofs.Common.{ℕ, ◌≤◌, length, List, [], ◌∷◌, ◌++◌, refl, ap, ◌∙◌, subst, inr, arith}
 use Rattle.qolb_model.specs.declared.terms.Terms.{Terms}
 use Rattle.qolb_model.specs.declared.terms.TheConstants.{MOST_NODES}
 use Rattle.qolb_model.specs.PortStates.{left_by}
@@ -99,7 +99,3 @@ module _ (allows : List ℕ → List ℕ → Type 0) (s t u : LinkSeat) (y : Par
       refl,
       high,
     )
-
--- the line in the hand is the node's
-pub in_its_hand : (v h : Known) (y : Parcel) (point : Point) (slots : List (ℕ × Parcel)) → Carries v h y point → slots ≡ (0, y) ∷ [] → slots ≡ (0, h.line) ∷ []
-in_its_hand v h y point slots c e = e ∙ ap (λ z. (0, z) ∷ []) (sym c.line_is)

@@ -1,5 +1,5 @@
 -- The table at the end, when one seat has the views of all nodes and no request is open.
-use Rattle.std.proofs.Common.{◌≡◌, ℕ, ◌<◌, ◌≤◌, List, length, map, true, false, sym, refl, ap, ◌∙◌, subst, arith}
+use Rattle.std.proofs.Common.{◌≡◌, ℕ, ◌≤◌, List, length, true, sym, refl, ap, ◌∙◌, subst}
 use mathlib.Core.Option.{some}
 use lib.ListN.{get_elem?}
 use Rattle.atomic_table.specs.Table.{Final}
@@ -8,14 +8,12 @@ use Rattle.qolb_model.specs.declared.view.View.{View}
 use Rattle.qolb_model.specs.Ends.{bytes_after}
 use Rattle.qolb_model.specs.OneHistory.{IsAmong}
 use Rattle.qolb_model.specs.Finishing.{IsLast}
-use Rattle.qolb_model.proofs.Lists.{never}
 use Rattle.qolb_model.proofs.Writes.{good_after}
 use Rattle.qolb_model.proofs.Agreeing.{among_map_port}
 use Rattle.qolb_model.proofs.Finishing.{once_map}
 use Rattle.qolb_model.proofs.Seats.{once_each}
 use Rattle.link_core.specs.declared.point.Point.{Point}
 use Rattle.link_core.specs.declared.point.Point.TheVariants.{Idle, Ready, Linking, Queued, Holding, Leaving, Marking, Granting, Freeing, Left, Rolled, Shut}
-use Rattle.link_core.specs.declared.place.Place.{Place}
 use Rattle.link_core.specs.declared.place.Place.TheVariants.{Home}
 use Rattle.link_core.specs.State.{IsNode, point}
 use Rattle.link_core.specs.Shown.{has_line, Lies, at_home, in_hand, granted, left, IsWhole}

@@ -1,12 +1,11 @@
 -- What two views in one seat say.
-use Rattle.std.proofs.Common.{◌≡◌, ◌≢◌, ◌⊎◌, ℕ, ◌<◌, ◌≤◌, inl, inr, List, [], ◌∷◌, ◌++◌, length, set, slice_index, true, sym, refl, ap, ◌∙◌, subst, arith, length-set}
+use Rattle.std.proofs.Common.{◌≡◌, ◌≢◌, ℕ, ◌≤◌, inl, inr, List, [], ◌∷◌, ◌++◌, set, slice_index, sym, refl, ap, ◌∙◌, subst, arith, length-set}
 use mathlib.Core.List.{IsPrefix}
 use mathlib.Core.Option.{none, some}
 use lib.ListN.{get_elem?}
 use lib.Seq.{set-get_or}
 use Rattle.atomic_table.specs.Table.{step, keeps, gives, put_back, rest, Allows}
 use Rattle.atomic_table.proofs.Lists.{set_again}
-use Rattle.qolb_model.specs.declared.view.View.{View}
 use Rattle.qolb_model.specs.OneHistory.{OneHistory}
 use Rattle.qolb_model.specs.Sound.{Continues}
 use Rattle.qolb_model.specs.Requests.{has}
@@ -19,7 +18,6 @@ use Rattle.qolb_model.proofs.Agreeing.{among_first, among_second, among_two, one
 use Rattle.qolb_model.proofs.Longer.{longer_begins, begins_longer, begins_longer_too, longer_whole}
 use Rattle.qolb_model.proofs.Informing.{meets_view}
 use Rattle.qolb_model.proofs.Seats.{two_differ, both_put, pair_each, pair_members}
-use Rattle.link_core.specs.declared.point.Point.{Point}
 use Rattle.link_core.specs.declared.point.Point.TheVariants.{Holding}
 use Rattle.link_core.specs.declared.place.Place.{Place}
 use Rattle.link_core.specs.declared.place.Place.TheVariants.{Hand}

@@ -1,18 +1,17 @@
 -- A release, and a line that comes to its turn.
-use Rattle.std.proofs.Common.{◌≡◌, ◌≢◌, ◌⊎◌, inl, inr, ⊎_elim, ℕ, suc, ◌+◌, ◌*◌, ◌≤◌, ◌<◌, Bool, true, false, ◌||◌, length, List, [], ◌∷◌, ◌++◌, sym, refl, ap, ◌∙◌, subst, Some, arith, replicate, bit_or, append_assoc, length-append}
+use Rattle.std.proofs.Common.{◌≡◌, ◌≢◌, ◌⊎◌, inl, inr, ⊎_elim, ℕ, suc, ◌+◌, ◌*◌, ◌≤◌, Bool, true, false, length, List, [], ◌∷◌, ◌++◌, sym, refl, ap, ◌∙◌, subst, Some, arith, replicate, bit_or, append_assoc, length-append}
 use Rattle.std.proofs.lemmas.Option.{slice_get_within}
 use Rattle.line_lanes.specs.Line.{merged}
 use Rattle.line_lanes.proofs.Masked.{merged-twice, merged-none}
 use Rattle.qolb_model.specs.declared.answer.PortState.{PortState}
 use Rattle.qolb_model.specs.declared.answer.PortState.TheVariants as shows
-use Rattle.qolb_model.specs.declared.end.End.TheVariants.{Gone, Told}
-use Rattle.qolb_model.specs.declared.request.Request.{Request}
+use Rattle.qolb_model.specs.declared.end.End.TheVariants.{Gone}
 use Rattle.qolb_model.specs.declared.terms.Terms.{Terms}
 use Rattle.qolb_model.specs.declared.view.View.{View}
 use Rattle.qolb_model.specs.declared.write.Write.{Write}
 use Rattle.qolb_model.specs.Ends.{is_closed, written}
 use Rattle.qolb_model.specs.Kept.{MayRelease}
-use Rattle.qolb_model.specs.Leases.{turns_left, is_last_turn, closes}
+use Rattle.qolb_model.specs.Leases.{turns_left, closes}
 use Rattle.qolb_model.specs.LettingGo.{LetsGo, IsTold}
 use Rattle.qolb_model.specs.PortStates.{left_by}
 use Rattle.qolb_model.specs.Steps.{one_fewer}
@@ -23,14 +22,13 @@ use Rattle.qolb_model.proofs.Leases.{last_closes}
 use Rattle.qolb_model.proofs.Lists.{element_at, same_some}
 use Rattle.qolb_model.proofs.Prefixes.{prefix_get}
 use Rattle.qolb_model.proofs.Requests.{has_prefix}
-use Rattle.link_core.specs.declared.point.Point.TheVariants.{Holding, Leaving}
+use Rattle.link_core.specs.declared.point.Point.TheVariants.{Leaving}
 use Rattle.link_line.specs.declared.known.Known.{Known}
 use Rattle.link_line.specs.declared.parcel.Parcel.{Parcel}
-use Rattle.link_line.specs.declared.release.Handed.TheVariants as handed
 use Rattle.link_line.specs.Links.{no_line}
 use Rattle.link_line.specs.Steps.{LinkSeat, known_of, sole, write_of, own_end, end_of, next_end, point_by, after_release, left_in, point_at_arrival, TurnIsOver, MayLetGo, Comes, Ended, GoesOut, IsLeft, Passes, HasSlot, HasNoSlot, IsPutBack}
-use Rattle.link_line.specs.Releases.{HandsOn, with_line, LetsLineGo, WalksOn}
-use Rattle.link_line.specs.Ports.{IsMerged, Holds, Rests, Stands, Arrived, IsPassedOn}
+use Rattle.link_line.specs.Releases.{with_line, LetsLineGo, WalksOn}
+use Rattle.link_line.specs.Ports.{IsMerged, Holds, Arrived, IsPassedOn}
 
 -- who has passed none ends its own request next
 ends_own : (w : Known) (y : Parcel) (closed : Bool) → w.passed ≡ [] → is_closed w.view.ends ≡ closed → next_end w y ≡ own_end closed y
@@ -101,9 +99,6 @@ module _ (v : Known) (y : Parcel) (none : v.passed ≡ []) where
 -- what the walk asks
 pub walk_nodes : (v u : Known) (y : Parcel) (next : ℕ) → v.passed ≡ [] → Passes (with_line v y) u next → 2 ≤ u.view.terms.nodes
 walk_nodes v u y next none p = omega (arith, p.few, ap length p.passed, length-append v.passed (length u.view.ends ∷ []))
-
-pub walk_passed : (v u : Known) (y : Parcel) (next : ℕ) → v.passed ≡ [] → Passes (with_line v y) u next → u.passed ≡ length u.view.ends ∷ []
-walk_passed v u y next none p = p.passed ∙ ap (λ ps. ps ++ length u.view.ends ∷ []) none
 
 -- the turn of a holder that puts its line back is over
 pub turn_over : (allows : List ℕ → List ℕ → Type 0) (w : Known) (turn y : Parcel) (shut : Bool) → is_closed w.view.ends ≡ false → turn.turns_left ≡ turns_left w.view.terms.lease w.view.ends → IsMerged w.view turn → MayRelease allows w.view (write_of turn)

@@ -1,20 +1,18 @@
 -- How seats begin, are cut and are joined.
-use Rattle.std.proofs.Common.{◌≡◌, ℕ, zero, suc, ◌+◌, ◌-◌, ◌<◌, List, [], ◌∷◌, ◌++◌, length, slice_index, slice_get, Some, false, inl, inr, sym, refl, ap, ◌∙◌, subst, arith}
+use Rattle.std.proofs.Common.{◌≡◌, ℕ, zero, suc, ◌-◌, ◌<◌, List, [], ◌∷◌, ◌++◌, length, slice_index, slice_get, Some, false, inl, inr, sym, refl, ap, ◌∙◌, subst, arith}
 use Rattle.std.proofs.lemmas.List.{length-replicate}
 use mathlib.Core.Option.{some}
 use lib.ListN.{get_elem?}
 use Rattle.atomic_table.specs.Table.{Splits, Joins, opening}
-use Rattle.qolb_model.specs.declared.answer.PortState.TheVariants as shows
 use Rattle.qolb_model.specs.Histories.{none}
 use Rattle.qolb_model.specs.Opening.{MayOpen}
 use Rattle.qolb_model.specs.Queue.{empty_queue}
 use Rattle.qolb_model.specs.Entries.{AreMembers, each_from, front, behind}
-use Rattle.qolb_model.proofs.Leases.{turns_left-none}
 use Rattle.qolb_model.proofs.Lists.{at_none}
 use Rattle.qolb_model.proofs.Seats.{first_members, cut_members, blank_members, join_members}
 use Rattle.link_core.specs.declared.state.TheConstants.{PLACES}
 use Rattle.link_core.specs.declared.seat.Seat.{Seat}
-use Rattle.link_core.specs.State.{empty, unused, seat, first}
+use Rattle.link_core.specs.State.{empty, unused, first}
 use Rattle.link_core.proofs.Open.{seat_first, entry_first}
 use Rattle.link_core.proofs.Steady.{first_shows}
 use Rattle.link_line.specs.declared.known.Known.{Known}

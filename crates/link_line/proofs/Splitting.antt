@@ -1,5 +1,5 @@
 -- How the views of all nodes are split into ports.
-use Rattle.std.proofs.Common.{◌≡◌, ℕ, ◌+◌, ◌-◌, ◌<◌, List, [], ◌∷◌, ◌++◌, sym, refl, ap, ◌∙◌, subst, ⊎_elim, arith, length-append, Some, option_map, All}
+use Rattle.std.proofs.Common.{◌≡◌, ℕ, ◌+◌, ◌-◌, ◌<◌, List, [], ◌∷◌, ◌++◌, sym, refl, ap, ◌∙◌, subst, ⊎_elim, length-append}
 use Rattle.atomic_table.specs.Seated.{TableId}
 use Rattle.qolb_model.specs.declared.answer.PortState.TheVariants as shows
 use Rattle.qolb_model.specs.Opening.{MayOpen, new_view}
@@ -9,7 +9,7 @@ use Rattle.qolb_model.proofs.Agreeing.{opens_new}
 use Rattle.qolb_model.proofs.Seats.{each_from_more}
 use Rattle.link_line.specs.declared.rule.Setup.{Setup}
 use Rattle.link_line.specs.declared.parcel.Parcel.{Parcel}
-use Rattle.link_line.specs.Links.{At, newcomer, newcomers_from}
+use Rattle.link_line.specs.Links.{newcomer, newcomers_from}
 use Rattle.link_line.specs.Steps.{LinkSeat, sole}
 use Rattle.link_line.specs.Ports.{Standing, standing, IsPort, BelongsTo}
 use Rattle.link_line.specs.Opened.{AreSplit, IsOpened}

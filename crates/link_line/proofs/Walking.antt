@@ -1,5 +1,5 @@
 -- A walk over withdrawn requests.
-use Rattle.std.proofs.Common.{◌≡◌, ◌≢◌, ℕ, zero, suc, ◌+◌, ◌-◌, ◌*◌, ◌≤◌, ◌<◌, ◌⊎◌, inl, inr, ⊎_elim, Bool, length, List, [], ◌∷◌, ◌++◌, sym, refl, ap, ◌∙◌, subst, Some, None, arith, replicate, append-nil, append_assoc, length-append}
+use Rattle.std.proofs.Common.{◌≡◌, ◌≢◌, ℕ, zero, suc, ◌+◌, ◌-◌, ◌*◌, ◌≤◌, ◌<◌, inl, inr, ⊎_elim, Bool, length, List, [], ◌∷◌, ◌++◌, sym, refl, ap, ◌∙◌, subst, Some, None, arith, replicate, append-nil, append_assoc, length-append}
 use Rattle.std.proofs.lemmas.List.{length-replicate}
 use Rattle.qolb_model.specs.declared.answer.PortState.{PortState}
 use Rattle.qolb_model.specs.declared.request.Request.{Request}
@@ -11,7 +11,7 @@ use Rattle.qolb_model.specs.PortStates.{left_by}
 use Rattle.qolb_model.specs.Requests.{Lacks}
 use Rattle.qolb_model.specs.Ends.{is_closed}
 use Rattle.qolb_model.specs.Histories.{turn_of}
-use Rattle.qolb_model.specs.Views.{own, Extends}
+use Rattle.qolb_model.specs.Views.{Extends}
 use Rattle.qolb_model.proofs.Lists.{element_at, push_cases, same_some}
 use Rattle.qolb_model.proofs.Prefixes.{prefix_get}
 use Rattle.link_core.specs.declared.point.Point.TheVariants.{Leaving, Freeing}
@@ -20,7 +20,7 @@ use Rattle.link_line.specs.declared.parcel.Parcel.{Parcel}
 use Rattle.link_line.specs.declared.release.Handed.{Handed}
 use Rattle.link_line.specs.declared.release.Handed.TheVariants as handed
 use Rattle.link_line.specs.Links.{At}
-use Rattle.link_line.specs.Steps.{LinkSeat, known_of, after_release, left_in, end_of, next_end, point_by, MayLetGo, Ended, GoesOut, IsLeft, IsOneLeft, Passes, GoesOn, SameSeat, HasSlot, HasNoSlot}
+use Rattle.link_line.specs.Steps.{LinkSeat, known_of, after_release, left_in, end_of, next_end, point_by, MayLetGo, Ended, IsOneLeft, Passes, GoesOn, SameSeat, HasSlot, HasNoSlot}
 use Rattle.link_line.specs.Releases.{HandsOn, with_line, WalksOn, AreNodesAt, FreesAll}
 use Rattle.link_line.proofs.Stepping.{goes_none, goes_trans}
 

@@ -1,5 +1,4 @@
-use Rattle.std.proofs.Common.{◌≡◌, [], ◌∷◌, refl, ap, inl, ◌∙◌, arith}
-use Rattle.link_line.specs.Steps.{known_of}
+use Rattle.std.proofs.Common.{refl, inl, ◌∙◌, arith}
 use Rattle.link_line.proofs.Stepping.{goes_trans}
 use Rattle.link_line.proofs.Handing.{hands_left, hands_out, hands_passed}
 use Rattle.link_line.proofs.release.hand_on.Goals as goal

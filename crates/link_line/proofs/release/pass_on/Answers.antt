@@ -1,5 +1,5 @@
 use Rattle.link_line.specs.Steps.{known_of}
-use Rattle.link_line.proofs.Released.{may_pass_on, arrived_told, not_held}
+use Rattle.link_line.proofs.Released.{arrived_told, not_held}
 use Rattle.link_line.proofs.release.pass_on.Goals as goal
 
 pub returns-clause-count : goal.returns-clause-count

@@ -1,4 +1,4 @@
-use Rattle.std.proofs.Common.{◌≡◌, sym, subst, ap, ◌∙◌, ◌+◌, ◌++◌, ◌∷◌, [], ℕ, List, length, arith}
+use Rattle.std.proofs.Common.{sym, subst, ap, ◌∙◌, ◌+◌, ℕ, List, length, arith}
 use Rattle.link_line.specs.declared.release.Handed.{Handed}
 use Rattle.link_line.specs.Steps.{known_of, GoesOn}
 use Rattle.link_line.proofs.Stepping.{goes_trans}

@@ -1,4 +1,4 @@
-use Rattle.std.proofs.Common.{rules, sym, refl, subst, ap, ◌≡◌, ◌∙◌, [], ◌∷◌, false, length, slice_index, replicate, List, ℕ}
+use Rattle.std.proofs.Common.{rules, sym, refl, subst, ◌≡◌, [], ◌∷◌, false, replicate, List, ℕ}
 use lib.ListN.{get_or-replicate}
 use Rattle.std.proofs.lemmas.List.{length-replicate}
 use Rattle.atomic_table.specs.Table.{opening}
