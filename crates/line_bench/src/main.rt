@@ -1,6 +1,9 @@
 //! Times a line, or puts it under stress.
 #![tactic(auto)]
 
+ghost use Rattle.std.specs.Prelude.{All, IsTrue};
+ghost use Rattle.qolb_model.specs.PortStates.{may_ask};
+
 mod law;
 mod rounds;
 mod run;
@@ -8,10 +11,12 @@ mod stress;
 mod workers;
 
 use clap::{Arg, ArgMatches, Command};
+use law::Rising;
 use line_lanes::lane;
+use qolb_model::LineSync;
 use rounds::Rounds;
-use run::{RunError, open, run_task};
-use std::alloc::Global;
+use run::{RunError, open_list, open_ring, run_task};
+use std::alloc::{AllocError, Global};
 use std::rt::Clock;
 use std::sync::Wait;
 use std::thread::Threads;
@@ -26,12 +31,51 @@ static STRESSED: [u64; 2] = [4, 8];
 /// Rounds of each thread where the words name none: enough to see that nothing is lost.
 const FEW_ROUNDS: u64 = 100;
 
+/// The names of the kinds of line.
+static KINDS: [&str; 2] = ["ring", "link"];
+
+/// What the words ask for.
+#[derive(Clone, Copy)]
+enum Wanted {
+    /// To see that nothing is lost in few rounds.
+    Sums,
+    /// To time so many rounds.
+    Times(u64),
+    /// To put the line under stress for so many seconds.
+    Stress(u64),
+}
+
 fn main(rt: HostRuntime) -> anyhow::Result<()> {
     let alloc = rt.alloc();
     let mut words = Vec::new(alloc);
     for word in std::env::args(&rt)? {
         words.push(word)?;
     }
+    let matches = command(alloc)?.try_get_matches_from(words.as_slice())?;
+    let wanted = match (matches.get_one::<u64>("stress"), matches.get_one::<u64>("rounds")) {
+        (Some(seconds), _) => Wanted::Stress(seconds),
+        (None, Some(rounds)) => Wanted::Times(rounds),
+        (None, None) => Wanted::Sums,
+    };
+    let threads = match wanted {
+        Wanted::Stress(_) => STRESSED.as_slice(),
+        _ => THREADS.as_slice(),
+    };
+    let is_list = matches.get_str("kind") == Some("link");
+    for &threads in threads {
+        if is_list {
+            let (line, ports) = open_list(alloc, threads)?;
+            bench(&rt, alloc, line, ports, threads, wanted)?;
+        } else {
+            let (line, ports) = open_ring(alloc, threads)?;
+            bench(&rt, alloc, line, ports, threads, wanted)?;
+        }
+    }
+    Ok(())
+}
+
+/// The command line.
+fn command<'a>(alloc: Global) -> Result<Command<'a>, AllocError> {
     let rounds = Arg::new(alloc, "rounds")
         .long("rounds")
         .value_name("ROUNDS")
@@ -42,34 +86,52 @@ fn main(rt: HostRuntime) -> anyhow::Result<()> {
         .value_name("SECONDS")
         .help("Ask, withdraw and release at random for this time, and then close the line")
         .value_parser(clap::value_parser!(u64).range(1..));
-    let matches = Command::new(alloc, "line_bench")
+    let kind = Arg::new(alloc, "kind")
+        .long("kind")
+        .value_name("KIND")
+        .help("The kind of line: a ring, where the words name none, or a list")
+        .value_parser(KINDS.as_slice());
+    Command::new(alloc, "line_bench")
         .about("Times rounds of ask, add 1 to a lane, release, by 1, 2, 3, 4 and 8 threads")
         .arg(rounds)?
         .arg(stress)?
-        .try_get_matches_from(words.as_slice())?;
-    if let Some(seconds) = matches.get_one::<u64>("stress") {
-        for threads in STRESSED {
-            put_under_stress(&rt, alloc, threads, seconds)?;
-        }
-        return Ok(());
+        .arg(kind)
+}
+
+/// Does what is wanted on a line of so many nodes.
+fn bench<R: Threads + Wait + Clock + Print + Sync, L: LineSync<Rising> + Sync + Drop>(
+    rt: &R,
+    alloc: Global,
+    line: L,
+    ports: Vec<L::Port>,
+    threads: u64,
+    wanted: Wanted,
+) -> anyhow::Result<()>
+where
+    L::Port: Send + Drop,
+    requires ports { All (λ port. L.belongs line port) ports.items }
+    requires state { All (λ port. IsTrue (may_ask (L.view port).state)) ports.items }
+{
+    match wanted {
+        Wanted::Sums => show(rt, alloc, line, ports, threads),
+        Wanted::Times(rounds) => measure(rt, alloc, line, ports, threads, rounds),
+        Wanted::Stress(seconds) => put_under_stress(rt, alloc, line, ports, threads, seconds),
     }
-    let wanted = matches.get_one::<u64>("rounds");
-    for threads in THREADS {
-        match wanted {
-            Some(rounds) => measure(&rt, alloc, threads, rounds)?,
-            None => show(&rt, alloc, threads)?,
-        }
-    }
-    Ok(())
 }
 
 /// Prints what the first lane is after few rounds.
-fn show<R: Threads + Wait + Clock + Print + Sync>(
+fn show<R: Threads + Wait + Clock + Print + Sync, L: LineSync<Rising> + Sync + Drop>(
     rt: &R,
     alloc: Global,
+    line: L,
+    ports: Vec<L::Port>,
     threads: u64,
-) -> anyhow::Result<()> {
-    let (line, ports) = open(alloc, threads)?;
+) -> anyhow::Result<()>
+where
+    L::Port: Send + Drop,
+    requires ports { All (λ port. L.belongs line port) ports.items }
+    requires state { All (λ port. IsTrue (may_ask (L.view port).state)) ports.items }
+{
     let task = Rounds { rounds: FEW_ROUNDS };
     let last = run_task(rt, alloc, line, ports, &task)?;
     println!(rt; "threads {threads} lane sum {}", lane(&last, 0))?;
@@ -77,13 +139,19 @@ fn show<R: Threads + Wait + Clock + Print + Sync>(
 }
 
 /// Prints how long the rounds take.
-fn measure<R: Threads + Wait + Clock + Print + Sync>(
+fn measure<R: Threads + Wait + Clock + Print + Sync, L: LineSync<Rising> + Sync + Drop>(
     rt: &R,
     alloc: Global,
+    line: L,
+    ports: Vec<L::Port>,
     threads: u64,
     rounds: u64,
-) -> anyhow::Result<()> {
-    let (line, ports) = open(alloc, threads)?;
+) -> anyhow::Result<()>
+where
+    L::Port: Send + Drop,
+    requires ports { All (λ port. L.belongs line port) ports.items }
+    requires state { All (λ port. IsTrue (may_ask (L.view port).state)) ports.items }
+{
     let start = Instant::now(rt)?;
     let last = run_task(rt, alloc, line, ports, &Rounds { rounds })?;
     let nanos = start.elapsed(rt)?.as_nanos().max(1);
@@ -100,13 +168,19 @@ fn measure<R: Threads + Wait + Clock + Print + Sync>(
 }
 
 /// Prints what the nodes did, and how many of their additions were lost, which is an error.
-fn put_under_stress<R: Threads + Wait + Clock + Print + Sync>(
+fn put_under_stress<R: Threads + Wait + Clock + Print + Sync, L: LineSync<Rising> + Sync + Drop>(
     rt: &R,
     alloc: Global,
+    line: L,
+    ports: Vec<L::Port>,
     threads: u64,
     seconds: u64,
-) -> anyhow::Result<()> {
-    let (line, ports) = open(alloc, threads)?;
+) -> anyhow::Result<()>
+where
+    L::Port: Send + Drop,
+    requires ports { All (λ port. L.belongs line port) ports.items }
+    requires state { All (λ port. IsTrue (may_ask (L.view port).state)) ports.items }
+{
     let task = Stress::new(Instant::now(rt)?, Duration::from_secs(seconds));
     let last = run_task(rt, alloc, line, ports, &task)?;
     let counts = task.counts();

@@ -5,9 +5,10 @@ ghost use Rattle.qolb_model.specs.PortStates.{may_ask};
 use crate::law::Rising;
 use crate::workers::{Task, work_all};
 use line_lanes::Line64;
+use link_line::LinkLine;
 use qolb_model::{FinishError, LineSync, OpenError};
 use qolb_run::meet_all;
-use ring_line::{Port, RingLine};
+use ring_line::RingLine;
 use std::alloc::Global;
 use std::rt::Clock;
 use std::sync::Wait;
@@ -28,11 +29,22 @@ pub enum RunError {
 }
 
 /// A ring of zeros with these many nodes.
-pub fn open(alloc: Global, nodes: u64) -> Result<(RingLine<Rising>, Vec<Port>), RunError>
+pub fn open_ring(alloc: Global, nodes: u64) -> Result<(RingLine<Rising>, Vec<ring_line::Port>), RunError>
     ensures ports { IfOk result (λ r. All (λ port. ⟦<RingLine<Rising> as LineSync<Rising>>⟧.belongs r.0 port) r.1.items) }
     ensures state { IfOk result (λ r. All (λ port. IsTrue (may_ask (⟦<RingLine<Rising> as LineSync<Rising>>⟧.view port).state)) r.1.items) }
 {
     match RingLine::<Rising>::open(alloc, 1, nodes, Line64::zero()) {
+        Ok(opened) => Ok(opened),
+        Err(why) => Err(RunError::Open(why)),
+    }
+}
+
+/// A list of zeros with these many nodes.
+pub fn open_list(alloc: Global, nodes: u64) -> Result<(LinkLine<Rising>, Vec<link_line::Port>), RunError>
+    ensures ports { IfOk result (λ r. All (λ port. ⟦<LinkLine<Rising> as LineSync<Rising>>⟧.belongs r.0 port) r.1.items) }
+    ensures state { IfOk result (λ r. All (λ port. IsTrue (may_ask (⟦<LinkLine<Rising> as LineSync<Rising>>⟧.view port).state)) r.1.items) }
+{
+    match LinkLine::<Rising>::open(alloc, 1, nodes, Line64::zero()) {
         Ok(opened) => Ok(opened),
         Err(why) => Err(RunError::Open(why)),
     }

@@ -1,5 +1,5 @@
 -- Asking, and waiting.
-use Rattle.std.proofs.Common.{◌≡◌, ◌≢◌, ℕ, List, refl, ◌∙◌}
+use Rattle.std.proofs.Common.{◌≡◌, ◌≢◌}
 use Rattle.qolb_model.specs.declared.answer.Enq.{Enq}
 use Rattle.qolb_model.specs.declared.answer.Enq.TheVariants as enq
 use Rattle.line_board.proofs.Unserved.{unserved}
@@ -7,54 +7,12 @@ use Rattle.qolb_model.specs.declared.answer.Out.{Out}
 use Rattle.qolb_model.specs.declared.answer.Out.TheVariants as out
 use Rattle.qolb_model.specs.declared.view.View.{View}
 use Rattle.qolb_model.specs.declared.write.Write.{Write}
-use Rattle.qolb_model.specs.Views.{own, Extends}
-use Rattle.qolb_model.specs.Asking.{Asks, IsJoined}
-use Rattle.qolb_model.specs.Sound.{Continues}
 use Rattle.qolb_model.specs.Calls.{Enqueues, Withdraws}
 use Rattle.line_board.specs.declared.answer.Asked.{Asked}
 use Rattle.line_board.specs.declared.answer.Asked.TheVariants as asked
 use Rattle.line_board.specs.Law.{Changes}
 use Rattle.line_board.specs.Calls.{Acquires}
-use Rattle.qolb_model.proofs.Prefixes.{prefix_self, prefix_get}
-use Rattle.qolb_model.proofs.Requests.{has_prefix, same_request}
-use Rattle.qolb_model.proofs.Agreeing.{extends_trans}
-
-pub extends_self : (v : View) → Extends v v
-extends_self v = record {
-  label = refl;
-  terms = refl;
-  node = refl;
-  order = prefix_self v.order;
-  ends = prefix_self v.ends;
-  clear = prefix_self v.clear;
-  joined = λ r h. h;
-  marked = λ r h. h;
-  freed = λ r h. h;
-}
-
--- a port that goes on twice goes on
-pub continues_on : (allows : List ℕ → List ℕ → Type 0) (old mid new : View) → Extends old mid → Continues allows mid new → Continues allows old new
-continues_on allows old mid new e c = record {
-  extends = extends_trans old mid new e c.extends;
-  history = c.history;
-  kept = c.kept;
-  freed_clear = c.freed_clear;
-  own_past = c.own_past;
-}
-
--- while it makes no other request, the request that it asked with is its own, and joined
-pub own_on : (mid new : View) → Extends mid new → new.count ≡ mid.count → own new ≡ own mid
-own_on mid new e same = same_request new.node mid.node new.count mid.count e.node same
-
-pub asks_on : (old mid new : View) → Asks old mid → Extends mid new → new.count ≡ mid.count → Asks old new
-asks_on old mid new a e same = record {
-  was_clear = λ le. has_prefix mid.clear new.clear (own old) e.clear (a.was_clear le);
-  count = same ∙ a.count;
-  behind = (a.behind.0, a.behind.1, rw (own_on mid new e same) (prefix_get mid.order new.order a.behind.0 (own mid) e.order a.behind.2));
-}
-
-pub joined_on : (mid new : View) → IsJoined mid → Extends mid new → new.count ≡ mid.count → IsJoined new
-joined_on mid new j e same = rw (own_on mid new e same) (e.joined (own mid) j)
+use Rattle.qolb_model.proofs.Going.{continues_on, asks_goes, joined_goes}
 
 -- what came of asking, where the request was granted at once, or told, or the port was busy
 pub asked_once :
@@ -82,12 +40,12 @@ pub acquired :
 acquired old mid new first turn answer ended e w some granted late told = record {
   continues = continues_on Changes old mid new e.continues.extends w.continues;
   busy = λ is. absurd (some is);
-  asks = λ _. asks_on old mid new (e.asks (λ is. cc is)) w.continues.extends w.count;
-  joined = λ _. joined_on mid new (e.joined (λ is. cc is)) w.continues.extends w.count;
+  asks = λ _. asks_goes old mid new (e.asks (λ is. cc is)) w.continues.extends w.count;
+  joined = λ _. joined_goes mid new (e.joined (λ is. cc is)) w.continues.extends w.count;
   granted = λ is. w.granted (granted is);
   late = λ is. w.withdrawn (late is);
   told = λ is. w.told (told is);
   unserved =
-      unserved old new w.continues.history answer (λ is. absurd (some is)) (λ _. asks_on old mid new (e.asks (λ is. cc is)) w.continues.extends w.count)
+      unserved old new w.continues.history answer (λ is. absurd (some is)) (λ _. asks_goes old mid new (e.asks (λ is. cc is)) w.continues.extends w.count)
       (λ is. w.withdrawn (late is)) (λ is. w.told (told is));
 }

@@ -10,15 +10,15 @@ use Rattle.line_board.specs.declared.answer.Take.TheVariants as take
 use Rattle.line_board.specs.declared.board.TheConstants.{MOST_TASKS}
 use Rattle.line_board.specs.Law.{Changes}
 use Rattle.line_board.specs.Calls.{HasPut, HasTaken, HasFound, Acquires, Puts, Takes}
-use Rattle.line_board.proofs.Acquiring.{continues_on, asks_on, joined_on}
+use Rattle.qolb_model.proofs.Going.{continues_on, asks_goes, joined_goes}
 
 module _ (old mid new : View) (turn : Write) (acquired : Acquires old mid turn asked.Granted) (goes_on : Continues Changes mid new) (same : new.count ≡ mid.count) (quiet : may_ask new.state ≡ true) where
   pub stored : (task : ℕ) → HasPut task new → Puts task old new put.Stored
   stored task has = record {
     continues = continues_on Changes old mid new acquired.continues.extends goes_on;
     may_ask = quiet;
-    asks = λ _. asks_on old mid new (acquired.asks (λ e. cc e)) goes_on.extends same;
-    joined = λ _. joined_on mid new (acquired.joined (λ e. cc e)) goes_on.extends same;
+    asks = λ _. asks_goes old mid new (acquired.asks (λ e. cc e)) goes_on.extends same;
+    joined = λ _. joined_goes mid new (acquired.joined (λ e. cc e)) goes_on.extends same;
     stored = λ _. has;
     full = λ e. absurd (cc e);
     late = λ e. absurd (cc e);
@@ -31,8 +31,8 @@ module _ (old mid new : View) (turn : Write) (acquired : Acquires old mid turn a
   full task has = record {
     continues = continues_on Changes old mid new acquired.continues.extends goes_on;
     may_ask = quiet;
-    asks = λ _. asks_on old mid new (acquired.asks (λ e. cc e)) goes_on.extends same;
-    joined = λ _. joined_on mid new (acquired.joined (λ e. cc e)) goes_on.extends same;
+    asks = λ _. asks_goes old mid new (acquired.asks (λ e. cc e)) goes_on.extends same;
+    joined = λ _. joined_goes mid new (acquired.joined (λ e. cc e)) goes_on.extends same;
     stored = λ e. absurd (cc e);
     full = λ _. has;
     late = λ e. absurd (cc e);
@@ -45,8 +45,8 @@ module _ (old mid new : View) (turn : Write) (acquired : Acquires old mid turn a
   taken task has = record {
     continues = continues_on Changes old mid new acquired.continues.extends goes_on;
     may_ask = quiet;
-    asks = λ _. asks_on old mid new (acquired.asks (λ e. cc e)) goes_on.extends same;
-    joined = λ _. joined_on mid new (acquired.joined (λ e. cc e)) goes_on.extends same;
+    asks = λ _. asks_goes old mid new (acquired.asks (λ e. cc e)) goes_on.extends same;
+    joined = λ _. joined_goes mid new (acquired.joined (λ e. cc e)) goes_on.extends same;
     task = λ other e. let same_task : task ≡ other = cc e in subst (λ t. HasTaken t new) same_task has;
     empty = λ e. absurd (cc e);
     late = λ e. absurd (cc e);
@@ -59,8 +59,8 @@ module _ (old mid new : View) (turn : Write) (acquired : Acquires old mid turn a
   empty has = record {
     continues = continues_on Changes old mid new acquired.continues.extends goes_on;
     may_ask = quiet;
-    asks = λ _. asks_on old mid new (acquired.asks (λ e. cc e)) goes_on.extends same;
-    joined = λ _. joined_on mid new (acquired.joined (λ e. cc e)) goes_on.extends same;
+    asks = λ _. asks_goes old mid new (acquired.asks (λ e. cc e)) goes_on.extends same;
+    joined = λ _. joined_goes mid new (acquired.joined (λ e. cc e)) goes_on.extends same;
     task = λ task e. absurd (cc e);
     empty = λ _. has;
     late = λ e. absurd (cc e);

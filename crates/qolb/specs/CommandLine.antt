@@ -12,7 +12,7 @@ use Rattle.qolb_run.specs.declared.task.Task.TheVariants as task
 
 -- the kinds that a replay takes
 abbrev pub kind_names : List Text
-kind_names = codes "plain" ∷ codes "ring" ∷ []
+kind_names = codes "plain" ∷ codes "ring" ∷ codes "link" ∷ []
 
 abbrev pub Names : Type 0
 Names = Bor (List (Bor Text))
@@ -47,7 +47,7 @@ the_command names = with_subcommand (with_subcommand (needs_subcommand (new_app 
 -- the kind of this name
 abbrev pub kind_of_name : Option Text → Kind
 kind_of_name None = kind.Plain
-kind_of_name (Some name) = if bytes_eq name (codes "ring") then kind.Ring else kind.Plain
+kind_of_name (Some name) = if bytes_eq name (codes "ring") then kind.Ring else if bytes_eq name (codes "link") then kind.Link else kind.Plain
 
 -- the task of a subcommand with these arguments
 abbrev pub task_at : Text × List Row → Task

@@ -16,7 +16,7 @@ use std::alloc::{AllocError, Global};
 use std::io::{self, Read, Write};
 
 /// The names of the kinds that replay a schedule.
-static KINDS: [&str; 2] = ["plain", "ring"];
+static KINDS: [&str; 3] = ["plain", "ring", "link"];
 
 const ABOUT: &str =
     "Queued line locks: nodes queue at a line of 64 bytes, and a release hands lock and\nline to the next";
@@ -147,6 +147,7 @@ fn kind_named(name: Option<&str>) -> Kind
 {
     match name {
         Some("ring") => Kind::Ring,
+        Some("link") => Kind::Link,
         _ => Kind::Plain,
     }
 }
@@ -158,7 +159,7 @@ fn command<'a>(alloc: Global) -> Result<Command<'a>, AllocError>
         .long("kind")
         .value_name("KIND")
         .help(
-            "What represents the lines: the plain reference with one owner, or rings that nodes share",
+            "What represents the lines: the plain reference with one owner, or rings or lists that nodes share",
         )
         .required(true)
         .action(ArgAction::Set)

@@ -1,6 +1,8 @@
 -- Laws of views and of their one history.
 use Rattle.std.proofs.Common.{◌≡◌, ℕ, zero, suc, ◌+◌, ◌≤◌, ◌⊎◌, inl, inr, true, false, List, [], ◌∷◌, length, map, Option, Some, None, option_map, slice_get, refl, ap, sym, ◌∙◌, subst, arith}
-use Rattle.std.proofs.lemmas.Option.{slice_get-map, slice_get_within}
+use Rattle.std.specs.List.{All}
+use Rattle.std.proofs.lemmas.List.{length-map}
+use Rattle.std.proofs.lemmas.Option.{get_or_from_slice_get, slice_get-map, slice_get_within}
 use mathlib.Core.List.{IsPrefix}
 use Rattle.qolb_model.specs.declared.answer.PortState.TheVariants.{Idle, Holding}
 use Rattle.qolb_model.specs.declared.request.Request.{Request}
@@ -12,8 +14,8 @@ use Rattle.qolb_model.specs.Histories.{IsLegal, Clears, none}
 use Rattle.qolb_model.specs.Views.{own, bytes_of, Extends}
 use Rattle.qolb_model.specs.OneHistory.{IsAmong, Knows, KnowsOwn, OneHistory}
 use Rattle.qolb_model.specs.Sound.{IsSound}
-use Rattle.qolb_model.specs.Opening.{MayOpen, new_view, AreNew}
-use Rattle.qolb_model.proofs.Lists.{same_some}
+use Rattle.qolb_model.specs.Opening.{MayOpen, new_view, AreNew, Opens}
+use Rattle.qolb_model.proofs.Lists.{same_some, element_at}
 use Rattle.qolb_model.proofs.Prefixes.{prefix_trans, prefix_shorter, prefix_same}
 
 -- views of a list by their places
@@ -174,3 +176,24 @@ among_map_port {P} view ports v (i, at) = by (slice_get ports i) refl (sym (slic
     by : (o : Option P) → slice_get ports i ≡ o → option_map view o ≡ Some v → (i : ℕ) × (port : P) × (slice_get ports i ≡ Some port) × (v ≡ view port)
     by (Some port) e h = (i, port, e, sym (same_some h))
     by None e h = absurd (let f : None ≡ Some v = h in cc f)
+
+-- ports that know nothing yet, one of each node in order, are what an opened line gives
+pub opens_new :
+    {P : Type 0} {good : List ℕ → Type 0} {allows : List ℕ → List ℕ → Type 0} (view : P → View) (Belongs : P → Type 0) (label : ℕ) (terms : Terms) (ports : List P)
+    → length ports ≡ terms.nodes → ((k : ℕ) (p : P) → slice_get ports k ≡ Some p → view p ≡ new_view label terms (k + 1))
+    → ((k : ℕ) (p : P) → slice_get ports k ≡ Some p → IsSound good allows label terms (view p) → Belongs p)
+    → MayOpen terms → good terms.opening.bytes → Opens view Belongs label terms label terms ports
+opens_new {P = P} {good = good} {allows = allows} view Belongs label terms ports many each belong may fine = record {
+  label_is = refl;
+  terms_are = refl;
+  new = record {
+    count = length-map ports view ∙ many;
+    each = λ i l. let (p, at) = element_at ports i (omega (arith, l, many)) in slice_get-map view ports i ∙ (ap (option_map view) at ∙ ap Some (each i p at));
+  };
+  belong = each_of Belongs (λ k p at. let inside = slice_get_within ports k p at in
+      belong k p at (subst (IsSound good allows label terms) (sym (each k p at)) (new_is_sound good allows label terms (k + 1) may fine (omega arith) (omega (arith, inside, many)))));
+  idle = each_of (λ p. (view p).state ≡ Idle) (λ k p at. ap (λ (v : View). v.state) (each k p at));
+}
+  where
+    each_of : (Q : P → Type 0) → ((k : ℕ) (p : P) → slice_get ports k ≡ Some p → Q p) → All Q ports
+    each_of Q h = λ k x l. let (p, at) = element_at ports k l in subst Q (sym (get_or_from_slice_get ports k p x at)) (h k p at)

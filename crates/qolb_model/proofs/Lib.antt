@@ -1,5 +1,6 @@
 pub mod Lists
 pub mod Requests
+pub mod Counts
 pub mod Histories
 pub mod Leases
 pub mod Runs
@@ -13,6 +14,11 @@ pub mod Writes
 pub mod Agreeing
 pub mod Finishing
 pub mod Longer
+pub mod Going
+pub mod Answering
+pub mod Informing
+pub mod Updates
+pub mod Seats
 pub mod Bounds
 pub mod Follows
 pub mod Passing

@@ -2,6 +2,7 @@
 use Rattle.std.proofs.Common.{◌≡◌, ℕ, zero, suc, ◌+◌, ◌<◌, ◌⊎◌, inl, inr, Bool, true, false, ◌||◌, List, [], ◌∷◌, ◌++◌, length, take, drop, Some, None, slice_get, refl, ap, sym, ◌∙◌, arith}
 use Rattle.std.specs.List.{list_any}
 use Rattle.std.proofs.lemmas.Bool.{or_right}
+use Rattle.std.proofs.lemmas.Option.{slice_get_within}
 
 -- a test does not both pass and fail
 pub never : {b : Bool} → b ≡ true → b ≡ false → ⊥
@@ -84,3 +85,28 @@ pub passes_at : {X : Type 0} (test : X → Bool) (xs : List X) (p : ℕ) (x : X)
 passes_at test [] p x e t = absurd (let h : None ≡ Some x = e in cc h)
 passes_at test (y ∷ xs) zero x e t = ap (λ b. b || list_any test xs) (ap test (same_some e) ∙ t)
 passes_at test (y ∷ xs) (suc p) x e t = or_right (test y) (list_any test xs) (passes_at test xs p x e t)
+
+-- an element is read at one place
+pub at_same : {X : Type 0} (xs : List X) (p : ℕ) (x y : X) → slice_get xs p ≡ Some x → slice_get xs p ≡ Some y → x ≡ y
+at_same xs p x y a b = same_some (sym a ∙ b)
+
+-- it is where it was in a longer list
+pub at_longer : {X : Type 0} (xs ys : List X) (p : ℕ) (x : X) → slice_get xs p ≡ Some x → slice_get (xs ++ ys) p ≡ Some x
+at_longer xs ys p x e = slice_get-append_left xs ys p (slice_get_within xs p x e) ∙ e
+
+-- of two lists, one after the other, it is read in the first or in the second
+pub at_either : {X : Type 0} (xs ys : List X) (i : ℕ) (x : X) → slice_get (xs ++ ys) i ≡ Some x → (slice_get xs i ≡ Some x) ⊎ ((j : ℕ) × (i ≡ length xs + j) × (slice_get ys j ≡ Some x))
+at_either [] ys i x e = inr (i, omega arith, e)
+at_either (y ∷ xs) ys zero x e = inl e
+at_either (y ∷ xs) ys (suc i) x e = elim (at_either xs ys i x e) [ inl t ↦ inl t | inr t ↦ inr (t.0, omega (arith, t.1), t.2) ]
+
+pub at_drop : {X : Type 0} (k : ℕ) (xs : List X) (p : ℕ) (x : X) → slice_get (drop k xs) p ≡ Some x → slice_get xs (k + p) ≡ Some x
+at_drop k xs p x e = sym (slice_get-drop k xs p) ∙ e
+
+-- a list of one has that one, and an empty list has none
+pub at_one : {X : Type 0} (x y : X) (i : ℕ) → slice_get (x ∷ []) i ≡ Some y → x ≡ y
+at_one x y zero e = same_some e
+at_one x y (suc i) e = absurd (let h : None ≡ Some y = e in cc h)
+
+pub at_none : {X : Type 0} (i : ℕ) (y : X) → slice_get [] i ≡ Some y → ⊥
+at_none i y e = let h : None ≡ Some y = e in cc h

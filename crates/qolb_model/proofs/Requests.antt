@@ -1,5 +1,5 @@
 -- Laws of requests and of orders of them.
-use Rattle.std.proofs.Common.{◌≡◌, ℕ, zero, suc, ◌+◌, ◌<◌, ◌≤◌, ◌==◌, ◌⊎◌, inl, inr, Bool, true, false, ◌||◌, ◌&&◌, cond, List, [], ◌∷◌, ◌++◌, length, take, Some, slice_get, refl, ap, sym, ◌∙◌, subst, arith}
+use Rattle.std.proofs.Common.{◌≡◌, ◌≢◌, ℕ, zero, suc, ◌+◌, ◌<◌, ◌≤◌, ◌==◌, ◌⊎◌, inl, inr, Bool, true, false, ◌||◌, ◌&&◌, cond, List, [], ◌∷◌, ◌++◌, length, take, Some, slice_get, refl, ap, sym, ◌∙◌, subst, arith}
 use Rattle.std.proofs.Math.Bool.{or-true}
 use Rattle.std.proofs.lemmas.List.Folds.{list_any-append}
 use Rattle.std.proofs.lemmas.List.Sums.{sum_by_push, sum_by-append}
@@ -9,7 +9,7 @@ use Rattle.std.proofs.lemmas.Option.{slice_get_within}
 use mathlib.Core.List.{IsPrefix}
 use Rattle.qolb_model.specs.declared.request.Request.{Request}
 use Rattle.qolb_model.specs.Requests.{is_same, has, Has, Lacks, count_of, last_of}
-use Rattle.qolb_model.proofs.Lists.{never, element_at, push_cases, slice_get-take, take_with, place_of, passes_at}
+use Rattle.qolb_model.proofs.Lists.{never, same_test, element_at, push_cases, at_either, slice_get-take, take_with, place_of, passes_at}
 
 -- a request is its node and its number
 pub same_request : (a b c d : ℕ) → a ≡ b → c ≡ d → let x : Request = record { node = a; number = c } in let y : Request = record { node = b; number = d } in x ≡ y
@@ -53,11 +53,27 @@ has_push xs x r h =
 pub has_left : (xs ys : List Request) (r : Request) → Has xs r → Has (xs ++ ys) r
 has_left xs ys r h = list_any-append (is_same r) xs ys ∙ ap (λ b. b || has ys r) h
 
+-- a request of two lists, one after the other
+pub either_has : (xs ys : List Request) (r : Request) → Has (xs ++ ys) r → Has xs r ⊎ Has ys r
+either_has xs ys r h =
+    let (p, e) = place_of_request (xs ++ ys) r h in
+    elim (at_either xs ys p r e) [ inl t ↦ inl (has_at xs p r t) | inr t ↦ inr (has_at ys t.0 r t.2) ]
+
 pub has_prefix : (xs ys : List Request) (r : Request) → IsPrefix xs ys → Has xs r → Has ys r
 has_prefix xs ys r begins h = subst (λ zs. Has zs r) begins.1 (has_left xs begins.0 r h)
 
 pub has_last : (xs : List Request) (r : Request) → Has (xs ++ r ∷ []) r
 has_last xs r = list_any-append (is_same r) xs (r ∷ []) ∙ (ap (λ b. has xs r || (b || false)) (is_same-self r) ∙ or-true (has xs r))
+
+-- a request that is not pushed
+pub has_push_else : (xs : List Request) (x r : Request) → r ≢ x → has (xs ++ x ∷ []) r ≡ has xs r
+has_push_else xs x r ne = same_test (has (xs ++ x ∷ []) r) (has xs r) (λ h. elim (has_push xs x r h) [ inl t ↦ t | inr t ↦ absurd (ne t) ]) (λ h. has_left xs (x ∷ []) r h)
+
+pub lacks_push : (xs : List Request) (x r : Request) → r ≢ x → Lacks xs r → Lacks (xs ++ x ∷ []) r
+lacks_push xs x r ne h = has_push_else xs x r ne ∙ h
+
+pub lacked_push : (xs : List Request) (x r : Request) → Lacks (xs ++ x ∷ []) r → Lacks xs r
+lacked_push xs x r h = lacks_from xs r (λ was. never (has_left xs (x ∷ []) r was) h)
 
 -- orders that grow by one request
 pub count_of-push_same : (n : ℕ) (xs : List Request) (r : Request) → r.node ≡ n → count_of n (xs ++ r ∷ []) ≡ count_of n xs + 1

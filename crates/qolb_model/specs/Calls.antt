@@ -1,8 +1,10 @@
 -- What each call of a port promises: one record a call, one field an answer. `old` and `new` are what the port knew before and after, and
 -- `turn` is what its holder has written. (The calls are named after Goodman, Vernon and Woest, 1989; their rules are of this project.)
-use Rattle.std.specs.Prelude.{◌≡◌, ◌≢◌, ℕ, Bool, List, [], ◌∷◌}
+use Rattle.std.specs.Prelude.{◌≡◌, ◌≢◌, ◌⊎◌, ℕ, Bool, List, [], ◌∷◌}
 use Rattle.qolb_model.specs.declared.answer.Enq.{Enq}
 use Rattle.qolb_model.specs.declared.answer.Enq.TheVariants as enq
+use Rattle.qolb_model.specs.declared.answer.Prep.{Prep}
+use Rattle.qolb_model.specs.declared.answer.Prep.TheVariants as prep
 use Rattle.qolb_model.specs.declared.answer.Poll.{Poll}
 use Rattle.qolb_model.specs.declared.answer.Poll.TheVariants as poll
 use Rattle.qolb_model.specs.declared.answer.Out.{Out}
@@ -19,6 +21,7 @@ use Rattle.qolb_model.specs.Sound.{Continues}
 use Rattle.qolb_model.specs.Asking.{IsBusy, Asks, IsJoined}
 use Rattle.qolb_model.specs.Turns.{IsGranted, IsQueued, IsWithdrawn}
 use Rattle.qolb_model.specs.LettingGo.{EndsTurn, IsTold}
+use Rattle.qolb_model.specs.Linking.{IsLinking, Links}
 use Rattle.qolb_model.specs.Meeting.{Meets}
 
 module _ (allows : List ℕ → List ℕ → Type 0) where
@@ -28,6 +31,25 @@ module _ (allows : List ℕ → List ℕ → Type 0) where
     pub busy : answer ≡ enq.Busy → IsBusy old new
     pub asks : answer ≢ enq.Busy → Asks old new
     pub joined : answer ≢ enq.Busy → IsJoined new
+    pub granted : answer ≡ enq.Granted → IsGranted new turn
+    pub queued : answer ≡ enq.Queued → IsQueued new
+    pub told : answer ≡ enq.Closed → IsTold new
+
+  -- `prepend`, the first half of `enqolb`: the port makes its request, unless it is busy; behind another it is not linked yet
+  pub record Prepends (old new : View) (turn : Write) (answer : Prep) : Type 0 where
+    pub continues : Continues allows old new
+    pub busy : answer ≡ prep.Busy → IsBusy old new
+    pub asks : answer ≢ prep.Busy → Asks old new
+    pub joined : (answer ≡ prep.Granted) ⊎ (answer ≡ prep.Closed) → IsJoined new
+    pub granted : answer ≡ prep.Granted → IsGranted new turn
+    pub linking : answer ≡ prep.Linking → IsLinking new
+    pub told : answer ≡ prep.Closed → IsTold new
+
+  -- `link`, the second half of `enqolb`: the port links its request to the one before
+  pub record LinksUp (old new : View) (turn : Write) (answer : Enq) : Type 0 where
+    pub continues : Continues allows old new
+    pub never_busy : answer ≢ enq.Busy
+    pub links : Links old new
     pub granted : answer ≡ enq.Granted → IsGranted new turn
     pub queued : answer ≡ enq.Queued → IsQueued new
     pub told : answer ≡ enq.Closed → IsTold new

@@ -58,6 +58,18 @@ MayRefuse label nodes views (Missing (suc n)) = AreOfLine label views × IsLeast
 MayRefuse label nodes views (Unquiet n) = AreOfLine label views × EachNode nodes (IsThere views) × IsLeast nodes (IsUnquiet views) (IsQuiet views) n
 MayRefuse label nodes views Memory = MayFinish label nodes views
 
+-- with views of all its nodes a line is at its end: they are of different nodes, and of one history, in which every request has ended and
+-- every turn kept the law; and the bytes are those after all ends, and good
+pub record IsLast (good : List ℕ → Type 0) (allows : List ℕ → List ℕ → Type 0) (terms : Terms) (views : List View) (bytes : List ℕ) : Type 0 where
+  pub may_open : MayOpen terms
+  pub once : EachNodeOnce views
+  pub history : OneHistory views
+  pub terms_are : history.terms ≡ terms
+  pub all_ended : length history.ends ≡ length history.order
+  pub kept : AreAllowed allows terms.opening.bytes history.ends
+  pub result : bytes ≡ bytes_after terms.opening.bytes history.ends
+  pub is_good : good bytes
+
 -- finished: no cause of refusal stands, and each node has one port; all ports are of one history of the line, in which every request has
 -- ended and every turn kept the law; and the bytes are the opening ones changed by all its served writes in order, and good
 pub record IsFinished (good : List ℕ → Type 0) (allows : List ℕ → List ℕ → Type 0) (label : ℕ) (terms : Terms) (views : List View) (bytes : List ℕ) : Type 0 where

@@ -21,6 +21,7 @@ pub mod Turns
 pub mod Linking
 pub mod LettingGo
 pub mod Meeting
+pub mod Entries
 pub mod Finishing
 pub mod Calls
 pub mod Laws

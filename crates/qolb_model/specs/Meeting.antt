@@ -1,5 +1,5 @@
 -- Two ports of a line tell each other what they know. (Of this project.)
-use Rattle.std.specs.Prelude.{◌≡◌, ◌||◌, if◌then◌else◌, nat_lt, List, length}
+use Rattle.std.specs.Prelude.{◌≡◌, ◌||◌, ◌++◌, if◌then◌else◌, nat_lt, List, length}
 use Rattle.qolb_model.specs.declared.request.Request.{Request}
 use Rattle.qolb_model.specs.declared.view.View.{View}
 use Rattle.qolb_model.specs.Requests.{has}
@@ -22,3 +22,14 @@ pub record Meets (old other new : View) : Type 0 where
   pub freed : IsUnion old.freed other.freed new.freed
   pub state : new.state ≡ old.state
   pub count : new.count ≡ old.count
+
+-- the view v, once it has learned what u knows
+abbrev pub informed_view : View → View → View
+informed_view v u = record v {
+  order = longer v.order u.order;
+  ends = longer v.ends u.ends;
+  clear = longer v.clear u.clear;
+  joined = v.joined ++ u.joined;
+  marked = v.marked ++ u.marked;
+  freed = v.freed ++ u.freed;
+}

@@ -11,7 +11,20 @@ pub enum Enq {
     Queued,
     /// The line is closed, and the request has ended.
     Closed,
-    /// The node's last request was withdrawn and stands in the queue still, so it may not ask yet.
+    /// The node's last request has ended or was withdrawn, and its entry is not clear, so it may not ask yet.
+    Busy,
+}
+
+/// The answer of `prepend`, which asks and leaves the request to be linked to the one before.
+#[derive(Clone, Copy, Debug, PartialEq, Eq)]
+pub enum Prep {
+    /// The node holds the line.
+    Granted,
+    /// The request stands behind another, and is not yet linked to it.
+    Linking,
+    /// The line is closed, and the request has ended.
+    Closed,
+    /// The node's last request has ended or was withdrawn, and its entry is not clear, so it may not ask yet.
     Busy,
 }
 

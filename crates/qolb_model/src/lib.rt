@@ -4,6 +4,7 @@
 
 mod answer;
 mod end;
+mod finish;
 mod keep;
 pub mod laws;
 mod plain;
@@ -15,8 +16,9 @@ mod view;
 mod waiter;
 mod write;
 
-pub use answer::{Enq, OpenError, Out, Poll, PortState};
+pub use answer::{Enq, OpenError, Out, Poll, PortState, Prep};
 pub use end::End;
+pub use finish::{LinePort, lay_by_node, refusal};
 pub use keep::{Free, Keep};
 pub use plain::PlainLine;
 pub use request::Request;

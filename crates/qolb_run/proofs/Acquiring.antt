@@ -14,7 +14,7 @@ use Rattle.qolb_model.specs.Asking.{IsBusy, Asks}
 use Rattle.qolb_model.specs.Turns.{IsGranted}
 use Rattle.qolb_model.specs.LettingGo.{IsTold}
 use Rattle.qolb_model.specs.Calls.{Enqueues}
-use Rattle.line_board.proofs.Acquiring.{continues_on, own_on, asks_on, joined_on}
+use Rattle.qolb_model.proofs.Going.{continues_on, same_own, asks_goes, joined_goes}
 use Rattle.qolb_run.specs.declared.waiting.Got.{Got}
 use Rattle.qolb_run.specs.declared.waiting.Got.TheVariants.{Granted, Closed}
 use Rattle.qolb_run.specs.Acquiring.{Acquires}
@@ -30,7 +30,7 @@ quiet_busy old new b = by b.was
 -- what was asked after tries that made no request was asked from the first
 asks_later : (old mid new : View) → Extends old mid → mid.count ≡ old.count → Asks mid new → Asks old new
 asks_later old mid new e same a = record {
-  was_clear = λ one. subst (λ r. Has new.clear r) (own_on old mid e same) (a.was_clear (omega (arith, one, same)));
+  was_clear = λ one. subst (λ r. Has new.clear r) (same_own old mid e same) (a.was_clear (omega (arith, one, same)));
   count = a.count ∙ ap (λ n. n + 1) same;
   behind = (a.behind.0, (let long = length-append old.order e.order.0 in let more = ap length e.order.1 in let far = a.behind.1 in omega (arith, long, more, far)), a.behind.2);
 }
@@ -54,8 +54,8 @@ pub acquired_waiting : (allows : List ℕ → List ℕ → Type 0) (old mid now 
 acquired_waiting allows old mid now new first turn got e same q c count granted told =
     let some : enq.Queued ≢ enq.Busy = λ is. cc is in record {
       continues = continues_on allows old mid new e (continues_on allows mid now new q.continues.extends c);
-      asks = asks_later old mid new e same (asks_on mid now new (q.asks some) c.extends count);
-      joined = joined_on now new (q.joined some) c.extends count;
+      asks = asks_later old mid new e same (asks_goes mid now new (q.asks some) c.extends count);
+      joined = joined_goes now new (q.joined some) c.extends count;
       granted = granted;
       told = told;
     }

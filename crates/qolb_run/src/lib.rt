@@ -8,6 +8,7 @@ mod gate;
 mod input;
 mod line;
 mod meetings;
+mod opening;
 mod plain;
 mod replay;
 mod steps;

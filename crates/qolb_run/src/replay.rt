@@ -15,8 +15,10 @@ ghost use Rattle.qolb_run.specs.Outcome.{IsReply, MayFail, as_replay_error, scri
 use crate::by_ports::PortedLine;
 use crate::input::{InputError, read_all};
 use crate::line::ReplayLine;
+use crate::opening::OpenLine;
 use crate::tally::TalliedLine;
 use line_lanes::Line64;
+use link_line::LinkLine;
 use qolb_model::{Free, PlainLine, Terms};
 use qolb_script::{Fault, Schedule, ScriptError, Watched, push_said, read_schedule};
 use ring_line::RingLine;
@@ -31,6 +33,8 @@ pub enum Kind {
     Plain,
     /// Rings, whose nodes call through ports of their own. The port that acts meets each other one before and after its call.
     Ring,
+    /// Lists with reversed links, in the same way.
+    Link,
 }
 
 /// Why a schedule could not be replayed.
@@ -116,10 +120,11 @@ pub fn run_schedule<R: Read, W: Write>(
     Ok(())
 }
 
-/// The reply of the schedule that the input is. Words and ports of rings lie in memory of `rings`, all else in memory of `alloc`.
+/// The reply of the schedule that the input is. Lines that nodes share and their ports lie in memory of `shared`, all else in memory of
+/// `alloc`.
 fn answered<'a, A: Allocator>(
     alloc: &'a A,
-    rings: Global,
+    shared: Global,
     input: &[u8],
     kind: Kind,
 ) -> Result<Vec<u8, &'a A>, ReplayError>
@@ -138,7 +143,11 @@ fn answered<'a, A: Allocator>(
             reply(alloc, &schedule, lines)?
         }
         Kind::Ring => {
-            let lines = open_rings(alloc, rings, &terms, schedule.lines())?;
+            let lines = open_ported::<&A, RingLine<Free>>(alloc, shared, &terms, schedule.lines())?;
+            reply(alloc, &schedule, lines)?
+        }
+        Kind::Link => {
+            let lines = open_ported::<&A, LinkLine<Free>>(alloc, shared, &terms, schedule.lines())?;
             reply(alloc, &schedule, lines)?
         }
     };
@@ -187,23 +196,25 @@ fn open_lines<A: Allocator>(
     Ok(all)
 }
 
-/// Rings that are opened so, of which nothing was said.
-fn open_rings<A: Allocator>(
+/// Lines that nodes share, opened so, of which nothing was said.
+fn open_ported<A: Allocator, L: OpenLine + Drop>(
     alloc: A,
-    rings: Global,
+    shared: Global,
     terms: &Terms,
     lines: u64,
-) -> Result<Vec<TalliedLine<PortedLine<RingLine<Free>>>, A>, AllocError>
+) -> Result<Vec<TalliedLine<PortedLine<L>>, A>, AllocError>
+where
+    L::Port: Drop,
     requires bytes { length terms.now.opening.bytes ≡ 64 }
     requires may_open { MayOpen terms.now }
     ensures { IfOk result (λ all. AreLinesOf (λ (ports : List Stance) (s : LineState). AreWhole s ports) (λ (ports : List Stance). length ports) terms.now.nodes (replay_start terms.now lines) all.items) }
 {
     let mut all = Vec::with_capacity(alloc, lines as usize)?;
     for number in 0..lines {
-        let Ok((ring, ports)) = RingLine::with_terms(rings, number, *terms) else {
+        let Ok((line, ports)) = L::open_with(shared, number, *terms) else {
             return Err(AllocError);
         };
-        all.push(TalliedLine::new(PortedLine::new(ring, ports)))?;
+        all.push(TalliedLine::new(PortedLine::new(line, ports)))?;
     }
     Ok(all)
 }

@@ -13,8 +13,8 @@ use Rattle.qolb_model.specs.declared.request.Request.{Request}
 use Rattle.qolb_model.specs.Requests.{Has, count_of, next_of}
 use Rattle.qolb_model.specs.Views.{own}
 use Rattle.qolb_model.specs.Sound.{Continues}
-use Rattle.qolb_model.proofs.Lists.{slice_get-push, push_cases}
-use Rattle.qolb_model.proofs.Prefixes.{prefix_length, prefix_append}
+use Rattle.qolb_model.proofs.Lists.{slice_get-push, push_cases, at_longer}
+use Rattle.qolb_model.proofs.Prefixes.{prefix_length, prefix_append, prefix_more}
 use Rattle.qolb_model.proofs.Requests.{count_of-push_same, has_left, has_last, has_push, lacks_from, same_place, has_prefix}
 use Rattle.qolb_model.proofs.Histories.{legal_ask}
 use Rattle.ring_line.specs.declared.entry.Point.TheVariants.{Idle, Queued}
@@ -23,7 +23,6 @@ use Rattle.ring_line.specs.declared.rule.Setup.{Setup}
 use Rattle.ring_line.specs.Words.{ticket_at, cell_at, node_at, cell_of}
 use Rattle.ring_line.specs.Ring.{At, Past, NodeOk, PastOk, Shown, RingRule, has_line, lets_go}
 use Rattle.ring_line.specs.Steps.{sole, Contents, Asked, asked}
-use Rattle.ring_line.proofs.Lists.{at_longer, prefix_more}
 use Rattle.ring_line.proofs.Nodes.{others_ask, knows_whole, hand_none, passes_none, freed_so}
 use Rattle.ring_line.proofs.Histories.{continues}
 use Rattle.ring_line.proofs.Keeping.{Homes, rule_step, mine_ok, mine_low}
@@ -130,6 +129,7 @@ module _ (good : List ℕ → Type 0) (allows : List ℕ → List ℕ → Type 0
       refl,
       goes_step allows m v (ask_entry r.past) m.1 is learns refl,
       subst (λ u. Asked (sole u) (slice_index s.words ticket_at) (ask_entry r.past)) (sym is) record {
+        state = refl;
         point = refl;
         cell = ap cell_of r.shown.ticket ∙ mod-mod-pow (length r.past.order) 56 8;
         asks = record {

@@ -2,14 +2,10 @@
 use Rattle.std.proofs.Common.{◌≡◌, ◌≢◌, ℕ, ◌+◌, ◌*◌, ◌≤◌, inr, List, sym, refl, ap, ◌∙◌, subst, Some, None, Bool, ◌||◌, bit_or}
 use Rattle.line_lanes.specs.Line.{merged}
 use Rattle.atomic_table.specs.Seated.{TableId}
-use Rattle.qolb_model.specs.declared.answer.Enq.TheVariants as enq
-use Rattle.qolb_model.specs.declared.answer.Poll.TheVariants as poll
-use Rattle.qolb_model.specs.declared.answer.Out.TheVariants as out
 use Rattle.qolb_model.specs.declared.answer.PortState.{PortState}
 use Rattle.qolb_model.specs.declared.answer.PortState.TheVariants as shows
 use Rattle.qolb_model.specs.declared.end.End.TheVariants.{Served}
 use Rattle.qolb_model.specs.declared.view.View.{View}
-use Rattle.qolb_model.specs.declared.write.Write.{Write}
 use Rattle.qolb_model.specs.PortStates.{left_by}
 use Rattle.qolb_model.specs.Leases.{closes}
 use Rattle.qolb_model.specs.Steps.{is_one}
@@ -17,12 +13,13 @@ use Rattle.qolb_model.specs.Ends.{is_closed, bytes_after, written}
 use Rattle.qolb_model.specs.Views.{bytes_of, Extends}
 use Rattle.qolb_model.specs.Kept.{MayRelease}
 use Rattle.qolb_model.specs.Sound.{Continues}
-use Rattle.qolb_model.specs.Asking.{IsBusy, Asks, IsJoined}
+use Rattle.qolb_model.specs.Asking.{IsBusy, Asks}
 use Rattle.qolb_model.specs.Turns.{IsGranted, IsQueued, IsWithdrawn}
 use Rattle.qolb_model.specs.LettingGo.{IsTold, EndsTurn}
-use Rattle.qolb_model.specs.Calls.{Enqueues, Polls, Withdraws, Releases}
+use Rattle.qolb_model.specs.Calls.{Releases}
 use Rattle.qolb_model.proofs.Leases.{last-is_one}
 use Rattle.qolb_model.proofs.Writes.{bytes_after-release}
+use Rattle.qolb_model.proofs.Going.{continues_sound, sound_goes, asks_from}
 use Rattle.ring_line.specs.declared.entry.Entry.{Entry}
 use Rattle.ring_line.specs.declared.port.Port.TheInside.{Inside}
 use Rattle.ring_line.specs.declared.rule.Parcel.{Parcel}
@@ -30,7 +27,6 @@ use Rattle.ring_line.specs.declared.rule.Setup.{Setup}
 use Rattle.ring_line.specs.Steps.{RingSeat, SameSeat, HasSlot, entry_of, sole, GoesOn, write_of, own_end, Carries, IsEarly, IsRolled}
 use Rattle.ring_line.specs.Releases.{IsRenewed, IsPutBack, LetsLineGo}
 use Rattle.ring_line.specs.Ports.{Standing, standing, Holds, Stands, IsPort, BelongsTo, Arrived}
-use Rattle.ring_line.proofs.Turning.{continues_sound, sound_goes, asks_goes, asks_from}
 use Rattle.ring_line.proofs.Releasing.{carries_served, holds_written}
 
 -- the fields are as they are between calls; what contracts see of them; and what the port knows
@@ -56,10 +52,9 @@ module _ {good : List ℕ → Type 0} {allows : List ℕ → List ℕ → Type 0
     sound = sound_goes good allows key.label key.terms p.view (entry_of t).view b.sound call_continues;
   }
 
--- a node that was made ready, asked and loaded its cell has asked
-pub asking_asks : {p : Standing} {r a l : View} (q : Inside) → seen q ≡ p → Extends (known q) r → r.count ≡ (known q).count → Asks r a → Extends a l → l.count ≡ a.count → Asks p.view l
-asking_asks {r = r} {a = a} {l = l} q is ready same asks later count =
-    subst (λ (x : Standing). Asks x.view l) is (asks_goes (known q) a l (asks_from (known q) r a ready same asks) later count)
+-- a node that was made ready and asked has asked
+pub asking_asks : {p : Standing} {r a : View} (q : Inside) → seen q ≡ p → Extends (known q) r → r.count ≡ (known q).count → Asks r a → Asks p.view a
+asking_asks {r = r} {a = a} q is ready same asks = subst (λ (x : Standing). Asks x.view a) is (asks_from (known q) r a ready same asks)
 
 pub granted_of : (t : RingSeat) (z : Parcel) (cell before steps : ℕ) (state : PortState) → Arrived t z cell before steps state → state ≡ shows.Holding → IsGranted (entry_of t).view (write_of z) × (steps ≡ before)
 granted_of t z cell before steps shows.Idle a h = absurd a
@@ -78,39 +73,6 @@ told_of t z cell before steps shows.Holding a h = absurd (h refl)
 told_of t z cell before steps shows.Left a h = absurd a
 told_of t z cell before steps shows.Rolled a h = absurd a
 told_of t z cell before steps shows.Shut a h = (a.3, a.4)
-
--- the answers of the calls that ask
-module _ {allows : List ℕ → List ℕ → Type 0} {v w : View} {turn : Write} (c : Continues allows v w) where
-  pub enqueues_busy : IsBusy v w → Enqueues allows v w turn enq.Busy
-  enqueues_busy busy = record { continues = c; busy = λ _. busy; asks = λ ne. absurd (ne refl); joined = λ ne. absurd (ne refl); granted = λ e. absurd (cc e); queued = λ e. absurd (cc e); told = λ e. absurd (cc e) }
-
-  pub enqueues_queued : Asks v w → IsJoined w → IsQueued w → Enqueues allows v w turn enq.Queued
-  enqueues_queued asks joined queued = record { continues = c; busy = λ e. absurd (cc e); asks = λ _. asks; joined = λ _. joined; granted = λ e. absurd (cc e); queued = λ _. queued; told = λ e. absurd (cc e) }
-
-  pub enqueues_granted : Asks v w → IsJoined w → IsGranted w turn → Enqueues allows v w turn enq.Granted
-  enqueues_granted asks joined granted = record { continues = c; busy = λ e. absurd (cc e); asks = λ _. asks; joined = λ _. joined; granted = λ _. granted; queued = λ e. absurd (cc e); told = λ e. absurd (cc e) }
-
-  pub enqueues_told : Asks v w → IsJoined w → IsTold w → Enqueues allows v w turn enq.Closed
-  enqueues_told asks joined told = record { continues = c; busy = λ e. absurd (cc e); asks = λ _. asks; joined = λ _. joined; granted = λ e. absurd (cc e); queued = λ e. absurd (cc e); told = λ _. told }
-
-  module _ (count : w.count ≡ v.count) where
-    pub polls_waiting : IsQueued w → Polls allows v w turn poll.Waiting
-    polls_waiting waits = record { continues = c; count = count; granted = λ e. absurd (cc e); waiting = λ _. waits; told = λ e. absurd (cc e) }
-
-    pub polls_granted : IsGranted w turn → Polls allows v w turn poll.Granted
-    polls_granted granted = record { continues = c; count = count; granted = λ _. granted; waiting = λ e. absurd (cc e); told = λ e. absurd (cc e) }
-
-    pub polls_told : IsTold w → Polls allows v w turn poll.Closed
-    polls_told told = record { continues = c; count = count; granted = λ e. absurd (cc e); waiting = λ e. absurd (cc e); told = λ _. told }
-
-    pub withdraws_withdrawn : IsWithdrawn w → Withdraws allows v w turn out.Withdrawn
-    withdraws_withdrawn withdrawn = record { continues = c; count = count; withdrawn = λ _. withdrawn; granted = λ e. absurd (cc e); told = λ e. absurd (cc e) }
-
-    pub withdraws_granted : IsGranted w turn → Withdraws allows v w turn out.Granted
-    withdraws_granted granted = record { continues = c; count = count; withdrawn = λ e. absurd (cc e); granted = λ _. granted; told = λ e. absurd (cc e) }
-
-    pub withdraws_told : IsTold w → Withdraws allows v w turn out.Closed
-    withdraws_told told = record { continues = c; count = count; withdrawn = λ e. absurd (cc e); granted = λ e. absurd (cc e); told = λ _. told }
 
 -- a request behind another waits, or is withdrawn
 pub early_waits : (v w : Entry) → IsEarly v w → IsQueued w.view

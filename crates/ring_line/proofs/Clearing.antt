@@ -4,12 +4,12 @@ use Rattle.qolb_model.specs.declared.request.Request.{Request}
 use Rattle.qolb_model.specs.Requests.{Has, Lacks}
 use Rattle.qolb_model.specs.Histories.{more}
 use Rattle.qolb_model.proofs.Requests.{has_left}
+use Rattle.qolb_model.proofs.Lists.{at_none}
 use Rattle.ring_line.specs.declared.entry.Point.{Point}
 use Rattle.ring_line.specs.declared.entry.Point.TheVariants.{Idle, Freeing}
 use Rattle.ring_line.specs.declared.rule.Setup.{Setup}
 use Rattle.ring_line.specs.Ring.{At, Past, PastOk, has_line, lets_go}
 use Rattle.ring_line.specs.Steps.{after_walk}
-use Rattle.ring_line.proofs.Lists.{at_none}
 
 -- where a release leaves the node
 pub not_after : (l : List ℕ) (a : Point) → a ≢ Idle → a ≢ Freeing → after_walk l ≢ a

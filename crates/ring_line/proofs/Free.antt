@@ -10,18 +10,18 @@ use Rattle.qolb_model.specs.declared.request.Request.{Request}
 use Rattle.qolb_model.specs.Requests.{Has, Lacks}
 use Rattle.qolb_model.specs.Views.{own}
 use Rattle.qolb_model.specs.Sound.{Continues}
-use Rattle.qolb_model.proofs.Prefixes.{prefix_self, prefix_get}
-use Rattle.qolb_model.proofs.Requests.{has_left, has_last, has_push, lacks_from, same_place, has_prefix}
-use Rattle.qolb_model.proofs.Lists.{never}
+use Rattle.qolb_model.proofs.Prefixes.{prefix_self, prefix_get, prefix_more}
+use Rattle.qolb_model.proofs.Requests.{has_left, has_last, has_push, lacks_from, same_place, has_prefix, lacks_push}
+use Rattle.qolb_model.proofs.Lists.{never, at_same}
 use Rattle.qolb_model.specs.declared.terms.TheConstants.{MOST_NODES}
+use Rattle.qolb_model.proofs.Updates.{put, put_here, put_else}
 use Rattle.ring_line.specs.declared.entry.Point.TheVariants.{Idle, Queued, Holding, Freeing, Rolled}
 use Rattle.ring_line.specs.declared.entry.Entry.{Entry}
 use Rattle.ring_line.specs.declared.rule.Setup.{Setup}
 use Rattle.ring_line.specs.Words.{ticket_at, cell_at, node_at, cell_of}
 use Rattle.ring_line.specs.Ring.{At, Past, HasPassed, NodeOk, PastOk, Shown, RingRule, has_line, is_kept}
 use Rattle.ring_line.specs.Steps.{sole, Contents, after_walk, Frees, freed}
-use Rattle.ring_line.proofs.Lists.{at_same, prefix_more, lacks_push}
-use Rattle.ring_line.proofs.Nodes.{clash_at, passed_goes, put, put_here, put_else, placed_at, others_clear, others_free, hand_none}
+use Rattle.ring_line.proofs.Nodes.{clash_at, passed_goes, placed_at, others_clear, others_free, hand_none}
 use Rattle.ring_line.proofs.Histories.{continues}
 use Rattle.ring_line.proofs.Keeping.{St, Homes, rule_step, mine_ok}
 use Rattle.ring_line.proofs.Clearing.{not_after, no_line_after, goes_after, clear_with, more_clear, still_unclear, fine_clear, fine_flags}

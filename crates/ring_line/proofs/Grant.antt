@@ -1,9 +1,9 @@
 -- A release grants the next cell: the request at its turn has ended. Where the next one is not withdrawn the line is at home, else it
 -- stays with the node, which passes that request.
-use Rattle.std.proofs.Common.{◌≡◌, ◌≢◌, ◌⊎◌, ℕ, ◌+◌, ◌*◌, ◌%◌, ◌^◌, ◌<◌, ◌≤◌, List, [], ◌∷◌, ◌++◌, length, set, slice_index, get_or, true, false, sym, refl, ap, ◌∙◌, subst, inl, inr, ⊎_elim, arith, length-append, length-set, mod-lt, get_or-set_same, get_or-set_other}
+use Rattle.std.proofs.Common.{◌≡◌, ◌≢◌, ◌⊎◌, ℕ, zero, suc, ◌+◌, ◌*◌, ◌%◌, ◌^◌, ◌<◌, ◌≤◌, List, [], ◌∷◌, ◌++◌, length, set, slice_index, get_or, true, false, sym, refl, ap, ◌∙◌, subst, inl, inr, ⊎_elim, arith, length-append, length-set, mod-lt, get_or-set_same, get_or-set_other}
 use mathlib.Core.Logic.{dite}
 use mathlib.Core.List.{IsPrefix}
-use mathlib.Core.Option.{none, some}
+use mathlib.Core.Option.{none, some, some-ne-none}
 use native.Mathlib.Decide.{ℕ_discrete}
 use lib.ListN.{get_elem?}
 use Rattle.std.proofs.lemmas.Option.{slice_get_within}
@@ -17,9 +17,11 @@ use Rattle.qolb_model.specs.EndKinds.{is_gone}
 use Rattle.qolb_model.specs.Views.{own}
 use Rattle.qolb_model.specs.Kept.{AreAllowed}
 use Rattle.qolb_model.specs.Sound.{Continues}
-use Rattle.qolb_model.proofs.Lists.{push_cases, never}
+use Rattle.qolb_model.proofs.Lists.{push_cases, never, at_same}
 use Rattle.qolb_model.proofs.Requests.{has_last, lacks_from, same_place}
 use Rattle.qolb_model.specs.declared.terms.TheConstants.{MOST_NODES}
+use Rattle.qolb_model.proofs.Prefixes.{prefix_more}
+use Rattle.qolb_model.proofs.Updates.{put, put_here, put_else}
 use Rattle.ring_line.specs.declared.words.TheConstants.{CELLS, WITHDRAWN}
 use Rattle.ring_line.specs.declared.entry.Point.TheVariants.{Idle, Queued, Holding, Passing, Cleared, Rolled}
 use Rattle.ring_line.specs.declared.entry.Entry.{Entry}
@@ -28,8 +30,7 @@ use Rattle.ring_line.specs.declared.rule.Parcel.{Parcel}
 use Rattle.ring_line.specs.Words.{ticket_at, cell_at, node_at, cell_of, withdrawn_by}
 use Rattle.ring_line.specs.Ring.{At, Past, HasPassed, Walks, NodeOk, PastOk, Shown, RingRule, has_line, lets_go, is_kept, is_cleared}
 use Rattle.ring_line.specs.Steps.{Contents, next_end, after_walk, Carries, Ended, GoesHome, Passes, granted}
-use Rattle.ring_line.proofs.Lists.{elem_within, at_same, prefix_more}
-use Rattle.ring_line.proofs.Nodes.{passed_goes, put, put_here, put_else, placed_at, others_end, others_clear, others_hand, knows_whole, hand_none, freed_so}
+use Rattle.ring_line.proofs.Nodes.{passed_goes, placed_at, others_end, others_clear, others_hand, knows_whole, hand_none, freed_so}
 use Rattle.ring_line.proofs.Histories.{marked_at, continues}
 use Rattle.ring_line.proofs.Keeping.{St, Homes, rule_step, mine_ok, mine_low, blank}
 use Rattle.ring_line.proofs.Taking.{cells_apart}
@@ -49,6 +50,11 @@ carried_parcel d ((k, p) ∷ xs) = p
 some_list : (l : List ℕ) (q : ℕ) → l ++ q ∷ [] ≢ []
 some_list [] q e = cc
 some_list (p ∷ ps) q e = cc
+
+elem_within : {A : Type 0} (xs : List A) (p : ℕ) (x : A) → get_elem? xs p ≡ some x → p < length xs
+elem_within [] p x e = absurd (some-ne-none x (sym e))
+elem_within (y ∷ ys) zero x e = omega arith
+elem_within (y ∷ ys) (suc p) x e = let h = elem_within ys p x e in omega arith
 
 module _ (good : List ℕ → Type 0) (allows : List ℕ → List ℕ → Type 0) (about : Setup) (goes : (a b : List ℕ) → good a → allows a b → good b) (v : Entry) (cleared : v.point ≡ Cleared) (y : Parcel) (carries : Carries allows v y) where
   abbrev Rule : St → Type 0

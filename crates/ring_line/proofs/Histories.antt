@@ -14,7 +14,7 @@ use Rattle.qolb_model.specs.declared.terms.Terms.{Terms}
 use Rattle.qolb_model.specs.declared.end.End.{End}
 use Rattle.std.proofs.lemmas.Bool.{cases_lt}
 use Rattle.ring_line.specs.declared.entry.Point.{Point}
-use Rattle.qolb_model.proofs.Lists.{element_at, same_test}
+use Rattle.qolb_model.proofs.Lists.{element_at, same_test, at_same}
 use Rattle.qolb_model.proofs.Prefixes.{prefix_get}
 use Rattle.qolb_model.proofs.Requests.{place_of_request, same_place, lacks_from}
 use Rattle.qolb_model.proofs.Writes.{allowed-begins}
@@ -23,7 +23,6 @@ use Rattle.ring_line.specs.declared.entry.Point.TheVariants.{Idle, Queued, Holdi
 use Rattle.ring_line.specs.declared.entry.Entry.{Entry}
 use Rattle.ring_line.specs.declared.rule.Setup.{Setup}
 use Rattle.ring_line.specs.Ring.{At, Past, NodeOk, PastOk, has_line, is_kept}
-use Rattle.ring_line.proofs.Lists.{at_same}
 use Rattle.ring_line.proofs.Nodes.{placed_at, clash_at, kept_asked}
 
 module _ (good : List ℕ → Type 0) (allows : List ℕ → List ℕ → Type 0) (about : Setup) where

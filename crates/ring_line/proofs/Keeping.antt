@@ -9,13 +9,15 @@ use Rattle.std.proofs.lemmas.Option.{slice_get_within}
 use Rattle.atomic_table.specs.Table.{State}
 use Rattle.qolb_model.specs.declared.request.Request.{Request}
 use Rattle.qolb_model.specs.Requests.{count_of}
+use Rattle.qolb_model.proofs.Lists.{at_drop}
+use Rattle.qolb_model.proofs.Counts.{few_if_once, count_once}
+use Rattle.qolb_model.proofs.Updates.{put, put_here, put_else}
+use Rattle.qolb_model.proofs.Seats.{step_members}
 use Rattle.ring_line.specs.declared.words.TheConstants.{CELLS}
 use Rattle.ring_line.specs.declared.entry.Entry.{Entry}
 use Rattle.ring_line.specs.declared.rule.Setup.{Setup}
 use Rattle.ring_line.specs.declared.rule.Parcel.{Parcel}
-use Rattle.ring_line.specs.Ring.{At, Past, NodeOk, PastOk, Shown, RingRule}
-use Rattle.ring_line.proofs.Lists.{at_drop, few_if_once, count_once}
-use Rattle.ring_line.proofs.Nodes.{put, put_here, put_else, members_step}
+use Rattle.ring_line.specs.Ring.{At, node_of, Past, NodeOk, PastOk, Shown, RingRule}
 
 abbrev pub St : Type 0
 St = State Parcel (List Entry)
@@ -43,7 +45,7 @@ module _ (good : List ℕ → Type 0) (allows : List ℕ → List ℕ → Type 0
     each = λ n a b. dite (ℕ_discrete n v.view.node)
         (λ e. subst (λ (z : ℕ × Entry). NodeOk about x z.0 z.1) (λ i. (sym e i, (sym (put_here r.who v.view.node w) ∙ ap (put r.who v.view.node w) (sym e)) i)) mine)
         (λ ne. subst (NodeOk about x n) (sym (put_else r.who v.view.node w n ne)) (others n a b ne));
-    members = members_step about.terms.nodes r.who r.owner s.views me v w at same r.members;
+    members = step_members node_of about.terms.nodes r.who r.owner s.views r.members me v w at same;
   }
 
   -- what the rule says of the seat's own entry

@@ -1,5 +1,5 @@
 -- The table at the end, when one seat has all entries and no request is open.
-use Rattle.std.proofs.Common.{◌≡◌, ℕ, ◌<◌, ◌≤◌, List, length, map, true, false, sym, refl, ap, ◌∙◌, subst, arith, Some, slice_get, option_map}
+use Rattle.std.proofs.Common.{◌≡◌, ℕ, ◌<◌, ◌≤◌, List, length, map, true, false, sym, refl, ap, ◌∙◌, subst, arith}
 use mathlib.Core.Logic.{dite}
 use mathlib.Core.Option.{some}
 use native.Mathlib.Decide.{ℕ_discrete}
@@ -8,18 +8,18 @@ use Rattle.atomic_table.specs.Table.{Final}
 use Rattle.qolb_model.specs.declared.view.View.{View}
 use Rattle.qolb_model.specs.declared.request.Request.{Request}
 use Rattle.qolb_model.specs.OneHistory.{IsAmong}
-use Rattle.std.proofs.lemmas.Option.{slice_get_within, slice_get-map}
-use Rattle.std.proofs.lemmas.List.{length-map}
-use Rattle.qolb_model.specs.Finishing.{EachNodeOnce}
-use Rattle.qolb_model.proofs.Lists.{element_at, same_some}
+use Rattle.qolb_model.specs.Finishing.{IsLast}
+use Rattle.qolb_model.proofs.Lists.{element_at}
 use Rattle.qolb_model.proofs.Agreeing.{among_map_port}
+use Rattle.qolb_model.proofs.Finishing.{once_map}
+use Rattle.qolb_model.proofs.Seats.{once_each}
 use Rattle.ring_line.specs.declared.entry.Point.{Point}
 use Rattle.ring_line.specs.declared.entry.Point.TheVariants.{Idle, Queued, Holding, Passing, Cleared, Freeing, Rolled}
 use Rattle.ring_line.specs.declared.entry.Entry.{Entry}
 use Rattle.ring_line.specs.declared.rule.Setup.{Setup}
 use Rattle.ring_line.specs.declared.rule.Parcel.{Parcel}
-use Rattle.ring_line.specs.Ring.{At, NodeOk, RingRule, has_line}
-use Rattle.ring_line.specs.Ports.{AllAtRest, is_at_rest, IsLast}
+use Rattle.ring_line.specs.Ring.{At, node_of, NodeOk, RingRule, has_line}
+use Rattle.ring_line.specs.Ports.{AllRest, is_at_rest, views_of}
 use Rattle.ring_line.proofs.Nodes.{clash_at}
 use Rattle.ring_line.proofs.Histories.{one_history}
 use Rattle.ring_line.proofs.Keeping.{St}
@@ -33,7 +33,7 @@ rests_without Cleared e = absurd (cc e)
 rests_without Freeing e = refl
 rests_without Rolled e = refl
 
-module _ (good : List ℕ → Type 0) (allows : List ℕ → List ℕ → Type 0) (about : Setup) (entries : List Entry) (at_rest : AllAtRest about.terms.nodes entries) where
+module _ (good : List ℕ → Type 0) (allows : List ℕ → List ℕ → Type 0) (about : Setup) (entries : List Entry) (at_rest : AllRest about.terms.nodes entries) where
   abbrev Rule : St → Type 0
   Rule = RingRule good allows about
 
@@ -67,13 +67,13 @@ module _ (good : List ℕ → Type 0) (allows : List ℕ → List ℕ → Type 0
     all_ended = let le = r.fine.legal.ended in dite (ℕ_discrete (length r.past.ends) (length r.past.order)) (λ e. e)
         (λ ne. let q = element_at r.past.order (length r.past.ends) (omega arith) in absurd (no_turn q.0 q.1))
 
-    pub finishes : (y : Parcel) × (get_elem? s.homes 0 ≡ some (some y)) × IsLast good allows about.terms entries y.bytes.bytes
+    pub finishes : (y : Parcel) × (get_elem? s.homes 0 ≡ some (some y)) × IsLast good allows about.terms (views_of entries) y.bytes.bytes
     finishes = let y = r.shown.home nobody in (
       y.0,
       y.1,
       record {
         may_open = r.may_open;
-        once = once;
+        once = once_map (λ (e : Entry). e.view) entries (once_each node_of about.terms.nodes r.who r.owner s.views r.members id entries at);
         history = one_history good allows about r.past r.fine (map (λ (e : Entry). e.view) entries) among;
         terms_are = refl;
         all_ended = all_ended;
@@ -83,22 +83,11 @@ module _ (good : List ℕ → Type 0) (allows : List ℕ → List ℕ → Type 0
       },
     )
       where
-        entry_at : (i : ℕ) (v : View) → slice_get (map (λ (e : Entry). e.view) entries) i ≡ Some v → (e : Entry) × At entries i e × (v ≡ e.view)
-        entry_at i v a = let l = slice_get_within (map (λ (e : Entry). e.view) entries) i v a in let m = length-map entries (λ (e : Entry). e.view) in
-            let e = element_at entries i (omega arith) in
-            (e.0, e.1, same_some (sym a ∙ (slice_get-map (λ (x : Entry). x.view) entries i ∙ ap (option_map (λ (x : Entry). x.view)) e.1)))
-
-        -- a node stands at one place of one seat
-        once : EachNodeOnce (map (λ (e : Entry). e.view) entries)
-        once i j v w a c same = let p = entry_at i v a in let q = entry_at j w c in
-            let m = r.members id i entries p.0 at p.1 in let n = r.members id j entries q.0 at q.1 in
-            ap (λ (z : ℕ × ℕ). z.1) (sym m.at ∙ ap r.owner (ap (λ (u : View). u.node) (sym p.2) ∙ same ∙ ap (λ (u : View). u.node) q.2) ∙ n.at)
-
         ok : (i : ℕ) (v : Entry) → At entries i v → NodeOk about r.past v.view.node v
         ok i v e = let m = r.members id i entries v at e in subst (NodeOk about r.past v.view.node) m.is (r.each v.view.node m.low m.high)
 
         among : (v : View) → IsAmong (map (λ (e : Entry). e.view) entries) v → (n : ℕ) × (e : Entry) × (e.view ≡ v) × NodeOk about r.past n e
         among v i = let p = among_map_port (λ (e : Entry). e.view) entries v i in (p.1.view.node, p.1, sym p.3, ok p.0 p.1 p.2)
 
-  pub final_line : (id : ℕ) (words : List ℕ) (xs : List Parcel) → Final (λ s. Rule s × (get_elem? s.views id ≡ some entries)) words xs → (y : Parcel) × (get_elem? xs 0 ≡ some y) × IsLast good allows about.terms entries y.bytes.bytes
+  pub final_line : (id : ℕ) (words : List ℕ) (xs : List Parcel) → Final (λ s. Rule s × (get_elem? s.views id ≡ some entries)) words xs → (y : Parcel) × (get_elem? xs 0 ≡ some y) × IsLast good allows about.terms (views_of entries) y.bytes.bytes
   final_line id words xs f = let s = f.0 in let h = f.1 in let t = finishes id s h.0 h.1 in (t.0, f.4 0 t.0 t.1, t.2)

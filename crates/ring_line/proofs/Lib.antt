@@ -2,7 +2,6 @@ pub mod Turning
 pub mod Walking
 pub mod Releasing
 pub mod Calling
-pub mod Lists
 pub mod Nodes
 pub mod Histories
 pub mod Keeping

@@ -1,12 +1,9 @@
 -- What stays true of one node, and of the seats' entries, over a step of another.
-use Rattle.std.proofs.Common.{◌≡◌, ◌≢◌, ◌⊎◌, ℕ, zero, suc, ◌+◌, ◌<◌, ◌≤◌, List, [], ◌∷◌, ◌++◌, length, set, Bool, true, false, if◌then◌else◌, sym, refl, ap, ◌∙◌, subst, inl, inr, ⊎_elim, arith, length-append, Some, None}
+use Rattle.std.proofs.Common.{◌≡◌, ◌≢◌, ◌⊎◌, ℕ, ◌+◌, ◌<◌, ◌≤◌, List, [], ◌∷◌, ◌++◌, length, Bool, true, false, if◌then◌else◌, sym, refl, ap, ◌∙◌, subst, inl, inr, ⊎_elim, arith, length-append}
 use mathlib.Core.Logic.{dite}
 use mathlib.Core.List.{IsPrefix}
-use mathlib.Core.Option.{some}
 use native.Mathlib.Decide.{ℕ_discrete}
-use lib.ListN.{get_elem?}
 use Rattle.std.proofs.lemmas.Option.{slice_get_within}
-use Rattle.atomic_table.proofs.Lists.{at_set}
 use Rattle.qolb_model.specs.declared.answer.PortState.{PortState}
 use Rattle.qolb_model.specs.declared.answer.PortState.TheVariants as shows
 use Rattle.qolb_model.specs.declared.request.Request.{Request}
@@ -15,42 +12,18 @@ use Rattle.qolb_model.specs.Requests.{Has, Lacks}
 use Rattle.qolb_model.specs.EndKinds.{is_gone}
 use Rattle.qolb_model.specs.Histories.{IsLegal}
 use Rattle.qolb_model.specs.Views.{own}
-use Rattle.qolb_model.proofs.Lists.{never, push_cases}
-use Rattle.qolb_model.proofs.Prefixes.{prefix_get, prefix_self}
-use Rattle.qolb_model.proofs.Requests.{count_of-push_other, has_left, has_last, same_place, has_prefix}
+use Rattle.qolb_model.proofs.Lists.{never, push_cases, at_same, at_none, at_longer}
+use Rattle.qolb_model.proofs.Prefixes.{prefix_get, prefix_self, prefix_more}
+use Rattle.qolb_model.proofs.Requests.{count_of-push_other, has_left, has_last, same_place, has_prefix, has_push_else, lacks_push, lacked_push}
+use Rattle.qolb_model.proofs.Updates.{put, put_here, put_else}
 use Rattle.ring_line.specs.declared.entry.Point.{Point}
 use Rattle.ring_line.specs.declared.entry.Point.TheVariants.{Idle, Queued, Rolled}
 use Rattle.ring_line.specs.declared.entry.Entry.{Entry}
 use Rattle.ring_line.specs.declared.rule.Setup.{Setup}
 use Rattle.qolb_model.specs.PortStates.{may_ask}
 use Rattle.qolb_model.specs.Requests.{count_of}
-use Rattle.ring_line.specs.Ring.{At, has_line, lets_go, is_kept, Past, HasPassed, Knowing, Hand, Walking, NodeOk, Member}
-use Rattle.ring_line.proofs.Lists.{at_same, at_one, at_none, at_longer, prefix_more, has_push_other, lacks_push, lacked_push}
+use Rattle.ring_line.specs.Ring.{At, has_line, lets_go, is_kept, Past, HasPassed, Knowing, Hand, Walking, NodeOk}
 use Rattle.qolb_model.specs.declared.view.View.{View}
-
-abbrev pub pick : {P A : Type 0} → Dec P → A → A → A
-pick (yes _) a b = a
-pick (no _) a b = b
-
-module _ {A : Type 0} where
-  pub put : (ℕ → A) → ℕ → A → ℕ → A
-  put f i c j = pick (ℕ_discrete j i) c (f j)
-
-  pub put_here : (f : ℕ → A) (i : ℕ) (c : A) → put f i c i ≡ c
-  unfolding put
-  put_here f i c = go (ℕ_discrete i i)
-    where
-      go : (d : Dec (i ≡ i)) → pick d c (f i) ≡ c
-      go (yes _) = refl
-      go (no n) = absurd (n refl)
-
-  pub put_else : (f : ℕ → A) (i : ℕ) (c : A) (j : ℕ) → j ≢ i → put f i c j ≡ f j
-  unfolding put
-  put_else f i c j other = go (ℕ_discrete j i)
-    where
-      go : (d : Dec (j ≡ i)) → pick d c (f j) ≡ f j
-      go (yes e) = absurd (other e)
-      go (no _) = refl
 
 -- what two points can't share
 pub clash_at : {q : Point} → (f : Point → Bool) (a : Point) → f q ≡ true → q ≡ a → f a ≡ false → ⊥
@@ -106,6 +79,17 @@ knows_whole order ends clear n w a b c count freed = record {
   counts = count;
   own_ends = λ p r end _ _ en _. subst (λ es. p < length es) (sym b) (slice_get_within ends p end en);
   freed_clear = λ r h. subst (λ rs. Has rs r) (sym c) (freed r h);
+}
+
+-- and goes on knowing, where another request is clear
+pub knows_clear : (order : List Request) (ends : List End) (clear : List Request) (n : ℕ) (w : View) (q : Request) → Knowing order ends clear n w → Knowing order ends (clear ++ q ∷ []) n w
+knows_clear order ends clear n w q k = record {
+  orders = k.orders;
+  endings = k.endings;
+  clears = prefix_more w.clear clear (q ∷ []) k.clears;
+  counts = k.counts;
+  own_ends = k.own_ends;
+  freed_clear = k.freed_clear;
 }
 
 module _ (about : Setup) (x : Past) (n : ℕ) (v : Entry) (ok : NodeOk about x n v) where
@@ -226,14 +210,7 @@ module _ (about : Setup) (x : Past) (n : ℕ) (v : Entry) (ok : NodeOk about x n
   pub others_clear : (q : Request) (place : ℕ) → q.node ≢ n → At x.order place q → x.marks place ≡ 0 → IsLegal about.terms.lease x.order x.ends → NodeOk about (record x { clear = x.clear ++ q ∷ [] }) n v
   others_clear q place other there unmarked legal = record {
     who = ok.who;
-    knows = record {
-      orders = ok.knows.orders;
-      endings = ok.knows.endings;
-      clears = prefix_more v.view.clear x.clear (q ∷ []) ok.knows.clears;
-      counts = ok.knows.counts;
-      own_ends = ok.knows.own_ends;
-      freed_clear = ok.knows.freed_clear;
-    };
+    knows = knows_clear x.order x.ends x.clear n v.view q ok.knows;
     stance = ok.stance;
     hand = ok.hand;
     passes = record {
@@ -252,7 +229,7 @@ module _ (about : Setup) (x : Past) (n : ℕ) (v : Entry) (ok : NodeOk about x n
       last = λ p r at mine h lacks. ok.marks.last p r at mine h (lacked_push x.clear q r lacks);
       all = ok.marks.all;
     };
-    flag = record { rolled = λ i. ok.flag.rolled i ∙ ap (λ b. if b then 1 else 0) (sym (has_push_other x.clear q (own v.view) not_own)); not_rolled = ok.flag.not_rolled };
+    flag = record { rolled = λ i. ok.flag.rolled i ∙ ap (λ b. if b then 1 else 0) (sym (has_push_else x.clear q (own v.view) not_own)); not_rolled = ok.flag.not_rolled };
     joins = ok.joins;
   }
     where
@@ -298,14 +275,7 @@ module _ (about : Setup) (x : Past) (n : ℕ) (v : Entry) (ok : NodeOk about x n
   pub others_free : (m q : ℕ) (r : Request) → At x.order q r → x.passer q ≡ m → 0 < x.marks q → Lacks x.clear r → n ≢ m → IsLegal about.terms.lease x.order x.ends → NodeOk about (record x { clear = x.clear ++ r ∷ []; flags = put x.flags r.node 1 }) n v
   others_free m q r asked passer marked unclear other legal = record {
     who = ok.who;
-    knows = record {
-      orders = ok.knows.orders;
-      endings = ok.knows.endings;
-      clears = prefix_more v.view.clear x.clear (r ∷ []) ok.knows.clears;
-      counts = ok.knows.counts;
-      own_ends = ok.knows.own_ends;
-      freed_clear = ok.knows.freed_clear;
-    };
+    knows = knows_clear x.order x.ends x.clear n v.view r ok.knows;
     stance = ok.stance;
     hand = ok.hand;
     passes = record {
@@ -326,7 +296,7 @@ module _ (about : Setup) (x : Past) (n : ℕ) (v : Entry) (ok : NodeOk about x n
     flag = record {
       rolled = λ i. dite (ℕ_discrete n r.node)
           (λ e. ap (put x.flags r.node 1) e ∙ put_here x.flags r.node 1 ∙ ap (λ b. if b then 1 else 0) (sym (subst (Has (x.clear ++ r ∷ [])) (is_own i e) (has_last x.clear r))))
-          (λ ne. put_else x.flags r.node 1 n ne ∙ ok.flag.rolled i ∙ ap (λ b. if b then 1 else 0) (sym (has_push_other x.clear r (own v.view) (λ e. ne (sym ok.who.node ∙ ap (λ (z : Request). z.node) e)))));
+          (λ ne. put_else x.flags r.node 1 n ne ∙ ok.flag.rolled i ∙ ap (λ b. if b then 1 else 0) (sym (has_push_else x.clear r (own v.view) (λ e. ne (sym ok.who.node ∙ ap (λ (z : Request). z.node) e)))));
       not_rolled = λ i. dite (ℕ_discrete n r.node) (λ e. absurd (i (last (sym e)).0)) (λ ne. put_else x.flags r.node 1 n ne ∙ ok.flag.not_rolled i);
     };
     joins = ok.joins;
@@ -375,29 +345,3 @@ module _ (about : Setup) (x : Past) (n : ℕ) (v : Entry) (ok : NodeOk about x n
     flag = record { rolled = ok.flag.rolled; not_rolled = ok.flag.not_rolled };
     joins = ok.joins;
   }
-
--- the seat j with the entry v alone gets the entry w of the same node
-pub members_step : (nodes : ℕ) (who : ℕ → Entry) (owner : ℕ → ℕ × ℕ) (views : List (List Entry)) (me : ℕ) (v w : Entry) → get_elem? views me ≡ some (v ∷ []) → w.view.node ≡ v.view.node
-    → ((j i : ℕ) (vs : List Entry) (u : Entry) → get_elem? views j ≡ some vs → At vs i u → Member nodes who owner j i u)
-    → (j i : ℕ) (vs : List Entry) (u : Entry) → get_elem? (set views me (w ∷ [])) j ≡ some vs → At vs i u → Member nodes (put who v.view.node w) owner j i u
-members_step nodes who owner views me v w at same all j i vs u there here = ⊎_elim
-    (λ (t : (j ≡ me) × (w ∷ [] ≡ vs)). subst (λ (z : ℕ × List Entry). At z.1 i u → Member nodes (put who v.view.node w) owner z.0 i u) (λ c. (sym t.0 c, t.1 c)) (changed i u) here)
-    (λ (t : (j ≢ me) × (get_elem? views j ≡ some vs)). let m = all j i vs u t.1 here in record {
-      low = m.low;
-      high = m.high;
-      is = put_else who v.view.node w u.view.node (λ e. t.0 (ap (λ (z : ℕ × ℕ). z.0) (sym m.at ∙ ap owner e ∙ mine.at))) ∙ m.is;
-      at = m.at;
-    })
-    (at_set views me j (w ∷ []) vs there)
-  where
-    mine : Member nodes who owner me 0 v
-    mine = all me 0 (v ∷ []) v at refl
-
-    changed : (i : ℕ) (u : Entry) → At (w ∷ []) i u → Member nodes (put who v.view.node w) owner me i u
-    changed zero u e = subst (Member nodes (put who v.view.node w) owner me 0) (at_one w u 0 e) record {
-      low = subst (λ q. 0 < q) (sym same) mine.low;
-      high = subst (λ q. q ≤ nodes) (sym same) mine.high;
-      is = ap (put who v.view.node w) same ∙ put_here who v.view.node w;
-      at = ap owner same ∙ mine.at;
-    }
-    changed (suc i) u e = absurd (let h : None ≡ Some u = e in cc h)

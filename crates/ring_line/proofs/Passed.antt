@@ -4,13 +4,14 @@ use mathlib.Core.Option.{some}
 use lib.ListN.{get_elem?}
 use Rattle.qolb_model.specs.declared.request.Request.{Request}
 use Rattle.qolb_model.specs.Requests.{Lacks}
-use Rattle.qolb_model.proofs.Lists.{same_some, never}
+use Rattle.qolb_model.proofs.Lists.{same_some, never, at_same, at_none}
 use Rattle.qolb_model.proofs.Prefixes.{prefix_get}
+use Rattle.qolb_model.proofs.Counts.{few_if_once, count_once}
 use Rattle.ring_line.specs.declared.entry.Point.TheVariants.{Rolled}
 use Rattle.ring_line.specs.declared.entry.Entry.{Entry}
 use Rattle.ring_line.specs.declared.rule.Setup.{Setup}
-use Rattle.ring_line.specs.Ring.{At, Past, NodeOk, Member, RingRule, lets_go}
-use Rattle.ring_line.proofs.Lists.{at_same, at_none, few_if_once, count_once}
+use Rattle.qolb_model.specs.Entries.{Member}
+use Rattle.ring_line.specs.Ring.{At, node_of, Past, NodeOk, RingRule, lets_go}
 use Rattle.ring_line.proofs.Keeping.{St, mine_ok}
 
 abbrev by_node : ℕ → Request
@@ -38,7 +39,7 @@ module _ (good : List ℕ → Type 0) (allows : List ℕ → List ℕ → Type 0
       x : Past
       x = r.past
 
-      member : Member about.terms.nodes r.who r.owner me 0 v
+      member : Member node_of about.terms.nodes r.who r.owner me 0 v
       member = r.members me 0 (v ∷ []) v at refl
 
       ok : NodeOk about r.past v.view.node v

@@ -22,13 +22,13 @@ use Rattle.qolb_model.specs.LettingGo.{LetsGo}
 use Rattle.qolb_model.proofs.Lists.{element_at, same_some}
 use Rattle.qolb_model.proofs.Prefixes.{prefix_get}
 use Rattle.qolb_model.proofs.Histories.{bytes_after-append, is_closed-append}
+use Rattle.qolb_model.proofs.Going.{same_own}
 use Rattle.ring_line.specs.Words.{cell_of}
 use Rattle.ring_line.specs.declared.entry.Entry.{Entry}
 use Rattle.ring_line.specs.declared.rule.Parcel.{Parcel}
 use Rattle.ring_line.specs.Steps.{RingSeat, entry_of, sole, write_of, own_end, end_of, next_end, Carries, Comes, Ended, after_clear, HasSlot, own_cell}
 use Rattle.ring_line.specs.Releases.{IsPutBack, LetsLineGo, WalksOn, IsPassedOn}
 use Rattle.ring_line.specs.Ports.{IsMerged, Holds, Arrived}
-use Rattle.ring_line.proofs.Turning.{same_own}
 use Rattle.qolb_model.proofs.Requests.{has_prefix}
 
 -- who has passed none ends its own request next

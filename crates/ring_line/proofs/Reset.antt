@@ -10,16 +10,16 @@ use Rattle.qolb_model.specs.Requests.{Has, has}
 use Rattle.qolb_model.specs.Views.{own}
 use Rattle.qolb_model.specs.Sound.{Continues}
 use Rattle.qolb_model.proofs.Requests.{same_place, has_prefix}
-use Rattle.qolb_model.proofs.Lists.{never}
+use Rattle.qolb_model.proofs.Lists.{never, at_same}
 use Rattle.qolb_model.specs.declared.terms.TheConstants.{MOST_NODES}
+use Rattle.qolb_model.proofs.Updates.{put, put_here, put_else}
 use Rattle.ring_line.specs.declared.entry.Point.TheVariants.{Rolled}
 use Rattle.ring_line.specs.declared.entry.Entry.{Entry}
 use Rattle.ring_line.specs.declared.rule.Setup.{Setup}
 use Rattle.ring_line.specs.Words.{ticket_at, cell_at, node_at, cell_of}
 use Rattle.ring_line.specs.Ring.{At, Past, NodeOk, PastOk, Shown, RingRule, has_line, lets_go, is_kept}
 use Rattle.ring_line.specs.Steps.{sole, Contents, IsStill, loaded_node, reset, after_reset}
-use Rattle.ring_line.proofs.Lists.{at_same}
-use Rattle.ring_line.proofs.Nodes.{clash_at, put, put_here, put_else, placed_at, others_reset, fresh, fresh_ok, hand_none, passes_none}
+use Rattle.ring_line.proofs.Nodes.{clash_at, placed_at, others_reset, fresh, fresh_ok, hand_none, passes_none}
 use Rattle.ring_line.proofs.Histories.{continues}
 use Rattle.ring_line.proofs.Keeping.{St, Homes, rule_step, mine_ok, mine_low}
 use Rattle.ring_line.proofs.Turning.{goes_step}

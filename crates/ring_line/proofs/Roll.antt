@@ -13,6 +13,8 @@ use Rattle.qolb_model.specs.Views.{own}
 use Rattle.qolb_model.specs.Sound.{Continues}
 use Rattle.qolb_model.proofs.Requests.{has_left, has_last, has_push}
 use Rattle.qolb_model.specs.declared.terms.TheConstants.{MOST_NODES}
+use Rattle.qolb_model.proofs.Lists.{at_same}
+use Rattle.qolb_model.proofs.Updates.{put, put_here, put_else}
 use Rattle.ring_line.specs.declared.words.TheConstants.{CELLS, WITHDRAWN}
 use Rattle.ring_line.specs.declared.entry.Point.TheVariants.{Queued, Rolled}
 use Rattle.ring_line.specs.declared.entry.Entry.{Entry}
@@ -20,8 +22,7 @@ use Rattle.ring_line.specs.declared.rule.Setup.{Setup}
 use Rattle.ring_line.specs.Words.{ticket_at, cell_at, node_at, cell_of}
 use Rattle.ring_line.specs.Ring.{At, Past, NodeOk, PastOk, Shown, RingRule, has_line, lets_go, is_kept}
 use Rattle.ring_line.specs.Steps.{sole, Contents, IsRolled, Comes, rolled}
-use Rattle.ring_line.proofs.Lists.{at_same}
-use Rattle.ring_line.proofs.Nodes.{put, put_here, put_else, others_roll, knows_whole, hand_none, passes_none, freed_so}
+use Rattle.ring_line.proofs.Nodes.{others_roll, knows_whole, hand_none, passes_none, freed_so}
 use Rattle.ring_line.proofs.Histories.{continues}
 use Rattle.ring_line.proofs.Keeping.{St, Homes, rule_step, mine_ok, mine_low}
 use Rattle.ring_line.proofs.Taking.{take_entry, asked_at, near, home, finds_grant, finds_blank, takes_rule, comes, learns_take}

@@ -1,30 +1,24 @@
 -- How the entries of all nodes are split into ports.
-use Rattle.std.proofs.Common.{◌≡◌, ℕ, suc, ◌+◌, ◌-◌, ◌<◌, List, [], ◌∷◌, ◌++◌, sym, refl, ap, ◌∙◌, subst, ⊎_elim, arith, length-append, Some, option_map, All}
-use Rattle.std.proofs.lemmas.Option.{slice_get_within, slice_get-map, get_or_from_slice_get}
-use Rattle.std.proofs.lemmas.List.{length-map}
+use Rattle.std.proofs.Common.{◌≡◌, ℕ, ◌+◌, ◌-◌, ◌<◌, List, [], ◌∷◌, ◌++◌, sym, refl, ap, ◌∙◌, subst, ⊎_elim, length-append}
 use Rattle.atomic_table.specs.Seated.{TableId}
 use Rattle.qolb_model.specs.declared.answer.PortState.TheVariants as shows
-use Rattle.qolb_model.specs.declared.view.View.{View}
-use Rattle.qolb_model.specs.Sound.{IsSound}
 use Rattle.qolb_model.specs.Opening.{MayOpen, new_view}
-use Rattle.qolb_model.proofs.Lists.{push_cases, element_at}
-use Rattle.qolb_model.proofs.Agreeing.{new_is_sound}
+use Rattle.qolb_model.specs.Entries.{front, behind}
+use Rattle.qolb_model.proofs.Lists.{push_cases}
+use Rattle.qolb_model.proofs.Agreeing.{opens_new}
+use Rattle.qolb_model.proofs.Seats.{each_from_more}
 use Rattle.ring_line.specs.declared.rule.Setup.{Setup}
 use Rattle.ring_line.specs.declared.rule.Parcel.{Parcel}
-use Rattle.ring_line.specs.Ring.{At, newcomer, newcomers_from}
-use Rattle.ring_line.specs.Steps.{RingSeat, sole, front, behind}
+use Rattle.ring_line.specs.Ring.{newcomer, newcomers_from}
+use Rattle.ring_line.specs.Steps.{RingSeat, sole}
 use Rattle.ring_line.specs.Ports.{Standing, standing, IsPort, AreSplit, IsOpened, BelongsTo}
-
-from_more : (about : Setup) (n N : ℕ) → n < N → newcomers_from about n (N - n) ≡ newcomer about (n + 1) ∷ newcomers_from about (n + 1) (N - (n + 1))
-from_more about n N l = let j = N - (n + 1) in let e : N - n ≡ suc j = omega arith in let f : suc n ≡ n + 1 = omega arith in
-    ap (newcomers_from about n) e ∙ (λ i. newcomer about (f i) ∷ newcomers_from about (f i) j)
 
 module _ (about : Setup) (n : ℕ) (old first rest : RingSeat) (more : n < about.terms.nodes) (whole : old.me ≡ (newcomers_from about n (about.terms.nodes - n), [])) where
   pub first_me : first.me ≡ (front old.me.0, old.me.1) → first.me ≡ (newcomer about (n + 1) ∷ [], [])
-  first_me e = e ∙ (λ i. (front (whole i).0, (whole i).1)) ∙ (λ i. (front (from_more about n about.terms.nodes more i), []))
+  first_me e = e ∙ (λ i. (front (whole i).0, (whole i).1)) ∙ (λ i. (front (each_from_more (newcomer about) n about.terms.nodes more i), []))
 
   pub rest_me : rest.me ≡ (behind old.me.0, []) → rest.me ≡ (newcomers_from about (n + 1) (about.terms.nodes - (n + 1)), [])
-  rest_me e = e ∙ (λ i. (behind (whole i).0, [])) ∙ (λ i. (behind (from_more about n about.terms.nodes more i), []))
+  rest_me e = e ∙ (λ i. (behind (whole i).0, [])) ∙ (λ i. (behind (each_from_more (newcomer about) n about.terms.nodes more i), []))
 
   pub first_port : (y : Parcel) (cell : ℕ) → first.me ≡ (front old.me.0, old.me.1) → IsPort about.label (n + 1) first y cell shows.Idle
   first_port y cell e = let is = first_me e in record {
@@ -46,17 +40,4 @@ one_more table_id about n ports first y d t is = record {
 -- the ports of a new line, which took no step
 module _ (good : List ℕ → Type 0) (allows : List ℕ → List ℕ → Type 0) (table_id : TableId) (about : Setup) (ports : List Standing) (d : AreSplit table_id about about.terms.nodes ports) where
   pub split_opens : MayOpen about.terms → good about.terms.opening.bytes → IsOpened good allows about table_id about.label about.terms ports
-  split_opens may fine = record {
-    label_is = refl;
-    terms_are = refl;
-    new = record {
-      count = length-map ports (λ (p : Standing). p.view) ∙ d.many;
-      each = λ i l. let at = element_at ports i (let m = d.many in omega arith) in slice_get-map (λ (p : Standing). p.view) ports i ∙ ap (option_map (λ (p : Standing). p.view)) at.1 ∙ ap Some (d.each i at.0 at.1).1;
-    };
-    belong = each_of (BelongsTo good allows about table_id) (λ k p at. let inside = slice_get_within ports k p at in let many = d.many in let e = d.each k p at in
-        record { table_is = e.0; sound = subst (IsSound good allows about.label about.terms) (sym e.1) (new_is_sound good allows about.label about.terms (k + 1) may fine (omega arith) (omega arith)) });
-    idle = each_of (λ (p : Standing). p.view.state ≡ shows.Idle) (λ k p at. ap (λ (v : View). v.state) (d.each k p at).1);
-  }
-    where
-      each_of : (P : Standing → Type 0) → ((k : ℕ) (p : Standing) → At ports k p → P p) → All P ports
-      each_of P h = λ k x l. let at = element_at ports k l in subst P (sym (get_or_from_slice_get ports k at.0 x at.1)) (h k at.0 at.1)
+  split_opens = opens_new (λ (p : Standing). p.view) (BelongsTo good allows about table_id) about.label about.terms ports d.many (λ k p at. (d.each k p at).1) (λ k p at sound. record { table_is = (d.each k p at).0; sound = sound })

@@ -14,6 +14,7 @@ use Rattle.qolb_model.specs.Ends.{is_closed, bytes_after}
 use Rattle.qolb_model.specs.Views.{own}
 use Rattle.qolb_model.specs.Sound.{Continues}
 use Rattle.qolb_model.proofs.Agreed.{length-bytes_after}
+use Rattle.qolb_model.proofs.Lists.{at_same}
 use Rattle.ring_line.specs.declared.words.TheConstants.{CELLS, WITHDRAWN}
 use Rattle.ring_line.specs.declared.entry.Point.{Point}
 use Rattle.ring_line.specs.declared.entry.Point.TheVariants.{Idle, Queued, Holding, Passing, Cleared, Freeing, Rolled}
@@ -23,7 +24,6 @@ use Rattle.ring_line.specs.declared.rule.Parcel.{Parcel}
 use Rattle.ring_line.specs.Words.{ticket_at, cell_at, node_at, cell_of}
 use Rattle.ring_line.specs.Ring.{At, Past, NodeOk, PastOk, Shown, RingRule, has_line, lets_go, is_kept}
 use Rattle.ring_line.specs.Steps.{Comes}
-use Rattle.ring_line.proofs.Lists.{at_same}
 use Rattle.ring_line.proofs.Nodes.{clash_at, placed_at, none_passed, others_hand, knows_whole, passes_none, freed_so}
 use Rattle.ring_line.proofs.Histories.{not_withdrawn, continues}
 use Rattle.ring_line.proofs.Keeping.{St, rule_step, mine_ok, mine_low, window}

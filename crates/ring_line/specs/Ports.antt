@@ -1,19 +1,16 @@
 -- What a port knows and holds.
-use Rattle.std.specs.Prelude.{◌≡◌, ◌≢◌, map, ℕ, ◌+◌, ◌*◌, ◌-◌, ◌≤◌, ◌<◌, length, Bool, true, false, List, [], Some}
+use Rattle.std.specs.Prelude.{◌≡◌, ◌≢◌, map, ℕ, ◌+◌, ◌*◌, ◌-◌, ◌≤◌, length, Bool, true, false, List, [], Some}
 use Rattle.atomic_table.specs.Seated.{TableId}
 use Rattle.qolb_model.specs.declared.answer.PortState.{PortState}
 use Rattle.qolb_model.specs.declared.answer.PortState.TheVariants as shows
 use Rattle.qolb_model.specs.declared.terms.Terms.{Terms}
 use Rattle.qolb_model.specs.declared.view.View.{View}
 use Rattle.qolb_model.specs.declared.write.Write.{Write}
-use Rattle.qolb_model.specs.Ends.{is_closed, written, bytes_after}
+use Rattle.qolb_model.specs.Ends.{is_closed, written}
 use Rattle.qolb_model.specs.Views.{bytes_of}
-use Rattle.qolb_model.specs.OneHistory.{OneHistory}
 use Rattle.qolb_model.specs.Sound.{IsSound}
 use Rattle.qolb_model.specs.Leases.{turns_left}
-use Rattle.qolb_model.specs.Kept.{AreAllowed}
-use Rattle.qolb_model.specs.Finishing.{EachNodeOnce}
-use Rattle.qolb_model.specs.Opening.{new_view, MayOpen, Opens}
+use Rattle.qolb_model.specs.Opening.{new_view, Opens}
 use Rattle.qolb_model.specs.Turns.{IsGranted}
 use Rattle.qolb_model.specs.LettingGo.{IsTold}
 use Rattle.ring_line.specs.declared.entry.Point.{Point}
@@ -21,7 +18,8 @@ use Rattle.ring_line.specs.declared.entry.Point.TheVariants.{Idle, Queued, Holdi
 use Rattle.ring_line.specs.declared.entry.Entry.{Entry}
 use Rattle.ring_line.specs.declared.rule.Parcel.{Parcel}
 use Rattle.ring_line.specs.declared.rule.Setup.{Setup}
-use Rattle.ring_line.specs.Ring.{At, newcomers_from}
+use Rattle.qolb_model.specs.Entries.{AllAtRest}
+use Rattle.ring_line.specs.Ring.{At, node_of, newcomers_from}
 use Rattle.ring_line.specs.Steps.{RingSeat, Alone, entry_of, HasSlot, HasNoSlot, own_cell, turn_cell, write_of}
 use Rattle.std.specs.List.{All}
 
@@ -117,18 +115,10 @@ is_at_rest Cleared = false
 is_at_rest Freeing = false
 is_at_rest Rolled = true
 
--- each node has an entry among these, and each is at rest
-abbrev pub AllAtRest : ℕ → List Entry → Type 0
-AllAtRest nodes entries = (n : ℕ) → 0 < n → n ≤ nodes → (i : ℕ) × (e : Entry) × At entries i e × (e.view.node ≡ n) × (is_at_rest e.point ≡ true)
+-- each node has an entry among these, and it is at rest
+abbrev pub AllRest : ℕ → List Entry → Type 0
+AllRest nodes entries = AllAtRest node_of (λ e. is_at_rest e.point ≡ true) nodes entries
 
--- these are entries of different nodes, all of one history of a line that may be opened so, in which every request has ended and every turn kept the law; and
--- the bytes are those after all ends, and good
-pub record IsLast (good : List ℕ → Type 0) (allows : List ℕ → List ℕ → Type 0) (terms : Terms) (entries : List Entry) (bytes : List ℕ) : Type 0 where
-  pub may_open : MayOpen terms
-  pub once : EachNodeOnce (map (λ (e : Entry). e.view) entries)
-  pub history : OneHistory (map (λ (e : Entry). e.view) entries)
-  pub terms_are : history.terms ≡ terms
-  pub all_ended : length history.ends ≡ length history.order
-  pub kept : AreAllowed allows terms.opening.bytes history.ends
-  pub result : bytes ≡ bytes_after terms.opening.bytes history.ends
-  pub is_good : good bytes
+-- what a seat's entries know
+abbrev pub views_of : List Entry → List View
+views_of entries = map (λ (e : Entry). e.view) entries

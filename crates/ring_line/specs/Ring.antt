@@ -1,5 +1,5 @@
 -- The rule of the ring's table.
-use Rattle.std.specs.Prelude.{◌≡◌, ◌≢◌, ◌⊎◌, ℕ, zero, suc, ◌+◌, ◌*◌, ◌%◌, ◌^◌, ◌<◌, ◌≤◌, List, [], ◌∷◌, length, slice_index, slice_get, Bool, true, false, if◌then◌else◌, Some}
+use Rattle.std.specs.Prelude.{◌≡◌, ◌≢◌, ◌⊎◌, ℕ, ◌+◌, ◌*◌, ◌%◌, ◌^◌, ◌<◌, ◌≤◌, List, [], length, slice_index, slice_get, Bool, true, false, if◌then◌else◌, Some}
 use mathlib.Core.List.{IsPrefix}
 use mathlib.Core.Option.{some}
 use mathlib.Core.Option as maybe
@@ -18,6 +18,7 @@ use Rattle.qolb_model.specs.Leases.{turns_left}
 use Rattle.qolb_model.specs.Views.{own}
 use Rattle.qolb_model.specs.Kept.{AreAllowed}
 use Rattle.qolb_model.specs.Opening.{new_view, MayOpen}
+use Rattle.qolb_model.specs.Entries.{AreMembers, each_from}
 use Rattle.qolb_model.specs.declared.terms.TheConstants.{MOST_NODES}
 use Rattle.ring_line.specs.declared.words.TheConstants.{CELLS, WITHDRAWN}
 use Rattle.ring_line.specs.declared.entry.Point.{Point}
@@ -36,8 +37,11 @@ newcomer about n = record { view = new_view about.label about.terms n; point = I
 
 -- the nodes n+1 .. n+k
 abbrev pub newcomers_from : Setup → ℕ → ℕ → List Entry
-newcomers_from about n zero = []
-newcomers_from about n (suc k) = newcomer about (suc n) ∷ newcomers_from about (suc n) k
+newcomers_from about n k = each_from (newcomer about) n k
+
+-- the node of an entry
+abbrev pub node_of : Entry → ℕ
+node_of e = e.view.node
 
 abbrev pub newcomers : Setup → List Entry
 newcomers about = newcomers_from about 0 about.terms.nodes
@@ -179,13 +183,6 @@ pub record NodeOk (about : Setup) (x : Past) (n : ℕ) (e : Entry) : Type 0 wher
   pub flag : Flag x.clear x.flags n e
   pub joins : Joining x.order n e.view.joined
 
--- the entry at the i-th place of the seat j
-pub record Member (nodes : ℕ) (who : ℕ → Entry) (owner : ℕ → ℕ × ℕ) (j i : ℕ) (e : Entry) : Type 0 where
-  pub low : 0 < e.view.node
-  pub high : e.view.node ≤ nodes
-  pub is : who e.view.node ≡ e
-  pub at : owner e.view.node ≡ (j, i)
-
 module _ (good : List ℕ → Type 0) (allows : List ℕ → List ℕ → Type 0) (about : Setup) where
   -- what holds of the history alone
   pub record PastOk (x : Past) : Type 0 where
@@ -221,4 +218,4 @@ module _ (good : List ℕ → Type 0) (allows : List ℕ → List ℕ → Type 0
     pub fine : PastOk past
     pub shown : Shown past s.words s.homes
     pub each : (n : ℕ) → 0 < n → n ≤ about.terms.nodes → NodeOk about past n (who n)
-    pub members : (j i : ℕ) (es : List Entry) (e : Entry) → get_elem? s.views j ≡ some es → At es i e → Member about.terms.nodes who owner j i e
+    pub members : AreMembers node_of about.terms.nodes who owner s.views

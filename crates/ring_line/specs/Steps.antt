@@ -15,12 +15,13 @@ use Rattle.qolb_model.specs.Leases.{is_last_turn, turns_left}
 use Rattle.qolb_model.specs.Ends.{is_closed, bytes_after, MayEnd}
 use Rattle.qolb_model.specs.Histories.{turn_of}
 use Rattle.qolb_model.specs.Views.{own, bytes_of, Extends}
-use Rattle.qolb_model.specs.OneHistory.{OneHistory}
 use Rattle.qolb_model.specs.Kept.{AreAllowed}
 use Rattle.qolb_model.specs.Sound.{Continues}
 use Rattle.qolb_model.specs.Asking.{Asks}
 use Rattle.qolb_model.specs.Turns.{IsClearBefore}
-use Rattle.qolb_model.specs.Meeting.{longer}
+use Rattle.qolb_model.specs.Meeting.{longer, informed_view}
+use Rattle.qolb_model.specs.Entries.{behind}
+use Rattle.qolb_model.specs.Calls.{TellEachOther}
 use Rattle.ring_line.specs.Words.{word_count, cell_of, withdrawn_by}
 use Rattle.qolb_model.specs.declared.terms.TheConstants.{MOST_NODES}
 use Rattle.ring_line.specs.declared.entry.Point.{Point}
@@ -98,6 +99,7 @@ pub record GoesOn (allows : List ℕ → List ℕ → Type 0) (old new : Content
 -- the node asked, and knows all that came before
 pub record Asked (v : Entry) (found : ℕ) (w : Entry) : Type 0 where
   pub point : w.point ≡ Queued
+  pub state : w.view.state ≡ shows.Queued
   pub cell : cell_of found ≡ cell_of w.place
   pub asks : Asks v.view w.view
   pub joined : Has w.view.joined (own w.view)
@@ -256,26 +258,13 @@ module _ (allows : List ℕ → List ℕ → Type 0) where
   abbrev pub loaded_node : Step Parcel → Contents → ℕ → Contents → Type 0
   loaded_node st m n m' = (m'.1 ≡ m.1) × GoesOn allows m m' 1 × IsStill (sole m.0) n (sole m'.0)
 
-abbrev pub front : List Entry → List Entry
-front [] = []
-front (e ∷ es) = e ∷ []
-
-abbrev pub behind : List Entry → List Entry
-behind [] = []
-behind (e ∷ es) = es
-
--- the view v, which learns what u knows
-abbrev pub informed_view : View → View → View
-informed_view v u = record v { order = longer v.order u.order; ends = longer v.ends u.ends; clear = longer v.clear u.clear; joined = v.joined ++ u.joined; marked = v.marked ++ u.marked; freed = v.freed ++ u.freed }
-
 abbrev pub informed : Entry → Entry → Entry
 informed v u = record v { view = informed_view v.view u.view }
 
--- two ports of one line compare what they know
+-- two ports of one line tell each other what they know, and a holder learns of no end
 abbrev pub met : (List ℕ → List ℕ → Type 0) → Step Parcel → Contents → ℕ → Contents → Type 0
 met allows st m n m' = let v = sole m.0 in let u = sole (behind m.0) in
-    (m' ≡ (informed v u ∷ informed u v ∷ [], m.1)) × (v.view.node ≢ u.view.node) × OneHistory (v.view ∷ u.view ∷ []) × OneHistory (informed_view v.view u.view ∷ informed_view u.view v.view ∷ [])
-    × Continues allows v.view (informed_view v.view u.view) × Continues allows u.view (informed_view u.view v.view) × ¬ ((v.point ≡ Holding) × (u.point ≡ Holding))
+    (m' ≡ (informed v u ∷ informed u v ∷ [], m.1)) × TellEachOther allows v.view u.view (informed_view v.view u.view) (informed_view u.view v.view)
     × (v.point ≡ Holding → longer v.view.ends u.view.ends ≡ v.view.ends) × (u.point ≡ Holding → longer u.view.ends v.view.ends ≡ u.view.ends)
 
 -- the slot goes home, for a moment

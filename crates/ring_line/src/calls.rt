@@ -38,31 +38,23 @@ impl<K: Keep> RingLine<K> {
         ensures bound { port.new.steps ≤ 3 * self.now.table.shared.key.terms.nodes + 3 }
     {
         let ground = &self.table.shared;
-        port.steps = 1;
         let Some(renewing) = renew(ground, &mut port.seat, port.node, port.state) else {
+            port.steps = 1;
             return Enq::Busy;
         };
-        port.steps = renewing + 2;
         port.cell = ask(ground, &mut port.seat);
-        if !load(ground, &mut port.seat, port.cell) {
-            port.state = PortState::Queued;
-            return Enq::Queued;
-        }
-        port.state = arrive(
-            ground,
-            &mut port.seat,
-            &mut port.parcel,
-            &mut port.steps,
-            port.cell,
-        );
-        if port.holds() {
-            Enq::Granted
-        } else {
-            Enq::Closed
+        port.state = PortState::Queued;
+        let answer = self.poll(port);
+        port.steps += renewing + 1;
+        match answer {
+            Poll::Granted => Enq::Granted,
+            Poll::Waiting => Enq::Queued,
+            Poll::Closed => Enq::Closed,
         }
     }
 
     /// Looks whether the request has come to its turn.
+    #[inline]
     pub fn poll(&self, port: &mut Port) -> Poll
         requires belongs { IsPortOf K.good K.allows self.now port.old }
         requires state { port.old.view.state ≡ PortState.Queued }

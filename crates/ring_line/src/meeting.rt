@@ -1,7 +1,6 @@
 //! Seats that are cut and joined.
-ghost use Rattle.std.specs.Prelude.{◌≡◌, ◌≢◌, [], ◌∷◌};
-ghost use Rattle.qolb_model.specs.OneHistory.{OneHistory};
-ghost use Rattle.qolb_model.specs.Sound.{Continues};
+ghost use Rattle.std.specs.Prelude.{◌≡◌, [], ◌∷◌};
+ghost use Rattle.qolb_model.specs.Calls.{TellEachOther};
 ghost use Rattle.qolb_model.specs.Meeting.{longer};
 ghost use Rattle.ring_line.specs.Steps.{IsSeatOf, HasNoSlot, Alone, entry_of, informed};
 ghost use Rattle.ring_line.specs.declared.entry.Point.TheVariants.{Holding};
@@ -23,12 +22,7 @@ pub(crate) fn meet_seats<K: Keep>(ground: &Ground<K>, a: &mut RingSeat, b: &mut 
     ensures tables { (a.new.table_id ≡ a.old.table_id) × (b.new.table_id ≡ b.old.table_id) }
     ensures first { a.new.me ≡ (informed (entry_of a.old) (entry_of b.old) ∷ [], a.old.me.1) }
     ensures second { b.new.me ≡ (informed (entry_of b.old) (entry_of a.old) ∷ [], []) }
-    ensures apart { (entry_of a.old).view.node ≢ (entry_of b.old).view.node }
-    ensures before { OneHistory ((entry_of a.old).view ∷ (entry_of b.old).view ∷ []) }
-    ensures after { OneHistory ((entry_of a.new).view ∷ (entry_of b.new).view ∷ []) }
-    ensures continues_a { Continues K.allows (entry_of a.old).view (entry_of a.new).view }
-    ensures continues_b { Continues K.allows (entry_of b.old).view (entry_of b.new).view }
-    ensures alone { ¬ (((entry_of a.old).point ≡ Holding) × ((entry_of b.old).point ≡ Holding)) }
+    ensures tell { TellEachOther K.allows (entry_of a.old).view (entry_of b.old).view (entry_of a.new).view (entry_of b.new).view }
     ensures holder { let v = entry_of a.old in let u = entry_of b.old in (v.point ≡ Holding → longer v.view.ends u.view.ends ≡ v.view.ends) × (u.point ≡ Holding → longer u.view.ends v.view.ends ≡ u.view.ends) }
 {
     let blank = ground.split_seat::<Blank>(a);

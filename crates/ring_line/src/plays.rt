@@ -1,6 +1,7 @@
 //! What each step tells, and how seats are cut and joined.
 ghost use Rattle.std.specs.Prelude.{[], ◌++◌};
-ghost use Rattle.ring_line.specs.Steps.{asked, loaded, rolled, cleared, granted, freed, loaded_node, reset, front, behind, met, parked};
+ghost use Rattle.qolb_model.specs.Entries.{front, behind};
+ghost use Rattle.ring_line.specs.Steps.{asked, loaded, rolled, cleared, granted, freed, loaded_node, reset, met, parked};
 
 use crate::entry::Entry;
 use crate::rule::Parcel;

@@ -1,9 +1,8 @@
 //! The port of a node.
 ghost use Rattle.std.specs.Prelude.{◌≡◌, ◌↔◌, IsTrue};
-ghost use Rattle.qolb_model.specs.PortStates.{may_ask};
 
 use crate::rule::{Parcel, RingSeat};
-use qolb_model::PortState;
+use qolb_model::{LinePort, PortState};
 use std::marker::Model;
 
 /// A node's end of the line.
@@ -33,28 +32,23 @@ impl Model for Port {
     ghost invariant = { λ p. IsPort p.label p.node p.seat p.parcel p.cell p.state };
 }
 
-impl Port {
-    /// The label of the port's line.
-    pub(crate) fn label(&self) -> u64
-        ensures { result ≡ self.now.view.label }
-    {
+impl LinePort for Port {
+    ghost view = { λ port. port.view };
+
+    fn label(&self) -> u64 {
         self.label
     }
 
-    /// The port's node.
-    pub(crate) fn node(&self) -> u64
-        ensures { result ≡ self.now.view.node }
-    {
+    fn node(&self) -> u64 {
         self.node
     }
 
-    /// Whether the port has no request that waits or holds, so that its node may ask.
-    pub(crate) fn may_ask(&self) -> bool
-        ensures { result ≡ may_ask self.now.view.state }
-    {
-        self.state.may_ask()
+    fn state(&self) -> PortState {
+        self.state
     }
+}
 
+impl Port {
     /// Whether the port holds the line.
     #[inline]
     pub(crate) fn holds(&self) -> bool

@@ -45,7 +45,7 @@ fn replays_and_refuses_scripts(rt: HostRuntime) -> Result<(), Fail> {
         ("nodes 2 lines 1\nenq 1", 1, "", "bad line 2\n"),
     ];
     for (script, status, out, err) in rows {
-        for kind in ["plain", "ring"] {
+        for kind in ["plain", "ring", "link"] {
             let found = run(&rt, &["replay", "--kind", kind], script)?;
             assert_eq!(rt; found.0, status, "of {script}");
             assert_eq!(rt; found.1.as_str(), out, "of {script}");
@@ -62,7 +62,7 @@ fn refuses_command_lines(rt: HostRuntime) -> Result<(), Fail> {
         &["replay"],
         &["replay", "--kind"],
         &["replay", "--kind", "rings"],
-        &["replay", "--kind", "link"],
+        &["replay", "--kind", "lists"],
         &["steps", "--kind", "plain"],
         &["--help"],
         &["replay", "--help"],

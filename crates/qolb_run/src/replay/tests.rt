@@ -4,7 +4,7 @@ use std::alloc::Global;
 use std::io;
 use std::test::Fail;
 
-const KINDS: [Kind; 2] = [Kind::Plain, Kind::Ring];
+const KINDS: [Kind; 3] = [Kind::Plain, Kind::Ring, Kind::Link];
 
 /// What a replay of the script writes.
 fn reply_to(alloc: Global, script: &str, kind: Kind) -> Result<String, Fail> {
@@ -318,14 +318,14 @@ fn takes_inputs_up_to_the_limit(rt: HostRuntime) -> Result<(), Fail> {
     Ok(())
 }
 
-/// How many of the growing heaps were too small for the reply of a hand-over by lines of this kind, with rings in `rings`;
+/// How many of the growing heaps were too small for the reply of a hand-over by lines of this kind, with those that nodes share in `shared`;
 /// `None` where a larger heap than one that served did not.
-fn heaps_refused(rings: Global, kind: Kind) -> Result<Option<u32>, Fail> {
+fn heaps_refused(shared: Global, kind: Kind) -> Result<Option<u32>, Fail> {
     let mut refused = 0u32;
     let mut replayed = false;
     for step in 1..400usize {
-        let heap = LocalHeap::new(rings, 32 * step)?;
-        match answered(&&heap, rings, HAND_OVER.as_bytes(), kind) {
+        let heap = LocalHeap::new(shared, 32 * step)?;
+        match answered(&&heap, shared, HAND_OVER.as_bytes(), kind) {
             Ok(text) => {
                 replayed = true;
                 if text.len() < 128 {

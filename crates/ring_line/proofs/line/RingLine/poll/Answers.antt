@@ -2,7 +2,8 @@ use Rattle.std.proofs.Common.{rules, ◌≡◌, ◌≢◌, ◌∙◌}
 use Rattle.qolb_model.specs.declared.answer.PortState.TheVariants as shows
 use Rattle.ring_line.specs.Steps.{entry_of}
 use Rattle.ring_line.proofs.Turning.{goes_trans}
-use Rattle.ring_line.proofs.Calling.{call_continues, call_belongs, same_count, early_waits, granted_of, told_of, polls_waiting, polls_granted, polls_told}
+use Rattle.qolb_model.proofs.Answering.{polls_waiting, polls_granted, polls_told}
+use Rattle.ring_line.proofs.Calling.{call_continues, call_belongs, same_count, early_waits, granted_of, told_of}
 use Rattle.ring_line.proofs.line.RingLine.poll.Goals as goal
 
 pub returns-then-not-load-clause-belongs : goal.returns-then-not-load-clause-belongs

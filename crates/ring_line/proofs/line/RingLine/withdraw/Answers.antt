@@ -2,7 +2,8 @@ use Rattle.std.proofs.Common.{rules, ◌≡◌, ◌≢◌, ◌∙◌}
 use Rattle.qolb_model.specs.declared.answer.PortState.TheVariants as shows
 use Rattle.ring_line.specs.Steps.{entry_of}
 use Rattle.ring_line.proofs.Turning.{goes_trans}
-use Rattle.ring_line.proofs.Calling.{call_continues, call_belongs, same_count, rolled_withdrawn, granted_of, told_of, withdraws_withdrawn, withdraws_granted, withdraws_told}
+use Rattle.qolb_model.proofs.Answering.{withdraws_withdrawn, withdraws_granted, withdraws_told}
+use Rattle.ring_line.proofs.Calling.{call_continues, call_belongs, same_count, rolled_withdrawn, granted_of, told_of}
 use Rattle.ring_line.proofs.line.RingLine.withdraw.Goals as goal
 
 pub returns-then-not-roll-clause-belongs : goal.returns-then-not-roll-clause-belongs

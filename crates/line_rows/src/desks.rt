@@ -1,0 +1,178 @@
+//! Rows of desks: what their calls answer, one after another.
+ghost use Rattle.std.specs.Prelude.{◌≡◌, ◌+◌, ◌∷◌, [], IsTrue, IfOk, IfSome};
+ghost use Rattle.qolb_model.specs.PortStates.{may_ask};
+ghost use Rattle.line_accounts.specs.Desks.{IsDeskOver};
+ghost use Rattle.line_accounts.specs.Settled.{all_opened};
+ghost use Rattle.line_rows.specs.Opened.{IsNewPort};
+
+use line_accounts::{
+    AccountLaw, Desk, MOST_BALANCE, Reply, Unsettled, deposit, settle, take_out, transfer,
+};
+use qolb_model::{Enq, LineSync};
+use std::alloc::Global;
+
+/// A line, and a desk over it. `None` where memory was refused.
+pub fn over_one<L: LineSync<AccountLaw> + Drop>(
+    alloc: Global,
+    line: L,
+    port: L::Port,
+) -> Option<(Vec<L>, Desk<L>)>
+where
+    L::Port: Drop,
+    requires { IsNewPort L.belongs L.view line port }
+    ensures { IfSome result (λ made. IsDeskOver L.belongs L.view made.0.items made.1) }
+{
+    let mut lines = Vec::new(alloc);
+    lines.push(line).ok()?;
+    let mut ports = Vec::new(alloc);
+    ports.push(port).ok()?;
+    Some((lines, Desk::new(ports)))
+}
+
+/// A list of two. `None` where memory was refused.
+fn pair<T: Drop>(alloc: Global, first: T, second: T) -> Option<Vec<T>>
+    ensures { IfSome result (λ both. both.items ≡ first ∷ second ∷ []) }
+{
+    let mut both = Vec::new(alloc);
+    both.push(first).ok()?;
+    both.push(second).ok()?;
+    Some(both)
+}
+
+/// Two lines, and a desk over them. `None` where memory was refused.
+pub fn over_two<L: LineSync<AccountLaw> + Drop>(
+    alloc: Global,
+    first: L,
+    first_port: L::Port,
+    second: L,
+    second_port: L::Port,
+) -> Option<(Vec<L>, Desk<L>)>
+where
+    L::Port: Drop,
+    requires first { IsNewPort L.belongs L.view first first_port }
+    requires second { IsNewPort L.belongs L.view second second_port }
+    ensures over { IfSome result (λ made. IsDeskOver L.belongs L.view made.0.items made.1) }
+    ensures lines { IfSome result (λ made. made.0.items ≡ first ∷ second ∷ []) }
+{
+    let lines = pair(alloc, first, second)?;
+    let ports = pair(alloc, first_port, second_port)?;
+    Some((lines, Desk::new(ports)))
+}
+
+/// Settles with this desk alone. `None` where memory for the list of desks was refused.
+pub fn settle_with<L: LineSync<AccountLaw> + Drop>(
+    alloc: Global,
+    lines: Vec<L>,
+    desk: Desk<L>,
+) -> Option<Result<u128, Unsettled<L>>>
+where
+    L::Port: Drop,
+    requires { IsDeskOver L.belongs L.view lines.items desk }
+    ensures { IfSome result (λ settled. IfOk settled (λ total. total + desk.paid_out ≡ all_opened L.terms_of lines.items + desk.paid_in)) }
+{
+    let mut desks = Vec::new(alloc);
+    desks.push(desk).ok()?;
+    Some(settle(alloc, lines, desks))
+}
+
+/// A day at a desk: 100 come into account 3, 40 of them go to account 5, and 10 are paid out of it. What is settled is what is left.
+pub fn a_day<L: LineSync<AccountLaw> + Drop>(alloc: Global, line: L, port: L::Port) -> Option<u128>
+where
+    L::Port: Drop,
+    requires { IsNewPort L.belongs L.view line port }
+{
+    let (lines, mut desk) = over_one(alloc, line, port)?;
+    deposit(&lines, &mut desk, 3, 100, 64);
+    transfer(&lines, &mut desk, 3, 5, 40, 64);
+    take_out(&lines, &mut desk, 5, 10, 64);
+    settle_with(alloc, lines, desk)?.ok()
+}
+
+/// All that an account holds, and one more; a payment out of an empty account; a transfer to the same account; an account beyond the line.
+pub fn limits<L: LineSync<AccountLaw>>(lines: &[L], desk: &mut Desk<L>) -> [Reply; 5]
+    requires { IsDeskOver L.belongs L.view lines.now desk.old }
+    ensures { IsDeskOver L.belongs L.view lines.now desk.new }
+{
+    let most = deposit(lines, desk, 0, MOST_BALANCE, 0);
+    let more = deposit(lines, desk, 0, 1, 0);
+    let short = take_out(lines, desk, 1, 1, 0);
+    let same = transfer(lines, desk, 0, 0, 5, 0);
+    let beyond = deposit(lines, desk, 8, 1, 0);
+    [most, more, short, same, beyond]
+}
+
+/// A deposit of 10, and a transfer of 4 of them to the other line.
+pub fn across<L: LineSync<AccountLaw>>(lines: &[L], desk: &mut Desk<L>) -> [Reply; 2]
+    requires { IsDeskOver L.belongs L.view lines.now desk.old }
+    ensures { IsDeskOver L.belongs L.view lines.now desk.new }
+{
+    let paid = deposit(lines, desk, 0, 10, 0);
+    let moved = transfer(lines, desk, 0, 9, 4, 0);
+    [paid, moved]
+}
+
+/// A transfer to an account of the other line that holds all it may.
+pub fn over<L: LineSync<AccountLaw>>(lines: &[L], desk: &mut Desk<L>) -> [Reply; 3]
+    requires { IsDeskOver L.belongs L.view lines.now desk.old }
+    ensures { IsDeskOver L.belongs L.view lines.now desk.new }
+{
+    let few = deposit(lines, desk, 0, 5, 0);
+    let most = deposit(lines, desk, 9, MOST_BALANCE, 0);
+    let moved = transfer(lines, desk, 0, 9, 1, 0);
+    [few, most, moved]
+}
+
+/// A deposit; then, while another node holds the line of account 9, a transfer to it, a payment out of it, and one out of the other line.
+pub fn late<L: LineSync<AccountLaw>>(
+    lines: &[L],
+    desk: &mut Desk<L>,
+    line: &L,
+    other: &mut L::Port,
+) -> (Enq, [Reply; 4])
+    requires over { IsDeskOver L.belongs L.view lines.now desk.old }
+    requires other { L.belongs line.now other.old }
+    requires quiet { IsTrue (may_ask (L.view other.old).state) }
+    ensures over { IsDeskOver L.belongs L.view lines.now desk.new }
+    ensures other { L.belongs line.now other.new }
+{
+    let paid = deposit(lines, desk, 0, 10, 0);
+    let asked = line.enqolb(other);
+    let moved = transfer(lines, desk, 0, 9, 4, 0);
+    let again = take_out(lines, desk, 9, 1, 0);
+    let taken = take_out(lines, desk, 0, 10, 0);
+    (asked, [paid, moved, again, taken])
+}
+
+/// A deposit and a transfer, the two turns of the first line's lease; then a deposit there, and a payment out of the second line.
+pub fn leased<L: LineSync<AccountLaw>>(lines: &[L], desk: &mut Desk<L>) -> [Reply; 4]
+    requires { IsDeskOver L.belongs L.view lines.now desk.old }
+    ensures { IsDeskOver L.belongs L.view lines.now desk.new }
+{
+    let paid = deposit(lines, desk, 0, 10, 0);
+    let moved = transfer(lines, desk, 0, 9, 4, 0);
+    let late = deposit(lines, desk, 0, 1, 0);
+    let taken = take_out(lines, desk, 9, 4, 0);
+    [paid, moved, late, taken]
+}
+
+/// While another node holds the line of account 0, a transfer between the two lines, and then a payment of 1 into account 9: where that
+/// line has a lease of one turn, it is still there only if the transfer has asked for the lower line first.
+pub fn lower_line_first<L: LineSync<AccountLaw>>(
+    lines: &[L],
+    desk: &mut Desk<L>,
+    line: &L,
+    other: &mut L::Port,
+    from: u64,
+    to: u64,
+) -> (Enq, [Reply; 2])
+    requires over { IsDeskOver L.belongs L.view lines.now desk.old }
+    requires other { L.belongs line.now other.old }
+    requires quiet { IsTrue (may_ask (L.view other.old).state) }
+    ensures over { IsDeskOver L.belongs L.view lines.now desk.new }
+    ensures other { L.belongs line.now other.new }
+{
+    let asked = line.enqolb(other);
+    let moved = transfer(lines, desk, from, to, 0, 0);
+    let paid = deposit(lines, desk, 9, 1, 0);
+    (asked, [moved, paid])
+}

@@ -1,0 +1,12 @@
+//! Boards and desks at work, over any line: worked rows, and programs of threads. The tests of a line need only to open it.
+#![tactic(auto)]
+
+pub mod bank;
+pub mod boards;
+pub mod desks;
+pub mod opened;
+pub mod producers;
+#[cfg(test)]
+mod tests;
+pub mod together;
+pub mod transfers;

@@ -1,0 +1,139 @@
+//! The answers of the board's rows. The line is one of zeros.
+ghost use Rattle.std.specs.Prelude.{All, IfSome};
+ghost use Rattle.line_rows.specs.Opened.{IsNewPort};
+
+use crate::boards::{eight_tasks, late_node, three_turns, two_tasks};
+use crate::producers::hand_over;
+use line_board::{BoardLaw, Put, Take};
+use qolb_model::{LineSync, PortState};
+use std::alloc::Global;
+use std::process::Abort;
+use std::sync::Wait;
+use std::test::Fail;
+use std::thread::Threads;
+
+/// A line for one node. Seven tasks are stored, an eighth finds the board full, and the seven are taken in order; then none is left.
+pub(super) fn tasks_are_taken_in_their_order<R: Abort, L: LineSync<BoardLaw> + Drop>(
+    rt: &R,
+    opened: Option<(L, L::Port)>,
+) -> Result<(), Fail>
+where
+    L::Port: Drop,
+    requires { IfSome opened (λ made. IsNewPort L.belongs L.view made.0 made.1) }
+{
+    let (line, mut port) = opened.ok_or("opened")?;
+    let (puts, takes) = eight_tasks(&line, &mut port);
+    for (k, answer) in puts.iter().enumerate() {
+        let want = if k < 7 { Put::Stored } else { Put::Full };
+        assert_eq!(rt; *answer, want, "put {k}");
+    }
+    for (k, answer) in takes.iter().enumerate() {
+        let want = if k < 7 {
+            Take::Task(k as u64 + 1)
+        } else {
+            Take::Empty
+        };
+        assert_eq!(rt; *answer, want, "take {k}");
+    }
+    Ok(())
+}
+
+/// A line for one node. Tasks 5 and 9 lie in its bytes in this order.
+pub(super) fn tasks_lie_in_the_line<R: Abort, L: LineSync<BoardLaw> + Drop>(
+    rt: &R,
+    opened: Option<(L, L::Port)>,
+) -> Result<(), Fail>
+where
+    L::Port: Drop,
+    requires { IfSome opened (λ made. IsNewPort L.belongs L.view made.0 made.1) }
+{
+    let (line, mut port) = opened.ok_or("opened")?;
+    let (puts, seen) = two_tasks(&line, &mut port);
+    assert_eq!(rt; puts, [Put::Stored, Put::Stored]);
+    let mut board = [0; 64];
+    board[0] = 2;
+    board[8] = 5;
+    board[16] = 9;
+    assert_eq!(rt; seen.ok_or("granted")?, board);
+    Ok(())
+}
+
+/// A line for two nodes. A node that is late is then busy, until its request was passed.
+pub(super) fn a_late_node_is_busy_until_it_is_passed<R: Abort, L: LineSync<BoardLaw> + Drop>(
+    rt: &R,
+    opened: Option<(L, L::Port, L::Port)>,
+) -> Result<(), Fail>
+where
+    L::Port: Drop,
+    requires first { IfSome opened (λ made. IsNewPort L.belongs L.view made.0 made.1) }
+    requires second { IfSome opened (λ made. IsNewPort L.belongs L.view made.0 made.2) }
+{
+    let (line, mut holder, mut port) = opened.ok_or("opened")?;
+    let (puts, state, takes) = late_node(&line, &mut holder, &mut port).ok_or("granted")?;
+    assert_eq!(rt; puts, [Put::Late, Put::Busy, Put::Stored]);
+    assert_eq!(rt; state, PortState::Rolled);
+    assert_eq!(rt; takes, [Take::Task(5), Take::Empty]);
+    Ok(())
+}
+
+/// A line for one node with a lease of three turns, which ends the board.
+pub(super) fn a_lease_ends_a_board<R: Abort, L: LineSync<BoardLaw> + Drop>(
+    rt: &R,
+    opened: Option<(L, L::Port)>,
+) -> Result<(), Fail>
+where
+    L::Port: Drop,
+    requires { IfSome opened (λ made. IsNewPort L.belongs L.view made.0 made.1) }
+{
+    let (line, mut port) = opened.ok_or("opened")?;
+    let (puts, takes, state) = three_turns(&line, &mut port);
+    assert_eq!(rt; puts, [Put::Stored, Put::Closed]);
+    assert_eq!(rt; takes, [Take::Task(5), Take::Empty, Take::Closed]);
+    assert_eq!(rt; state, PortState::Shut);
+    Ok(())
+}
+
+/// How many tasks each producer puts.
+const TASKS: u32 = 1_000;
+
+/// A line for four nodes, of which two produce and two consume. Each task is taken once, a consumer takes each producer's tasks in their order,
+/// and none is left on the board.
+pub(super) fn each_task_is_taken_once<
+    R: Threads + Wait + Sync + Abort,
+    L: LineSync<BoardLaw> + Sync + Drop,
+>(rt: &R, alloc: Global, opened: Option<(L, Vec<L::Port>)>) -> Result<(), Fail>
+where
+    L::Port: Send + Drop,
+    requires { IfSome opened (λ made. All (IsNewPort L.belongs L.view made.0) made.1.items) }
+{
+    let (line, ports) = opened.ok_or("opened")?;
+    let handed = hand_over(rt, alloc, line, ports, TASKS).ok_or("handed over")?;
+    assert!(rt; handed.rest.is_empty());
+    let mut all = Vec::new(alloc);
+    for taken in handed.taken.iter() {
+        assert!(rt; is_in_order(taken.as_slice(), u64::from(TASKS)));
+        for task in taken.iter() {
+            all.push(*task)?;
+        }
+    }
+    all.sort()?;
+    assert_eq!(rt; all.len(), 2 * TASKS as usize);
+    for (k, task) in all.iter().enumerate() {
+        assert_eq!(rt; *task, k as u64, "the tasks in order");
+    }
+    Ok(())
+}
+
+/// Whether the tasks below `count` stand in their order, and the others too.
+fn is_in_order(taken: &[u64], count: u64) -> bool {
+    let mut low = 0;
+    let mut high = count;
+    for task in taken {
+        let least = if *task < count { &mut low } else { &mut high };
+        if *task < *least {
+            return false;
+        }
+        *least = task.saturating_add(1);
+    }
+    true
+}

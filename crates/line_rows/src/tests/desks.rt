@@ -1,0 +1,256 @@
+//! The answers of the desks' rows, and what is settled. The lines are of zeros.
+ghost use Rattle.std.specs.Prelude.{All, IfSome};
+ghost use Rattle.line_rows.specs.Opened.{IsNewPort};
+
+use crate::desks::{
+    a_day, across, late, leased, limits, lower_line_first, over, over_one, over_two, settle_with,
+};
+use crate::transfers::{ACCOUNTS, PAID_IN, transfer_at_random};
+use line_accounts::{AccountLaw, Reply, SettleError};
+use qolb_model::{Enq, LineSync};
+use std::alloc::Global;
+use std::process::Abort;
+use std::sync::Wait;
+use std::test::Fail;
+use std::thread::Threads;
+
+/// A line for one node. Of the 100 that came in and the 10 that were paid out, 90 are left.
+pub(super) fn a_day_is_settled<R: Abort, L: LineSync<AccountLaw> + Drop>(
+    rt: &R,
+    alloc: Global,
+    opened: Option<(L, L::Port)>,
+) -> Result<(), Fail>
+where
+    L::Port: Drop,
+    requires { IfSome opened (λ made. IsNewPort L.belongs L.view made.0 made.1) }
+{
+    let (line, port) = opened.ok_or("opened")?;
+    assert_eq!(rt; a_day(alloc, line, port), Some(90));
+    Ok(())
+}
+
+/// A line for one node.
+pub(super) fn a_balance_has_a_limit<R: Abort, L: LineSync<AccountLaw> + Drop>(
+    rt: &R,
+    alloc: Global,
+    opened: Option<(L, L::Port)>,
+) -> Result<(), Fail>
+where
+    L::Port: Drop,
+    requires { IfSome opened (λ made. IsNewPort L.belongs L.view made.0 made.1) }
+{
+    let (line, port) = opened.ok_or("opened")?;
+    let (lines, mut desk) = over_one(alloc, line, port).ok_or("a desk")?;
+    assert_eq!(rt;
+        limits(&lines, &mut desk),
+        [
+            Reply::Done,
+            Reply::Over,
+            Reply::Short,
+            Reply::SameAccount,
+            Reply::NoAccount
+        ]
+    );
+    let total = settle_with(alloc, lines, desk).and_then(|settled| settled.ok());
+    assert_eq!(rt; total, Some(281_474_976_710_656));
+    Ok(())
+}
+
+/// Two lines for one node.
+pub(super) fn a_transfer_goes_over_two_lines<R: Abort, L: LineSync<AccountLaw> + Drop>(
+    rt: &R,
+    alloc: Global,
+    first: Option<(L, L::Port)>,
+    second: Option<(L, L::Port)>,
+) -> Result<(), Fail>
+where
+    L::Port: Drop,
+    requires first { IfSome first (λ made. IsNewPort L.belongs L.view made.0 made.1) }
+    requires second { IfSome second (λ made. IsNewPort L.belongs L.view made.0 made.1) }
+{
+    let (first, first_port) = first.ok_or("opened")?;
+    let (second, second_port) = second.ok_or("opened")?;
+    let (lines, mut desk) = over_two(alloc, first, first_port, second, second_port).ok_or(
+        "a desk",
+    )?;
+    assert_eq!(rt; across(&lines, &mut desk), [Reply::Done, Reply::Done]);
+    let total = settle_with(alloc, lines, desk).and_then(|settled| settled.ok());
+    assert_eq!(rt; total, Some(10));
+    Ok(())
+}
+
+/// Two lines for one node.
+pub(super) fn a_transfer_keeps_the_limit<R: Abort, L: LineSync<AccountLaw> + Drop>(
+    rt: &R,
+    alloc: Global,
+    first: Option<(L, L::Port)>,
+    second: Option<(L, L::Port)>,
+) -> Result<(), Fail>
+where
+    L::Port: Drop,
+    requires first { IfSome first (λ made. IsNewPort L.belongs L.view made.0 made.1) }
+    requires second { IfSome second (λ made. IsNewPort L.belongs L.view made.0 made.1) }
+{
+    let (first, first_port) = first.ok_or("opened")?;
+    let (second, second_port) = second.ok_or("opened")?;
+    let (lines, mut desk) = over_two(alloc, first, first_port, second, second_port).ok_or(
+        "a desk",
+    )?;
+    assert_eq!(rt;
+        over(&lines, &mut desk),
+        [Reply::Done, Reply::Done, Reply::Over]
+    );
+    let total = settle_with(alloc, lines, desk).and_then(|settled| settled.ok());
+    assert_eq!(rt; total, Some(281_474_976_710_661));
+    Ok(())
+}
+
+/// Two lines for one node, the first with a lease of two turns.
+pub(super) fn a_lease_closes_the_line<R: Abort, L: LineSync<AccountLaw> + Drop>(
+    rt: &R,
+    alloc: Global,
+    first: Option<(L, L::Port)>,
+    second: Option<(L, L::Port)>,
+) -> Result<(), Fail>
+where
+    L::Port: Drop,
+    requires first { IfSome first (λ made. IsNewPort L.belongs L.view made.0 made.1) }
+    requires second { IfSome second (λ made. IsNewPort L.belongs L.view made.0 made.1) }
+{
+    let (first, first_port) = first.ok_or("opened")?;
+    let (second, second_port) = second.ok_or("opened")?;
+    let (lines, mut desk) = over_two(alloc, first, first_port, second, second_port).ok_or(
+        "a desk",
+    )?;
+    assert_eq!(rt;
+        leased(&lines, &mut desk),
+        [Reply::Done, Reply::Done, Reply::Closed, Reply::Done]
+    );
+    assert_eq!(rt; (desk.paid_in(), desk.paid_out()), (10, 4));
+    let total = settle_with(alloc, lines, desk).and_then(|settled| settled.ok());
+    assert_eq!(rt; total, Some(6));
+    Ok(())
+}
+
+/// Two lines for two nodes. A transfer that is late moves nothing; and without the ports of node 2 nothing is settled.
+pub(super) fn a_late_transfer_moves_nothing<R: Abort, L: LineSync<AccountLaw> + Drop>(
+    rt: &R,
+    alloc: Global,
+    first: Option<(L, L::Port, L::Port)>,
+    second: Option<(L, L::Port, L::Port)>,
+) -> Result<(), Fail>
+where
+    L::Port: Drop,
+    requires first { IfSome first (λ made. IsNewPort L.belongs L.view made.0 made.1) }
+    requires second { IfSome second (λ made. IsNewPort L.belongs L.view made.0 made.1) }
+    requires other { IfSome second (λ made. IsNewPort L.belongs L.view made.0 made.2) }
+{
+    let (first, first_port, _) = first.ok_or("opened")?;
+    let (second, second_port, mut other) = second.ok_or("opened")?;
+    let (lines, mut desk) = over_two(alloc, first, first_port, second, second_port).ok_or(
+        "a desk",
+    )?;
+    let (asked, answers) = late(&lines, &mut desk, &lines[1], &mut other);
+    assert_eq!(rt; asked, Enq::Granted);
+    assert_eq!(rt;
+        answers,
+        [Reply::Done, Reply::Late, Reply::Busy, Reply::Done]
+    );
+    let settled = settle_with(alloc, lines, desk).ok_or("memory")?;
+    let refused = settled.err().ok_or("refused")?;
+    assert_eq!(rt; refused.why, SettleError::Missing { line: 0, node: 2 });
+    let back = refused
+        .back
+        .map(|(lines, desks)| (lines.len(), desks.len()));
+    assert_eq!(rt; back, Some((2, 1)));
+    Ok(())
+}
+
+/// Two lines for two nodes, the second with a lease of one turn, which a transfer that waits for the first has not used.
+pub(super) fn the_lower_line_is_asked_for_first<R: Abort, L: LineSync<AccountLaw> + Drop>(
+    rt: &R,
+    alloc: Global,
+    first: Option<(L, L::Port, L::Port)>,
+    second: Option<(L, L::Port, L::Port)>,
+    from: u64,
+    to: u64,
+) -> Result<(), Fail>
+where
+    L::Port: Drop,
+    requires first { IfSome first (λ made. IsNewPort L.belongs L.view made.0 made.1) }
+    requires other { IfSome first (λ made. IsNewPort L.belongs L.view made.0 made.2) }
+    requires second { IfSome second (λ made. IsNewPort L.belongs L.view made.0 made.1) }
+{
+    let (first, first_port, mut other) = first.ok_or("opened")?;
+    let (second, second_port, _) = second.ok_or("opened")?;
+    let (lines, mut desk) = over_two(alloc, first, first_port, second, second_port).ok_or(
+        "a desk",
+    )?;
+    let (asked, answers) = lower_line_first(&lines, &mut desk, &lines[0], &mut other, from, to);
+    assert_eq!(rt; asked, Enq::Granted);
+    assert_eq!(rt; answers, [Reply::Late, Reply::Done]);
+    Ok(())
+}
+
+/// How many customers transfer, and how often each.
+pub(super) const CUSTOMERS: u64 = 4;
+
+const ROUNDS: u64 = 250_000;
+
+/// Eight lines for as many nodes as there are customers, who transfer at random in threads. What is settled is what they paid in.
+pub(super) fn what_was_paid_in_is_settled<
+    R: Threads + Wait + Sync + Abort,
+    L: LineSync<AccountLaw> + Sync + Drop,
+>(rt: &R, alloc: Global, opened: Option<Vec<(L, Vec<L::Port>)>>) -> Result<(), Fail>
+where
+    L::Port: Send + Drop,
+    requires { IfSome opened (λ lines. All (λ line. All (IsNewPort L.belongs L.view line.0) line.1.items) lines.items) }
+{
+    let opened = opened.ok_or("opened")?;
+    let settled = transfer_at_random(rt, alloc, opened, CUSTOMERS as usize, ROUNDS).ok_or(
+        "settled",
+    )?;
+    assert_eq!(rt; settled.total, u128::from(CUSTOMERS * ACCOUNTS * PAID_IN));
+    let counts = settled.counts;
+    let all = [counts.done, counts.short, counts.other]
+        .iter()
+        .fold(0u64, |sum, count| sum.saturating_add(*count));
+    assert_eq!(rt; all, CUSTOMERS * ROUNDS);
+    assert!(rt;
+        counts.done > ROUNDS,
+        "of {all} transfers {} are done",
+        counts.done
+    );
+    Ok(())
+}
+
+/// Two lines for one node. Where memory is there, the total is settled; where it is refused to `settle`, nothing comes back. To be run with each
+/// allocation failing in turn, by `rt try --test --fail-alloc 1`, `2` and so on.
+pub(super) fn want_of_memory_is_answered<R: Abort, L: LineSync<AccountLaw> + Drop>(
+    rt: &R,
+    alloc: Global,
+    first: Option<(L, L::Port)>,
+    second: Option<(L, L::Port)>,
+) -> Result<(), Fail>
+where
+    L::Port: Drop,
+    requires first { IfSome first (λ made. IsNewPort L.belongs L.view made.0 made.1) }
+    requires second { IfSome second (λ made. IsNewPort L.belongs L.view made.0 made.1) }
+{
+    let (Some((first, first_port)), Some((second, second_port))) = (first, second) else {
+        return Ok(());
+    };
+    let Some((lines, mut desk)) = over_two(alloc, first, first_port, second, second_port) else {
+        return Ok(());
+    };
+    assert_eq!(rt; across(&lines, &mut desk), [Reply::Done, Reply::Done]);
+    match settle_with(alloc, lines, desk) {
+        Some(Ok(total)) => assert_eq!(rt; total, 10),
+        Some(Err(refused)) => {
+            assert_eq!(rt; refused.why, SettleError::Memory);
+            assert!(rt; refused.back.is_none());
+        }
+        None => {}
+    }
+    Ok(())
+}

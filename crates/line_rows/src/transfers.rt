@@ -1,0 +1,254 @@
+//! Desks in threads: each pays in, and then transfers at random between all accounts. What is settled is what was paid in.
+ghost use Rattle.std.specs.Prelude.{All, IfSome};
+ghost use Rattle.line_accounts.specs.Desks.{IsDeskOver};
+ghost use Rattle.line_rows.specs.Opened.{IsNewPort};
+
+use crate::bank::desks_over;
+use crate::together::{Work, together};
+use line_accounts::{AccountLaw, Desk, Reply, deposit, settle, transfer};
+use qolb_model::LineSync;
+use rand::{RngExt, SeedableRng};
+use rand_xoshiro::Xoshiro256PlusPlus;
+use std::alloc::Global;
+use std::sync::Wait;
+use std::thread::{Threads, yield_now};
+
+/// How often a call looks for its turn before it gives the request up.
+const PATIENCE: u64 = 100;
+
+/// How many accounts there are, on eight lines.
+pub const ACCOUNTS: u64 = 64;
+
+/// What each customer pays into each account.
+pub const PAID_IN: u64 = 1_000;
+
+/// Each transfer moves less than this.
+const MOST_MOVED: u64 = 4_000;
+
+/// What became of transfers.
+#[derive(Clone, Copy, Debug, PartialEq, Eq)]
+pub struct Counts {
+    /// How many went through.
+    pub done: u64,
+    /// How many found too little.
+    pub short: u64,
+    /// How many were refused for another cause: both accounts were one.
+    pub other: u64,
+}
+
+/// One who has a desk.
+#[derive(Drop)]
+pub struct Customer<L: LineSync<AccountLaw>> {
+    desk: Desk<L>,
+    rng: Xoshiro256PlusPlus,
+    counts: Counts,
+}
+
+/// A customer's work: a payment into each account, and then so many transfers.
+#[derive(Clone, Copy)]
+pub struct Transfers {
+    rounds: u64,
+}
+
+impl<L: LineSync<AccountLaw>> Work<Vec<L>, Customer<L>> for Transfers {
+    ghost fits = { λ lines customer. IsDeskOver L.belongs L.view lines.items customer.desk };
+
+    fn work<R: Wait>(&self, rt: &R, lines: &Vec<L>, customer: Customer<L>) -> Customer<L> {
+        let Customer {
+            mut desk,
+            mut rng,
+            counts: _,
+        } = customer;
+        pay_into_all(rt, lines, &mut desk);
+        let counts = move_often(rt, lines, &mut desk, &mut rng, self.rounds);
+        Customer { desk, rng, counts }
+    }
+}
+
+impl Counts {
+    /// None.
+    const NONE: Counts = Counts {
+        done: 0,
+        short: 0,
+        other: 0,
+    };
+
+    /// One more of this answer.
+    fn with(self, reply: Reply) -> Counts {
+        let Counts { done, short, other } = self;
+        match reply {
+            Reply::Done => Counts {
+                done: done.saturating_add(1),
+                short,
+                other,
+            },
+            Reply::Short => Counts {
+                done,
+                short: short.saturating_add(1),
+                other,
+            },
+            _ => Counts {
+                done,
+                short,
+                other: other.saturating_add(1),
+            },
+        }
+    }
+
+    /// These and those.
+    fn and(self, more: Counts) -> Counts {
+        Counts {
+            done: self.done.saturating_add(more.done),
+            short: self.short.saturating_add(more.short),
+            other: self.other.saturating_add(more.other),
+        }
+    }
+}
+
+/// Pays into each account.
+fn pay_into_all<R: Wait, L: LineSync<AccountLaw>>(rt: &R, lines: &[L], desk: &mut Desk<L>)
+    requires { IsDeskOver L.belongs L.view lines.now desk.old }
+    ensures { IsDeskOver L.belongs L.view lines.now desk.new }
+{
+    for account in 0..ACCOUNTS {
+        pay_in(rt, lines, desk, account);
+    }
+}
+
+/// So many transfers at random.
+fn move_often<R: Wait, L: LineSync<AccountLaw>>(
+    rt: &R,
+    lines: &[L],
+    desk: &mut Desk<L>,
+    rng: &mut Xoshiro256PlusPlus,
+    rounds: u64,
+) -> Counts
+    requires { IsDeskOver L.belongs L.view lines.now desk.old }
+    ensures { IsDeskOver L.belongs L.view lines.now desk.new }
+{
+    let mut counts = Counts::NONE;
+    for _ in 0..rounds {
+        let from = rng.random_range(0..ACCOUNTS);
+        let to = rng.random_range(0..ACCOUNTS);
+        let amount = rng.random_range(0..MOST_MOVED);
+        counts = counts.with(move_on(rt, lines, desk, from, to, amount));
+    }
+    counts
+}
+
+/// Pays into the account, and asks again while the answer is late or busy.
+fn pay_in<R: Wait, L: LineSync<AccountLaw>>(
+    rt: &R,
+    lines: &[L],
+    desk: &mut Desk<L>,
+    account: u64,
+) -> Reply
+    requires { IsDeskOver L.belongs L.view lines.now desk.old }
+    ensures { IsDeskOver L.belongs L.view lines.now desk.new }
+{
+    for _ in rt.forever() {
+        match deposit(lines, desk, account, PAID_IN, PATIENCE) {
+            Reply::Late | Reply::Busy => yield_now(),
+            reply => return reply,
+        }
+    }
+    unreachable!()
+}
+
+/// Transfers, and asks again while the answer is late or busy.
+fn move_on<R: Wait, L: LineSync<AccountLaw>>(
+    rt: &R,
+    lines: &[L],
+    desk: &mut Desk<L>,
+    from: u64,
+    to: u64,
+    amount: u64,
+) -> Reply
+    requires { IsDeskOver L.belongs L.view lines.now desk.old }
+    ensures { IsDeskOver L.belongs L.view lines.now desk.new }
+{
+    for _ in rt.forever() {
+        match transfer(lines, desk, from, to, amount, PATIENCE) {
+            Reply::Late | Reply::Busy => yield_now(),
+            reply => return reply,
+        }
+    }
+    unreachable!()
+}
+
+/// What was settled in the end, and what became of all transfers.
+#[derive(Clone, Copy, Debug, PartialEq, Eq)]
+pub struct Settled {
+    pub total: u128,
+    pub counts: Counts,
+}
+
+/// A customer for each node of eight new lines does so many transfers in a thread of its own, and then all is settled. `None` where memory or
+/// a thread was refused.
+pub fn transfer_at_random<R: Threads + Wait + Sync, L: LineSync<AccountLaw> + Sync + Drop>(
+    rt: &R,
+    alloc: Global,
+    opened: Vec<(L, Vec<L::Port>)>,
+    nodes: usize,
+    rounds: u64,
+) -> Option<Settled>
+where
+    L::Port: Send + Drop,
+    requires { All (λ line. All (IsNewPort L.belongs L.view line.0) line.1.items) opened.items }
+{
+    let (lines, desks) = desks_over(alloc, opened, nodes)?;
+    let customers = seat(alloc, &lines, desks)?;
+    let back = together(rt, alloc, &Transfers { rounds }, &lines, customers)?;
+    let (desks, counts) = unseat(alloc, &lines, back)?;
+    let total = settle(alloc, lines, desks).ok()?;
+    Some(Settled { total, counts })
+}
+
+/// A customer at each desk, with chances of its own. `None` where memory was refused.
+fn seat<L: LineSync<AccountLaw>>(
+    alloc: Global,
+    lines: &Vec<L>,
+    desks: Vec<Desk<L>>,
+) -> Option<Vec<Customer<L>>>
+where
+    L::Port: Drop,
+    requires { All (IsDeskOver L.belongs L.view lines.now.items) desks.items }
+    ensures { IfSome result (λ customers. All (λ customer. IsDeskOver L.belongs L.view lines.now.items customer.desk) customers.items) }
+{
+    let mut customers = Vec::with_capacity(alloc, desks.len()).ok()?;
+    for desk in desks {
+        let seed = customers.len() as u64;
+        let customer = Customer {
+            desk,
+            rng: Xoshiro256PlusPlus::seed_from_u64(seed),
+            counts: Counts::NONE,
+        };
+        customers.push(customer).ok()?;
+    }
+    Some(customers)
+}
+
+/// The customers' desks, and what became of all their transfers. `None` where memory was refused.
+fn unseat<L: LineSync<AccountLaw>>(
+    alloc: Global,
+    lines: &Vec<L>,
+    customers: Vec<Customer<L>>,
+) -> Option<(Vec<Desk<L>>, Counts)>
+where
+    L::Port: Drop,
+    requires { All (λ customer. IsDeskOver L.belongs L.view lines.now.items customer.desk) customers.items }
+    ensures { IfSome result (λ left. All (IsDeskOver L.belongs L.view lines.now.items) left.0.items) }
+{
+    let mut desks = Vec::with_capacity(alloc, customers.len()).ok()?;
+    let mut counts = Counts::NONE;
+    for customer in customers {
+        let Customer {
+            desk,
+            rng: _,
+            counts: its,
+        } = customer;
+        counts = counts.and(its);
+        desks.push(desk).ok()?;
+    }
+    Some((desks, counts))
+}

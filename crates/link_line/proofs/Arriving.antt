@@ -1,0 +1,144 @@
+-- The line comes to a node: by an event that takes it out of the slot.
+use Rattle.std.proofs.Common.{◌≡◌, ◌≢◌, ℕ, ◌≤◌, Bool, true, false, List, [], ◌∷◌, length, sym, refl, ap, ◌∙◌, subst, arith}
+use mathlib.Core.Option.{some}
+use lib.ListN.{get_elem?}
+use Rattle.line_lanes.specs.declared.line.Line64.{Line64}
+use Rattle.qolb_model.specs.declared.request.Request.{Request}
+use Rattle.qolb_model.specs.declared.terms.Terms.{Terms}
+use Rattle.qolb_model.specs.Ends.{is_closed, bytes_after}
+use Rattle.qolb_model.specs.Kept.{AreAllowed}
+use Rattle.qolb_model.specs.Leases.{turns_left}
+use Rattle.qolb_model.specs.Requests.{count_of}
+use Rattle.qolb_model.specs.Turns.{IsQueued, IsWithdrawn}
+use Rattle.qolb_model.proofs.Agreed.{length-bytes_after}
+use Rattle.qolb_model.proofs.Leases.{open_has_turns}
+use Rattle.link_core.specs.declared.point.Point.{Point}
+use Rattle.link_core.specs.declared.point.Point.TheVariants.{Queued, Rolled}
+use Rattle.link_core.specs.declared.seat.Seat.{Seat}
+use Rattle.link_core.specs.declared.place.Place.TheVariants.{Hand}
+use Rattle.link_core.specs.declared.state.State.{State as Core}
+use Rattle.link_core.specs.declared.told.Told.{Told as Answer}
+use Rattle.link_core.specs.declared.event.Event.{Event}
+use Rattle.link_core.specs.State.{seat, point, IsNode, last_or, no_mask}
+use Rattle.link_core.specs.Steps.{Step, node_of, seat_at_arrival, left_after}
+use Rattle.link_core.specs.Places.{IsLast}
+use Rattle.link_core.specs.Promise.{Waits}
+use Rattle.link_core.specs.Shown.{has_line, is_rolled, Shows}
+use Rattle.link_core.proofs.Arrival.{arrival_unrolled}
+use Rattle.link_core.proofs.Found.{found}
+use Rattle.link_line.specs.declared.known.Known.{Known}
+use Rattle.link_line.specs.declared.parcel.Parcel.{Parcel}
+use Rattle.link_line.specs.declared.rule.Setup.{Setup}
+use Rattle.link_line.specs.Links.{Past, NodeOk, IsInHand, Laid, HasLine, Homes, MayServe, is_leaving, is_shut_by, state_of, state_at}
+use Rattle.link_line.specs.Steps.{Comes, point_at_arrival}
+use Rattle.link_line.proofs.Going.{SetsGrow, next, on}
+use Rattle.link_line.proofs.Laying.{St, Rule, mine_ok, is_node}
+use Rattle.link_line.proofs.Turning.{Joins, whole, passes_none, arrival_point, arrival_lined, arrival_state, arrival_passed, arrival_unserved, arrival_unlinked, arrival_unfreeing, Owes, via_none, Turned, turned, own_at, own_marked}
+
+-- the line that a node carries to whom it came closed
+arrival_carries : (d : Core) (n : ℕ) (line : Parcel) (b : Bool) → line.bytes ≡ d.bytes → line.closed ≡ d.closed → line.turns_left ≡ d.left → line.closed ≡ b → seat d n ≡ seat_at_arrival n b → is_leaving (point d n) ≡ true → IsInHand d n (seat d n) line
+arrival_carries d n line false a c t shut own leaves = let z : false ≡ true = ap (λ (s : Seat). is_leaving s.point) (sym own) ∙ leaves in cc
+arrival_carries d n line true a c t shut own leaves = record {
+  bytes = a;
+  closed = c;
+  turns = t ∙ ap (λ (s : Seat). left_after d.left s.reason s.passed) (sym own);
+  mask = λ s. absurd (arrival_unserved n true (subst MayServe own s));
+  shut = shut ∙ ap (λ (s : Seat). is_shut_by s.reason) (sym own);
+}
+
+module _ (good : List ℕ → Type 0) (allows : List ℕ → List ℕ → Type 0) (about : Setup) where
+  -- a port whose request waits, and one whose request was withdrawn
+  pub queued_at : (y : Past) (v : Known) (count : ℕ) (joins : List Request) (passed : List ℕ) (line : Parcel) → Shows about.terms y.core y.queue → count_of v.view.node y.queue.order ≡ count → Waits y.queue v.view.node → point y.core v.view.node ≡ Queued → IsQueued (whole y v count joins passed line).view
+  queued_at y v count joins passed line s c w e = record {
+    state = ap (λ (p : Point). state_at p (seat y.core v.view.node).reason (seat y.core v.view.node).passed) e;
+    waits = (w.at, w.behind, own_at good allows about y v count w.at s c w.last);
+    unmarked = own_marked good allows about y v count w.at s c w.last (let l = w.behind in omega arith) ∙ ap is_rolled e;
+  }
+
+  pub withdrawn_at : (y : Past) (v : Known) (count : ℕ) (joins : List Request) (passed : List ℕ) (line : Parcel) → Shows about.terms y.core y.queue → count_of v.view.node y.queue.order ≡ count → Waits y.queue v.view.node → point y.core v.view.node ≡ Rolled → IsWithdrawn (whole y v count joins passed line).view
+  withdrawn_at y v count joins passed line s c w e = record {
+    state = ap (λ (p : Point). state_at p (seat y.core v.view.node).reason (seat y.core v.view.node).passed) e;
+    waits = (w.at, w.behind, own_at good allows about y v count w.at s c w.last);
+    marked = own_marked good allows about y v count w.at s c w.last (let l = w.behind in omega arith) ∙ ap is_rolled e;
+  }
+
+  module _ (s : St good allows about) (r : Rule good allows about s) (me : ℕ) (v : Known) (at : get_elem? s.views me ≡ some (v ∷ [])) where
+    module _ {e : Event} {t : Answer} {d : Core} (k : Step r.past.core e t d) (is : node_of e ≡ v.view.node) (joined : List Request) (count : ℕ) (joins : List Request) (h : HasLine r.past.core s.homes) where
+      abbrev pub came : Past
+      came = next allows about r.may_open.nodes.few r.past r.fine k joined r.past.early r.past.late
+
+      abbrev pub view_come : Known
+      view_come = whole came v count joins [] h.line
+
+      -- what the event does to the core, and to the queue
+      pub record Arrives : Type 0 where
+        pub seat_is : seat d v.view.node ≡ seat_at_arrival v.view.node r.past.core.closed
+        pub place : d.place ≡ Hand v.view.node
+        pub mask : d.mask ≡ no_mask
+        pub bytes : d.bytes ≡ r.past.core.bytes
+        pub closed : d.closed ≡ r.past.core.closed
+        pub left : d.left ≡ r.past.core.left
+        pub nodes : d.nodes ≡ r.past.core.nodes
+        pub nowhere : (m : ℕ) → r.past.core.place ≢ Hand m
+        pub ends : came.queue.ends ≡ r.past.queue.ends
+        pub counts : count_of v.view.node came.queue.order ≡ count
+        pub grows : SetsGrow r.past came (node_of e)
+        pub joins_are : Joins came v joins
+
+      module _ (a : Arrives) where
+        abbrev b : Bool
+        b = r.past.core.closed
+
+        ok : NodeOk about r.past v.view.node v
+        ok = mine_ok good allows about s r me v at
+
+        shows : Shows about.terms d came.queue
+        shows = (on allows about r.may_open.nodes.few r.past r.fine k).shows
+
+        node : IsNode d v.view.node
+        node = let n = is_node good allows about s r me v at in (n.0, subst (λ (q : ℕ). v.view.node ≤ q) (sym a.nodes) n.1)
+
+        owes : Owes good allows about came v count joins [] h.line
+        owes = record {
+          kept = subst (AreAllowed allows about.terms.opening.bytes) (sym a.ends) r.fine.kept;
+          lawful = λ z. absurd (arrival_unserved v.view.node b (subst MayServe a.seat_is z));
+          unjoined = λ q z. absurd (arrival_unlinked v.view.node q b (ap (λ (s : Seat). s.point) (sym a.seat_is) ∙ z));
+          counts = a.counts;
+          joins = a.joins_are;
+          unwritten = λ _. a.mask;
+          carries = arrival_carries d v.view.node h.line b (h.bytes ∙ sym a.bytes) (h.closed ∙ sym a.closed) (h.turns ∙ sym a.left) h.closed a.seat_is;
+          left = λ z. absurd (arrival_unfreeing v.view.node b (ap (λ (s : Seat). s.point) (sym a.seat_is) ∙ z));
+          passes = passes_none came.queue.order view_come (ap (λ (s : Seat). s.passed) a.seat_is ∙ arrival_passed v.view.node b) refl;
+        }
+
+        last : IsLast came.queue.order v.view.node (length came.queue.ends)
+        last = subst (λ (ps : List ℕ). IsLast came.queue.order (last_or v.view.node ps) (length came.queue.ends)) (ap (λ (s : Seat). s.passed) a.seat_is ∙ arrival_passed v.view.node b)
+            ((found shows).turn v.view.node node (ap (λ (s : Seat). has_line s.point) a.seat_is ∙ arrival_lined v.view.node b))
+
+        is_whole : (r.past.core.bytes.bytes ≡ bytes_after about.terms.opening.bytes came.queue.ends) × (b ≡ is_closed came.queue.ends)
+        is_whole = let w = (found r.fine.shown).whole a.nowhere in (w.bytes ∙ ap (bytes_after about.terms.opening.bytes) (sym a.ends), w.closed ∙ ap is_closed (sym a.ends))
+
+        bytes_are : h.line.bytes.bytes ≡ bytes_after about.terms.opening.bytes came.queue.ends
+        bytes_are = ap (λ (z : Line64). z.bytes) h.bytes ∙ is_whole.0
+
+        turns_are : h.line.turns_left ≡ turns_left about.terms.lease came.queue.ends
+        turns_are = h.turns ∙ r.fine.shown.matches.turns ∙ ap (turns_left about.terms.lease) (sym a.ends)
+
+        pub comes : Comes view_come h.line
+        comes = record {
+          point = ap (λ (s : Seat). s.point) a.seat_is ∙ arrival_point v.view.node b ∙ ap (point_at_arrival v.view.node) (sym h.closed);
+          line_is = λ _. refl;
+          passed = refl;
+          state = ap state_of a.seat_is ∙ arrival_state v.view.node b;
+          turn = own_at good allows about came v count (length came.queue.ends) shows a.counts last;
+          unmarked = own_marked good allows about came v count (length came.queue.ends) shows a.counts last (omega arith) ∙ ap (λ (s : Seat). is_rolled s.point) a.seat_is ∙ arrival_unrolled v.view.node b;
+          clear = (on allows about r.may_open.nodes.few r.past r.fine k).comes v.view.node a.place a.nowhere;
+          bytes = bytes_are ∙ ap (λ (t : Terms). bytes_after t.opening.bytes came.queue.ends) (sym ok.who.terms);
+          closed = h.closed ∙ is_whole.1;
+          turns = turns_are ∙ ap (λ (t : Terms). turns_left t.lease came.queue.ends) (sym ok.who.terms);
+          some_left = λ unclosed none. open_has_turns about.terms.lease came.queue.order came.queue.ends r.may_open.lease shows.legal unclosed (sym turns_are ∙ none);
+          long = ap (λ (bs : List ℕ). length bs) bytes_are ∙ length-bytes_after about.terms.opening.bytes came.queue.ends r.fine.shown.matches.opened;
+        }
+
+        pub come_turned : (words : List ℕ) (homes : Homes) → Laid d words homes → Turned good allows about s r me v at r.past (via_none good allows about r.past v r.fine) came view_come words homes
+        come_turned words homes laid = turned good allows about s r me v at r.past (via_none good allows about r.past v r.fine) k is joined r.past.early r.past.late a.grows count joins [] h.line owes words homes laid

@@ -1,0 +1,96 @@
+-- How the seats of the ports handed to `finish` are joined.
+use Rattle.std.proofs.Common.{◌≡◌, ℕ, suc, List, [], ◌∷◌, ◌++◌, map, true, false, sym, ap, ◌∙◌, subst, ⊎_elim, arith, append_assoc}
+use Rattle.std.specs.List.{All}
+use Rattle.std.proofs.lemmas.List.{map-append}
+use Rattle.atomic_table.specs.Seated.{TableId}
+use Rattle.qolb_model.specs.declared.view.View.{View}
+use Rattle.qolb_model.specs.PortStates.{may_ask}
+use Rattle.qolb_model.proofs.Lists.{at_either, at_one}
+use Rattle.qolb_model.specs.declared.answer.PortState.{PortState}
+use Rattle.qolb_model.specs.declared.answer.PortState.TheVariants as shows
+use Rattle.link_line.specs.declared.parcel.Parcel.{Parcel}
+use Rattle.link_line.specs.declared.known.Known.{Known}
+use Rattle.link_line.specs.Links.{At}
+use Rattle.link_line.specs.Steps.{LinkSeat, known_of}
+use Rattle.link_line.specs.Ports.{Standing, standing, IsPort}
+use Rattle.link_line.specs.Joins.{is_at_rest}
+use Rattle.link_line.specs.Finish.{Gathers}
+
+-- what the ports know
+abbrev pub views : List Standing → List View
+views ports = map (λ (p : Standing). p.view) ports
+
+-- a quiet port is at rest, and has nothing in its hand
+pub quiet_point : (label node : ℕ) (s : LinkSeat) (y : Parcel) (older : ℕ) (state : PortState) → IsPort label node s y older state → may_ask (known_of s).view.state ≡ true → (is_at_rest (known_of s).seat.point ≡ true) × (s.me.1 ≡ [])
+quiet_point label node s y older shows.Idle p h = (ap is_at_rest p.stands.0, p.stands.1)
+quiet_point label node s y older shows.Linking p h = absurd (let e : may_ask (known_of s).view.state ≡ false = ap may_ask p.shows_state in cc (h, e))
+quiet_point label node s y older shows.Queued p h = absurd (let e : may_ask (known_of s).view.state ≡ false = ap may_ask p.shows_state in cc (h, e))
+quiet_point label node s y older shows.Holding p h = absurd (let e : may_ask (known_of s).view.state ≡ false = ap may_ask p.shows_state in cc (h, e))
+quiet_point label node s y older shows.Left p h = (ap is_at_rest p.stands.0, p.stands.1)
+quiet_point label node s y older shows.Rolled p h = (ap is_at_rest p.stands.0, p.stands.1)
+quiet_point label node s y older shows.Shut p h = (ap is_at_rest p.stands.0, p.stands.1)
+
+-- the first of the ports to come is quiet
+pub head_quiet : (table_id : TableId) (ports left rest : List Standing) (whole : LinkSeat) (p : Standing) → left ≡ p ∷ rest → Gathers table_id ports left whole → may_ask p.view.state ≡ true
+head_quiet table_id ports left rest whole p e h = subst (All (λ (q : Standing). may_ask q.view.state ≡ true)) e h.quiet 0 p (omega arith)
+
+-- what holds of each holds of the first, and of the others
+pub all_first : {A : Type 0} (P : A → Type 0) (x : A) (xs : List A) → All P (x ∷ xs) → P x
+all_first P x xs h = h 0 x (omega arith)
+
+pub all_rest : {A : Type 0} (P : A → Type 0) (x : A) (xs : List A) → All P (x ∷ xs) → All P xs
+all_rest P x xs h = λ k d l. h (suc k) d (omega arith)
+
+-- the views of one seat
+module _ (label node : ℕ) (s : LinkSeat) (y : Parcel) (older steps : ℕ) (state : PortState) (p : Standing) (is : standing s y steps ≡ p) (ok : IsPort label node s y older state) (quiet : may_ask p.view.state ≡ true) where
+  same_view : (known_of s).view ≡ p.view
+  same_view = ap (λ (q : Standing). q.view) is
+
+  pub none_carried : s.me.1 ≡ []
+  none_carried = (quiet_point label node s y older state ok (ap (λ (v : View). may_ask v.state) same_view ∙ quiet)).1
+
+  only_at_rest : (i : ℕ) (e : Known) → At s.me.0 i e → is_at_rest e.seat.point ≡ true
+  only_at_rest i e at = ap (λ (x : Known). is_at_rest x.seat.point) (sym (at_one (known_of s) e i (subst (λ es. At es i e) ok.alone at))) ∙ (quiet_point label node s y older state ok (ap (λ (v : View). may_ask v.state) same_view ∙ quiet)).0
+
+  -- the first seat
+  pub gathers_first : (table_id : TableId) (rest : List Standing) → All (λ (q : Standing). q.table ≡ table_id) (p ∷ rest) → All (λ (q : Standing). may_ask q.view.state ≡ true) (p ∷ rest)
+      → Gathers table_id (p ∷ rest) rest s
+  gathers_first table_id rest tables quiets = record {
+    table = ap (λ (q : Standing). q.table) is ∙ all_first (λ (q : Standing). q.table ≡ table_id) p rest tables;
+    views = ap (λ es. map (λ (e : Known). e.view) es ++ views rest) ok.alone ∙ ap (λ v. v ∷ views rest) same_view;
+    at_rest = only_at_rest;
+    tables = all_rest (λ (q : Standing). q.table ≡ table_id) p rest tables;
+    quiet = all_rest (λ (q : Standing). may_ask q.view.state ≡ true) p rest quiets;
+  }
+
+  -- the same, of a list of ports with this one at its head
+  pub gathers_head : (table_id : TableId) (ports rest : List Standing) → ports ≡ p ∷ rest → All (λ (q : Standing). q.table ≡ table_id) ports → All (λ (q : Standing). may_ask q.view.state ≡ true) ports → Gathers table_id ports rest s
+  gathers_head table_id ports rest e tables quiets = subst (λ ps. Gathers table_id ps rest s) (sym e)
+      (gathers_first table_id rest (subst (All (λ (q : Standing). q.table ≡ table_id)) e tables) (subst (All (λ (q : Standing). may_ask q.view.state ≡ true)) e quiets))
+
+  -- the seat is of the same table
+  pub head_table : (table_id : TableId) (ports rest : List Standing) (whole : LinkSeat) (left : List Standing) → left ≡ p ∷ rest → Gathers table_id ports left whole → s.table_id ≡ table_id
+  head_table table_id ports rest whole left e h = ap (λ (q : Standing). q.table) is ∙ all_first (λ (q : Standing). q.table ≡ table_id) p rest (subst (All (λ (q : Standing). q.table ≡ table_id)) e h.tables)
+
+  -- a seat more
+  pub gathers_more : (table_id : TableId) (ports rest : List Standing) (old new : LinkSeat) → Gathers table_id ports (p ∷ rest) old → new.table_id ≡ old.table_id → new.me ≡ (old.me.0 ++ s.me.0, old.me.1) → Gathers table_id ports rest new
+  gathers_more table_id ports rest old new h t m = record {
+    table = t ∙ h.table;
+    views =
+        ap (λ z. map (λ (e : Known). e.view) z.0 ++ views rest) m ∙ ap (λ vs. vs ++ views rest) (map-append (λ (e : Known). e.view) old.me.0 s.me.0)
+        ∙ append_assoc (map (λ (e : Known). e.view) old.me.0) (map (λ (e : Known). e.view) s.me.0) (views rest)
+        ∙ ap (λ es. map (λ (e : Known). e.view) old.me.0 ++ (map (λ (e : Known). e.view) es ++ views rest)) ok.alone
+        ∙ ap (λ v. map (λ (e : Known). e.view) old.me.0 ++ (v ∷ views rest)) same_view
+        ∙ h.views;
+    at_rest = λ i e at. ⊎_elim (λ z. h.at_rest i e z) (λ z. only_at_rest z.0 e z.2) (at_either old.me.0 s.me.0 i e (subst (λ z. At z.0 i e) m at));
+    tables = all_rest (λ (q : Standing). q.table ≡ table_id) p rest h.tables;
+    quiet = all_rest (λ (q : Standing). may_ask q.view.state ≡ true) p rest h.quiet;
+  }
+
+-- the first seat, as the iterator over the ports gives it
+pub gathers_start : (label node : ℕ) (s : LinkSeat) (y : Parcel) (older steps : ℕ) (state : PortState) (p : Standing) → standing s y steps ≡ p → IsPort label node s y older state → (table_id : TableId) (ports items rest left : List Standing) → items ≡ ports → items ≡ p ∷ rest → left ≡ rest
+    → All (λ (q : Standing). q.table ≡ table_id) ports → All (λ (q : Standing). may_ask q.view.state ≡ true) ports → Gathers table_id ports left s
+gathers_start label node s y older steps state p is ok table_id ports items rest left a b c tables quiets =
+    let e : ports ≡ p ∷ rest = sym a ∙ b in
+    subst (λ l. Gathers table_id ports l s) (sym c)
+    (gathers_head label node s y older steps state p is ok (all_first (λ (q : Standing). may_ask q.view.state ≡ true) p rest (subst (All (λ (q : Standing). may_ask q.view.state ≡ true)) e quiets)) table_id ports rest e tables quiets)

@@ -1,0 +1,106 @@
+-- How a step leaves the words and the slot, and keeps the rule.
+use Rattle.std.proofs.Common.{◌≡◌, ◌≢◌, ℕ, ◌<◌, ◌≤◌, List, [], ◌∷◌, length, set, slice_index, sym, refl, ap, ◌∙◌, subst, arith, length-set, get_or-set_same, get_or-set_other}
+use mathlib.Core.Logic.{dite}
+use mathlib.Core.Option.{some, none}
+use native.Mathlib.Decide.{ℕ_discrete}
+use lib.ListN.{get_elem?}
+use Rattle.std.specs.Prelude.{slice_index_or}
+use Rattle.atomic_table.specs.Table.{State}
+use Rattle.qolb_model.specs.declared.terms.TheConstants.{MOST_NODES}
+use Rattle.link_core.specs.declared.state.State.{State as Core}
+use Rattle.link_core.specs.declared.entry.Entry.{Entry}
+use Rattle.link_core.specs.declared.place.Place.{Place}
+use Rattle.link_core.specs.declared.place.Place.TheVariants.{Home, Mailbox, Hand}
+use Rattle.link_core.specs.State.{empty, entry, IsNode}
+use Rattle.link_line.specs.declared.known.Known.{Known}
+use Rattle.link_line.specs.declared.parcel.Parcel.{Parcel}
+use Rattle.link_line.specs.declared.rule.Setup.{Setup}
+use Rattle.link_line.specs.Words.{home_at, entry_at, pack}
+use Rattle.link_line.specs.Links.{Past, NodeOk, PastOk, Laid, InSlot, Homes, LinkRule}
+use Rattle.link_line.proofs.Lists.{put, put_here, put_else, members_step}
+
+-- only the home word changes
+pub home_laid : (c d : Core) (words : List ℕ) (homes homes2 : Homes) (w : ℕ) → Laid c words homes → w ≡ d.home → d.nodes ≡ c.nodes → d.entries ≡ c.entries → length homes2 ≡ 1 → InSlot d homes2 d.place → Laid d (set words home_at w) homes2
+home_laid c d words homes homes2 w l e n f deep slot = record {
+  wide = length-set words home_at w ∙ l.wide;
+  deep = deep;
+  home = get_or-set_same words home_at w 0 (let k = l.wide in omega arith) ∙ e;
+  entries = λ m a. get_or-set_other words home_at (entry_at m) w 0 (λ z. let p = a.0 in omega arith) ∙ l.entries m (a.0, subst (λ (q : ℕ). m ≤ q) n a.1) ∙ ap (λ (es : List Entry). pack (slice_index_or es m empty)) (sym f);
+  slot = slot;
+}
+
+-- only the entry word of k changes
+pub entry_laid : (c d : Core) (words : List ℕ) (homes homes2 : Homes) (k w : ℕ) (e : Entry) → Laid c words homes → IsNode c k → c.nodes ≤ MOST_NODES → k < length c.entries → w ≡ pack e → d.nodes ≡ c.nodes → d.home ≡ c.home → d.entries ≡ set c.entries k e → length homes2 ≡ 1 → InSlot d homes2 d.place → Laid d (set words (entry_at k) w) homes2
+entry_laid c d words homes homes2 k w e l node few inside is n h changed deep slot = record {
+  wide = length-set words (entry_at k) w ∙ l.wide;
+  deep = deep;
+  home = get_or-set_other words (entry_at k) home_at w 0 (λ z. let p = node.0 in omega arith) ∙ l.home ∙ sym h;
+  entries = λ m a. dite (ℕ_discrete m k)
+      (λ same. ap (λ (q : ℕ). slice_index (set words (entry_at k) w) (entry_at q)) same ∙ get_or-set_same words (entry_at k) w 0 (let g = l.wide in let p = node.1 in omega arith) ∙ is ∙ ap pack (sym (own m same)))
+      (λ ne. get_or-set_other words (entry_at k) (entry_at m) w 0 (λ z. ne (omega arith)) ∙ l.entries m (a.0, subst (λ (q : ℕ). m ≤ q) n a.1) ∙ ap pack (sym (other m ne)));
+  slot = slot;
+}
+  where
+    own : (m : ℕ) → m ≡ k → entry d m ≡ e
+    own m same = ap (entry d) same ∙ ap (λ (es : List Entry). slice_index_or es k empty) changed ∙ get_or-set_same c.entries k e empty inside
+
+    other : (m : ℕ) → m ≢ k → entry d m ≡ entry c m
+    other m ne = ap (λ (es : List Entry). slice_index_or es m empty) changed ∙ get_or-set_other c.entries k m e empty ne
+
+-- a word is read
+pub same_laid : (c d : Core) (words : List ℕ) (homes homes2 : Homes) (k : ℕ) → Laid c words homes → IsNode c k → c.nodes ≤ MOST_NODES → d.nodes ≡ c.nodes → d.home ≡ c.home → d.entries ≡ c.entries → length homes2 ≡ 1 → InSlot d homes2 d.place → Laid d (set words (entry_at k) (slice_index words (entry_at k))) homes2
+same_laid c d words homes homes2 k l node few n h same deep slot = record {
+  wide = length-set words (entry_at k) _ ∙ l.wide;
+  deep = deep;
+  home = get_or-set_other words (entry_at k) home_at _ 0 (λ z. let p = node.0 in omega arith) ∙ l.home ∙ sym h;
+  entries = λ m a. dite (ℕ_discrete m k)
+      (λ is. ap (λ (q : ℕ). slice_index (set words (entry_at k) (slice_index words (entry_at k))) (entry_at q)) is ∙ get_or-set_same words (entry_at k) (slice_index words (entry_at k)) 0 (let g = l.wide in let p = node.1 in omega arith) ∙ l.entries k node ∙ ap (λ (es : List Entry). pack (slice_index_or es k empty)) (sym same) ∙ ap (λ (q : ℕ). pack (entry d q)) (sym is))
+      (λ ne. get_or-set_other words (entry_at k) (entry_at m) _ 0 (λ z. ne (omega arith)) ∙ l.entries m (a.0, subst (λ (q : ℕ). m ≤ q) n a.1) ∙ ap (λ (es : List Entry). pack (slice_index_or es m empty)) (sym same));
+  slot = slot;
+}
+
+-- the slot is taken
+pub deep_taken : (homes : Homes) → length homes ≡ 1 → length (set homes 0 none) ≡ 1
+deep_taken homes e = length-set homes 0 none ∙ e
+
+-- the line is in the slot where it is at home or in a mailbox
+pub in_slot : (c d : Core) (homes : Homes) (p : Place) → d.bytes ≡ c.bytes → d.closed ≡ c.closed → d.left ≡ c.left → InSlot c homes p → InSlot d homes p
+in_slot c d homes Home a b l s = record { line = s.line; at = s.at; bytes = s.bytes ∙ sym a; closed = s.closed ∙ sym b; turns = s.turns ∙ sym l }
+in_slot c d homes (Mailbox q) a b l s = record { line = s.line; at = s.at; bytes = s.bytes ∙ sym a; closed = s.closed ∙ sym b; turns = s.turns ∙ sym l }
+in_slot c d homes (Hand q) a b l s = tt
+
+module _ (good : List ℕ → Type 0) (allows : List ℕ → List ℕ → Type 0) (about : Setup) where
+  abbrev pub St : Type 0
+  St = State Parcel (List Known)
+
+  abbrev pub Rule : St → Type 0
+  Rule = LinkRule good allows about
+
+  -- the seat `me`, which has the view v alone, gets w, and the past becomes y
+  pub rule_step : (s : St) (r : Rule s) (me : ℕ) (v w : Known) (y : Past) (words : List ℕ) (homes : Homes) → get_elem? s.views me ≡ some (v ∷ []) → w.view.node ≡ v.view.node
+      → PastOk allows about y → Laid y.core words homes → NodeOk about y v.view.node w
+      → ((n : ℕ) (u : Known) → 0 < n → n ≤ about.terms.nodes → n ≢ v.view.node → NodeOk about r.past n u → NodeOk about y n u)
+      → Rule record { words = words; homes = homes; views = set s.views me (w ∷ []) }
+  rule_step s r me v w y words homes at same fine laid mine others = record {
+    past = y;
+    who = put r.who v.view.node w;
+    owner = r.owner;
+    may_open = r.may_open;
+    opened_good = r.opened_good;
+    fine = fine;
+    laid = laid;
+    each = λ n a b. dite (ℕ_discrete n v.view.node)
+        (λ e. subst (λ (z : ℕ × Known). NodeOk about y z.0 z.1) (λ i. (sym e i, (sym (put_here r.who v.view.node w) ∙ ap (put r.who v.view.node w) (sym e)) i)) mine)
+        (λ ne. subst (NodeOk about y n) (sym (put_else r.who v.view.node w n ne)) (others n (r.who n) a b ne (r.each n a b)));
+    members = members_step about.terms.nodes r.who r.owner s.views me v w at same r.members;
+  }
+
+  pub low : (s : St) (r : Rule s) (me : ℕ) (v : Known) → get_elem? s.views me ≡ some (v ∷ []) → (0 < v.view.node) × (v.view.node ≤ about.terms.nodes)
+  low s r me v at = let m = r.members me 0 (v ∷ []) v at refl in (m.low, m.high)
+
+  -- what the rule says of the seat's own view
+  pub mine_ok : (s : St) (r : Rule s) (me : ℕ) (v : Known) → get_elem? s.views me ≡ some (v ∷ []) → NodeOk about r.past v.view.node v
+  mine_ok s r me v at = let m = r.members me 0 (v ∷ []) v at refl in subst (NodeOk about r.past v.view.node) m.is (r.each v.view.node m.low m.high)
+
+  pub is_node : (s : St) (r : Rule s) (me : ℕ) (v : Known) → get_elem? s.views me ≡ some (v ∷ []) → IsNode r.past.core v.view.node
+  is_node s r me v at = let l = low s r me v at in (l.0, subst (λ (q : ℕ). v.view.node ≤ q) (sym r.fine.shown.matches.size) l.1)

@@ -1,0 +1,196 @@
+-- A node that waits looks at its entry, or withdraws: where the entry is granted the line comes.
+use Rattle.std.proofs.Common.{◌≡◌, ◌≢◌, ℕ, ◌+◌, ◌%◌, ◌^◌, ◌<◌, ◌≤◌, List, [], ◌∷◌, length, set, slice_index, true, false, sym, refl, ap, ◌∙◌, subst, inl, inr, arith, get_or-set_same}
+use mathlib.Core.Option.{some, none}
+use lib.ListN.{get_elem?}
+use Rattle.std.proofs.lemmas.Bool.{cases_Bool}
+use Rattle.atomic_table.specs.Table.{step, Act, keeps, takes, Valid, stepped, carried_after, Allows}
+use Rattle.qolb_model.specs.declared.terms.TheConstants.{MOST_NODES}
+use Rattle.qolb_model.specs.declared.request.Request.{Request}
+use Rattle.qolb_model.specs.Queue.{Queue}
+use Rattle.qolb_model.specs.Requests.{count_of}
+use Rattle.link_core.specs.declared.point.Point.TheVariants.{Queued, Rolled}
+use Rattle.link_core.specs.declared.place.Place.TheVariants.{Mailbox, Hand}
+use Rattle.link_core.specs.declared.seat.Seat.{Seat}
+use Rattle.link_core.specs.declared.state.State.{State as Core}
+use Rattle.link_core.specs.State.{unused, entry, seat, point, IsNode, IsWide, no_mask}
+use Rattle.link_core.specs.declared.told.Told.{Told as Answer}
+use Rattle.link_core.specs.declared.event.Event.{Event}
+use Rattle.link_core.specs.Steps.{Step, node_of, seat_at_arrival}
+use Rattle.link_core.specs.Steps as row
+use Rattle.link_core.proofs.Found.{found, unset}
+use Rattle.link_core.proofs.Steady.{after_is}
+use Rattle.link_line.specs.declared.known.Known.{Known}
+use Rattle.link_line.specs.declared.parcel.Parcel.{Parcel}
+use Rattle.link_line.specs.declared.rule.Setup.{Setup}
+use Rattle.link_line.specs.declared.words.TheConstants.{ROLLED}
+use Rattle.link_line.specs.Words.{entry_at, pack, is_granted}
+use Rattle.link_line.specs.Links.{Past, NodeOk, InSlot, HasLine}
+use Rattle.link_line.specs.Steps.{Contents, loaded, rolled}
+use Rattle.link_line.proofs.Going.{on, wide}
+use Rattle.link_line.proofs.Histories.{at_point}
+use Rattle.link_line.proofs.Packed.{granted_is, add_rolled}
+use Rattle.link_line.proofs.Laying.{St, Rule, mine_ok, is_node, entry_laid, same_laid, deep_taken, in_slot}
+use Rattle.link_line.proofs.Turning.{goes_step, grows_none, joins_same}
+use Rattle.link_line.proofs.Quiet.{after, view_after, quiet_turned}
+use Rattle.link_line.proofs.Arriving.{view_come, Arrives, comes, come_turned, queued_at, withdrawn_at}
+
+module _ (good : List ℕ → Type 0) (allows : List ℕ → List ℕ → Type 0) (about : Setup) (v : Known) (queued : v.seat.point ≡ Queued) where
+  module _ (me slots : ℕ) (carried : List (ℕ × Parcel)) (s : St good allows about) (r : Rule good allows about s) (at : get_elem? s.views me ≡ some (v ∷ [])) (small : slice_index s.words (entry_at v.view.node) < 18446744073709551616) where
+    ok : NodeOk about r.past v.view.node v
+    ok = mine_ok good allows about s r me v at
+
+    node : IsNode r.past.core v.view.node
+    node = is_node good allows about s r me v at
+
+    here : point r.past.core v.view.node ≡ Queued
+    here = at_point allows about r.past r.fine v.view.node v node ok ∙ queued
+
+    inside : IsWide r.past.core
+    inside = wide allows about r.may_open.nodes.few r.past r.fine
+
+    few : r.past.core.nodes ≤ MOST_NODES
+    few = subst (λ (n : ℕ). n ≤ MOST_NODES) (sym r.fine.shown.matches.size) r.may_open.nodes.few
+
+    own_seat : (st : Seat) → seat (record r.past.core { seats = set r.past.core.seats v.view.node st }) v.view.node ≡ st
+    own_seat st = get_or-set_same r.past.core.seats v.view.node st unused (let w = inside.seats in let n = node.1 in omega arith)
+
+    abbrev word : ℕ
+    word = entry_at v.view.node
+
+    found_word : slice_index s.words word ≡ pack (entry r.past.core v.view.node)
+    found_word = r.laid.entries v.view.node node
+
+    granted_as : is_granted (slice_index s.words word) ≡ (entry r.past.core v.view.node).granted
+    granted_as = ap is_granted found_word ∙ granted_is (entry r.past.core v.view.node)
+
+    -- the word with the flag
+    with_rolled : (slice_index s.words word + ROLLED) % 2 ^ 64 ≡ pack (record (entry r.past.core v.view.node) { rolled = true })
+    with_rolled = ap (λ (k : ℕ). (k + ROLLED) % 2 ^ 64) found_word ∙ add_rolled (entry r.past.core v.view.node) (subst (λ (k : ℕ). k < 18446744073709551616) found_word small) ((unset r.fine.shown).rolled v.view.node node here)
+
+    inside_entries : v.view.node < length r.past.core.entries
+    inside_entries = let w = inside.entries in let n = node.1 in omega arith
+
+    module _ (gr : (entry r.past.core v.view.node).granted ≡ true) where
+      box : r.past.core.place ≡ Mailbox v.view.node
+      box = ((found r.fine.shown).granted v.view.node node here gr).0
+
+      nowhere : (m : ℕ) → r.past.core.place ≢ Hand m
+      nowhere m e = let z : Mailbox v.view.node ≡ Hand m = sym box ∙ e in cc
+
+      line : HasLine r.past.core s.homes
+      line = subst (InSlot r.past.core s.homes) box r.laid.slot
+
+      arrives : {e : Event} {t : Answer} {d : Core} (k : Step r.past.core e t d) (is : node_of e ≡ v.view.node) → seat d v.view.node ≡ seat_at_arrival v.view.node r.past.core.closed → d.place ≡ Hand v.view.node → d.mask ≡ no_mask → d.bytes ≡ r.past.core.bytes → d.closed ≡ r.past.core.closed → d.left ≡ r.past.core.left → d.nodes ≡ r.past.core.nodes
+          → (after good allows about s r me v at k).queue.order ≡ r.past.queue.order → (after good allows about s r me v at k).queue.ends ≡ r.past.queue.ends → Arrives good allows about s r me v at k is r.past.joined v.view.count v.view.joined line
+      arrives k is seated placed masked bytes closed left nodes order ends = record {
+        seat_is = seated;
+        place = placed;
+        mask = masked;
+        bytes = bytes;
+        closed = closed;
+        left = left;
+        nodes = nodes;
+        nowhere = nowhere;
+        ends = ends;
+        counts = ap (λ (o : List Request). count_of v.view.node o) order ∙ ok.knows.counts;
+        grows = grows_none r.past (after good allows about s r me v at k) _ refl refl refl;
+        joins_are = joins_same about r.past (after good allows about s r me v at k) v ok refl;
+      }
+
+      load_comes : (w : List Known) × (a : Act Parcel) × Valid s.homes carried a × Rule good allows about (stepped s word (slice_index s.words word) me carried w a) × loaded allows (step slots word 0 0 none) (v ∷ [], carried) (slice_index s.words word) (w, carried_after carried a)
+      load_comes =
+          let k = row.load_granted v.view.node node here gr in
+          let y : Past = after good allows about s r me v at k in
+          let is = after_is (on allows about r.may_open.nodes.few r.past r.fine k) in
+          let a = arrives k refl (own_seat (seat_at_arrival v.view.node r.past.core.closed)) refl refl refl refl refl refl (ap (λ (q : Queue). q.order) is) (ap (λ (q : Queue). q.ends) is) in
+          let t = come_turned good allows about s r me v at k refl r.past.joined v.view.count v.view.joined line a (set s.words word (slice_index s.words word)) (set s.homes 0 none)
+          (same_laid r.past.core y.core s.words s.homes (set s.homes 0 none) v.view.node r.laid node few refl refl refl (deep_taken s.homes r.laid.deep) tt) in
+          let w : Known = view_come good allows about s r me v at k refl r.past.joined v.view.count v.view.joined line in (
+            w ∷ [],
+            takes 0 line.line,
+            line.at,
+            t.rule,
+            (
+              goes_step allows v w carried ((0, line.line) ∷ carried) t.continues refl,
+              refl,
+              (λ _. (line.line, refl, comes good allows about s r me v at k refl r.past.joined v.view.count v.view.joined line a)),
+              (λ f. let z = sym f ∙ granted_as ∙ gr in cc),
+            ),
+          )
+
+      roll_comes : (w : List Known) × (a : Act Parcel) × Valid s.homes carried a × Rule good allows about (stepped s word ((slice_index s.words word + ROLLED) % 2 ^ 64) me carried w a) × rolled allows (step slots word ROLLED 0 none) (v ∷ [], carried) (slice_index s.words word) (w, carried_after carried a)
+      roll_comes =
+          let k = row.roll_granted v.view.node node here gr in
+          let y : Past = after good allows about s r me v at k in
+          let is = after_is (on allows about r.may_open.nodes.few r.past r.fine k) in
+          let a = arrives k refl (own_seat (seat_at_arrival v.view.node r.past.core.closed)) refl refl refl refl refl refl (ap (λ (q : Queue). q.order) is) (ap (λ (q : Queue). q.ends) is) in
+          let t = come_turned good allows about s r me v at k refl r.past.joined v.view.count v.view.joined line a (set s.words word ((slice_index s.words word + ROLLED) % 2 ^ 64)) (set s.homes 0 none)
+          (entry_laid r.past.core y.core s.words s.homes (set s.homes 0 none) v.view.node _ (record (entry r.past.core v.view.node) { rolled = true }) r.laid node few inside_entries with_rolled refl refl refl (deep_taken s.homes r.laid.deep) tt) in
+          let w : Known = view_come good allows about s r me v at k refl r.past.joined v.view.count v.view.joined line in (
+            w ∷ [],
+            takes 0 line.line,
+            line.at,
+            t.rule,
+            (
+              goes_step allows v w carried ((0, line.line) ∷ carried) t.continues refl,
+              refl,
+              (λ _. (line.line, refl, comes good allows about s r me v at k refl r.past.joined v.view.count v.view.joined line a)),
+              (λ f. let z = sym f ∙ granted_as ∙ gr in cc),
+            ),
+          )
+
+    module _ (un : (entry r.past.core v.view.node).granted ≡ false) where
+      load_waits : (w : List Known) × (a : Act Parcel) × Valid s.homes carried a × Rule good allows about (stepped s word (slice_index s.words word) me carried w a) × loaded allows (step slots word 0 0 none) (v ∷ [], carried) (slice_index s.words word) (w, carried_after carried a)
+      load_waits =
+          let k = row.load_waiting v.view.node node here un in
+          let y : Past = after good allows about s r me v at k in
+          let step' = on allows about r.may_open.nodes.few r.past r.fine k in
+          let is = after_is step' in
+          let t = quiet_turned good allows about s r me v at k refl Queued here refl node (ap (λ (q : Queue). q.order) is) (ap (λ (q : Queue). q.ends) is) (set s.words word (slice_index s.words word)) s.homes
+          (same_laid r.past.core y.core s.words s.homes s.homes v.view.node r.laid node few refl refl refl r.laid.deep r.laid.slot) in (
+            view_after good allows about s r me v at k ∷ [],
+            keeps,
+            tt,
+            t.rule,
+            (
+              goes_step allows v (view_after good allows about s r me v at k) carried carried t.continues refl,
+              refl,
+              (λ f. let z = sym f ∙ granted_as ∙ un in cc),
+              (λ _. (refl, record { point = here; queued = queued_at good allows about y v v.view.count v.view.joined [] v.line step'.shows (ap (λ (q : Queue). count_of v.view.node q.order) is ∙ ok.knows.counts) step'.says here })),
+            ),
+          )
+
+      roll_withdraws : (w : List Known) × (a : Act Parcel) × Valid s.homes carried a × Rule good allows about (stepped s word ((slice_index s.words word + ROLLED) % 2 ^ 64) me carried w a) × rolled allows (step slots word ROLLED 0 none) (v ∷ [], carried) (slice_index s.words word) (w, carried_after carried a)
+      roll_withdraws =
+          let k = row.roll v.view.node node here un in
+          let y : Past = after good allows about s r me v at k in
+          let step' = on allows about r.may_open.nodes.few r.past r.fine k in
+          let is = after_is step' in
+          let own = ap (λ (z : Seat). z.point) (own_seat (record (seat r.past.core v.view.node) { point = Rolled })) in
+          let t = quiet_turned good allows about s r me v at k refl Rolled own refl node (ap (λ (q : Queue). q.order) is) (ap (λ (q : Queue). q.ends) is) (set s.words word ((slice_index s.words word + ROLLED) % 2 ^ 64)) s.homes
+          (entry_laid r.past.core y.core s.words s.homes s.homes v.view.node _ (record (entry r.past.core v.view.node) { rolled = true }) r.laid node few inside_entries with_rolled refl refl refl r.laid.deep (in_slot r.past.core y.core s.homes r.past.core.place refl refl refl r.laid.slot)) in (
+            view_after good allows about s r me v at k ∷ [],
+            keeps,
+            tt,
+            t.rule,
+            (
+              goes_step allows v (view_after good allows about s r me v at k) carried carried t.continues refl,
+              refl,
+              (λ f. let z = sym f ∙ granted_as ∙ un in cc),
+              (λ _. (refl, record { point = own; withdrawn = withdrawn_at good allows about y v v.view.count v.view.joined [] v.line step'.shows (ap (λ (q : Queue). count_of v.view.node q.order) is ∙ ok.knows.counts) step'.says own })),
+            ),
+          )
+
+  pub loads_next : (me slots i : ℕ) (m : Contents) → m.0 ≡ v ∷ [] → i ≡ entry_at v.view.node → Allows (Rule good allows about) slots me m i (λ k. k) (loaded allows (step slots i 0 0 none) m)
+  loads_next me slots i m is word = subst (λ (z : ℕ × Contents). Allows (Rule good allows about) slots me z.1 z.0 (λ k. k) (loaded allows (step slots z.0 0 0 none) z.1)) (λ j. (sym word j, (sym is j, m.1)))
+      (λ s r deep at small. elim (cases_Bool (entry r.past.core v.view.node).granted) [
+        | inl t ↦ load_comes me slots m.1 s r at small t
+        | inr f ↦ load_waits me slots m.1 s r at small f
+      ])
+
+  pub rolls_next : (me slots i : ℕ) (m : Contents) → m.0 ≡ v ∷ [] → i ≡ entry_at v.view.node → Allows (Rule good allows about) slots me m i (λ k. (k + ROLLED) % 2 ^ 64) (rolled allows (step slots i ROLLED 0 none) m)
+  rolls_next me slots i m is word = subst (λ (z : ℕ × Contents). Allows (Rule good allows about) slots me z.1 z.0 (λ k. (k + ROLLED) % 2 ^ 64) (rolled allows (step slots z.0 ROLLED 0 none) z.1)) (λ j. (sym word j, (sym is j, m.1)))
+      (λ s r deep at small. elim (cases_Bool (entry r.past.core v.view.node).granted) [
+        | inl t ↦ roll_comes me slots m.1 s r at small t
+        | inr f ↦ roll_withdraws me slots m.1 s r at small f
+      ])

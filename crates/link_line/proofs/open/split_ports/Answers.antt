@@ -1,0 +1,25 @@
+use Rattle.std.proofs.Common.{rules, arith, sym, ap, subst, false, None, ◌∙◌, ◌+◌}
+use Rattle.link_line.specs.Steps.{LinkSeat}
+use Rattle.link_line.specs.Opened.{AreSplit}
+use Rattle.link_line.proofs.Seats.{cuts}
+use Rattle.link_line.proofs.Splitting.{first_me, rest_me, first_port, one_more}
+use Rattle.link_line.proofs.open.split_ports.Goals as goal
+
+pub split_seat-others-requires : goal.split_seat-others-requires
+split_seat-others-requires g c = (search rules, search rules, cuts g.K.Keep.good g.K.Keep.allows c.args.ground.now.key _ _)
+
+pub invariant_of-push : goal.invariant_of-push
+invariant_of-push g c = let s = c.split_seat-others.ensures in
+    first_port c.args.setup.now c.loop-done.done c.loop-done.rest c.replace-seat.result c.replace-seat.new.dest (omega arith) c.loop-done.invariant.me _ _ (ap (λ (p : LinkSeat). p.me) c.replace-seat.ensures.value ∙ s.2)
+
+pub loop-done-preserved : goal.loop-done-preserved
+loop-done-preserved g c = let s = c.split_seat-others.ensures in
+    let i = c.loop-done.invariant in
+    let first = first_me c.args.setup.now c.loop-done.done c.loop-done.rest c.replace-seat.result c.replace-seat.new.dest (omega arith) i.me (ap (λ (p : LinkSeat). p.me) c.replace-seat.ensures.value ∙ s.2) in
+    let rest = rest_me c.args.setup.now c.loop-done.done c.loop-done.rest c.replace-seat.result c.replace-seat.new.dest (omega arith) i.me (ap (λ (p : LinkSeat). p.me) c.replace-seat.ensures.after ∙ s.4) in
+    record {
+      table = ap (λ (p : LinkSeat). p.table_id) c.replace-seat.ensures.after ∙ s.3 ∙ i.table;
+      me = rest;
+      new_ports = subst (AreSplit c.args.ground.now.table_id c.args.setup.now (c.loop-done.done + 1)) (sym c.in_ok-push.ensures.items)
+          (one_more c.args.ground.now.table_id c.args.setup.now c.loop-done.done c.loop-done.ports.items c.replace-seat.result (record { bytes = c.zero.result; mask = record { 0 = 0 }; turns_left = None; closed = false }) i.new_ports (ap (λ (p : LinkSeat). p.table_id) c.replace-seat.ensures.value ∙ s.0 ∙ i.table) first);
+    }

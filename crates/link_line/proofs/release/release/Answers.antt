@@ -1,0 +1,43 @@
+use Rattle.std.proofs.Common.{◌+◌, ◌∙◌, ap, sym, subst, arith}
+use Rattle.qolb_model.specs.declared.answer.PortState.{PortState}
+use Rattle.qolb_model.specs.declared.terms.Terms.{Terms}
+use Rattle.qolb_model.specs.PortStates.{left_by}
+use Rattle.link_line.specs.declared.parcel.Parcel.{Parcel}
+use Rattle.link_line.specs.Steps.{known_of}
+use Rattle.link_line.specs.Releases.{LetsLineGo}
+use Rattle.link_line.proofs.Stepping.{goes_trans}
+use Rattle.link_line.proofs.Released.{lets_out, lets_left, lets_on, walk_nodes, same_slot}
+use Rattle.link_line.proofs.release.release.Goals as goal
+
+pub walk-requires-clause-nodes : goal.walk-requires-clause-nodes
+walk-requires-clause-nodes g c =
+    let y = c.requires.parcel in
+    let on = c.in-Passed.ensures.handed in
+    let passes = (on.3 y.0 y.1).2 in
+    (walk_nodes (known_of c.args.seat.now) (known_of c.hand_on.new.seat) y.0 c.in-Passed.next c.requires.none_passed passes, omega (arith, c.requires.nodes.1, ap (λ (t : Terms). t.nodes) on.2.extends.terms))
+
+pub returns-in-On-clause-lets_go : goal.returns-in-On-clause-lets_go
+returns-in-On-clause-lets_go g c y slot =
+    let own = c.requires.parcel in
+    let on = c.in-On.ensures.handed.3 y slot in
+    let closed = ap (λ (z : Parcel). left_by z.closed) (same_slot c.args.seat.now.me.1 y own.0 slot own.1) ∙ ap left_by own.3 in
+    subst (λ (state : PortState). LetsLineGo (known_of c.args.seat.now) y state (known_of c.hand_on.new.seat)) (closed ∙ sym c.left_by.ensures) (lets_out (known_of c.args.seat.now) y c.requires.none_passed (known_of c.hand_on.new.seat) on.1 on.2)
+
+pub returns-in-Left-clause-lets_go : goal.returns-in-Left-clause-lets_go
+returns-in-Left-clause-lets_go g c y slot =
+    let on = c.in-Left.ensures.handed.3 y slot in
+    lets_left (known_of c.args.seat.now) y c.requires.none_passed (known_of c.hand_on.new.seat) on.1 on.2
+
+pub returns-in-Passed-clause-goes_on : goal.returns-in-Passed-clause-goes_on
+returns-in-Passed-clause-goes_on g c =
+    let on = c.in-Passed.ensures.handed in
+    let walked = c.walk.ensures.goes_on in
+    (on.0 + walked.0, omega (arith, on.1, walked.1), goes_trans g.K.Keep.allows c.args.seat.now.me c.hand_on.new.seat.me c.walk.new.seat.me on.0 walked.0 on.2 walked.2)
+
+pub returns-in-Passed-clause-lets_go : goal.returns-in-Passed-clause-lets_go
+returns-in-Passed-clause-lets_go g c y slot =
+    let own = c.requires.parcel in
+    let on = c.in-Passed.ensures.handed.3 y slot in
+    let closed = ap (λ (z : Parcel). left_by z.closed) (same_slot c.args.seat.now.me.1 y own.0 slot own.1) ∙ ap left_by own.3 in
+    subst (λ (state : PortState). LetsLineGo (known_of c.args.seat.now) y state (known_of c.walk.new.seat)) (closed ∙ sym c.left_by-in-Passed.ensures)
+    (lets_on (known_of c.args.seat.now) y c.requires.none_passed (known_of c.hand_on.new.seat) (known_of c.walk.new.seat) c.in-Passed.next on.1 on.2 c.walk.ensures.goes_on.2.extends c.walk.ensures.walks_on)

@@ -1,0 +1,19 @@
+use Rattle.std.proofs.Common.{rules, arith, sym, ◌∙◌, subst, ℕ, ◌≤◌}
+use Rattle.qolb_model.specs.declared.terms.TheConstants.{MOST_NODES}
+use Rattle.link_core.specs.declared.point.Point.TheVariants.{Granting}
+use Rattle.link_line.specs.Steps.{known_of, Carries}
+use Rattle.link_line.proofs.Marking.{marks_next}
+use Rattle.link_line.proofs.steps.done.Goals as goal
+
+pub fetch_add-requires : goal.fetch_add-requires
+fetch_add-requires g c = let r = c.requires.ready in let y = c.requires.parcel in (search rules, omega arith, marks_next g.K.Keep.good g.K.Keep.allows c.args.ground.now.key (known_of c.args.seat.now) _ r.1 _ _ _ c.args.seat.now.me (λ i. (r.0 i, y i)) c.entry_word.ensures)
+
+pub returns-clause-left : goal.returns-clause-left
+returns-clause-left g c = λ none. (c.fetch_add.ensures.2.1 _ c.requires.parcel).0 (sym c.link_of.ensures ∙ none)
+
+pub returns-clause-on : goal.returns-clause-on
+returns-clause-on g c = λ more. let on = (c.fetch_add.ensures.2.1 _ c.requires.parcel).1 (λ z. more (c.link_of.ensures ∙ z)) in (
+  on.0,
+  subst (λ (k : ℕ). k ≤ MOST_NODES) (sym c.link_of.ensures) on.2,
+  subst (λ (k : ℕ). Carries (known_of c.args.seat.now) (known_of c.fetch_add.new.seat) (known_of c.args.seat.now).line (Granting k)) (sym c.link_of.ensures) on.1,
+)

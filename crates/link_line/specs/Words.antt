@@ -1,0 +1,38 @@
+-- The words of the table: where they lie, and what an entry word says.
+use Rattle.std.specs.Prelude.{ℕ, ◌+◌, ◌*◌, ◌/◌, ◌%◌, ◌==◌, Bool, true, false}
+use Rattle.qolb_model.specs.declared.terms.TheConstants.{MOST_NODES}
+use Rattle.link_core.specs.declared.entry.Entry.{Entry}
+use Rattle.link_line.specs.declared.words.TheConstants.{ENTRY_STRIDE, GRANTED, ROLLED, DONE, FREED, LINK}
+
+abbrev pub home_at : ℕ
+home_at = ENTRY_STRIDE
+
+abbrev pub entry_at : ℕ → ℕ
+entry_at n = ENTRY_STRIDE + ENTRY_STRIDE * n
+
+abbrev pub word_count : ℕ
+word_count = entry_at (MOST_NODES + 1)
+
+abbrev pub one_if : Bool → ℕ
+one_if true = 1
+one_if false = 0
+
+-- the word of an entry
+abbrev pub pack : Entry → ℕ
+pack e = GRANTED * one_if e.granted + ROLLED * one_if e.rolled + DONE * one_if e.done + FREED * one_if e.freed + LINK * e.link
+
+-- and its fields
+abbrev pub is_granted : ℕ → Bool
+is_granted w = (w % 2) == 1
+
+abbrev pub is_rolled : ℕ → Bool
+is_rolled w = (w / 2 % 2) == 1
+
+abbrev pub is_done : ℕ → Bool
+is_done w = (w / 4 % 2) == 1
+
+abbrev pub is_freed : ℕ → Bool
+is_freed w = (w / 8 % 2) == 1
+
+abbrev pub link_of : ℕ → ℕ
+link_of w = w / LINK

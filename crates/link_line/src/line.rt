@@ -1,0 +1,97 @@
+//! A line over a table.
+ghost use Rattle.std.specs.Prelude.{◌≡◌, ◌↔◌, ◌≤◌, IsTrue};
+ghost use Rattle.qolb_model.specs.OneOwner.{turn_after};
+ghost use Rattle.qolb_model.specs.declared.terms.TheConstants.{MOST_NODES};
+ghost use Rattle.link_line.specs.Words.{word_count};
+
+use crate::known::Known;
+use crate::parcel::Parcel;
+use crate::port::Port;
+use crate::rule::{Links, Setup};
+use atomic_table::Table;
+use line_lanes::{Line64, Mask, merge};
+use qolb_model::{Keep, PortState};
+use std::alloc::Global;
+use std::collections::LinkedList;
+
+/// A line that nodes queue at by a list of links.
+///
+/// A request is made by one swap of the home word, which names the newest requester; later it is linked to the one before, in whose
+/// entry it leaves its number. A release looks at its own entry once, and never waits for that link: where it is missing, the line is
+/// left there with a mark, and the late linker takes it. Between any two steps on its words the table shows one history of the line: an
+/// order of requests, and the ends of the first of them. Each port knows a beginning of it.
+#[derive(Drop)]
+pub struct LinkLine<K: Keep> {
+    pub(crate) table: Table<Parcel, LinkedList<Known>, Setup, Links<K>, Global>,
+    pub(crate) label: u64,
+    pub(crate) nodes: u64,
+    ghost sized: { table.shared.table_id.words ≡ word_count },
+    ghost labelled: { label ≡ table.shared.key.label },
+    ghost counted: { nodes ≡ table.shared.key.terms.nodes },
+    ghost some_nodes: { 1 ≤ nodes },
+    ghost few_nodes: { nodes ≤ MOST_NODES },
+}
+
+impl<K: Keep> LinkLine<K> {
+    /// The label that the line was opened with.
+    pub fn label(&self) -> u64
+        ensures { result ≡ self.now.table.shared.key.label }
+    {
+        self.label
+    }
+
+    /// How many nodes the line has. They are numbered from 1.
+    pub fn nodes(&self) -> u64
+        ensures { result ≡ self.now.table.shared.key.terms.nodes }
+    {
+        self.nodes
+    }
+
+    /// The port's node.
+    pub fn node(port: &Port) -> u64
+        ensures { result ≡ port.now.view.node }
+    {
+        port.node
+    }
+
+    /// What the port's last call left.
+    pub fn state(port: &Port) -> PortState
+        ensures { result ≡ port.now.view.state }
+    {
+        port.state
+    }
+
+    /// How many word steps the port's last call took that asks, looks, withdraws or lets go; 0 before the first.
+    pub fn steps(&self, port: &Port) -> u64
+        ensures { result ≡ port.now.steps }
+    {
+        port.steps
+    }
+
+    /// Whether the port's label is the line's.
+    pub fn owns(&self, port: &Port) -> bool
+        ensures { IsTrue result ↔ (port.now.view.label ≡ self.now.table.shared.key.label) }
+    {
+        port.label == self.label
+    }
+
+    /// The line's bytes as the holder sees them.
+    pub fn bytes(port: &Port) -> &Line64
+        requires { port.now.view.state ≡ PortState.Holding }
+        ensures { result.now ≡ port.now.turn.bytes }
+    {
+        &port.parcel.bytes
+    }
+
+    /// The holder writes the bytes of the mask.
+    pub fn write(port: &mut Port, mask: Mask, bytes: &Line64)
+        requires { port.old.view.state ≡ PortState.Holding }
+        ensures table { port.new.table ≡ port.old.table }
+        ensures view { port.new.view ≡ port.old.view }
+        ensures turn { port.new.turn ≡ turn_after port.old.turn mask.0 bytes.now.bytes }
+        ensures steps { (port.new.steps ≡ port.old.steps) × (port.new.taken ≡ port.old.taken) }
+    {
+        port.parcel.bytes = merge(&port.parcel.bytes, bytes, mask);
+        port.parcel.mask = Mask(port.parcel.mask.0 | mask.0);
+    }
+}

@@ -1,0 +1,244 @@
+//! How a line is let go.
+ghost use Rattle.std.specs.Prelude.{◌≡◌, ◌≢◌, ℕ, ◌+◌, ◌*◌, ◌≤◌, [], ◌∷◌, length, true};
+ghost use Rattle.qolb_model.specs.declared.request.Request.{Request};
+ghost use Rattle.qolb_model.specs.declared.terms.TheConstants.{MOST_NODES};
+ghost use Rattle.qolb_model.specs.PortStates as states;
+ghost use Rattle.link_core.specs.declared.point.Point.TheVariants.{Idle, Leaving, Freeing, Left, Rolled, Shut};
+ghost use Rattle.link_line.specs.Links.{At};
+ghost use Rattle.link_line.specs.Steps.{SameSeat, IsSeatOf, IsAt, HasSlot, HasNoSlot, IsOwnNode, Alone, known_of, GoesOn, Comes, MayLetGo};
+ghost use Rattle.link_line.specs.Releases.{AreFew, IsRenewed, steps_to_renew, rest_of, HandsOn, LetsLineGo, WalksOn, AreNodesAt, FreesAll};
+ghost use Rattle.link_line.specs.Ports.{Arrived};
+ghost use Rattle.link_line.specs.declared.parcel.Parcel.{Parcel};
+
+use crate::parcel::Parcel;
+use crate::rule::{Ground, LinkSeat};
+use crate::slot::take;
+use crate::steps::{done, free, grant, home, look_left, look_rolled, reset};
+use arrayvec::ArrayVec;
+use qolb_model::{Keep, MOST_NODES, PortState};
+
+/// The most requests that a release passes: those of all nodes but its own.
+const MOST_PASSED: usize = MOST_NODES as usize - 1;
+
+/// What became of a line that was let go at an entry.
+#[derive(Clone, Copy)]
+pub(crate) enum Handed {
+    /// It is away: at home, or the next request's.
+    On,
+    /// It is left there, for a late linker.
+    Left,
+    /// It is still in hand: the request of this node, the next, is withdrawn, and so passed.
+    Passed(u64),
+}
+
+/// Makes a node ready to ask, and returns how many word steps that took. A last request that is not clear keeps it from asking: then
+/// `None`, after one step.
+#[inline]
+pub(crate) fn renew<K: Keep>(
+    ground: &Ground<K>,
+    seat: &mut LinkSeat,
+    node: u64,
+    state: PortState,
+) -> Option<u64>
+    requires table { IsSeatOf ground.now.table_id seat.old }
+    requires alone { Alone seat.old.me }
+    requires point { (known_of seat.old).seat.point ≡ rest_of state }
+    requires may_ask { states.may_ask state ≡ true }
+    requires own { IsOwnNode node seat.old }
+    ensures same { SameSeat seat.old seat.new }
+    ensures slot { seat.new.me.1 ≡ seat.old.me.1 }
+    ensures goes_on { GoesOn K.allows seat.old.me seat.new.me (steps_to_renew result) }
+    ensures renewed { IsRenewed state (known_of seat.old) (known_of seat.new) result }
+{
+    let looks = match state {
+        PortState::Left => {
+            if !look_left(ground, seat, node) {
+                return None;
+            }
+            1
+        }
+        PortState::Rolled => {
+            if !look_rolled(ground, seat, node) {
+                return None;
+            }
+            1
+        }
+        _ => 0,
+    };
+    reset(ground, seat, node);
+    Some(looks + 1)
+}
+
+/// Takes in the line that has come to its turn, and returns the state that the port is then in: it holds. A closed line is passed on
+/// at once, in so many more steps.
+#[inline]
+pub(crate) fn arrive<K: Keep>(
+    ground: &Ground<K>,
+    seat: &mut LinkSeat,
+    parcel: &mut Parcel,
+    steps: &mut u64,
+    node: u64,
+) -> PortState
+    requires table { IsSeatOf ground.now.table_id seat.old }
+    requires alone { Alone seat.old.me }
+    requires own { IsOwnNode node seat.old }
+    requires nodes { (1 ≤ (known_of seat.old).view.terms.nodes) × ((known_of seat.old).view.terms.nodes ≤ MOST_NODES) }
+    requires few { steps.old ≤ 3 }
+    requires comes { (y : Parcel) × HasSlot seat.old y × Comes (known_of seat.old) y }
+    ensures same { SameSeat seat.old seat.new }
+    ensures goes_on { (n : ℕ) × (steps.new ≡ steps.old + n) × GoesOn K.allows seat.old.me seat.new.me n }
+    ensures count { (known_of seat.new).view.count ≡ (known_of seat.old).view.count }
+    ensures arrived { Arrived seat.new parcel.new steps.old steps.new result }
+{
+    take(ground, seat, parcel);
+    if parcel.closed {
+        pass_on(ground, seat, steps, node)
+    } else {
+        PortState::Holding
+    }
+}
+
+/// Passes a closed line on, and returns the state that the port is then in.
+#[cold]
+#[inline(never)]
+fn pass_on<K: Keep>(
+    ground: &Ground<K>,
+    seat: &mut LinkSeat,
+    steps: &mut u64,
+    node: u64,
+) -> PortState
+    requires table { IsSeatOf ground.now.table_id seat.old }
+    requires alone { Alone seat.old.me }
+    requires own { IsOwnNode node seat.old }
+    requires nodes { (1 ≤ (known_of seat.old).view.terms.nodes) × ((known_of seat.old).view.terms.nodes ≤ MOST_NODES) }
+    requires few { steps.old ≤ 3 }
+    requires comes { (y : Parcel) × HasSlot seat.old y × Comes (known_of seat.old) y × (y.closed ≡ true) }
+    ensures same { SameSeat seat.old seat.new }
+    ensures goes_on { (n : ℕ) × (steps.new ≡ steps.old + n) × GoesOn K.allows seat.old.me seat.new.me n }
+    ensures count { (known_of seat.new).view.count ≡ (known_of seat.old).view.count }
+    ensures arrived { (y : Parcel) → Arrived seat.new y steps.old steps.new result }
+    ensures not_held { result ≢ PortState.Holding }
+{
+    release(ground, seat, true, steps, node)
+}
+
+/// Lets the line go that lies in the slot, closed or not, and returns the state that the port is then in.
+#[inline]
+pub(crate) fn release<K: Keep>(
+    ground: &Ground<K>,
+    seat: &mut LinkSeat,
+    closed: bool,
+    steps: &mut u64,
+    node: u64,
+) -> PortState
+    requires table { IsSeatOf ground.now.table_id seat.old }
+    requires alone { Alone seat.old.me }
+    requires own { IsOwnNode node seat.old }
+    requires none_passed { (known_of seat.old).passed ≡ [] }
+    requires nodes { (1 ≤ (known_of seat.old).view.terms.nodes) × ((known_of seat.old).view.terms.nodes ≤ MOST_NODES) }
+    requires few { steps.old ≤ 3 }
+    requires parcel { (y : Parcel) × HasSlot seat.old y × MayLetGo K.allows (known_of seat.old) y node × (y.closed ≡ closed) }
+    ensures same { SameSeat seat.old seat.new }
+    ensures slot { HasNoSlot seat.new }
+    ensures goes_on { (n : ℕ) × (steps.new ≡ steps.old + n) × GoesOn K.allows seat.old.me seat.new.me n }
+    ensures lets_go { (y : Parcel) → HasSlot seat.old y → LetsLineGo (known_of seat.old) y result (known_of seat.new) }
+    ensures bound { steps.new + 3 ≤ steps.old + 4 * (known_of seat.old).view.terms.nodes }
+{
+    match hand_on(ground, seat, steps, node) {
+        Handed::On => left_by(closed),
+        Handed::Left => PortState::Left,
+        Handed::Passed(next) => {
+            walk(ground, seat, steps, next);
+            left_by(closed)
+        }
+    }
+}
+
+/// Lets the line go at the entry of the node `at`: home where nobody is behind it, else to the next request.
+#[inline]
+fn hand_on<K: Keep>(ground: &Ground<K>, seat: &mut LinkSeat, steps: &mut u64, at: u64) -> Handed
+    requires table { IsSeatOf ground.now.table_id seat.old }
+    requires alone { Alone seat.old.me }
+    requires high { at ≤ MOST_NODES }
+    requires few { AreFew steps.old }
+    requires parcel { (y : Parcel) × HasSlot seat.old y × MayLetGo K.allows (known_of seat.old) y at }
+    ensures same { SameSeat seat.old seat.new }
+    ensures handed { (n : ℕ) × (steps.new ≡ steps.old + n) × GoesOn K.allows seat.old.me seat.new.me n × ((y : Parcel) → HasSlot seat.old y → HandsOn seat.old y seat.new n result) }
+{
+    *steps += 1;
+    if home(ground, seat, at) {
+        return Handed::On;
+    }
+    *steps += 1;
+    let next = done(ground, seat, at);
+    if next == 0 {
+        return Handed::Left;
+    }
+    *steps += 1;
+    if grant(ground, seat, next) {
+        Handed::Passed(next)
+    } else {
+        Handed::On
+    }
+}
+
+/// Passes withdrawn requests, from that of the node `first` on up to one that is not, and frees their nodes.
+///
+/// It is apart, and cold: room for the passed nodes is cleared at its entry, which a release that meets no withdrawn request need not pay.
+#[cold]
+#[inline(never)]
+fn walk<K: Keep>(ground: &Ground<K>, seat: &mut LinkSeat, steps: &mut u64, first: u64)
+    requires table { IsSeatOf ground.now.table_id seat.old }
+    requires ready { IsAt (Leaving first) seat.old }
+    requires high { first ≤ MOST_NODES }
+    requires passed { (known_of seat.old).passed ≡ length (known_of seat.old).view.ends ∷ [] }
+    requires first { (r : Request) × At (known_of seat.old).view.order (length (known_of seat.old).view.ends) r × (r.node ≡ first) }
+    requires nodes { (2 ≤ (known_of seat.old).view.terms.nodes) × ((known_of seat.old).view.terms.nodes ≤ MOST_NODES) }
+    requires few { steps.old ≤ 6 }
+    requires parcel { HasSlot seat.old (known_of seat.old).line }
+    requires state { (known_of seat.old).view.state ≡ states.left_by (known_of seat.old).line.closed }
+    ensures same { SameSeat seat.old seat.new }
+    ensures slot { HasNoSlot seat.new }
+    ensures goes_on { (n : ℕ) × (steps.new ≡ steps.old + n) × GoesOn K.allows seat.old.me seat.new.me n }
+    ensures walks_on { WalksOn (known_of seat.old) (known_of seat.new) }
+    ensures bound { steps.new + 6 ≤ steps.old + 4 * (known_of seat.old).view.terms.nodes }
+{
+    let mut passed = ArrayVec::<u64, MOST_PASSED>::new();
+    let mut handed = Handed::Passed(first);
+    while let Handed::Passed(node) = handed {
+        passed.push(node);
+        handed = hand_on(ground, seat, steps, node);
+    }
+    // Freed only now: a node that is freed may ask, and its new request must not be passed by this walk.
+    free_passed(ground, seat, &passed);
+    *steps += passed.len() as u64;
+}
+
+/// Frees the nodes of all requests that were passed, in their order.
+fn free_passed<K: Keep>(ground: &Ground<K>, seat: &mut LinkSeat, nodes: &[u64])
+    requires table { IsSeatOf ground.now.table_id seat.old }
+    requires ready { IsAt Freeing seat.old }
+    requires some { (known_of seat.old).passed ≢ [] }
+    requires many { length nodes.now ≡ length (known_of seat.old).passed }
+    requires nodes { AreNodesAt (known_of seat.old).view.order (known_of seat.old).passed nodes.now }
+    ensures same { SameSeat seat.old seat.new }
+    ensures slot { seat.new.me.1 ≡ seat.old.me.1 }
+    ensures goes_on { GoesOn K.allows seat.old.me seat.new.me (length nodes.now) }
+    ensures frees { FreesAll (known_of seat.old) (known_of seat.new) }
+{
+    for node in nodes {
+        free(ground, seat, *node);
+    }
+}
+
+/// The state that a turn leaves which closed the line or did not.
+#[inline]
+fn left_by(closed: bool) -> PortState
+    ensures { result ≡ states.left_by closed }
+{
+    if closed {
+        PortState::Shut
+    } else {
+        PortState::Idle
+    }
+}

@@ -1,0 +1,77 @@
+-- What stays true of a port's view while its steps go on, in a line of whatever kind.
+use Rattle.std.proofs.Common.{◌≡◌, ℕ, ◌≤◌, List, sym, refl, ◌∙◌, subst, ap, Some, arith}
+use Rattle.qolb_model.specs.declared.terms.Terms.{Terms}
+use Rattle.qolb_model.specs.declared.view.View.{View}
+use Rattle.qolb_model.specs.Requests.{Has}
+use Rattle.qolb_model.specs.Views.{own, Extends}
+use Rattle.qolb_model.specs.Sound.{Continues, IsSound}
+use Rattle.qolb_model.specs.Asking.{Asks, IsJoined}
+use Rattle.qolb_model.proofs.Prefixes.{prefix_self, prefix_get, prefix_length}
+use Rattle.qolb_model.proofs.Requests.{same_request, has_prefix}
+use Rattle.qolb_model.proofs.Agreeing.{extends_trans}
+
+-- a port that forgets nothing, and then goes on, goes on
+pub continues_on : (allows : List ℕ → List ℕ → Type 0) (u v w : View) → Extends u v → Continues allows v w → Continues allows u w
+continues_on allows u v w e c = record { extends = extends_trans u v w e c.extends; history = c.history; kept = c.kept; freed_clear = c.freed_clear; own_past = c.own_past }
+
+-- what a port knows it goes on knowing
+pub extends_self : (v : View) → Extends v v
+extends_self v = record {
+  label = refl;
+  terms = refl;
+  node = refl;
+  order = prefix_self v.order;
+  ends = prefix_self v.ends;
+  clear = prefix_self v.clear;
+  joined = λ r h. h;
+  marked = λ r h. h;
+  freed = λ r h. h;
+}
+
+-- what is true of a port's view stays true
+pub sound_goes : (good : List ℕ → Type 0) (allows : List ℕ → List ℕ → Type 0) (label : ℕ) (terms : Terms) (v w : View) → IsSound good allows label terms v → Continues allows v w → IsSound good allows label terms w
+sound_goes good allows label terms v w s c = record {
+  label_is = c.extends.label ∙ s.label_is;
+  terms_are = c.extends.terms ∙ s.terms_are;
+  may_open = s.may_open;
+  first_node = subst (λ n. 1 ≤ n) (sym c.extends.node) s.first_node;
+  last_node = subst (λ n. n ≤ terms.nodes) (sym c.extends.node) s.last_node;
+  opened_good = s.opened_good;
+  history = c.history;
+  kept = c.kept;
+  freed_clear = c.freed_clear;
+  own_past = c.own_past;
+}
+
+-- a sound view goes on with itself
+pub continues_sound : (good : List ℕ → Type 0) (allows : List ℕ → List ℕ → Type 0) (label : ℕ) (terms : Terms) (v : View) → IsSound good allows label terms v → Continues allows v v
+continues_sound good allows label terms v s = record {
+  extends = extends_self v;
+  history = s.history;
+  kept = s.kept;
+  freed_clear = s.freed_clear;
+  own_past = s.own_past;
+}
+
+-- the same request, seen later
+pub same_own : (v w : View) → Extends v w → w.count ≡ v.count → own w ≡ own v
+same_own v w e c = same_request w.node v.node w.count v.count e.node c
+
+-- what was asked stays asked
+pub asks_goes : (u v w : View) → Asks u v → Extends v w → w.count ≡ v.count → Asks u w
+asks_goes u v w a e c = record {
+  was_clear = λ h. has_prefix v.clear w.clear (own u) e.clear (a.was_clear h);
+  count = c ∙ a.count;
+  behind = (a.behind.0, a.behind.1, prefix_get v.order w.order a.behind.0 (own w) e.order (a.behind.2 ∙ ap Some (sym (same_own v w e c))));
+}
+
+pub joined_goes : (v w : View) → Has v.joined (own v) → Extends v w → w.count ≡ v.count → IsJoined w
+joined_goes v w h e c = subst (Has w.joined) (sym (same_own v w e c)) (e.joined (own v) h)
+
+-- what is asked of what a port knew later was asked of what it knew before
+pub asks_from : (u v w : View) → Extends u v → v.count ≡ u.count → Asks v w → Asks u w
+asks_from u v w e same a = record {
+  was_clear = λ some. subst (Has w.clear) (same_own u v e same) (a.was_clear (omega (arith, some, same)));
+  count = omega (arith, a.count, same);
+  behind = (a.behind.0, omega (arith, prefix_length u.order v.order e.order, a.behind.1), a.behind.2);
+}
