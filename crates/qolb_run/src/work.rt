@@ -120,3 +120,6 @@ fn open_ring(
         Err(_) => Err(RunError::Memory),
     }
 }
+
+#[cfg(test)]
+mod tests;

@@ -1,0 +1,164 @@
+use super::*;
+use crate::gate::AlwaysOpen;
+use qolb_script::read_work;
+use std::sync::atomic::{AtomicU64, Ordering};
+use std::test::Fail;
+use std::thread::yield_now;
+
+/// What the workers of the script do, behind a gate.
+fn outcome<R: Threads + Wait + Sync, G: Gate + Sync>(
+    rt: &R,
+    alloc: Global,
+    gate: &G,
+    script: &str,
+    kind: WorkKind,
+) -> Result<Result<Report, RunError>, Fail> {
+    let work = read_work(alloc, script.as_bytes(), kind)?;
+    Ok(run_work(rt, alloc, gate, &work, Lines::Ring))
+}
+
+#[test]
+fn one_worker_at_a_board(rt: HostRuntime) -> Result<(), Fail> {
+    let script = "board workers 1\n1 put 5\n1 put 9\n1 take\n1 take\n1 take\n";
+    let report = Report::Board {
+        stored: 2,
+        full: 0,
+        taken: 2,
+        empty: 1,
+        left: 0,
+    };
+    assert_eq!(rt;
+        outcome(&rt, rt.alloc(), &AlwaysOpen, script, WorkKind::Board)?,
+        Ok(report)
+    );
+    Ok(())
+}
+
+#[test]
+fn a_full_board(rt: HostRuntime) -> Result<(), Fail> {
+    let script =
+        "board workers 1\n1 put 3\n1 put 3\n1 put 3\n1 put 3\n1 put 3\n1 put 3\n1 put 3\n1 put 3\n";
+    let report = Report::Board {
+        stored: 7,
+        full: 1,
+        taken: 0,
+        empty: 0,
+        left: 7,
+    };
+    assert_eq!(rt;
+        outcome(&rt, rt.alloc(), &AlwaysOpen, script, WorkKind::Board)?,
+        Ok(report)
+    );
+    Ok(())
+}
+
+#[test]
+fn one_worker_at_a_bank(rt: HostRuntime) -> Result<(), Fail> {
+    let script = "bank workers 1 lines 2\n1 in 0 10\n1 move 0 9 4\n1 out 9 9\n1 out 9 1\n";
+    let report = Report::Bank {
+        paid_in: 10,
+        paid_out: 1,
+        total: 9,
+    };
+    assert_eq!(rt;
+        outcome(&rt, rt.alloc(), &AlwaysOpen, script, WorkKind::Bank)?,
+        Ok(report)
+    );
+    Ok(())
+}
+
+#[test]
+fn no_deposit_of_four_workers_is_lost(rt: HostRuntime) -> Result<(), Fail> {
+    let mut script = "bank workers 4 lines 1\n".to_string(rt.alloc())?;
+    for worker in 1..5u64 {
+        for turn in 0..100u64 {
+            let account = turn % 8;
+            script.push_str(format!(in rt.alloc(); "{worker} in {account} 1\n")?.as_str())?;
+        }
+    }
+    let report = Report::Bank {
+        paid_in: 400,
+        paid_out: 0,
+        total: 400,
+    };
+    assert_eq!(rt;
+        outcome(
+            &rt,
+            rt.alloc(),
+            &AlwaysOpen,
+            script.as_str(),
+            WorkKind::Bank
+        )?,
+        Ok(report)
+    );
+    Ok(())
+}
+
+/// A gate that never opens.
+struct Closed;
+
+impl Gate for Closed {
+    fn may(&self, _worker: u64, _at: u64) -> bool {
+        false
+    }
+}
+
+#[test]
+fn a_worker_gives_up_before_a_closed_gate(rt: HostRuntime) -> Result<(), Fail> {
+    let script = "board workers 2\n2 put 5\n";
+    assert_eq!(rt;
+        outcome(&rt, rt.alloc(), &Closed, script, WorkKind::Board)?,
+        Err(RunError::Stalled(2))
+    );
+    Ok(())
+}
+
+/// A gate that opens once two workers stand before it at the same time.
+#[derive(Drop)]
+struct Meeting {
+    first: AtomicU64,
+    second: AtomicU64,
+    met: AtomicU64,
+}
+
+impl Gate for Meeting {
+    fn may(&self, worker: u64, _at: u64) -> bool {
+        let (mine, other) = if worker == 1 {
+            (&self.first, &self.second)
+        } else {
+            (&self.second, &self.first)
+        };
+        mine.store(1, Ordering::SeqCst);
+        for _ in 0..100 {
+            if other.load(Ordering::SeqCst) == 1 {
+                self.met.store(1, Ordering::SeqCst);
+            }
+            if self.met.load(Ordering::SeqCst) == 1 {
+                return true;
+            }
+            yield_now();
+        }
+        mine.store(0, Ordering::SeqCst);
+        false
+    }
+}
+
+#[test]
+fn workers_stand_before_a_gate_at_the_same_time(rt: HostRuntime) -> Result<(), Fail> {
+    let gate = Meeting {
+        first: AtomicU64::new(0),
+        second: AtomicU64::new(0),
+        met: AtomicU64::new(0),
+    };
+    let report = Report::Bank {
+        paid_in: 2,
+        paid_out: 0,
+        total: 2,
+    };
+    let script = "bank workers 2 lines 1\n1 in 0 1\n2 in 0 1\n";
+    assert_eq!(rt;
+        outcome(&rt, rt.alloc(), &gate, script, WorkKind::Bank)?,
+        Ok(report)
+    );
+    Ok(())
+}
