@@ -6,6 +6,7 @@ use line_lanes::{Line64, Mask, lane, placed, with_lane};
 use linked_list_allocator::LocalHeap;
 use qolb_model::{Enq, FinishError, Free, OpenError, Out, Poll, PortState, Prep};
 use row::Row;
+use std::alloc::Global;
 use std::test::Fail;
 
 #[test]
@@ -262,31 +263,41 @@ fn finish_wants_a_quiet_port_of_each_node(rt: HostRuntime) -> Result<(), Fail> {
     Ok(())
 }
 
+/// A line on which node 1 has left the line for node 2, which has not linked yet, and node 3 is idle.
+fn left_behind(alloc: Global) -> Result<Row, Fail> {
+    let mut row = Row::open(alloc, 7, 3, Line64::zero())?;
+    row.ask(1);
+    row.prepend(2);
+    row.release(1);
+    Ok(row)
+}
+
 #[test]
-fn finish_names_the_first_cause(rt: HostRuntime) -> Result<(), Fail> {
-    let mut row = Row::open(rt.alloc(), 7, 3, Line64::zero())?;
-    let mut other = Row::open(rt.alloc(), 8, 3, Line64::zero())?;
-    assert_eq!(rt; row.ask(1), Some(Enq::Granted));
-    assert_eq!(rt; row.prepend(2), Some(Prep::Linking));
-    assert_eq!(rt; row.release(1), Some(true));
+fn finish_waits_for_a_late_linker(rt: HostRuntime) -> Result<(), Fail> {
+    let row = left_behind(rt.alloc())?;
+    assert_eq!(rt; row.state(1), Some(PortState::Left));
+    assert_eq!(rt; row.state(2), Some(PortState::Linking));
     let (why, mut row) = row.finish(rt.alloc()).err().ok_or("one is linking")?;
     assert_eq!(rt; why, FinishError::Unquiet(2));
-
-    let three = row.take(3).ok_or("no third port")?;
-    let (why, mut row) = row.finish(rt.alloc()).err().ok_or("a port is missing")?;
-    assert_eq!(rt; why, FinishError::Missing(3));
-
-    let stranger = other.take(1).ok_or("no stranger")?;
-    assert!(rt; !row.owns(&stranger));
-    assert!(rt; row.put(stranger));
-    let (why, mut row) = row.finish(rt.alloc()).err().ok_or("a stranger finishes")?;
-    assert_eq!(rt; why, FinishError::Missing(0));
-
-    assert!(rt; row.take_other());
-    assert!(rt; row.put(three));
     assert_eq!(rt; row.link(2), Some(Enq::Granted));
     assert_eq!(rt; row.release(2), Some(true));
     assert!(rt; row.finish(rt.alloc()).is_ok());
+    Ok(())
+}
+
+#[test]
+fn finish_names_the_first_cause(rt: HostRuntime) -> Result<(), Fail> {
+    let mut row = left_behind(rt.alloc())?;
+    assert!(rt; row.take(3).is_some());
+    let (why, mut row) = row.finish(rt.alloc()).err().ok_or("a port is missing")?;
+    assert_eq!(rt; why, FinishError::Missing(3));
+
+    let mut other = Row::open(rt.alloc(), 8, 3, Line64::zero())?;
+    let stranger = other.take(1).ok_or("no stranger")?;
+    assert!(rt; !row.owns(&stranger));
+    assert!(rt; row.put(stranger));
+    let (why, _) = row.finish(rt.alloc()).err().ok_or("a stranger finishes")?;
+    assert_eq!(rt; why, FinishError::Missing(0));
     Ok(())
 }
 
@@ -348,7 +359,7 @@ fn a_withdrawal_and_a_release_race(rt: HostRuntime) -> Result<(), Fail> {
         if row.state(2) == Some(PortState::Idle) {
             granted = granted.saturating_add(1);
         }
-        assert!(rt; row.meet(1, 2), "round {round}");
+        assert_eq!(rt; row.meet(1, 2), Some(true), "round {round}");
     }
     let line = row.finish(rt.alloc()).ok().ok_or("no end")?;
     assert_eq!(rt; lane(&line, 0), granted.saturating_add(ROUNDS));

@@ -122,32 +122,16 @@ impl Row {
     }
 
     /// The ports of two nodes meet: whether both are the line's.
-    pub(super) fn meet(&mut self, one: u64, two: u64) -> bool {
-        let Some(mut a) = self.take(one) else {
-            return false;
-        };
-        let Some(mut b) = self.take(two) else {
-            self.put(a);
-            return false;
-        };
-        let both = self.owns(&a) && self.owns(&b);
-        if both {
-            self.line.meet(&mut a, &mut b);
+    pub(super) fn meet(&mut self, one: u64, two: u64) -> Option<bool> {
+        let mut a = self.take(one)?;
+        let mut b = self.take(two)?;
+        if !self.owns(&a) || !self.owns(&b) {
+            return Some(false);
         }
+        self.line.meet(&mut a, &mut b);
         self.put(a);
         self.put(b);
-        both
-    }
-
-    /// Takes a port out that is not the line's: whether there was one.
-    pub(super) fn take_other(&mut self) -> bool
-        ensures { self.new ≡ self.old }
-    {
-        let Some(at) = self.ports.iter().position(|port| !self.line.owns(port)) else {
-            return false;
-        };
-        self.ports.swap_remove(at);
-        true
+        Some(true)
     }
 
     /// Polls for the node, if its port waits.
