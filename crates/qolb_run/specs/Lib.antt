@@ -9,3 +9,4 @@ pub mod Workers
 pub mod BoardWork
 pub mod Reports
 pub mod BankWork
+pub mod Meetings

@@ -1,6 +1,7 @@
 //! Ports that tell each other what they know.
 ghost use Rattle.std.specs.Prelude.{◌≡◌, ◌<◌, length, map, All};
 ghost use Rattle.qolb_model.specs.Rounds.{MeetsEach, MeetsOthers};
+ghost use Rattle.qolb_run.specs.Meetings.{HaveMet};
 ghost use Rattle.qolb_run.specs.Stances.{stance_of};
 
 use qolb_model::{Keep, LineSync};
@@ -9,6 +10,7 @@ use qolb_model::{Keep, LineSync};
 pub fn meet_all<K: Keep, L: LineSync<K>>(line: &L, ports: &mut [L::Port])
     requires { All (L.belongs line.now) ports.old }
     ensures belong { All (L.belongs line.now) ports.new }
+    ensures met { HaveMet K.allows (map (stance_of L.view L.turn) ports.old) (length ports.old) (map (stance_of L.view L.turn) ports.new) }
     ensures as_many { length ports.new ≡ length ports.old }
 {
     for place in 0..ports.len() {
