@@ -6,7 +6,9 @@ ghost use Rattle.link_line.specs.Line.{IsPortOf};
 use crate::line::LinkLine;
 use crate::port::Port;
 use line_lanes::{Line64, Mask};
-use qolb_model::{Enq, Keep, LineSync, Out, Poll, PortState, Unfinished};
+use qolb_model::{
+    Enq, Keep, LineSync, OpenError, OpenLine, Out, Poll, PortState, Terms, Unfinished,
+};
 use std::alloc::Global;
 
 impl<K: Keep> LineSync<K> for LinkLine<K> {
@@ -93,4 +95,14 @@ impl<K: Keep> LineSync<K> for LinkLine<K> {
     }
 
     ghost sound = { λ line port belongs. belongs.sound };
+}
+
+impl<K: Keep> OpenLine<K> for LinkLine<K> {
+    fn open_with(
+        alloc: Global,
+        label: u64,
+        terms: Terms,
+    ) -> Result<(LinkLine<K>, Vec<Port>), OpenError> {
+        LinkLine::<K>::with_terms(alloc, label, terms)
+    }
 }

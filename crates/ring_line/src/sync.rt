@@ -6,7 +6,9 @@ ghost use Rattle.ring_line.specs.Line.{IsPortOf};
 use crate::line::RingLine;
 use crate::port::Port;
 use line_lanes::{Line64, Mask};
-use qolb_model::{Enq, Keep, LineSync, Out, Poll, PortState, Unfinished};
+use qolb_model::{
+    Enq, Keep, LineSync, OpenError, OpenLine, Out, Poll, PortState, Terms, Unfinished,
+};
 use std::alloc::Global;
 
 impl<K: Keep> LineSync<K> for RingLine<K> {
@@ -93,4 +95,14 @@ impl<K: Keep> LineSync<K> for RingLine<K> {
     }
 
     ghost sound = { λ line port belongs. belongs.sound };
+}
+
+impl<K: Keep> OpenLine<K> for RingLine<K> {
+    fn open_with(
+        alloc: Global,
+        label: u64,
+        terms: Terms,
+    ) -> Result<(RingLine<K>, Vec<Port>), OpenError> {
+        RingLine::<K>::with_terms(alloc, label, terms)
+    }
 }
