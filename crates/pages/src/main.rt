@@ -5,21 +5,19 @@ mod examples;
 mod samples;
 
 use anyhow::{Context, ensure};
-use examples::{EXAMPLES, Example, answer};
+use examples::{EXAMPLES, Example, compare};
 use samples::{Sample, samples};
 use std::alloc::Global;
 use std::fs;
 use std::rt::Files;
 
 /// The pages that show samples.
-static PAGES: [&str; 9] = [
+static PAGES: [&str; 7] = [
     "README.md",
     "docs/USING.md",
     "docs/WALK.md",
+    "docs/SCRIPTS.md",
     "docs/CHANGING.md",
-    "docs/EVENTS.md",
-    "docs/GLOSSARY.md",
-    "crates/line_accounts/README.md",
     "crates/line_board/README.md",
     "crates/line_uses/README.md",
 ];
@@ -31,7 +29,7 @@ fn main(rt: HostRuntime) -> anyhow::Result<()> {
     }
     for example in EXAMPLES {
         check_example(&rt, rt.alloc(), example)?;
-        println!(rt; "{}: answered", example.script)?;
+        println!(rt; "{}: answered", example.name)?;
     }
     Ok(())
 }
@@ -39,7 +37,7 @@ fn main(rt: HostRuntime) -> anyhow::Result<()> {
 /// How many samples the page shows, each of which stands in its file.
 fn check_page<R: Files + AllocGlobal>(rt: &R, alloc: Global, page: &str) -> anyhow::Result<usize> {
     let text = fs::read_to_string(rt, page).context(page)?;
-    let all = samples(alloc, text.as_str())?;
+    let all = samples(alloc, text.as_str()).context(page)?;
     for sample in all.iter() {
         let Sample { file, text } = sample;
         let source = fs::read_to_string(rt, file.as_str()).context(format_args!("{page} names {file}"))?;
@@ -51,22 +49,22 @@ fn check_page<R: Files + AllocGlobal>(rt: &R, alloc: Global, page: &str) -> anyh
     Ok(all.len())
 }
 
-/// Answers the example's script in each way, and compares.
+/// Compares the example's answer with what is answered.
 fn check_example<R: Files + AllocGlobal>(
     rt: &R,
     alloc: Global,
     example: Example,
 ) -> anyhow::Result<()> {
-    let script = fs::read_to_string(rt, example.script).context(example.script)?;
-    let wanted = fs::read_to_string(rt, example.answer).context(example.answer)?;
-    for &way in example.ways {
-        let said = answer(alloc, way, script.as_str().as_bytes())?;
-        ensure!(
-            said.as_slice() == wanted.as_str().as_bytes(),
-            "{} is not answered as {} says, {way:?}",
-            example.script,
-            example.answer
-        );
-    }
-    Ok(())
+    let Example { name, form } = example;
+    let script = format!(in alloc; "examples/{name}.txt")?;
+    let answer = format!(in alloc; "examples/{name}.out")?;
+    let script = fs::read_to_string(rt, script.as_str()).context(name)?;
+    let answer = fs::read_to_string(rt, answer.as_str()).context(name)?;
+    compare(
+        alloc,
+        form,
+        script.as_str().as_bytes(),
+        answer.as_str().as_bytes(),
+    )
+    .context(name)
 }
