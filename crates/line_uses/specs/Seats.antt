@@ -4,9 +4,9 @@ use Rattle.line_lanes.specs.Lane.{lane_of}
 use Rattle.line_uses.specs.declared.seats.TheConstants.{SEATS}
 
 -- the first lane counts no more seats than there are
-abbrev pub Fits : List ℕ → Type 0
-Fits bytes = lane_of bytes 0 ≤ SEATS
+abbrev pub IsWithin : List ℕ → Type 0
+IsWithin bytes = lane_of bytes 0 ≤ SEATS
 
 -- a turn that finds it so leaves it so
-abbrev pub StaysFitting : List ℕ → List ℕ → Type 0
-StaysFitting old new = Fits old → Fits new
+abbrev pub StaysWithin : List ℕ → List ℕ → Type 0
+StaysWithin old new = IsWithin old → IsWithin new

@@ -11,8 +11,8 @@ use std::alloc::Global;
 use std::sync::Wait;
 use std::thread::Threads;
 
-/// The bytes of the first lane.
-const FIRST_LANE: Mask = Mask(0xff);
+/// All bytes of a line.
+const WHOLE: Mask = Mask(0xffff_ffff_ffff_ffff);
 
 /// Adds 1 to the first lane, so many times, each in a turn of its own.
 pub fn add<R: Wait, L: LineSync<Free>>(rt: &R, line: &L, port: &mut L::Port, rounds: u64)
@@ -26,7 +26,7 @@ pub fn add<R: Wait, L: LineSync<Free>>(rt: &R, line: &L, port: &mut L::Port, rou
             Got::Granted => {
                 let held = *L::bytes(port);
                 let more = lane(&held, 0).wrapping_add(1);
-                L::write(port, FIRST_LANE, &with_lane(&held, 0, more));
+                L::write(port, WHOLE, &with_lane(&held, 0, more));
                 line.deqolb(port);
             }
             Got::Closed => return,

@@ -18,8 +18,8 @@ use std::thread::{Threads, yield_now};
 /// How often a node looks for its turn before it takes its request back.
 const PATIENCE: u64 = 100;
 
-/// The bytes of the first lane, where the value lies; 0 is none.
-const FIRST_LANE: Mask = Mask(0xff);
+/// All bytes of a line. Its first lane has the value; 0 is none.
+const WHOLE: Mask = Mask(0xffff_ffff_ffff_ffff);
 
 /// How asking ended.
 #[derive(Clone, Copy, Debug, PartialEq, Eq)]
@@ -75,7 +75,7 @@ pub fn put_down<L: LineSync<Free>>(line: &L, port: &mut L::Port, value: u64) -> 
     let held = *L::bytes(port);
     let is_free = lane(&held, 0) == 0;
     if is_free {
-        L::write(port, FIRST_LANE, &with_lane(&held, 0, value));
+        L::write(port, WHOLE, &with_lane(&held, 0, value));
     }
     line.deqolb(port);
     is_free
@@ -95,7 +95,7 @@ pub fn take_up<L: LineSync<Free>>(line: &L, port: &mut L::Port) -> Option<u64>
     }
     let held = *L::bytes(port);
     let value = lane(&held, 0);
-    L::write(port, FIRST_LANE, &with_lane(&held, 0, 0));
+    L::write(port, WHOLE, &with_lane(&held, 0, 0));
     line.deqolb(port);
     if value == 0 { None } else { Some(value) }
 }

@@ -1,10 +1,10 @@
 //! A law of one's own: clerks sell the seats of a house, and in no schedule more than there are.
-ghost use Rattle.std.specs.Prelude.{◌≤◌, IfSome, IsTrue};
+ghost use Rattle.std.specs.Prelude.{◌≡◌, ◌≤◌, IfSome, IsTrue};
 ghost use Rattle.qolb_model.specs.PortStates.{may_ask};
 ghost use Rattle.qolb_model.specs.Turns.{IsGranted};
 ghost use Rattle.qolb_model.specs.Kept.{MayRelease};
 ghost use Rattle.line_rows.specs.Opened.{MayAskFor};
-ghost use Rattle.line_uses.specs.Seats.{Fits, StaysFitting};
+ghost use Rattle.line_uses.specs.Seats.{IsWithin, StaysWithin};
 
 use line_lanes::{Line64, Mask, lane, with_lane};
 use line_rows::together::{Work, together};
@@ -17,33 +17,33 @@ use std::thread::Threads;
 /// How many seats there are.
 pub const SEATS: u64 = 100;
 
-/// The bytes of the first lane, which counts the seats that are sold.
-const FIRST_LANE: Mask = Mask(0xff);
+/// All bytes of a line. Its first lane counts the seats that are sold.
+const WHOLE: Mask = Mask(0xffff_ffff_ffff_ffff);
 
 /// The law: no more seats are sold than there are.
 pub struct House;
 
 impl Keep for House {
-    ghost good = { Fits };
+    ghost good = { IsWithin };
 
-    ghost allows = { StaysFitting };
+    ghost allows = { StaysWithin };
 
-    ghost stays_good = { λ old new fits stays. stays fits };
+    ghost stays_good = { λ old new within stays. stays within };
 
-    ghost allows_same = { λ bytes _ fits. fits };
+    ghost allows_same = { λ bytes _ within. within };
 }
 
 /// The holder sells a seat, unless none is left.
 fn sell_one<L: LineSync<House>>(port: &mut L::Port)
     requires { IsGranted (L.view port.old) (L.turn port.old) }
     ensures view { L.view port.new ≡ L.view port.old }
-    ensures allowed { MayRelease StaysFitting (L.view port.new) (L.turn port.new) }
+    ensures allowed { MayRelease StaysWithin (L.view port.new) (L.turn port.new) }
     ensures belongs { (line : L) → L.belongs line port.old → L.belongs line port.new }
 {
     let held = *L::bytes(port);
     let sold = lane(&held, 0);
     if sold < SEATS {
-        L::write(port, FIRST_LANE, &with_lane(&held, 0, sold + 1));
+        L::write(port, WHOLE, &with_lane(&held, 0, sold + 1));
     }
 }
 
