@@ -1,0 +1,8 @@
+use Rattle.line_rows.specs.Opened.{MayAskFor}
+use Rattle.line_uses.proofs.mailbox.ExchangeWorkPort.work.Given as goal
+
+abbrev pub invariant-loop : goal.invariant-loop
+invariant-loop g l = MayAskFor g.L.LineSync.belongs g.L.LineSync.view l.line l.port
+
+abbrev pub invariant-loop-value : goal.invariant-loop-value
+invariant-loop-value g l = MayAskFor g.L.LineSync.belongs g.L.LineSync.view l.line l.port

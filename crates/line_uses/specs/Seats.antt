@@ -1,0 +1,12 @@
+-- The law of the house: no more seats are sold than there are. (Of this project.)
+use Rattle.std.specs.Prelude.{ℕ, ◌≤◌, List}
+use Rattle.line_lanes.specs.Lane.{lane_of}
+use Rattle.line_uses.specs.declared.seats.TheConstants.{SEATS}
+
+-- the first lane counts no more seats than there are
+abbrev pub IsWithin : List ℕ → Type 0
+IsWithin bytes = lane_of bytes 0 ≤ SEATS
+
+-- a turn that finds it so leaves it so
+abbrev pub StaysWithin : List ℕ → List ℕ → Type 0
+StaysWithin old new = IsWithin old → IsWithin new

@@ -1,0 +1,95 @@
+//! A law of one's own: clerks sell the seats of a house, and in no schedule more than there are.
+ghost use Rattle.std.specs.Prelude.{◌≡◌, ◌≤◌, IfSome, IsTrue};
+ghost use Rattle.qolb_model.specs.PortStates.{may_ask};
+ghost use Rattle.qolb_model.specs.Turns.{IsGranted};
+ghost use Rattle.qolb_model.specs.Kept.{MayRelease};
+ghost use Rattle.line_rows.specs.Opened.{MayAskFor};
+ghost use Rattle.line_uses.specs.Seats.{IsWithin, StaysWithin};
+
+use line_lanes::{Line64, Mask, lane, with_lane};
+use line_rows::together::{Work, together};
+use qolb_model::{Keep, LineSync, OpenLine, Terms};
+use qolb_run::{Got, acquire};
+use std::alloc::Global;
+use std::sync::Wait;
+use std::thread::Threads;
+
+/// How many seats there are.
+pub const SEATS: u64 = 100;
+
+/// All bytes of a line. Its first lane counts the seats that are sold.
+const WHOLE: Mask = Mask(0xffff_ffff_ffff_ffff);
+
+/// The law: no more seats are sold than there are.
+pub struct House;
+
+impl Keep for House {
+    ghost good = { IsWithin };
+
+    ghost allows = { StaysWithin };
+
+    ghost stays_good = { λ old new within stays. stays within };
+
+    ghost allows_same = { λ bytes _ within. within };
+}
+
+/// The holder sells a seat, unless none is left.
+fn sell_one<L: LineSync<House>>(port: &mut L::Port)
+    requires { IsGranted (L.view port.old) (L.turn port.old) }
+    ensures view { L.view port.new ≡ L.view port.old }
+    ensures allowed { MayRelease StaysWithin (L.view port.new) (L.turn port.new) }
+    ensures belongs { (line : L) → L.belongs line port.old → L.belongs line port.new }
+{
+    let held = *L::bytes(port);
+    let sold = lane(&held, 0);
+    if sold < SEATS {
+        L::write(port, WHOLE, &with_lane(&held, 0, sold + 1));
+    }
+}
+
+/// A clerk, and how many customers come to it.
+#[derive(Drop)]
+struct Clerk {
+    customers: u64,
+}
+
+impl<L: LineSync<House>> Work<L, L::Port> for Clerk {
+    ghost fits = { MayAskFor L.belongs L.view };
+
+    fn work<R: Wait>(&self, rt: &R, line: &L, port: L::Port) -> L::Port {
+        let mut port = port;
+        for _ in 0..self.customers {
+            match acquire(rt, line, &mut port) {
+                Got::Granted => {
+                    sell_one::<L>(&mut port);
+                    line.deqolb(&mut port);
+                }
+                Got::Closed => break,
+            }
+        }
+        port
+    }
+}
+
+/// So many clerks, each in a thread of its own, sell to so many customers each; how many seats are sold. `None` where the line, memory or a
+/// thread was refused.
+pub fn sell<R: Threads + Wait + Sync, L: OpenLine<House> + Sync + Drop>(
+    rt: &R,
+    alloc: Global,
+    clerks: u64,
+    customers: u64,
+) -> Option<u64>
+where
+    L::Port: Send + Drop,
+    ensures { IfSome result (λ sold. sold ≤ SEATS) }
+{
+    let terms = Terms {
+        nodes: clerks,
+        opening: Line64::zero(),
+        lease: None,
+    };
+    let (line, ports) = L::open_with(alloc, 1, terms).ok()?;
+    let ports = together(rt, alloc, &Clerk { customers }, &line, ports)?;
+    let last = line.finish(alloc, ports).ok()?;
+    Some(lane(&last, 0))
+}

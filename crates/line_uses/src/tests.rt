@@ -1,0 +1,87 @@
+//! The uses, over the ring and over the list.
+ghost use Rattle.std.specs.Prelude.{◌≡◌, IfSome, IsTrue};
+ghost use Rattle.qolb_model.specs.PortStates.{may_ask};
+ghost use Rattle.line_rows.specs.Opened.{IsNewPort};
+
+use crate::mailbox::Asked;
+use crate::{counter, mailbox, seats};
+use line_lanes::Line64;
+use line_rows::opened::with_two;
+use link_line::LinkLine;
+use qolb_model::{Free, LineSync, OpenLine, PortState, Terms};
+use ring_line::RingLine;
+use seats::House;
+use std::alloc::Global;
+use std::test::Fail;
+
+#[test]
+fn no_addition_is_lost(rt: HostRuntime) -> Result<(), Fail> {
+    let alloc = rt.alloc();
+    let by_ring = counter::count::<HostRuntime, RingLine<Free>>(&rt, alloc, 3, 1_000);
+    assert_eq!(rt; by_ring, Some(3_000));
+    let by_list = counter::count::<HostRuntime, LinkLine<Free>>(&rt, alloc, 3, 1_000);
+    assert_eq!(rt; by_list, Some(3_000));
+    Ok(())
+}
+
+#[test]
+fn each_value_is_taken_up(rt: HostRuntime) -> Result<(), Fail> {
+    let alloc = rt.alloc();
+    // 1 to 1,000 add up to 500,500.
+    let by_ring = mailbox::hand_over::<HostRuntime, RingLine<Free>>(&rt, alloc, 1_000);
+    assert_eq!(rt; by_ring, Some(500_500));
+    let by_list = mailbox::hand_over::<HostRuntime, LinkLine<Free>>(&rt, alloc, 1_000);
+    assert_eq!(rt; by_list, Some(500_500));
+    Ok(())
+}
+
+/// Node 1 holds; node 2 asks with little patience, and asks again; node 1 lets go, and node 2 asks once more. What node 2 was answered.
+fn late<L: OpenLine<Free> + Drop>(alloc: Global) -> Option<[Asked; 3]>
+where
+    L::Port: Drop,
+{
+    let terms = Terms {
+        nodes: 2,
+        opening: Line64::zero(),
+        lease: None,
+    };
+    let (line, ports) = L::open_with(alloc, 1, terms).ok()?;
+    let mut ports = ports;
+    let mut two = ports.pop()?;
+    let mut one = ports.pop()?;
+    let Asked::Granted = mailbox::ask(&line, &mut one, 0) else {
+        return None;
+    };
+    let first = mailbox::ask(&line, &mut two, 3);
+    let again = match first {
+        Asked::Late => mailbox::ask(&line, &mut two, 3),
+        _ => return None,
+    };
+    line.deqolb(&mut one);
+    let last = match again {
+        Asked::Late => mailbox::ask(&line, &mut two, 3),
+        _ => return None,
+    };
+    Some([first, again, last])
+}
+
+#[test]
+fn a_late_node_asks_again(rt: HostRuntime) -> Result<(), Fail> {
+    let wanted = Some([Asked::Late, Asked::Late, Asked::Granted]);
+    assert_eq!(rt; late::<RingLine<Free>>(rt.alloc()), wanted);
+    assert_eq!(rt; late::<LinkLine<Free>>(rt.alloc()), wanted);
+    Ok(())
+}
+
+#[test]
+fn the_house_is_sold_out(rt: HostRuntime) -> Result<(), Fail> {
+    let alloc = rt.alloc();
+    // Four times 40 customers want 100 seats; four times 20 leave 20 of them free.
+    for (customers, sold) in [(40, 100), (20, 80)] {
+        let by_ring = seats::sell::<HostRuntime, RingLine<House>>(&rt, alloc, 4, customers);
+        assert_eq!(rt; by_ring, Some(sold));
+        let by_list = seats::sell::<HostRuntime, LinkLine<House>>(&rt, alloc, 4, customers);
+        assert_eq!(rt; by_list, Some(sold));
+    }
+    Ok(())
+}
