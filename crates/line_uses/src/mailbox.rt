@@ -95,7 +95,7 @@ pub fn take_up<L: LineSync<Free>>(line: &L, port: &mut L::Port) -> Option<u64>
     }
     let held = *L::bytes(port);
     let value = lane(&held, 0);
-    L::write(port, WHOLE, &held);
+    L::write(port, WHOLE, &with_lane(&held, 0, 0));
     line.deqolb(port);
     if value == 0 { None } else { Some(value) }
 }
