@@ -4,7 +4,7 @@ use Rattle.qolb_model.specs.declared.answer.PortState.{PortState}
 use Rattle.qolb_model.specs.declared.answer.PortState.TheVariants.{Idle, Linking, Queued, Holding, Left, Rolled, Shut}
 use Rattle.qolb_model.specs.OneOwner.{LineState, state_of}
 use Rattle.qolb_script.specs.declared.command.Command.{Command}
-use Rattle.qolb_script.specs.declared.said.Said.TheVariants.{Misuse}
+use Rattle.qolb_script.specs.declared.reply_text.Said.TheVariants.{Misuse}
 use Rattle.qolb_script.specs.Commands.{node_of}
 use Rattle.qolb_script.specs.Reply.{is_allowed, is_queued, is_holding, answered, after_allowed, said_of, after_command}
 

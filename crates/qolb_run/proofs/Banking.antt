@@ -10,7 +10,7 @@ use Rattle.line_lanes.specs.Lane.{lanes_total}
 use Rattle.qolb_model.specs.declared.answer.PortState.TheVariants.{Idle}
 use Rattle.qolb_model.proofs.Lists.{same_some}
 use Rattle.line_accounts.specs.Accounts.{AreBalances}
-use Rattle.qolb_run.specs.BoardWork.{IsJustOpened}
+use Rattle.qolb_run.specs.JustOpened.{IsJustOpened}
 use Rattle.qolb_model.specs.declared.terms.Terms.{Terms}
 use Rattle.qolb_model.specs.declared.terms.TheConstants.{MOST_NODES}
 use Rattle.qolb_model.specs.declared.view.View.{View}

@@ -17,8 +17,8 @@ use Rattle.qolb_model.proofs.Whole.{called, spreads}
 use Rattle.qolb_model.proofs.Forced.{asked, polled, withdrew, released, wrote, met_whole, shows_bytes, opened_whole}
 use Rattle.qolb_script.specs.declared.command.Command.{Command}
 use Rattle.qolb_script.specs.declared.command.Command.TheVariants as command
-use Rattle.qolb_script.specs.declared.said.Said.{Said}
-use Rattle.qolb_script.specs.declared.said.Said.TheVariants as said
+use Rattle.qolb_script.specs.declared.reply_text.Said.{Said}
+use Rattle.qolb_script.specs.declared.reply_text.Said.TheVariants as said
 use Rattle.qolb_script.specs.Commands.{node_of}
 use Rattle.qolb_script.specs.Reply.{is_allowed, is_queued, is_holding, answered, after_allowed, said_of, after_command}
 use Rattle.qolb_run.specs.Stances.{stance_of}

@@ -18,7 +18,7 @@ use Rattle.qolb_script.specs.declared.schedule.TheConstants.{MOST_COMMANDS}
 use Rattle.qolb_model.specs.declared.terms.Terms.{Terms}
 use Rattle.qolb_model.specs.declared.view.View.{View}
 use Rattle.qolb_model.specs.Opening.{AreNew}
-use Rattle.qolb_run.specs.BoardWork.{IsJustOpened}
+use Rattle.qolb_run.specs.JustOpened.{IsJustOpened}
 use Rattle.qolb_run.specs.Jobs.{jobs_of}
 use Rattle.qolb_run.specs.Workers.{AreBack, AreDone, MayBeGone}
 use Rattle.qolb_run.specs.declared.work.RunError.TheVariants.{Stalled}

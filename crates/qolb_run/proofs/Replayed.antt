@@ -11,7 +11,7 @@ use Rattle.qolb_model.specs.declared.terms.Terms.{Terms}
 use Rattle.qolb_model.specs.OneOwner.{LineState, opened}
 use Rattle.qolb_model.proofs.Lists.{element_at}
 use Rattle.qolb_script.specs.declared.command.Command.{Command}
-use Rattle.qolb_script.specs.declared.said.Said.{Said}
+use Rattle.qolb_script.specs.declared.reply_text.Said.{Said}
 use Rattle.qolb_script.specs.Commands.{line_of}
 use Rattle.qolb_script.specs.Script.{Script, IsInRange}
 use Rattle.qolb_script.specs.Said.{said_text}

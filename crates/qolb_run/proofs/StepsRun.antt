@@ -10,8 +10,8 @@ use Rattle.link_core.specs.declared.told.NotEnabled.{NotEnabled}
 use Rattle.link_core.specs.declared.state.State.{State}
 use Rattle.link_core.specs.State.{first, point}
 use Rattle.link_core.specs.Steps.{Step, IsRefused}
-use Rattle.qolb_script.specs.declared.said.Said.{Said}
-use Rattle.qolb_script.specs.declared.said.Said.TheVariants.{Summary}
+use Rattle.qolb_script.specs.declared.reply_text.Said.{Said}
+use Rattle.qolb_script.specs.declared.reply_text.Said.TheVariants.{Summary}
 use Rattle.qolb_script.specs.Said.{said_text}
 use Rattle.qolb_script.specs.Reply.{text_of}
 use Rattle.qolb_script.specs.StepScript.{StepScript}

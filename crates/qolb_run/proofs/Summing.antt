@@ -26,7 +26,8 @@ use Rattle.qolb_run.specs.Jobs.{is_put, is_take, puts_in, takes_in, jobs_of}
 use Rattle.qolb_run.specs.Workers.{AreDone}
 use Rattle.qolb_run.specs.declared.board.BoardCounts.{BoardCounts}
 use Rattle.qolb_run.specs.declared.board.BoardHand.{BoardHand}
-use Rattle.qolb_run.specs.BoardWork.{stored_by, taken_by, HasWorked, IsJustOpened, AreWithin, AreSums, no_counts}
+use Rattle.qolb_run.specs.BoardWork.{stored_by, taken_by, HasWorked, AreWithin, AreSums, no_counts}
+use Rattle.qolb_run.specs.JustOpened.{IsJustOpened}
 use Rattle.qolb_run.proofs.Shares.{counts_of_all}
 use Rattle.qolb_run.proofs.BoardFinished.{stored_is}
 

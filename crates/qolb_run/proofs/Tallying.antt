@@ -8,7 +8,7 @@ use Rattle.qolb_model.specs.declared.answer.PortState.TheVariants as port
 use Rattle.qolb_model.specs.OneOwner.{LineState, state_of}
 use Rattle.qolb_model.specs.Whole.{seen}
 use Rattle.qolb_script.specs.declared.command.Command.{Command}
-use Rattle.qolb_script.specs.declared.said.Said.{Said}
+use Rattle.qolb_script.specs.declared.reply_text.Said.{Said}
 use Rattle.qolb_script.specs.Commands.{line_of}
 use Rattle.qolb_script.specs.Reply.{nodes_left, is_queued, is_holding, Replay, line_at, no_line, said_of, after_command, replay_step, times_said, is_served, is_withdrawn, is_told}
 use Rattle.qolb_run.specs.declared.tally.TalliedLine.{TalliedLine}

@@ -1,8 +1,6 @@
 -- Workers at a board: what a port's own turns have put and taken, and what a worker has done. (Of this project.)
 use Rattle.std.specs.Prelude.{◌≡◌, ℕ, ◌+◌, ◌≤◌, List, length}
 use Rattle.std.specs.List.{sum_by}
-use Rattle.qolb_model.specs.declared.terms.Terms.{Terms}
-use Rattle.qolb_model.specs.Opening.{new_view}
 use Rattle.qolb_model.specs.declared.view.View.{View}
 use Rattle.line_board.specs.PutsAndTakes.{put_between, taken_between, standing}
 use Rattle.line_accounts.specs.Paid.{sum_of_turns}
@@ -40,10 +38,6 @@ pub record HasWorked {Line Port : Type 0} (belongs : Line → Port → Type 0) (
   pub taken_are : taken_by (view hand.port) ≡ hand.counts.taken
   pub puts : hand.counts.stored + hand.counts.full ≡ puts_in jobs
   pub takes : hand.counts.taken + hand.counts.empty ≡ takes_in jobs
-
--- the port was opened with its line, and was not used
-abbrev pub IsJustOpened : View → Type 0
-IsJustOpened v = (label : ℕ) × (terms : Terms) × (node : ℕ) × (v ≡ new_view label terms node)
 
 -- counts: none; none above a limit; those of two; those of all hands
 abbrev pub no_counts : BoardCounts

@@ -9,8 +9,8 @@ use Rattle.qolb_model.specs.Whole.{Stance}
 use Rattle.qolb_model.specs.Rounds.{MeetsOthers}
 use Rattle.qolb_script.specs.declared.command.Command.{Command}
 use Rattle.qolb_script.specs.declared.command.Command.TheVariants as command
-use Rattle.qolb_script.specs.declared.said.Said.{Said}
-use Rattle.qolb_script.specs.declared.said.Said.TheVariants as said
+use Rattle.qolb_script.specs.declared.reply_text.Said.{Said}
+use Rattle.qolb_script.specs.declared.reply_text.Said.TheVariants as said
 use Rattle.qolb_script.specs.Commands.{node_of}
 use Rattle.qolb_script.specs.Reply.{is_allowed}
 

@@ -5,6 +5,7 @@ pub mod Stances
 pub mod Calls
 pub mod Acquiring
 pub mod Jobs
+pub mod JustOpened
 pub mod Workers
 pub mod BoardWork
 pub mod Reports

@@ -3,7 +3,7 @@ use Rattle.std.specs.Prelude.{◌≡◌, ℕ, ◌+◌, ◌<◌, ◌≤◌, Bool,
 use Rattle.std.specs.List.{slice_index_or}
 use Rattle.qolb_model.specs.OneOwner.{LineState}
 use Rattle.qolb_script.specs.declared.command.Command.{Command}
-use Rattle.qolb_script.specs.declared.said.Said.{Said}
+use Rattle.qolb_script.specs.declared.reply_text.Said.{Said}
 use Rattle.qolb_script.specs.Reply.{Replay, line_at, said_of, after_command, times_said, is_served, is_withdrawn, is_told}
 use Rattle.qolb_run.specs.declared.tally.Counts.{Counts}
 use Rattle.qolb_run.specs.declared.tally.TalliedLine.{TalliedLine}

@@ -6,14 +6,16 @@ ghost use Rattle.qolb_model.specs.declared.terms.TheConstants.{MOST_NODES};
 ghost use Rattle.line_accounts.specs.Desks.{IsDeskOver};
 ghost use Rattle.line_accounts.specs.Settled.{all_paid_in, all_paid_out};
 ghost use Rattle.qolb_run.specs.Workers.{AreDone, MayStop, IsWithinLimits};
-ghost use Rattle.qolb_run.specs.BankWork.{HasBanked, Paid, ArePaid, IsNewLine, IsColumn};
+ghost use Rattle.qolb_run.specs.BankWork.{HasBanked, Paid, ArePaid, IsColumn};
+ghost use Rattle.qolb_run.specs.JustOpened.{IsNewLine};
 ghost use Rattle.qolb_run.specs.Reports.{IsReportOf};
 
 use crate::gate::Gate;
+use crate::opening::open_line;
 use crate::work::RunError;
 use crate::workers::{PATIENCE, Site, all_done, work_all};
 use line_accounts::{AccountLaw, Desk, Reply, deposit, settle, take_out, transfer};
-use qolb_model::{LineSync, PortState};
+use qolb_model::{LineSync, OpenLine, PortState};
 use qolb_script::{Job, Report, Work, WorkKind};
 use std::alloc::{AllocError, Global};
 use std::sync::Wait;
@@ -203,26 +205,42 @@ where
     Ok((lines, desks))
 }
 
-/// Workers do their jobs at the bank of these lines, each at a desk of its own.
+/// The lines of a bank, and their ports, one for each worker.
+fn open_bank<L: OpenLine<AccountLaw> + Drop>(
+    alloc: Global,
+    work: &Work,
+) -> Result<Vec<(L, Vec<L::Port>)>, RunError>
+where
+    L::Port: Drop,
+    ensures memory { IfErr result (λ error. error ≡ RunError.Memory) }
+    ensures new { IfOk result (λ opened. All (λ line. IsNewLine L.belongs L.view L.terms_of line.0 line.1.items) opened.items) }
+{
+    let workers = work.workers();
+    let mut all = Vec::with_capacity(alloc, work.lines() as usize)?;
+    for label in 0..work.lines() {
+        let opened = open_line::<AccountLaw, L>(alloc, label, workers)?;
+        if all.push(opened).is_err() {
+            return Err(RunError::Memory);
+        }
+    }
+    Ok(all)
+}
+
+/// Workers do their jobs at a bank over lines of this kind, each at a desk of its own.
 pub(crate) fn run_bank<
     R: Threads + Wait + Sync,
     G: Gate + Sync,
-    L: LineSync<AccountLaw> + Sync + Drop,
->(
-    rt: &R,
-    alloc: Global,
-    gate: &G,
-    work: &Work,
-    opened: Vec<(L, Vec<L::Port>)>,
-) -> Result<Report, RunError>
+    L: OpenLine<AccountLaw> + Sync + Drop,
+>(rt: &R, alloc: Global, gate: &G, work: &Work) -> Result<Report, RunError>
 where
     L::Port: Send + Drop,
-    requires kind { work.now.kind ≡ WorkKind.Bank }
-    requires limits { IsWithinLimits work.now }
-    requires opened { All (λ line. IsNewLine L.belongs L.view L.terms_of line.0 line.1.items) opened.items }
+    requires { work.now.kind ≡ WorkKind.Bank }
     ensures report { IfOk result (IsReportOf work.now) }
     ensures stalled { IfErr result (MayStop work.now) }
 {
+    let opened = open_bank::<L>(alloc, work)?;
+    // That a script has no more jobs than it may is a fact of its reader.
+    let _ = work.jobs();
     let (lines, desks) = desks_over(alloc, opened, work.workers())?;
     let room = Vec::with_capacity(alloc, desks.len())?;
     let bank = Bank { lines };

@@ -5,14 +5,16 @@ ghost use Rattle.qolb_script.specs.declared.schedule.TheConstants.{MOST_COMMANDS
 ghost use Rattle.qolb_model.specs.declared.terms.TheConstants.{MOST_NODES};
 ghost use Rattle.line_accounts.specs.Desks.{IsAtRest};
 ghost use Rattle.qolb_run.specs.Workers.{AreDone, MayStop, IsWithinLimits};
-ghost use Rattle.qolb_run.specs.BoardWork.{Works, HasWorked, IsJustOpened, AreWithin, AreAdded, AreSums, no_counts};
+ghost use Rattle.qolb_run.specs.BoardWork.{Works, HasWorked, AreWithin, AreAdded, AreSums, no_counts};
+ghost use Rattle.qolb_run.specs.JustOpened.{IsJustOpened};
 ghost use Rattle.qolb_run.specs.Reports.{IsReportOf};
 
 use crate::gate::Gate;
+use crate::opening::open_line;
 use crate::work::RunError;
 use crate::workers::{PATIENCE, Site, all_done, work_all};
 use line_board::{BoardLaw, Put, Take, decode, put, take};
-use qolb_model::{LineSync, PortState};
+use qolb_model::{LineSync, OpenLine, PortState};
 use qolb_script::{Job, Report, Work, WorkKind};
 use std::alloc::{AllocError, Global};
 use std::sync::Wait;
@@ -218,29 +220,21 @@ where
     })
 }
 
-/// Workers do their jobs at the board that lies in the line.
+/// Workers do their jobs at a board, which lies in a line of this kind.
 pub(crate) fn run_board<
     R: Threads + Wait + Sync,
     G: Gate + Sync,
-    L: LineSync<BoardLaw> + Sync + Drop,
->(
-    rt: &R,
-    alloc: Global,
-    gate: &G,
-    work: &Work,
-    line: L,
-    ports: Vec<L::Port>,
-) -> Result<Report, RunError>
+    L: OpenLine<BoardLaw> + Sync + Drop,
+>(rt: &R, alloc: Global, gate: &G, work: &Work) -> Result<Report, RunError>
 where
     L::Port: Send + Drop,
-    requires kind { work.now.kind ≡ WorkKind.Board }
-    requires empty { (L.terms_of line).opening.bytes ≡ zeros }
-    requires limits { IsWithinLimits work.now }
-    requires as_many { vec_len ports ≡ work.now.workers }
-    requires new { All (λ port. L.belongs line port × IsJustOpened (L.view port)) ports.items }
+    requires { work.now.kind ≡ WorkKind.Board }
     ensures report { IfOk result (IsReportOf work.now) }
     ensures stalled { IfErr result (MayStop work.now) }
 {
+    let (line, ports) = open_line::<BoardLaw, L>(alloc, 0, work.workers())?;
+    // That a script has no more jobs than it may is a fact of its reader.
+    let _ = work.jobs();
     let hands = fresh_hands(alloc, &line, ports)?;
     let room = Vec::with_capacity(alloc, hands.len())?;
     let board = Board { line };

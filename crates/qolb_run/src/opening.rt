@@ -1,39 +1,35 @@
-//! Lines that a replay opens by itself.
-ghost use Rattle.std.specs.Prelude.{IfOk};
-ghost use Rattle.qolb_model.specs.Opening.{Opens};
+//! Lines that workers share, as they are opened.
+ghost use Rattle.std.specs.Prelude.{◌≡◌, IfOk, IfErr, vec_len};
+ghost use Rattle.line_lanes.specs.Line.{zeros};
+ghost use Rattle.qolb_model.specs.Opening.{AreNodes};
+ghost use Rattle.qolb_run.specs.declared.work.RunError.TheVariants.{Memory};
+ghost use Rattle.qolb_run.specs.JustOpened.{IsNewLine};
 
-use link_line::LinkLine;
-use qolb_model::{Free, LineSync, OpenError, Terms};
-use ring_line::RingLine;
+use crate::work::RunError;
+use line_lanes::Line64;
+use qolb_model::{Keep, OpenError, OpenLine, Terms};
 use std::alloc::Global;
 
-/// A line that nodes share, and that can be opened.
-pub(crate) trait OpenLine: LineSync<Free> {
-    /// A line that is opened so, and a port for each of its nodes, in their order.
-    fn open_with(
-        alloc: Global,
-        label: u64,
-        terms: Terms,
-    ) -> Result<(Self, Vec<Self::Port>), OpenError>
-        ensures opens { IfOk result (λ r. Opens Self.view (Self.belongs r.0) (Self.label_of r.0) (Self.terms_of r.0) label terms r.1.items) };
-}
-
-impl OpenLine for RingLine<Free> {
-    fn open_with(
-        alloc: Global,
-        label: u64,
-        terms: Terms,
-    ) -> Result<(RingLine<Free>, Vec<ring_line::Port>), OpenError> {
-        RingLine::<Free>::with_terms(alloc, label, terms)
-    }
-}
-
-impl OpenLine for LinkLine<Free> {
-    fn open_with(
-        alloc: Global,
-        label: u64,
-        terms: Terms,
-    ) -> Result<(LinkLine<Free>, Vec<link_line::Port>), OpenError> {
-        LinkLine::<Free>::with_terms(alloc, label, terms)
+/// A line of zeros without a lease, and a port for each worker.
+pub(crate) fn open_line<K: Keep, L: OpenLine<K>>(
+    alloc: Global,
+    label: u64,
+    workers: u64,
+) -> Result<(L, Vec<L::Port>), RunError>
+    requires workers { AreNodes workers }
+    requires good { K.good zeros }
+    ensures memory { IfErr result (λ error. error ≡ Memory) }
+    ensures as_many { IfOk result (λ r. vec_len r.1 ≡ workers) }
+    ensures new { IfOk result (λ r. IsNewLine L.belongs L.view L.terms_of r.0 r.1.items) }
+{
+    let terms = Terms {
+        nodes: workers,
+        opening: Line64::zero(),
+        lease: None,
+    };
+    match L::open_with(alloc, label, terms) {
+        Ok(opened) => Ok(opened),
+        Err(OpenError::Memory) => Err(RunError::Memory),
+        Err(OpenError::Nodes | OpenError::Lease) => unreachable!(),
     }
 }

@@ -15,11 +15,10 @@ ghost use Rattle.qolb_run.specs.Outcome.{IsReply, MayFail, as_replay_error, scri
 use crate::by_ports::PortedLine;
 use crate::input::{InputError, read_all};
 use crate::line::ReplayLine;
-use crate::opening::OpenLine;
 use crate::tally::TalliedLine;
 use line_lanes::Line64;
 use link_line::LinkLine;
-use qolb_model::{Free, PlainLine, Terms};
+use qolb_model::{Free, OpenLine, PlainLine, Terms};
 use qolb_script::{Fault, Schedule, ScriptError, Watched, push_said, read_schedule};
 use ring_line::RingLine;
 use std::alloc::{AllocError, Allocator, Global};
@@ -197,7 +196,7 @@ fn open_lines<A: Allocator>(
 }
 
 /// Lines that nodes share, opened so, of which nothing was said.
-fn open_ported<A: Allocator, L: OpenLine + Drop>(
+fn open_ported<A: Allocator, L: OpenLine<Free> + Drop>(
     alloc: A,
     shared: Global,
     terms: &Terms,

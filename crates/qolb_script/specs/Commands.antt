@@ -11,7 +11,7 @@ use Rattle.qolb_script.specs.declared.command.Command.{Command}
 use Rattle.qolb_script.specs.declared.command.Command.TheVariants.{Enq, Poll, Show, Deq, Out, Shut, Write}
 use Rattle.qolb_model.specs.declared.terms.TheConstants.{MOST_NODES}
 use Rattle.qolb_script.specs.declared.schedule.TheConstants.{MOST_LINES}
-use Rattle.qolb_script.specs.declared.reading.Header.{Header}
+use Rattle.qolb_script.specs.declared.command_reader.Header.{Header}
 use Rattle.qolb_script.specs.declared.text.LineFault.{LineFault}
 use Rattle.qolb_script.specs.declared.text.LineFault.TheVariants.{Bad}
 use Rattle.qolb_script.specs.Text.{words_of, is_plain, number_within}
@@ -41,8 +41,8 @@ and_then (Ok a) next = next a
 and_then (Err fault) next = Err fault
 
 -- the command that a first word names, where a node and a line are all that follows
-abbrev pub plain_command : List ℕ → Option (ℕ → ℕ → Command)
-plain_command word =
+abbrev pub named_command : List ℕ → Option (ℕ → ℕ → Command)
+named_command word =
     if bytes_eq word (codes "enq") then Some Enq
     else if bytes_eq word (codes "poll") then Some Poll
     else if bytes_eq word (codes "show") then Some Show
@@ -82,7 +82,7 @@ write_command nodes lines node line off hex =
 
 -- the command that some words write
 abbrev pub command_of : ℕ → ℕ → List (List ℕ) → Result Command LineFault
-command_of nodes lines (word ∷ node ∷ line ∷ []) = command_at nodes lines (plain_command word) node line
+command_of nodes lines (word ∷ node ∷ line ∷ []) = command_at nodes lines (named_command word) node line
 command_of nodes lines (word ∷ node ∷ line ∷ off ∷ hex ∷ []) =
     if bytes_eq word (codes "write") then write_command nodes lines node line off hex else Err Bad
 command_of nodes lines words = Err Bad

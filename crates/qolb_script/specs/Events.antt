@@ -4,15 +4,15 @@ use Rattle.std.specs.Str.{bytes_eq}
 use Rattle.link_core.specs.declared.event.Event.{Event}
 use Rattle.link_core.specs.declared.event.Event.TheVariants.{Reset, Prepend, Link, Load, Home, Done, Grant, Roll, Freed, Write, Close}
 use Rattle.qolb_model.specs.declared.terms.TheConstants.{MOST_NODES}
-use Rattle.qolb_script.specs.declared.events.StepHeader.{StepHeader}
+use Rattle.qolb_script.specs.declared.event_reader.StepHeader.{StepHeader}
 use Rattle.qolb_script.specs.declared.text.LineFault.{LineFault}
 use Rattle.qolb_script.specs.declared.text.LineFault.TheVariants.{Bad}
 use Rattle.qolb_script.specs.Text.{number_within}
 use Rattle.qolb_script.specs.Commands.{and_then, node_within, placed_of, lease_within}
 
 -- the event that a first word names, where a node is all that follows
-abbrev pub plain_event : List ℕ → Option (ℕ → Event)
-plain_event word =
+abbrev pub named_event : List ℕ → Option (ℕ → Event)
+named_event word =
     if bytes_eq word (codes "reset") then Some Reset
     else if bytes_eq word (codes "prepend") then Some Prepend
     else if bytes_eq word (codes "link") then Some Link
@@ -36,7 +36,7 @@ write_event nodes node off hex = and_then (node_within nodes node) (λ n. and_th
 
 -- the event that some words write
 abbrev pub event_of : ℕ → List (List ℕ) → Result Event LineFault
-event_of nodes (word ∷ node ∷ []) = event_at nodes (plain_event word) node
+event_of nodes (word ∷ node ∷ []) = event_at nodes (named_event word) node
 event_of nodes (word ∷ node ∷ off ∷ hex ∷ []) = if bytes_eq word (codes "write") then write_event nodes node off hex else Err Bad
 event_of nodes words = Err Bad
 

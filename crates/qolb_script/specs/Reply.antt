@@ -13,8 +13,8 @@ use Rattle.qolb_model.specs.PortStates.{may_ask}
 use Rattle.link_core.specs.declared.told.Told.TheVariants as told
 use Rattle.qolb_script.specs.declared.command.Command.{Command}
 use Rattle.qolb_script.specs.declared.command.Command.TheVariants.{Enq, Poll, Show, Deq, Out, Shut, Write}
-use Rattle.qolb_script.specs.declared.said.Said.{Said}
-use Rattle.qolb_script.specs.declared.said.Said.TheVariants as said
+use Rattle.qolb_script.specs.declared.reply_text.Said.{Said}
+use Rattle.qolb_script.specs.declared.reply_text.Said.TheVariants as said
 use Rattle.qolb_script.specs.Commands.{node_of, line_of}
 use Rattle.qolb_script.specs.declared.error.ScriptError.{ScriptError}
 use Rattle.qolb_script.specs.Script.{Script, script_of}

@@ -5,8 +5,8 @@ use Rattle.qolb_model.specs.declared.answer.Enq.TheVariants as enq
 use Rattle.qolb_model.specs.declared.answer.Poll.TheVariants as poll
 use Rattle.qolb_model.specs.declared.answer.Out.TheVariants as out
 use Rattle.link_core.specs.declared.told.Told.TheVariants as told
-use Rattle.qolb_script.specs.declared.said.Said.{Said}
-use Rattle.qolb_script.specs.declared.said.Said.TheVariants as said
+use Rattle.qolb_script.specs.declared.reply_text.Said.{Said}
+use Rattle.qolb_script.specs.declared.reply_text.Said.TheVariants as said
 
 -- the words of it
 abbrev pub said_words : Said → List ℕ

@@ -3,7 +3,7 @@ use Rattle.std.specs.Prelude.{ℕ, ◌+◌, ◌<◌, ◌≤◌, nat_le, if◌the
 use Rattle.qolb_script.specs.declared.command.Command.{Command}
 use Rattle.qolb_script.specs.declared.error.ScriptError.{ScriptError}
 use Rattle.qolb_script.specs.declared.error.ScriptError.TheVariants as error
-use Rattle.qolb_script.specs.declared.reading.Header.{Header}
+use Rattle.qolb_script.specs.declared.command_reader.Header.{Header}
 use Rattle.qolb_script.specs.declared.text.LineFault.{LineFault}
 use Rattle.qolb_script.specs.declared.text.LineFault.TheVariants.{Bad, Number}
 use Rattle.qolb_script.specs.declared.schedule.TheConstants.{MOST_COMMANDS}

@@ -1,8 +1,8 @@
 -- The reply of a step script: what is said of each event, and then of the line. (Of this project.)
 use Rattle.std.specs.Prelude.{ℕ, List, count_by, Option, Some, None}
 use Rattle.link_core.specs.declared.told.Told.{Told}
-use Rattle.qolb_script.specs.declared.said.Said.{Said}
-use Rattle.qolb_script.specs.declared.said.Said.TheVariants as said
+use Rattle.qolb_script.specs.declared.reply_text.Said.{Said}
+use Rattle.qolb_script.specs.declared.reply_text.Said.TheVariants as said
 use Rattle.qolb_script.specs.Reply.{is_served, is_withdrawn, is_told}
 
 -- what an event told, or that it was refused

@@ -2,7 +2,7 @@
 use Rattle.std.specs.Prelude.{ℕ, ◌≤◌, List, [], ◌∷◌, All, Option, Result, Ok, Err}
 use Rattle.link_core.specs.declared.event.Event.{Event}
 use Rattle.link_core.specs.Steps.{node_of}
-use Rattle.qolb_script.specs.declared.events.StepHeader.{StepHeader}
+use Rattle.qolb_script.specs.declared.event_reader.StepHeader.{StepHeader}
 use Rattle.qolb_script.specs.declared.error.ScriptError.{ScriptError}
 use Rattle.qolb_script.specs.declared.error.ScriptError.TheVariants as error
 use Rattle.qolb_script.specs.Text.{numbered_lines, worded}

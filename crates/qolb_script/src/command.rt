@@ -1,5 +1,5 @@
 ghost use Rattle.std.specs.Prelude.{◌≡◌, ℕ, MatchOption};
-ghost use Rattle.qolb_script.specs.Commands.{node_of, line_of, plain_command};
+ghost use Rattle.qolb_script.specs.Commands.{node_of, line_of, named_command};
 ghost use Rattle.qolb_script.specs.Made.{made};
 
 use line_lanes::{Line64, Mask};
@@ -84,9 +84,9 @@ impl Command {
     }
 }
 
-/// What a command of a node and a line does.
+/// What a command of a node and a line does, by its first word.
 #[derive(Clone, Copy)]
-pub enum Plain {
+pub enum Verb {
     Enq,
     Poll,
     Show,
@@ -95,23 +95,23 @@ pub enum Plain {
     Shut,
 }
 
-impl Plain {
+impl Verb {
     /// The one that a first word names.
-    pub fn named(word: &[u8]) -> Option<Plain>
-        ensures { MatchOption result (plain_command word.now ≡ None) (λ plain. plain_command word.now ≡ Some (made plain)) }
+    pub fn named(word: &[u8]) -> Option<Verb>
+        ensures { MatchOption result (named_command word.now ≡ None) (λ verb. named_command word.now ≡ Some (made verb)) }
     {
         if word == ENQ {
-            Some(Plain::Enq)
+            Some(Verb::Enq)
         } else if word == POLL {
-            Some(Plain::Poll)
+            Some(Verb::Poll)
         } else if word == SHOW {
-            Some(Plain::Show)
+            Some(Verb::Show)
         } else if word == DEQ {
-            Some(Plain::Deq)
+            Some(Verb::Deq)
         } else if word == OUT {
-            Some(Plain::Out)
+            Some(Verb::Out)
         } else if word == SHUT {
-            Some(Plain::Shut)
+            Some(Verb::Shut)
         } else {
             None
         }
@@ -122,12 +122,12 @@ impl Plain {
         ensures { result ≡ made self node line }
     {
         match self {
-            Plain::Enq => Command::Enq { node, line },
-            Plain::Poll => Command::Poll { node, line },
-            Plain::Show => Command::Show { node, line },
-            Plain::Deq => Command::Deq { node, line },
-            Plain::Out => Command::Out { node, line },
-            Plain::Shut => Command::Shut { node, line },
+            Verb::Enq => Command::Enq { node, line },
+            Verb::Poll => Command::Poll { node, line },
+            Verb::Show => Command::Show { node, line },
+            Verb::Deq => Command::Deq { node, line },
+            Verb::Out => Command::Out { node, line },
+            Verb::Shut => Command::Shut { node, line },
         }
     }
 }

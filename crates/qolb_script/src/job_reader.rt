@@ -5,10 +5,10 @@ ghost use Rattle.qolb_script.specs.Commands.{read_line, sizes_of};
 ghost use Rattle.qolb_script.specs.Jobs as spec;
 ghost use Rattle.qolb_script.specs.declared.schedule.TheConstants.{MOST_LINES};
 
+use crate::command_reader::{LINES, node_within, read_sizes};
 use crate::items::ReadItem;
 use crate::job::{ACCOUNTS_A_LINE, Job, WorkKind};
 use crate::number::number_within;
-use crate::reading::{LINES, node_within, read_sizes};
 use crate::schedule::MOST_LINES;
 use crate::text::{LineFault, is_plain_line};
 use crate::words::Words;

@@ -2,16 +2,16 @@
 #![tactic(auto)]
 
 mod command;
+mod command_reader;
 mod error;
-mod events;
+mod event_reader;
 mod items;
 mod job;
 mod job_reader;
 mod lines;
 mod number;
-mod reading;
+mod reply_text;
 mod report;
-mod said;
 mod schedule;
 mod steps;
 mod text;
@@ -22,8 +22,8 @@ mod work;
 pub use command::Command;
 pub use error::ScriptError;
 pub use job::{Job, WorkKind};
+pub use reply_text::{Said, push_said};
 pub use report::{Report, write_report};
-pub use said::{Said, push_said};
 pub use schedule::{Schedule, read_schedule};
 pub use steps::{Steps, read_steps};
 pub use watched::{Fault, Watched};

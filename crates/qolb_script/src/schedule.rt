@@ -2,10 +2,10 @@ ghost use Rattle.std.specs.Prelude.{◌≡◌, ◌≢◌, IfOk, IfErr};
 ghost use Rattle.qolb_script.specs.Script.{script_of};
 
 use crate::command::Command;
+use crate::command_reader::{CommandReader, Header, read_header};
 use crate::error::ScriptError;
 use crate::items::read_items;
 use crate::lines::Lines;
-use crate::reading::{CommandReader, Header, read_header};
 use std::alloc::{Allocator, Global};
 use std::marker::Model;
 

@@ -2,7 +2,7 @@ ghost use Rattle.std.specs.Prelude.{◌≡◌, ◌≢◌, IfOk, IfErr};
 ghost use Rattle.qolb_script.specs.StepScript.{steps_of};
 
 use crate::error::ScriptError;
-use crate::events::{EventReader, StepHeader, read_step_header};
+use crate::event_reader::{EventReader, StepHeader, read_step_header};
 use crate::items::read_items;
 use crate::lines::Lines;
 use link_core::Event;

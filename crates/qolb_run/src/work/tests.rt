@@ -1,20 +1,26 @@
 use super::*;
 use crate::gate::AlwaysOpen;
 use qolb_script::read_work;
+use std::process::Abort;
 use std::sync::atomic::{AtomicU64, Ordering};
 use std::test::Fail;
 use std::thread::yield_now;
 
-/// What the workers of the script do, behind a gate.
-fn outcome<R: Threads + Wait + Sync, G: Gate + Sync>(
+/// The workers of the script do this behind the gate, over lines of each kind.
+fn expect<R: Threads + Wait + Abort + Sync, G: Gate + Sync>(
     rt: &R,
     alloc: Global,
     gate: &G,
     script: &str,
     kind: WorkKind,
-) -> Result<Result<Report, RunError>, Fail> {
+    want: Result<Report, RunError>,
+) -> Result<(), Fail> {
     let work = read_work(alloc, script.as_bytes(), kind)?;
-    Ok(run_work(rt, alloc, gate, &work, Lines::Ring))
+    for lines in [Lines::Ring, Lines::Link] {
+        let found = run_work(rt, alloc, gate, &work, lines);
+        assert_eq!(rt; found, want, "by {lines:?}");
+    }
+    Ok(())
 }
 
 #[test]
@@ -27,11 +33,14 @@ fn one_worker_at_a_board(rt: HostRuntime) -> Result<(), Fail> {
         empty: 1,
         left: 0,
     };
-    assert_eq!(rt;
-        outcome(&rt, rt.alloc(), &AlwaysOpen, script, WorkKind::Board)?,
-        Ok(report)
-    );
-    Ok(())
+    expect(
+        &rt,
+        rt.alloc(),
+        &AlwaysOpen,
+        script,
+        WorkKind::Board,
+        Ok(report),
+    )
 }
 
 #[test]
@@ -45,11 +54,14 @@ fn a_full_board(rt: HostRuntime) -> Result<(), Fail> {
         empty: 0,
         left: 7,
     };
-    assert_eq!(rt;
-        outcome(&rt, rt.alloc(), &AlwaysOpen, script, WorkKind::Board)?,
-        Ok(report)
-    );
-    Ok(())
+    expect(
+        &rt,
+        rt.alloc(),
+        &AlwaysOpen,
+        script,
+        WorkKind::Board,
+        Ok(report),
+    )
 }
 
 #[test]
@@ -60,11 +72,14 @@ fn one_worker_at_a_bank(rt: HostRuntime) -> Result<(), Fail> {
         paid_out: 1,
         total: 9,
     };
-    assert_eq!(rt;
-        outcome(&rt, rt.alloc(), &AlwaysOpen, script, WorkKind::Bank)?,
-        Ok(report)
-    );
-    Ok(())
+    expect(
+        &rt,
+        rt.alloc(),
+        &AlwaysOpen,
+        script,
+        WorkKind::Bank,
+        Ok(report),
+    )
 }
 
 #[test]
@@ -81,17 +96,14 @@ fn no_deposit_of_four_workers_is_lost(rt: HostRuntime) -> Result<(), Fail> {
         paid_out: 0,
         total: 400,
     };
-    assert_eq!(rt;
-        outcome(
-            &rt,
-            rt.alloc(),
-            &AlwaysOpen,
-            script.as_str(),
-            WorkKind::Bank
-        )?,
-        Ok(report)
-    );
-    Ok(())
+    expect(
+        &rt,
+        rt.alloc(),
+        &AlwaysOpen,
+        script.as_str(),
+        WorkKind::Bank,
+        Ok(report),
+    )
 }
 
 /// A gate that never opens.
@@ -106,11 +118,14 @@ impl Gate for Closed {
 #[test]
 fn a_worker_gives_up_before_a_closed_gate(rt: HostRuntime) -> Result<(), Fail> {
     let script = "board workers 2\n2 put 5\n";
-    assert_eq!(rt;
-        outcome(&rt, rt.alloc(), &Closed, script, WorkKind::Board)?,
-        Err(RunError::Stalled(2))
-    );
-    Ok(())
+    expect(
+        &rt,
+        rt.alloc(),
+        &Closed,
+        script,
+        WorkKind::Board,
+        Err(RunError::Stalled(2)),
+    )
 }
 
 /// A gate that opens once two workers stand before it at the same time.
@@ -145,21 +160,22 @@ impl Gate for Meeting {
 
 #[test]
 fn workers_stand_before_a_gate_at_the_same_time(rt: HostRuntime) -> Result<(), Fail> {
-    let gate = Meeting {
-        first: AtomicU64::new(0),
-        second: AtomicU64::new(0),
-        met: AtomicU64::new(0),
-    };
     let report = Report::Bank {
         paid_in: 2,
         paid_out: 0,
         total: 2,
     };
     let script = "bank workers 2 lines 1\n1 in 0 1\n2 in 0 1\n";
-    assert_eq!(rt;
-        outcome(&rt, rt.alloc(), &gate, script, WorkKind::Bank)?,
-        Ok(report)
-    );
+    let work = read_work(rt.alloc(), script.as_bytes(), WorkKind::Bank)?;
+    for lines in [Lines::Ring, Lines::Link] {
+        let gate = Meeting {
+            first: AtomicU64::new(0),
+            second: AtomicU64::new(0),
+            met: AtomicU64::new(0),
+        };
+        let found = run_work(&rt, rt.alloc(), &gate, &work, lines);
+        assert_eq!(rt; found, Ok(report), "by {lines:?}");
+    }
     Ok(())
 }
 
@@ -174,15 +190,12 @@ fn two_hundred_workers_end(rt: HostRuntime) -> Result<(), Fail> {
         paid_out: 0,
         total: 200,
     };
-    assert_eq!(rt;
-        outcome(
-            &rt,
-            rt.alloc(),
-            &AlwaysOpen,
-            script.as_str(),
-            WorkKind::Bank
-        )?,
-        Ok(report)
-    );
-    Ok(())
+    expect(
+        &rt,
+        rt.alloc(),
+        &AlwaysOpen,
+        script.as_str(),
+        WorkKind::Bank,
+        Ok(report),
+    )
 }

@@ -4,7 +4,8 @@ use Rattle.std.specs.Vec.Iter.{into_iter_items}
 use Rattle.std.proofs.lemmas.List.Elements.{All-nil, All-head, All-tail, All-push}
 use Rattle.line_lanes.specs.Line.{zeros}
 use Rattle.line_accounts.specs.Desks.{DeskOf}
-use Rattle.qolb_run.specs.BankWork.{IsNewLine, IsColumn, HasBanked}
+use Rattle.qolb_run.specs.BankWork.{IsColumn, HasBanked}
+use Rattle.qolb_run.specs.JustOpened.{IsNewLine}
 use Rattle.qolb_run.proofs.Banking.{column_none}
 use Rattle.qolb_run.proofs.bank.desks_over.Goals as goal
 

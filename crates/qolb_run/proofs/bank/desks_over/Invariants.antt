@@ -1,7 +1,8 @@
 use Rattle.std.proofs.Common.{◌≡◌, ◌+◌, [], All, length}
 use Rattle.std.specs.Vec.Iter.{into_iter_items}
 use Rattle.line_lanes.specs.Line.{zeros}
-use Rattle.qolb_run.specs.BankWork.{IsNewLine, IsColumn, HasBanked}
+use Rattle.qolb_run.specs.BankWork.{IsColumn, HasBanked}
+use Rattle.qolb_run.specs.JustOpened.{IsNewLine}
 use Rattle.qolb_run.proofs.bank.desks_over.Given as goal
 
 abbrev pub invariant-loop-line : goal.invariant-loop-line

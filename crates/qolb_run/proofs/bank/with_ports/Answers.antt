@@ -2,7 +2,7 @@ use Rattle.std.proofs.Common.{◌∷◌, ◌++◌, List, [], length, All, Vec, a
 use Rattle.std.specs.Global.{Global}
 use Rattle.std.specs.Vec.Iter.{into_iter_items}
 use Rattle.std.proofs.lemmas.List.Elements.{All-nil, All-head, All-tail, All-push}
-use Rattle.qolb_run.specs.BoardWork.{IsJustOpened}
+use Rattle.qolb_run.specs.JustOpened.{IsJustOpened}
 use Rattle.qolb_run.specs.BankWork.{IsColumn}
 use Rattle.qolb_run.proofs.Banking.{column_more}
 use Rattle.qolb_run.proofs.bank.with_ports.Goals as goal

@@ -1,6 +1,6 @@
 use Rattle.std.proofs.Common.{◌≡◌, ◌+◌, ◌++◌, ◌∷◌, [], All, length}
 use Rattle.std.specs.Vec.Iter.{into_iter_items}
-use Rattle.qolb_run.specs.BoardWork.{IsJustOpened}
+use Rattle.qolb_run.specs.JustOpened.{IsJustOpened}
 use Rattle.qolb_run.specs.BankWork.{IsColumn}
 use Rattle.qolb_run.proofs.bank.with_ports.Given as goal
 

@@ -3,7 +3,8 @@ use Rattle.std.specs.Vec.Iter.{into_iter_items}
 use Rattle.std.proofs.lemmas.List.Elements.{All-nil, All-head, All-tail, All-push}
 use Rattle.qolb_run.specs.declared.board.BoardHand.{BoardHand}
 use Rattle.qolb_run.specs.declared.board.BoardCounts.{BoardCounts}
-use Rattle.qolb_run.specs.BoardWork.{HasWorked, IsJustOpened}
+use Rattle.qolb_run.specs.BoardWork.{HasWorked}
+use Rattle.qolb_run.specs.JustOpened.{IsJustOpened}
 use Rattle.qolb_run.proofs.Summing.{worked_nothing}
 use Rattle.qolb_run.proofs.board.fresh_hands.Goals as goal
 

@@ -1,6 +1,7 @@
 use Rattle.std.proofs.Common.{◌≡◌, ◌+◌, All, [], length}
 use Rattle.std.specs.Vec.Iter.{into_iter_items}
-use Rattle.qolb_run.specs.BoardWork.{HasWorked, IsJustOpened}
+use Rattle.qolb_run.specs.BoardWork.{HasWorked}
+use Rattle.qolb_run.specs.JustOpened.{IsJustOpened}
 use Rattle.qolb_run.proofs.board.fresh_hands.Given as goal
 
 abbrev pub invariant-loop-port : goal.invariant-loop-port

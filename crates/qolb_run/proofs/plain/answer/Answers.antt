@@ -2,7 +2,7 @@ use Rattle.std.proofs.Common.{rules, ◌≡◌, ℕ, List, true, false, sym, ap,
 use Rattle.qolb_model.specs.OneOwner.{state_of, after_poll}
 use Rattle.qolb_model.specs.declared.answer.Poll.{Poll}
 use Rattle.qolb_model.specs.Plain.{Agrees}
-use Rattle.qolb_script.specs.declared.said.Said.TheVariants as said
+use Rattle.qolb_script.specs.declared.reply_text.Said.TheVariants as said
 use Rattle.qolb_script.specs.Commands.{node_of}
 use Rattle.qolb_script.specs.Reply.{is_allowed, answered, after_allowed}
 use Rattle.qolb_run.proofs.Allowed.{allowed_said, allowed_after, refused_said, refused_after}

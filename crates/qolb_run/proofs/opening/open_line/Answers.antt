@@ -1,15 +1,10 @@
 use Rattle.std.proofs.Common.{sym, subst, ap, ◌∙◌}
 use Rattle.qolb_model.specs.declared.terms.Terms.{Terms}
-use Rattle.line_accounts.specs.Accounts.{AreBalances}
-use Rattle.qolb_run.proofs.Banking.{no_money}
 use Rattle.qolb_run.proofs.Gathering.{just_opened}
-use Rattle.qolb_run.proofs.work.open_ring.Goals as goal
-
-pub open-requires : goal.open-requires
-open-requires c = subst AreBalances (sym c.zero.ensures) no_money
+use Rattle.qolb_run.proofs.opening.open_line.Goals as goal
 
 pub returns-in-Ok-clause-new : goal.returns-in-Ok-clause-new
-returns-in-Ok-clause-new c = record {
+returns-in-Ok-clause-new g c = record {
   own = λ k d below. (c.in-Ok.ensures.opens.belong k d below, just_opened _ _ _ _ c.in-Ok.ensures.opens.new k d below);
   empty = ap (λ (t : Terms). t.opening.bytes) c.in-Ok.ensures.opens.terms_are ∙ c.zero.ensures;
 }

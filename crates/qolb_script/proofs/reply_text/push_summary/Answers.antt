@@ -1,5 +1,5 @@
 use Rattle.std.proofs.Common.{append_assoc}
-use Rattle.qolb_script.proofs.said.push_summary.Goals as goal
+use Rattle.qolb_script.proofs.reply_text.push_summary.Goals as goal
 
 pub returns-clause-ok : goal.returns-clause-ok
 returns-clause-ok g c =

@@ -5,9 +5,9 @@ ghost use Rattle.qolb_script.specs.Commands.{read_line};
 ghost use Rattle.qolb_script.specs.Events as spec;
 ghost use Rattle.link_core.specs.Steps.{node_of};
 
+use crate::command_reader::{LEASE, NODES, WRITE, node_within, read_lease, read_placed};
 use crate::items::ReadItem;
 use crate::number::number_within;
-use crate::reading::{LEASE, NODES, WRITE, node_within, read_lease, read_placed};
 use crate::text::{LineFault, is_plain_line};
 use crate::words::Words;
 use link_core::Event;
@@ -101,15 +101,15 @@ fn read_event(nodes: u64, text: &[u8]) -> Result<Event, LineFault>
         return Err(LineFault::Bad);
     };
     match (words.next(), words.next(), words.next()) {
-        (None, _, _) => plain_event(nodes, first, node),
+        (None, _, _) => named_event(nodes, first, node),
         (Some(off), Some(hex), None) if first == WRITE => write_event(nodes, node, off, hex),
         _ => Err(LineFault::Bad),
     }
 }
 
 /// The event of a node that a first word names.
-fn plain_event(nodes: u64, first: &[u8], node: &[u8]) -> Result<Event, LineFault>
-    ensures event { result ≡ spec.event_at nodes (spec.plain_event first.now) node.now }
+fn named_event(nodes: u64, first: &[u8], node: &[u8]) -> Result<Event, LineFault>
+    ensures event { result ≡ spec.event_at nodes (spec.named_event first.now) node.now }
     ensures range { IfOk result (λ e. (1 ≤ node_of e) × (node_of e ≤ nodes)) }
 {
     let node = node_within(nodes, node);

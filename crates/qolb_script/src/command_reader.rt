@@ -4,7 +4,7 @@ ghost use Rattle.qolb_model.specs.Leases.{IsLease};
 ghost use Rattle.hex.specs.Hex.{decode_of};
 ghost use Rattle.qolb_script.specs.Commands as spec;
 
-use crate::command::{Command, Plain};
+use crate::command::{Command, Verb};
 use crate::items::ReadItem;
 use crate::number::number_within;
 use crate::schedule::MOST_LINES;
@@ -137,7 +137,7 @@ fn read_command(nodes: u64, lines: u64, text: &[u8]) -> Result<Command, LineFaul
         return Err(LineFault::Bad);
     };
     match (words.next(), words.next(), words.next()) {
-        (None, _, _) => read_plain(nodes, lines, first, node, line),
+        (None, _, _) => read_named_command(nodes, lines, first, node, line),
         (Some(off), Some(hex), None) if first == WRITE => read_write(
             nodes, lines, node, line, off, hex,
         ),
@@ -163,7 +163,7 @@ fn line_within(lines: u64, word: &[u8]) -> Result<u64, LineFault>
 }
 
 /// The command of a node and a line that a first word names.
-fn read_plain(
+fn read_named_command(
     nodes: u64,
     lines: u64,
     first: &[u8],
@@ -171,15 +171,15 @@ fn read_plain(
     line: &[u8],
 ) -> Result<Command, LineFault>
     requires { 1 ≤ lines }
-    ensures command { result ≡ spec.command_at nodes lines (spec.plain_command first.now) node.now line.now }
+    ensures command { result ≡ spec.command_at nodes lines (spec.named_command first.now) node.now line.now }
     ensures range { IfOk result (λ c. (1 ≤ spec.node_of c) × (spec.node_of c ≤ nodes) × (spec.line_of c < lines)) }
 {
-    let Some(plain) = Plain::named(first) else {
+    let Some(verb) = Verb::named(first) else {
         return Err(LineFault::Bad);
     };
     let node = node_within(nodes, node)?;
     let line = line_within(lines, line)?;
-    Ok(plain.command(node, line))
+    Ok(verb.command(node, line))
 }
 
 /// The write of hex bytes from a place of a line on.

@@ -1,0 +1,67 @@
+// What the programs of this folder share: the line, its masked write, and how a thread waits.
+#include <sched.h>
+#include <stdatomic.h>
+#include <stdint.h>
+#include <stdio.h>
+#include <stdlib.h>
+#include <string.h>
+
+enum { MOST_NODES = 200, SPINS = 64 };
+
+// The line, with the mask of what its holder has written in this turn. Without a lease turns_left is 0 and is_leased too.
+struct parcel {
+    uint8_t bytes[64];
+    uint64_t mask;
+    uint64_t turns_left;
+    uint8_t is_leased;
+    uint8_t closed;
+};
+
+static _Alignas(128) struct parcel slot;
+
+// Copies the line out of the slot, for a turn in which nothing is written yet.
+static void take(struct parcel *held) {
+    memcpy(held->bytes, slot.bytes, 64);
+    held->turns_left = slot.turns_left;
+    held->is_leased = slot.is_leased;
+    held->closed = slot.closed;
+    held->mask = 0;
+}
+
+// Copies the line of a turn that is over into its slot.
+static void put(const struct parcel *held) {
+    memcpy(slot.bytes, held->bytes, 64);
+    slot.mask = held->mask;
+    if (held->is_leased) slot.turns_left = held->turns_left - 1;
+    if (held->is_leased && held->turns_left == 1) slot.closed = 1;
+}
+
+static void write_masked(struct parcel *held, uint64_t mask, const uint8_t bytes[64]) {
+    for (int lane = 0; lane < 8; lane++) {
+        uint64_t part = mask >> (8 * lane) & 0xff;
+        if (part == 0xff)
+            memcpy(held->bytes + 8 * lane, bytes + 8 * lane, 8);
+        else
+            for (int k = 8 * lane; part; k++, part >>= 1)
+                if (part & 1) held->bytes[k] = bytes[k];
+    }
+    held->mask |= mask;
+}
+
+// Adds 1 to lane 0 through a masked write.
+static void add_one(struct parcel *held) {
+    uint8_t line[64] = {0};
+    uint64_t lane;
+    memcpy(&lane, held->bytes, 8);
+    lane++;
+    memcpy(line, &lane, 8);
+    write_masked(held, 0xff, line);
+}
+
+// A pause between two looks: a single one at first, and then as long as other threads want the processor.
+static void pause_or_yield(unsigned *looks) {
+    if (++*looks <= SPINS)
+        __builtin_ia32_pause();
+    else
+        sched_yield();
+}
