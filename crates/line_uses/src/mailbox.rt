@@ -97,7 +97,7 @@ pub fn take_up<L: LineSync<Free>>(line: &L, port: &mut L::Port) -> Option<u64>
     let value = lane(&held, 0);
     L::write(port, WHOLE, &with_lane(&held, 0, 0));
     line.deqolb(port);
-    Some(value)
+    if value == 0 { None } else { Some(value) }
 }
 
 /// Two nodes at a mailbox: node 1 puts the values from 1 on down, and node 2 takes them up and adds them.

@@ -1,4 +1,4 @@
-//! The examples: scripts, with the answers that stand beside them.
+//! What a script is answered, beside what it should be.
 use anyhow::{bail, ensure};
 use qolb_run::{Kind, ReplayError, run_schedule, run_steps};
 use qolb_script::Watched;
@@ -12,45 +12,6 @@ pub enum Form {
     /// A step script.
     Steps,
 }
-
-/// A script `examples/NAME.txt`, of which `examples/NAME.out` is the answer.
-#[derive(Clone, Copy)]
-pub struct Example {
-    pub name: &'static str,
-    pub form: Form,
-}
-
-/// All examples.
-pub static EXAMPLES: [Example; 7] = [
-    Example {
-        name: "hand_over",
-        form: Form::Schedule,
-    },
-    Example {
-        name: "three_nodes_queue",
-        form: Form::Schedule,
-    },
-    Example {
-        name: "two_lines",
-        form: Form::Schedule,
-    },
-    Example {
-        name: "withdraw_and_close",
-        form: Form::Schedule,
-    },
-    Example {
-        name: "lease_of_two",
-        form: Form::Schedule,
-    },
-    Example {
-        name: "late_linker",
-        form: Form::Steps,
-    },
-    Example {
-        name: "passed_by_the_list",
-        form: Form::Steps,
-    },
-];
 
 /// The kinds of line that answer a schedule.
 static KINDS: [Kind; 3] = [Kind::Plain, Kind::Ring, Kind::Link];

@@ -1,0 +1,80 @@
+//! Answers the examples, and compares with the answers that stand beside them.
+#![tactic(auto)]
+
+mod compare;
+
+use anyhow::{Context, ensure};
+use compare::{Form, compare};
+use std::alloc::Global;
+use std::fs;
+use std::rt::Files;
+
+/// A script `NAME.txt`, of which `NAME.out` is the answer.
+#[derive(Clone, Copy)]
+struct Example {
+    name: &'static str,
+    form: Form,
+}
+
+/// All examples.
+static EXAMPLES: [Example; 7] = [
+    Example {
+        name: "hand_over",
+        form: Form::Schedule,
+    },
+    Example {
+        name: "three_nodes_queue",
+        form: Form::Schedule,
+    },
+    Example {
+        name: "two_lines",
+        form: Form::Schedule,
+    },
+    Example {
+        name: "withdraw_and_close",
+        form: Form::Schedule,
+    },
+    Example {
+        name: "lease_of_two",
+        form: Form::Schedule,
+    },
+    Example {
+        name: "late_linker",
+        form: Form::Steps,
+    },
+    Example {
+        name: "passed_by_the_list",
+        form: Form::Steps,
+    },
+];
+
+fn main(rt: HostRuntime) -> anyhow::Result<()> {
+    let mut scripts = 0usize;
+    for entry in fs::read_dir(&rt, ".")? {
+        if entry?.file_name().ends_with(".txt") {
+            scripts = scripts.saturating_add(1);
+        }
+    }
+    ensure!(scripts == EXAMPLES.len(), "{scripts} scripts, and not each is named");
+    for example in EXAMPLES {
+        check(&rt, rt.alloc(), example)?;
+        println!(rt; "{}: answered", example.name)?;
+    }
+    Ok(())
+}
+
+/// Compares the example's answer with what its script is answered.
+fn check<R: Files + AllocGlobal>(rt: &R, alloc: Global, example: Example) -> anyhow::Result<()> {
+    let Example { name, form } = example;
+    let script = format!(in alloc; "{name}.txt")?;
+    let answer = format!(in alloc; "{name}.out")?;
+    let script = fs::read_to_string(rt, script.as_str()).context(name)?;
+    let answer = fs::read_to_string(rt, answer.as_str()).context(name)?;
+    compare(
+        alloc,
+        form,
+        script.as_str().as_bytes(),
+        answer.as_str().as_bytes(),
+    )
+    .context(name)
+}
