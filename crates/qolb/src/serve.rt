@@ -182,4 +182,6 @@ fn command<'a>(alloc: Global) -> Result<Command<'a>, AllocError>
 }
 
 #[cfg(test)]
+mod hostile;
+#[cfg(test)]
 mod tests;

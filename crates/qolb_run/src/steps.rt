@@ -97,3 +97,6 @@ fn nodes_left(core: &Core) -> u64
     }
     left
 }
+
+#[cfg(test)]
+mod tests;

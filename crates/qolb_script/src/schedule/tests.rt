@@ -119,6 +119,41 @@ fn reads_every_command(rt: HostRuntime) -> Result<(), Fail> {
 }
 
 #[test]
+fn reads_a_script_that_was_cut_off(rt: HostRuntime) -> Result<(), Fail> {
+    let rows = [
+        ("nodes 2 lines", ScriptError::BadLine(1)),
+        (
+            "nodes 2 lines 1\nenq 1 0\nwrite 1 0 0 a1b",
+            ScriptError::BadLine(3),
+        ),
+        (
+            "nodes 2 lines 1\nenq 1 0\nwrite 1 0 0 a1b2\nenq 2 0\npoll 2 0\ndeq 1 0\npoll 2 0\nshow 2",
+            ScriptError::BadLine(8),
+        ),
+    ];
+    for (text, error) in rows {
+        let found = read_schedule(rt.alloc(), text.as_bytes()).err();
+        assert_eq!(rt; found, Some(error), "at {text:?}");
+    }
+    let mut bytes = [0; 64];
+    bytes[0] = 0xa1;
+    let wanted = [
+        Command::Enq { node: 1, line: 0 },
+        Command::Write {
+            node: 1,
+            line: 0,
+            mask: Mask(1),
+            bytes: Line64 { bytes },
+        },
+    ];
+    let schedule = read_schedule(rt.alloc(), b"nodes 2 lines 1\nenq 1 0")?;
+    assert_eq!(rt; schedule.commands(), &wanted[..1]);
+    let schedule = read_schedule(rt.alloc(), b"nodes 2 lines 1\nenq 1 0\nwrite 1 0 0 a1")?;
+    assert_eq!(rt; schedule.commands(), wanted.as_slice());
+    Ok(())
+}
+
+#[test]
 fn reads_the_lease(rt: HostRuntime) -> Result<(), Fail> {
     let schedule = read_schedule(rt.alloc(), b"nodes 200 lines 8")?;
     assert_eq!(rt; schedule.nodes(), 200);

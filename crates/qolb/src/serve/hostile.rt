@@ -1,0 +1,215 @@
+//! Readers and writers that fail at one of their calls, or move few bytes at a time.
+use super::*;
+use std::test::Fail;
+
+const HAND_OVER: &str =
+    "nodes 2 lines 1\nenq 1 0\nwrite 1 0 0 a1b2\nenq 2 0\npoll 2 0\ndeq 1 0\npoll 2 0\nshow 2 0\ndeq 2 0\n";
+
+const HANDED_OVER: &str =
+    "granted\nok\nqueued\nwaiting\nreleased\ngranted\na1b20000000000000000000000000000000000000000000000000000000000000000000000000000000000000000000000000000000000000000000000000000\nreleased\nline 0 served 2 withdrawn 0 told 0 left 0\n";
+
+const LATE_LINK: &str =
+    "nodes 2\nreset 1\nprepend 1\nreset 2\nprepend 2\nhome 1\ndone 1\nload 1\nlink 2\nload 1\n";
+
+const LINKED: &str =
+    "went\ngranted\nwent\nwent\nwent\nreleased\nbusy\ngranted\nfree\nline 0 served 1 withdrawn 0 told 0 left 1\n";
+
+/// The words of each subcommand, a script, and what is written.
+const RUNS: [(&[&str], &str, &str); 4] = [
+    (&["replay", "--kind", "plain"], HAND_OVER, HANDED_OVER),
+    (&["replay", "--kind", "ring"], HAND_OVER, HANDED_OVER),
+    (&["replay", "--kind", "link"], HAND_OVER, HANDED_OVER),
+    (&["steps"], LATE_LINK, LINKED),
+];
+
+/// How many bytes a read or a write moves at most.
+const PARTS: [usize; 3] = [1, 7, 4096];
+
+/// Gives what is left in parts, but fails once, after so many reads.
+#[derive(Drop)]
+struct FailingReader<'a> {
+    rest: &'a [u8],
+    part: usize,
+    good: usize,
+}
+
+impl<'a> Read for FailingReader<'a> {
+    fn read(&mut self, buf: &mut [u8]) -> io::Result<usize> {
+        if self.good == 0 {
+            self.good = usize::MAX;
+            return Err(io::Error::from(io::ErrorKind::Other));
+        }
+        self.good -= 1;
+        let given = self.rest.len().min(self.part).min(buf.len());
+        buf[..given].copy_from_slice(&self.rest[..given]);
+        self.rest = &self.rest[given..];
+        Ok(given)
+    }
+}
+
+/// Takes bytes in parts, but fails once, after so many writes, or then takes none.
+#[derive(Drop)]
+struct FailingWriter {
+    taken: Vec<u8>,
+    part: usize,
+    good: usize,
+    fails: bool,
+}
+
+impl Write for FailingWriter {
+    fn write(&mut self, buf: &[u8]) -> io::Result<usize> {
+        if self.good == 0 {
+            self.good = usize::MAX;
+            return if self.fails {
+                Err(io::Error::from(io::ErrorKind::Other))
+            } else {
+                Ok(0)
+            };
+        }
+        self.good -= 1;
+        let room = self.part.min(buf.len());
+        self.taken.extend_from_slice(&buf[..room])?;
+        Ok(room)
+    }
+
+    fn flush(&mut self) -> io::Result<()> {
+        Ok(())
+    }
+}
+
+/// The status of a run and its standard error.
+fn run<R: Read, W: Write>(
+    alloc: Global,
+    words: &[&str],
+    reader: &mut R,
+    out: &mut W,
+) -> Result<(u8, String), Fail> {
+    let mut all = vec![in alloc; "qolb".to_string(alloc)?]?;
+    for word in words {
+        all.push(word.to_string(alloc)?)?;
+    }
+    let mut err: Vec<u8> = Vec::new(alloc);
+    let status = serve(alloc, all.as_slice(), reader, out, &mut err);
+    Ok((status, String::from_utf8(err)?))
+}
+
+#[test]
+fn each_read_fails(rt: HostRuntime) -> Result<(), Fail> {
+    for (words, script, reply) in RUNS {
+        for part in PARTS {
+            // The last read tells that nothing is left.
+            let reads = script.len().div_ceil(part) + 1;
+            for good in 0..reads + 1 {
+                let mut reader = FailingReader {
+                    rest: script.as_bytes(),
+                    part,
+                    good,
+                };
+                let mut out: Vec<u8> = Vec::new(rt.alloc());
+                let (status, err) = run(rt.alloc(), words, &mut reader, &mut out)?;
+                let (want, text, fault) = if good < reads {
+                    (4, "", "read fault\n")
+                } else {
+                    (0, reply, "")
+                };
+                assert_eq!(rt; status, want, "{words:?} after {good} reads of {part}");
+                assert_eq!(rt;
+                    out.as_slice(),
+                    text.as_bytes(),
+                    "{words:?} after {good} reads of {part}"
+                );
+                assert_eq!(rt;
+                    err.as_str(),
+                    fault,
+                    "{words:?} after {good} reads of {part}"
+                );
+            }
+        }
+    }
+    Ok(())
+}
+
+#[test]
+fn each_write_fails(rt: HostRuntime) -> Result<(), Fail> {
+    for (words, script, reply) in RUNS {
+        for (part, fails) in [(1, true), (1, false), (7, true), (4096, false)] {
+            let writes = reply.len().div_ceil(part);
+            for good in 0..writes + 1 {
+                let mut writer = FailingWriter {
+                    taken: Vec::new(rt.alloc()),
+                    part,
+                    good,
+                    fails,
+                };
+                let mut reader = script.as_bytes();
+                let (status, err) = run(rt.alloc(), words, &mut reader, &mut writer)?;
+                let (want, fault) = if good < writes {
+                    (4, "write fault\n")
+                } else {
+                    (0, "")
+                };
+                let wrote = good.saturating_mul(part).min(reply.len());
+                assert_eq!(rt; status, want, "{words:?} after {good} writes of {part}");
+                assert_eq!(rt;
+                    writer.taken.as_slice(),
+                    &reply.as_bytes()[..wrote],
+                    "{words:?} after {good} writes of {part}"
+                );
+                assert_eq!(rt;
+                    err.as_str(),
+                    fault,
+                    "{words:?} after {good} writes of {part}"
+                );
+            }
+        }
+    }
+    Ok(())
+}
+
+#[test]
+fn a_script_that_was_cut_off(rt: HostRuntime) -> Result<(), Fail> {
+    let rows = [
+        ("nodes 2 lines", 1, "", "bad line 1\n"),
+        (
+            "nodes 2 lines 1\nenq 1 0",
+            0,
+            "granted\nline 0 served 0 withdrawn 0 told 0 left 1\n",
+            "",
+        ),
+        (
+            "nodes 2 lines 1\nenq 1 0\nwrite 1 0 0 a1b",
+            1,
+            "",
+            "bad line 3\n",
+        ),
+        (
+            "nodes 2 lines 1\nenq 1 0\nwrite 1 0 0 a1",
+            0,
+            "granted\nok\nline 0 served 0 withdrawn 0 told 0 left 1\n",
+            "",
+        ),
+        (
+            "nodes 2 lines 1\nenq 1 0\nwrite 1 0 0 a1b2\nenq 2 0\npoll 2 0\ndeq 1 0\npoll 2 0\nshow 2",
+            1,
+            "",
+            "bad line 8\n",
+        ),
+    ];
+    for (script, want, text, fault) in rows {
+        assert!(rt; HAND_OVER.starts_with(script));
+        for kind in KINDS {
+            let mut reader = script.as_bytes();
+            let mut out: Vec<u8> = Vec::new(rt.alloc());
+            let (status, err) = run(
+                rt.alloc(),
+                &["replay", "--kind", kind],
+                &mut reader,
+                &mut out,
+            )?;
+            assert_eq!(rt; status, want, "of {script}");
+            assert_eq!(rt; out.as_slice(), text.as_bytes(), "of {script}");
+            assert_eq!(rt; err.as_str(), fault, "of {script}");
+        }
+    }
+    Ok(())
+}

@@ -1,0 +1,200 @@
+#!/usr/bin/env python3
+"""Runs the built program where its streams are closed, full or gone, and with 200 workers on one and on two processors.
+
+    tools/at_work.py [PROGRAM]
+
+A failed read must end with status 4, `read fault` and nothing on standard output; a failed write with 4 and `write fault`; a refused script
+or command line with its own status whatever becomes of standard output and error; no run by a signal. Needs Linux.
+"""
+
+import os
+import resource
+import signal
+import socket
+import subprocess
+import sys
+import tempfile
+import time
+
+from definitions import answer_to, is_right
+from program import SECONDS, run, the_program
+
+SCRIPT = b"nodes 2 lines 1\nenq 1 0\nwrite 1 0 0 a1b2\nenq 2 0\npoll 2 0\ndeq 1 0\npoll 2 0\nshow 2 0\ndeq 2 0\n"
+STEPS = b"nodes 1\nreset 1\nprepend 1\nhome 1\n"
+BOARD = b"board workers 2\n1 put 5\n2 take\n"
+BANK = b"bank workers 2 lines 1\n1 in 0 3\n2 out 0 1\n"
+WORKERS = 200
+ROUNDS = 100
+
+TASKS = [
+    (["replay", "--kind", "plain"], SCRIPT),
+    (["replay", "--kind", "ring"], SCRIPT),
+    (["replay", "--kind", "link"], SCRIPT),
+    (["steps"], STEPS),
+    (["board"], BOARD),
+    (["bank"], BANK),
+]
+
+READ_FAULT = (4, "", "read fault\n")
+WRITE_FAULT = (4, "", "write fault\n")
+
+
+class Wrong(Exception):
+    """A run did not end as it must."""
+
+
+def expect(what, wanted, found):
+    if found != wanted:
+        raise Wrong(f"{what}: {found}, and not {wanted}")
+
+
+def spawned(program, words, stdin, stdout, stderr, closed=()):
+    """A run on these files, with those of these numbers closed."""
+
+    def close():
+        for file in closed:
+            os.close(file)
+
+    return subprocess.Popen([program, *words], stdin=stdin, stdout=stdout, stderr=stderr, preexec_fn=close)
+
+
+def ended(running, script=None):
+    """What the run ends with: its status and what it wrote to the pipes that it was given."""
+    try:
+        out, err = running.communicate(script, timeout=SECONDS)
+    except subprocess.TimeoutExpired:
+        running.kill()
+        raise Wrong("it does not end") from None
+    return running.returncode, (out or b"").decode("latin-1"), (err or b"").decode("latin-1")
+
+
+def inputs_that_fail(program, words):
+    """Standard input closed, a folder, or open for writing alone."""
+    pipe = subprocess.PIPE
+    expect("closed input", READ_FAULT, ended(spawned(program, words, pipe, pipe, pipe, closed=[0]), b""))
+    for path, flags in (("/", os.O_RDONLY), ("/dev/null", os.O_WRONLY)):
+        file = os.open(path, flags)
+        expect(f"input {path}", READ_FAULT, ended(spawned(program, words, file, pipe, pipe)))
+        os.close(file)
+    return 3
+
+
+def inputs_cut_off(program, words, script):
+    """A connection that breaks off after each beginning of the script."""
+    for length in range(len(script) + 1):
+        near, far = socket.socketpair()
+        near.sendall(b"x")
+        far.sendall(script[:length])
+        running = spawned(program, words, near, subprocess.PIPE, subprocess.PIPE)
+        # Closed with a byte unread, it is reset: what was sent can be read, and then reading fails.
+        far.close()
+        near.close()
+        expect(f"input cut off after {length}", READ_FAULT, ended(running))
+    return len(script) + 1
+
+
+def outputs_that_fail(program, words, script):
+    """Standard output closed, full, or a pipe that nobody reads."""
+    pipe = subprocess.PIPE
+    expect("closed output", WRITE_FAULT, ended(spawned(program, words, pipe, pipe, pipe, closed=[1]), script))
+    full = os.open("/dev/full", os.O_WRONLY)
+    expect("full output", WRITE_FAULT, ended(spawned(program, words, pipe, full, pipe), script))
+    os.close(full)
+    reader, writer = os.pipe()
+    os.close(reader)
+    expect("output that nobody reads", WRITE_FAULT, ended(spawned(program, words, pipe, writer, pipe), script))
+    os.close(writer)
+    return 3
+
+
+def limited(length):
+    """Files may have so many bytes, and a write past that fails."""
+    signal.signal(signal.SIGXFSZ, signal.SIG_IGN)
+    resource.setrlimit(resource.RLIMIT_FSIZE, (length, length))
+
+
+def outputs_cut_off(program, words, script):
+    """A file that is full after each beginning of the answer."""
+    _, answer, _ = ended(spawned(program, words, subprocess.PIPE, subprocess.PIPE, subprocess.PIPE), script)
+    for length in range(len(answer)):
+        with tempfile.TemporaryFile() as file:
+            found = subprocess.run(
+                [program, *words],
+                input=script,
+                stdout=file,
+                stderr=subprocess.PIPE,
+                timeout=SECONDS,
+                preexec_fn=lambda: limited(length),
+            )
+            file.seek(0)
+            wrote = file.read()
+        expect(f"output of {length} bytes", (4, b"write fault\n"), (found.returncode, found.stderr))
+        if len(wrote) != length or (words[0] not in ("board", "bank") and not answer.encode().startswith(wrote)):
+            raise Wrong(f"output of {length} bytes: {wrote}")
+    return len(answer)
+
+
+def refusals_that_cannot_be_told(program, words):
+    """A refused script or command line, with standard output and error closed, full or gone."""
+    pipe, null = subprocess.PIPE, subprocess.DEVNULL
+    full = os.open("/dev/full", os.O_WRONLY)
+    told = (1, "", "bad line 1\n")
+    expect("refused, closed output", told, ended(spawned(program, words, pipe, pipe, pipe, closed=[1]), b"x\n"))
+    expect("refused, full output", told, ended(spawned(program, words, pipe, full, pipe), b"x\n"))
+    expect("refused, closed error", (1, "", ""), ended(spawned(program, words, pipe, pipe, pipe, closed=[2]), b"x\n"))
+    expect("refused, full error", (1, "", ""), ended(spawned(program, words, pipe, pipe, full), b"x\n"))
+    expect("no such word, full error", (2, "", ""), ended(spawned(program, ["x"], null, pipe, full)))
+    expect("all closed", 4, ended(spawned(program, words, pipe, pipe, pipe, closed=[0, 1, 2]), b"")[0])
+    os.close(full)
+    return 6
+
+
+def work_script(task, round):
+    """A script for all workers, whose totals the definitions give."""
+    lines = [f"{task} workers {WORKERS}" + (" lines 2" if task == "bank" else "")]
+    for turn in range(3):
+        for worker in range(1, WORKERS + 1):
+            if task == "board":
+                lines.append(f"{worker} put {worker}" if (worker + turn + round) % 2 else f"{worker} take")
+            else:
+                account = (worker + turn + round) % 16
+                lines += [f"{worker} in {account} {worker}", f"{worker} move {account} {(account + 5) % 16} 1"]
+    return "\n".join(lines).encode()
+
+
+def many_workers(program):
+    """Work by 200 workers on one processor and on two."""
+    processors = sorted(os.sched_getaffinity(0))
+    for task in ("board", "bank"):
+        began = time.monotonic()
+        for round in range(ROUNDS):
+            script = work_script(task, round)
+            kind = ("ring", "link")[round % 2]
+            few = processors[: 1 + round // 2 % 2]
+            found = run(program, [task, "--kind", kind], script, preexec_fn=lambda: os.sched_setaffinity(0, few))
+            if not is_right(answer_to(task, script), found):
+                raise Wrong(f"{task} by 200 workers, round {round}: {found}")
+        print(f"{task}: {ROUNDS} runs by {WORKERS} workers on one and two processors, {time.monotonic() - began:.0f} seconds", flush=True)
+
+
+def main():
+    program = the_program()
+    began = time.monotonic()
+    print("task                  inputs that fail  outputs that fail  refusals that cannot be told")
+    for words, script in TASKS:
+        try:
+            inputs = inputs_that_fail(program, words) + inputs_cut_off(program, words, script)
+            outputs = outputs_that_fail(program, words, script) + outputs_cut_off(program, words, script)
+            refusals = refusals_that_cannot_be_told(program, words)
+        except Wrong as wrong:
+            sys.exit(f"wrong: {' '.join(words)}, {wrong}")
+        print(f"{' '.join(words):20}  {inputs:16}  {outputs:17}  {refusals:28}", flush=True)
+    try:
+        many_workers(program)
+    except Wrong as wrong:
+        sys.exit(f"wrong: {wrong}")
+    print(f"all as they must be, in {time.monotonic() - began:.0f} seconds")
+
+
+if __name__ == "__main__":
+    main()

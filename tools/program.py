@@ -1,0 +1,25 @@
+"""Runs of the built program."""
+
+import os
+import subprocess
+import sys
+
+PROGRAM = os.path.join(os.path.dirname(os.path.abspath(__file__)), "..", "crates", "qolb", "out", "qolb")
+SECONDS = 60
+
+
+def the_program():
+    """The path that the first argument gives, else the proved program's."""
+    path = sys.argv[1] if len(sys.argv) > 1 else PROGRAM
+    if not os.access(path, os.X_OK):
+        sys.exit(f"there is no program {path}: see README.md for how to build it")
+    return os.path.abspath(path)
+
+
+def run(program, words, script, **how):
+    """The status (minus the signal's number, where one ended the run; None where it did not end in time), standard output and error."""
+    try:
+        ended = subprocess.run([program, *words], input=script, capture_output=True, timeout=SECONDS, **how)
+    except subprocess.TimeoutExpired:
+        return None, "", ""
+    return ended.returncode, ended.stdout.decode("latin-1"), ended.stderr.decode("latin-1")

@@ -1,0 +1,103 @@
+/* A library to preload, which makes one call of a program fail. REFUSE names what and which, as memory:3, thread:1, read:2 or write:5;
+   with SHORT set each read and write of several bytes moves one, and with INTERRUPT set each read and write is interrupted once before it
+   is done. A call that was made to fail is told by a byte to the file descriptor REFUSE_TELL. For Linux with glibc. */
+#define _GNU_SOURCE
+#include <dlfcn.h>
+#include <errno.h>
+#include <pthread.h>
+#include <stdatomic.h>
+#include <stdlib.h>
+#include <string.h>
+#include <sys/syscall.h>
+#include <unistd.h>
+
+extern void *__libc_malloc(size_t size);
+extern void *__libc_calloc(size_t count, size_t size);
+extern void *__libc_realloc(void *block, size_t size);
+extern void *__libc_memalign(size_t align, size_t size);
+
+enum kind { NONE, MEMORY, THREAD, READ, WRITE };
+
+static enum kind kind = NONE;
+static long at = 0;
+static atomic_long calls = 0;
+static int tell = -1;
+static int is_short = 0;
+static int interrupts = 0;
+
+__attribute__((constructor)) static void set_up(void) {
+  static const char *const names[] = {"", "memory:", "thread:", "read:", "write:"};
+  const char *told = getenv("REFUSE_TELL");
+  tell = told ? atoi(told) : -1;
+  is_short = getenv("SHORT") != NULL;
+  interrupts = getenv("INTERRUPT") != NULL;
+  const char *what = getenv("REFUSE");
+  for (int k = MEMORY; what && k <= WRITE; k++) {
+    size_t length = strlen(names[k]);
+    if (strncmp(what, names[k], length) == 0) {
+      at = atol(what + length);
+      kind = (enum kind)k;
+    }
+  }
+}
+
+static int is_refused(enum kind of) {
+  if (of != kind || atomic_fetch_add(&calls, 1) + 1 != at) {
+    return 0;
+  }
+  syscall(SYS_write, tell, "x", 1);
+  return 1;
+}
+
+static void *no_memory(void) {
+  errno = ENOMEM;
+  return NULL;
+}
+
+void *malloc(size_t size) { return is_refused(MEMORY) ? no_memory() : __libc_malloc(size); }
+
+void *calloc(size_t count, size_t size) { return is_refused(MEMORY) ? no_memory() : __libc_calloc(count, size); }
+
+void *realloc(void *block, size_t size) { return is_refused(MEMORY) ? no_memory() : __libc_realloc(block, size); }
+
+void *aligned_alloc(size_t align, size_t size) { return is_refused(MEMORY) ? no_memory() : __libc_memalign(align, size); }
+
+int posix_memalign(void **block, size_t align, size_t size) {
+  *block = is_refused(MEMORY) ? NULL : __libc_memalign(align, size);
+  return *block ? 0 : ENOMEM;
+}
+
+int pthread_create(pthread_t *thread, const pthread_attr_t *attributes, void *(*body)(void *), void *argument) {
+  if (is_refused(THREAD)) {
+    return EAGAIN;
+  }
+  int (*create)(pthread_t *, const pthread_attr_t *, void *(*)(void *), void *) = dlsym(RTLD_NEXT, "pthread_create");
+  return create(thread, attributes, body, argument);
+}
+
+static int is_interrupted(void) {
+  static int was = 0;
+  was = interrupts && !was;
+  return was;
+}
+
+static ssize_t moved(enum kind of, long call, int file, void *bytes, size_t size) {
+  if (is_interrupted()) {
+    errno = EINTR;
+    return -1;
+  }
+  if (is_refused(of)) {
+    errno = EIO;
+    return -1;
+  }
+  return syscall(call, file, bytes, is_short && size > 1 ? 1 : size);
+}
+
+ssize_t read(int file, void *bytes, size_t size) { return moved(READ, SYS_read, file, bytes, size); }
+
+/* What the program writes to standard error is left alone. */
+ssize_t write(int file, const void *bytes, size_t size) {
+  return file == 2 ? syscall(SYS_write, file, bytes, size) : moved(WRITE, SYS_write, file, (void *)bytes, size);
+}
+
+ssize_t __write(int file, const void *bytes, size_t size) { return write(file, bytes, size); }

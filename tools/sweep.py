@@ -1,0 +1,126 @@
+#!/usr/bin/env python3
+"""Makes each allocation, each start of a thread, each read and each write of the built program fail in turn, until a run passes.
+
+    tools/sweep.py [PROGRAM]
+
+A refused allocation or thread must end with status 3, `out of memory` and nothing on standard output; a failed read with 4, `read fault`
+and nothing on standard output; a failed write with 4, `write fault` and a beginning of the answer. With reads and writes of one byte, and
+with each of them interrupted once, the answer must be whole. What a run must answer is from definitions.py. Needs Linux with glibc and cc.
+"""
+
+import os
+import subprocess
+import sys
+import tempfile
+import time
+
+from definitions import answer_to, is_right
+from program import run, the_program
+
+HERE = os.path.dirname(os.path.abspath(__file__))
+
+SCHEDULE = b"""nodes 200 lines 8 lease 9
+enq 1 0
+write 1 0 0 a1b2
+enq 2 0
+enq 3 0
+out 3 0
+deq 1 0
+poll 2 0
+show 2 0
+shut 2 0
+enq 200 7
+"""
+STEPS = b"nodes 200\nreset 1\nprepend 1\nwrite 1 0 ab\nreset 2\nprepend 2\nhome 1\ndone 1\nload 1\nlink 2\n"
+BOARD = b"board workers 5\n1 put 5\n2 put 6\n3 take\n4 put 7\n1 take\n5 put 8\n5 take\n"
+BANK = b"bank workers 5 lines 8\n1 in 0 10\n2 in 63 5\n3 move 0 63 2\n4 out 63 1\n5 in 1 1\n1 out 0 3\n"
+
+TASKS = [
+    (["replay", "--kind", "plain"], SCHEDULE),
+    (["replay", "--kind", "ring"], SCHEDULE),
+    (["replay", "--kind", "link"], SCHEDULE),
+    (["steps"], STEPS),
+    (["board", "--kind", "ring"], BOARD),
+    (["board", "--kind", "link"], BOARD),
+    (["bank", "--kind", "ring"], BANK),
+    (["bank", "--kind", "link"], BANK),
+]
+
+
+def built(folder):
+    """The library that makes a call fail."""
+    library = os.path.join(folder, "refuse.so")
+    subprocess.run(["cc", "-O2", "-shared", "-fPIC", os.path.join(HERE, "refuse.c"), "-o", library, "-ldl"], check=True)
+    return library
+
+
+def refused(program, library, words, script, **settings):
+    """What a run under these settings ends with, and whether a call was made to fail."""
+    told, tells = os.pipe()
+    settings.update(LD_PRELOAD=library, REFUSE_TELL=str(tells))
+    try:
+        found = run(program, words, script, env=settings, pass_fds=[tells])
+    finally:
+        os.close(tells)
+    with os.fdopen(told, "rb") as pipe:
+        return found, pipe.read() != b""
+
+
+def is_refusal(what, wanted, found):
+    """Whether a run in which such a call failed ended as it must."""
+    status, out, err = found
+    if what in ("memory", "thread"):
+        return found == (3, "", "out of memory\n")
+    if what == "read":
+        return found == (4, "", "read fault\n")
+    begins = True if callable(wanted[1]) else wanted[1].startswith(out)
+    return status == 4 and err == "write fault\n" and begins
+
+
+def sweep(program, library, words, script, what, **settings):
+    """Makes the first such call fail, the second, and so on; the number of those that there are."""
+    wanted = answer_to(words[0], script)
+    at = 0
+    while True:
+        found, was_refused = refused(program, library, words, script, REFUSE=f"{what}:{at + 1}", **settings)
+        right = is_refusal(what, wanted, found) if was_refused else is_right(wanted, found)
+        if not right:
+            sys.exit(f"wrong: {' '.join(words)}, {what} {at + 1} {settings}: {found}")
+        if not was_refused:
+            return at
+        at += 1
+
+
+def whole(program, library, words, script, **settings):
+    """The answer must be whole in a run under these settings."""
+    found, _ = refused(program, library, words, script, **settings)
+    if not is_right(answer_to(words[0], script), found):
+        sys.exit(f"wrong: {' '.join(words)}, {settings}: {found}")
+
+
+def main():
+    program = the_program()
+    began = time.monotonic()
+    print("task                  allocations  threads  reads  writes  reads and writes of one byte")
+    with tempfile.TemporaryDirectory() as folder:
+        library = built(folder)
+        for words, script in TASKS:
+            long = script + b"\n" * 20_000
+            counts = [
+                sweep(program, library, words, long, "memory"),
+                sweep(program, library, words, script, "thread"),
+                sweep(program, library, words, long, "read"),
+                sweep(program, library, words, script, "write"),
+                sweep(program, library, words, script, "read", SHORT="1"),
+                sweep(program, library, words, script, "write", SHORT="1"),
+            ]
+            whole(program, library, words, script, SHORT="1")
+            whole(program, library, words, script, INTERRUPT="1")
+            whole(program, library, words, script, INTERRUPT="1", SHORT="1")
+            row = "{:11}  {:7}  {:5}  {:6}  {:5} and {}".format(*counts)
+            print(f"{' '.join(words):20}  {row}", flush=True)
+    print(f"all as they must be, in {time.monotonic() - began:.0f} seconds")
+
+
+if __name__ == "__main__":
+    main()
