@@ -50,20 +50,18 @@ pub(crate) fn renew<K: Keep>(
     ensures goes_on { GoesOn K.allows seat.old.me seat.new.me (steps_to_renew result) }
     ensures renewed { IsRenewed state (known_of seat.old) (known_of seat.new) result }
 {
-    let looks = match state {
-        PortState::Left => {
-            if !look_left(ground, seat, node) {
-                return None;
-            }
-            1
+    let looks = if state == PortState::Left {
+        if !look_left(ground, seat, node) {
+            return None;
         }
-        PortState::Rolled => {
-            if !look_rolled(ground, seat, node) {
-                return None;
-            }
-            1
+        1
+    } else if state == PortState::Rolled {
+        if !look_rolled(ground, seat, node) {
+            return None;
         }
-        _ => 0,
+        1
+    } else {
+        0
     };
     reset(ground, seat, node);
     Some(looks + 1)
