@@ -1,4 +1,6 @@
 //! What a script is answered, beside what it should be.
+ghost use Rattle.std.specs.Prelude.{◌≡◌, ◌↔◌, IsOk};
+
 use anyhow::{bail, ensure};
 use qolb_run::{Kind, ReplayError, run_schedule, run_steps};
 use qolb_script::Watched;
@@ -26,14 +28,22 @@ pub fn compare(alloc: Global, form: Form, script: &[u8], wanted: &[u8]) -> anyho
         Form::Schedule => {
             for kind in KINDS {
                 let said = replay(alloc, script, kind)?;
-                ensure!(said.as_slice() == wanted, "{kind:?} answers otherwise");
+                expect(said.as_slice(), wanted)?;
             }
         }
         Form::Steps => {
             let said = steps(alloc, script)?;
-            ensure!(said.as_slice() == wanted, "it is answered otherwise");
+            expect(said.as_slice(), wanted)?;
         }
     }
+    Ok(())
+}
+
+/// An error, if what was said is not what is wanted.
+fn expect(said: &[u8], wanted: &[u8]) -> anyhow::Result<()>
+    ensures { IsOk result ↔ (said.now ≡ wanted.now) }
+{
+    ensure!(said == wanted, "it is answered otherwise");
     Ok(())
 }
 

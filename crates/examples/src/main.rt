@@ -55,7 +55,10 @@ fn main(rt: HostRuntime) -> anyhow::Result<()> {
             scripts = scripts.saturating_add(1);
         }
     }
-    ensure!(scripts == EXAMPLES.len(), "{scripts} scripts, and not each is named");
+    ensure!(
+        scripts == EXAMPLES.len(),
+        "{scripts} scripts, and not each is named"
+    );
     for example in EXAMPLES {
         check(&rt, rt.alloc(), example)?;
         println!(rt; "{}: answered", example.name)?;

@@ -4,18 +4,22 @@
 ghost use Rattle.std.specs.Prelude.{All, IsTrue};
 ghost use Rattle.qolb_model.specs.PortStates.{may_ask};
 
+mod asking;
 mod law;
 mod rounds;
 mod run;
 mod stress;
 mod workers;
 
-use clap::{Arg, ArgMatches, Command};
+use asking::{Apart, Asking, AtOnce};
+use clap::{Arg, ArgAction, ArgMatches, Command};
 use law::Rising;
 use line_lanes::lane;
-use qolb_model::LineSync;
+use link_line::LinkLine;
+use qolb_model::{LineSync, OpenLine};
+use ring_line::RingLine;
 use rounds::Rounds;
-use run::{RunError, open_list, open_ring, run_task};
+use run::{RunError, open, run_task};
 use std::alloc::{AllocError, Global};
 use std::rt::Clock;
 use std::sync::Wait;
@@ -26,7 +30,7 @@ use stress::Stress;
 /// How many threads are measured, in turn; and how many are put under stress.
 static THREADS: [u64; 5] = [1, 2, 3, 4, 8];
 
-static STRESSED: [u64; 2] = [4, 8];
+static STRESSED: [u64; 3] = [4, 8, 32];
 
 /// Rounds of each thread where the words name none: enough to see that nothing is lost.
 const FEW_ROUNDS: u64 = 100;
@@ -45,6 +49,15 @@ enum Wanted {
     Stress(u64),
 }
 
+/// The line that it is done on, and how its nodes ask under stress.
+#[derive(Clone, Copy)]
+enum Kind {
+    Ring,
+    List,
+    /// A list whose nodes ask by two calls.
+    ListApart,
+}
+
 fn main(rt: HostRuntime) -> anyhow::Result<()> {
     let alloc = rt.alloc();
     let mut words = Vec::new(alloc);
@@ -52,27 +65,17 @@ fn main(rt: HostRuntime) -> anyhow::Result<()> {
         words.push(word)?;
     }
     let matches = command(alloc)?.try_get_matches_from(words.as_slice())?;
-    let wanted = match (
-        matches.get_one::<u64>("stress"),
-        matches.get_one::<u64>("rounds"),
-    ) {
-        (Some(seconds), _) => Wanted::Stress(seconds),
-        (None, Some(rounds)) => Wanted::Times(rounds),
-        (None, None) => Wanted::Sums,
-    };
-    let threads = match wanted {
+    let wanted = wanted_of(&matches);
+    let kind = kind_of(&matches);
+    if let Some(threads) = matches.get_one::<u64>("threads") {
+        return run_kind(&rt, alloc, kind, threads, wanted);
+    }
+    let counts = match wanted {
         Wanted::Stress(_) => STRESSED.as_slice(),
         _ => THREADS.as_slice(),
     };
-    let is_list = matches.get_str("kind") == Some("link");
-    for &threads in threads {
-        if is_list {
-            let (line, ports) = open_list(alloc, threads)?;
-            bench(&rt, alloc, line, ports, threads, wanted)?;
-        } else {
-            let (line, ports) = open_ring(alloc, threads)?;
-            bench(&rt, alloc, line, ports, threads, wanted)?;
-        }
+    for &threads in counts {
+        run_kind(&rt, alloc, kind, threads, wanted)?;
     }
     Ok(())
 }
@@ -94,31 +97,81 @@ fn command<'a>(alloc: Global) -> Result<Command<'a>, AllocError> {
         .value_name("KIND")
         .help("The kind of line: a ring, where the words name none, or a list")
         .value_parser(KINDS.as_slice());
+    let apart = Arg::new(alloc, "apart")
+        .long("apart")
+        .help("Under stress on a list, ask by two calls with a pause at random between them")
+        .action(ArgAction::SetTrue)
+        .requires_arg("stress")?;
+    let threads = Arg::new(alloc, "threads")
+        .long("threads")
+        .value_name("THREADS")
+        .help("So many threads, and no others")
+        .value_parser(clap::value_parser!(u64).range(1..));
     Command::new(alloc, "line_bench")
         .about("Times rounds of ask, add 1 to a lane, release, by 1, 2, 3, 4 and 8 threads")
         .arg(rounds)?
         .arg(stress)?
-        .arg(kind)
+        .arg(kind)?
+        .arg(apart)?
+        .arg(threads)
 }
 
-/// Does what is wanted on a line of so many nodes.
-fn bench<R: Threads + Wait + Clock + Print + Sync, L: LineSync<Rising> + Sync + Drop>(
+/// What the words ask for.
+fn wanted_of(matches: &ArgMatches) -> Wanted {
+    match (
+        matches.get_one::<u64>("stress"),
+        matches.get_one::<u64>("rounds"),
+    ) {
+        (Some(seconds), _) => Wanted::Stress(seconds),
+        (None, Some(rounds)) => Wanted::Times(rounds),
+        (None, None) => Wanted::Sums,
+    }
+}
+
+/// The line that they name: a ring where they name none.
+fn kind_of(matches: &ArgMatches) -> Kind {
+    if matches.get_flag("apart") {
+        Kind::ListApart
+    } else if matches.get_str("kind") == Some("link") {
+        Kind::List
+    } else {
+        Kind::Ring
+    }
+}
+
+/// Does what is wanted on a line of this kind.
+fn run_kind<R: Threads + Wait + Clock + Print + Sync>(
     rt: &R,
     alloc: Global,
-    line: L,
-    ports: Vec<L::Port>,
+    kind: Kind,
     threads: u64,
     wanted: Wanted,
-) -> anyhow::Result<()>
+) -> anyhow::Result<()> {
+    match kind {
+        Kind::Ring => bench::<R, RingLine<Rising>, AtOnce>(rt, alloc, AtOnce, threads, wanted),
+        Kind::List => bench::<R, LinkLine<Rising>, AtOnce>(rt, alloc, AtOnce, threads, wanted),
+        Kind::ListApart => {
+            bench::<R, LinkLine<Rising>, Apart>(rt, alloc, Apart::new(), threads, wanted)
+        }
+    }
+}
+
+/// Opens a line of so many nodes, and does on it what is wanted.
+fn bench<
+    R: Threads + Wait + Clock + Print + Sync,
+    L: OpenLine<Rising> + Sync + Drop,
+    A: Asking<L> + Sync + Drop,
+>(rt: &R, alloc: Global, asking: A, threads: u64, wanted: Wanted) -> anyhow::Result<()>
 where
     L::Port: Send + Drop,
-    requires ports { All (λ port. L.belongs line port) ports.items }
-    requires state { All (λ port. IsTrue (may_ask (L.view port).state)) ports.items }
 {
+    let (line, ports) = open::<L>(alloc, threads)?;
     match wanted {
         Wanted::Sums => show(rt, alloc, line, ports, threads),
         Wanted::Times(rounds) => measure(rt, alloc, line, ports, threads, rounds),
-        Wanted::Stress(seconds) => put_under_stress(rt, alloc, line, ports, threads, seconds),
+        Wanted::Stress(seconds) => {
+            put_under_stress(rt, alloc, line, ports, asking, threads, seconds)
+        }
     }
 }
 
@@ -171,11 +224,16 @@ where
 }
 
 /// Prints what the nodes did, and how many of their additions were lost, which is an error.
-fn put_under_stress<R: Threads + Wait + Clock + Print + Sync, L: LineSync<Rising> + Sync + Drop>(
+fn put_under_stress<
+    R: Threads + Wait + Clock + Print + Sync,
+    L: LineSync<Rising> + Sync + Drop,
+    A: Asking<L> + Sync + Drop,
+>(
     rt: &R,
     alloc: Global,
     line: L,
     ports: Vec<L::Port>,
+    asking: A,
     threads: u64,
     seconds: u64,
 ) -> anyhow::Result<()>
@@ -184,12 +242,13 @@ where
     requires ports { All (λ port. L.belongs line port) ports.items }
     requires state { All (λ port. IsTrue (may_ask (L.view port).state)) ports.items }
 {
-    let task = Stress::new(Instant::now(rt)?, Duration::from_secs(seconds));
+    let task = Stress::new(asking, Instant::now(rt)?, Duration::from_secs(seconds));
     let last = run_task(rt, alloc, line, ports, &task)?;
     let counts = task.counts();
+    let late = task.asking().late_links();
     let lost = counts.grants.abs_diff(lane(&last, 0));
     println!(rt;
-        "threads {threads} rounds {} grants {} withdrawals {} busy {} told {} lost {lost}",
+        "threads {threads} rounds {} grants {} withdrawals {} busy {} late links {late} told {} lost {lost}",
         counts.rounds, counts.grants, counts.withdrawals, counts.busy, counts.told
     )?;
     if lost > 0 {

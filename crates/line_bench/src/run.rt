@@ -3,12 +3,11 @@ ghost use Rattle.std.specs.Prelude.{All, IfOk, IsTrue};
 ghost use Rattle.qolb_model.specs.PortStates.{may_ask};
 
 use crate::law::Rising;
-use crate::workers::{Task, work_all};
+use crate::workers::{Each, Task};
 use line_lanes::Line64;
-use link_line::LinkLine;
-use qolb_model::{FinishError, LineSync, OpenError};
+use qolb_model::{FinishError, LineSync, OpenError, OpenLine, Terms};
 use qolb_run::meet_all;
-use ring_line::RingLine;
+use qolb_run::together::together;
 use std::alloc::Global;
 use std::rt::Clock;
 use std::sync::Wait;
@@ -28,29 +27,17 @@ pub enum RunError {
     Lost(u64),
 }
 
-/// A ring of zeros with these many nodes.
-pub fn open_ring(
-    alloc: Global,
-    nodes: u64,
-) -> Result<(RingLine<Rising>, Vec<ring_line::Port>), RunError>
-    ensures ports { IfOk result (λ r. All (λ port. ⟦<RingLine<Rising> as LineSync<Rising>>⟧.belongs r.0 port) r.1.items) }
-    ensures state { IfOk result (λ r. All (λ port. IsTrue (may_ask (⟦<RingLine<Rising> as LineSync<Rising>>⟧.view port).state)) r.1.items) }
+/// A line of zeros with so many nodes.
+pub fn open<L: OpenLine<Rising>>(alloc: Global, nodes: u64) -> Result<(L, Vec<L::Port>), RunError>
+    ensures ports { IfOk result (λ r. All (λ port. L.belongs r.0 port) r.1.items) }
+    ensures state { IfOk result (λ r. All (λ port. IsTrue (may_ask (L.view port).state)) r.1.items) }
 {
-    match RingLine::<Rising>::open(alloc, 1, nodes, Line64::zero()) {
-        Ok(opened) => Ok(opened),
-        Err(why) => Err(RunError::Open(why)),
-    }
-}
-
-/// A list of zeros with these many nodes.
-pub fn open_list(
-    alloc: Global,
-    nodes: u64,
-) -> Result<(LinkLine<Rising>, Vec<link_line::Port>), RunError>
-    ensures ports { IfOk result (λ r. All (λ port. ⟦<LinkLine<Rising> as LineSync<Rising>>⟧.belongs r.0 port) r.1.items) }
-    ensures state { IfOk result (λ r. All (λ port. IsTrue (may_ask (⟦<LinkLine<Rising> as LineSync<Rising>>⟧.view port).state)) r.1.items) }
-{
-    match LinkLine::<Rising>::open(alloc, 1, nodes, Line64::zero()) {
+    let terms = Terms {
+        nodes,
+        opening: Line64::zero(),
+        lease: None,
+    };
+    match L::open_with(alloc, 1, terms) {
         Ok(opened) => Ok(opened),
         Err(why) => Err(RunError::Open(why)),
     }
@@ -67,7 +54,8 @@ where
     requires ports { All (λ port. L.belongs line port) ports.items }
     requires state { All (λ port. IsTrue (may_ask (L.view port).state)) ports.items }
 {
-    let mut ports = work_all(rt, alloc, &line, ports, task).ok_or(RunError::Refused)?;
+    let work = Each { task };
+    let mut ports = together(rt, alloc, &work, &line, ports).ok_or(RunError::Refused)?;
     meet_all(&line, ports.as_mut_slice());
     match line.finish(alloc, ports) {
         Ok(last) => Ok(last),

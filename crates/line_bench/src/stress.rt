@@ -3,6 +3,7 @@ ghost use Rattle.std.specs.Prelude.{◌≡◌, ◌≢◌, IsTrue};
 ghost use Rattle.qolb_model.specs.PortStates.{may_ask};
 ghost use Rattle.qolb_model.specs.Turns.{IsGranted};
 
+use crate::asking::Asking;
 use crate::law::Rising;
 use crate::rounds::add_one;
 use crate::workers::Task;
@@ -33,7 +34,8 @@ pub struct Counts {
 
 /// The nodes' work: until the time is over, and then until the line is closed.
 #[derive(Drop)]
-pub struct Stress {
+pub struct Stress<A> {
+    asking: A,
     start: Instant,
     time: Duration,
     rounds: AtomicU64,
@@ -56,10 +58,11 @@ enum Turn {
     Closed,
 }
 
-impl Stress {
-    /// Work for this time from now on.
-    pub fn new(start: Instant, time: Duration) -> Stress {
+impl<A> Stress<A> {
+    /// Work for this time from now on, by nodes that ask so.
+    pub fn new(asking: A, start: Instant, time: Duration) -> Stress<A> {
         Stress {
+            asking,
             start,
             time,
             rounds: AtomicU64::new(0),
@@ -68,6 +71,11 @@ impl Stress {
             busy: AtomicU64::new(0),
             told: AtomicU64::new(0),
         }
+    }
+
+    /// How the nodes ask.
+    pub fn asking(&self) -> &A {
+        &self.asking
     }
 
     /// What all nodes did together.
@@ -100,7 +108,7 @@ impl Stress {
     }
 }
 
-impl<L: LineSync<Rising>> Task<L> for Stress {
+impl<L: LineSync<Rising>, A: Asking<L>> Task<L> for Stress<A> {
     fn work<R: Wait + Clock>(&self, rt: &R, line: &L, port: L::Port) -> L::Port {
         let mut port = port;
         let mut rng = Xoshiro256PlusPlus::seed_from_u64(L::node(&port));
@@ -113,7 +121,7 @@ impl<L: LineSync<Rising>> Task<L> for Stress {
         };
         for _ in rt.forever() {
             counts.rounds = counts.rounds.wrapping_add(1);
-            match ask(rt, line, &mut port, &mut rng) {
+            match ask(rt, &self.asking, line, &mut port, &mut rng) {
                 Turn::Granted => {
                     add_one::<L>(&mut port);
                     counts.grants = counts.grants.wrapping_add(1);
@@ -140,8 +148,9 @@ impl<L: LineSync<Rising>> Task<L> for Stress {
 }
 
 /// Asks once, and waits or withdraws.
-fn ask<R: Wait, L: LineSync<Rising>>(
+fn ask<R: Wait, L: LineSync<Rising>, A: Asking<L>>(
     rt: &R,
+    asking: &A,
     line: &L,
     port: &mut L::Port,
     rng: &mut Xoshiro256PlusPlus,
@@ -152,7 +161,7 @@ fn ask<R: Wait, L: LineSync<Rising>>(
     ensures granted { result ≡ Turn.Granted → IsGranted (L.view port.new) (L.turn port.new) }
     ensures ended { result ≢ Turn.Granted → IsTrue (may_ask (L.view port.new).state) }
 {
-    match line.enqolb(port) {
+    match asking.ask(line, port, rng) {
         Enq::Granted => Turn::Granted,
         Enq::Queued => wait_or_withdraw(rt, line, port, rng),
         Enq::Busy => Turn::Busy,

@@ -1,8 +1,31 @@
 //! Lines that were just opened, with their ports.
 ghost use Rattle.std.specs.Prelude.{All, IfSome};
+ghost use Rattle.line_lanes.specs.Line.{zeros};
 ghost use Rattle.line_rows.specs.Opened.{IsNewPort};
 
-use qolb_model::{Keep, LineSync};
+use line_lanes::Line64;
+use qolb_model::{Keep, LineSync, OpenLine, Terms};
+use std::alloc::Global;
+
+/// A line of zeros for so many nodes, and its ports. `None` where it is refused.
+pub fn open_zeros<K: Keep, L: OpenLine<K>>(
+    alloc: Global,
+    nodes: u64,
+    lease: Option<u64>,
+) -> Option<(L, Vec<L::Port>)>
+    requires { K.good zeros }
+    ensures { IfSome result (λ made. All (IsNewPort L.belongs L.view made.0) made.1.items) }
+{
+    let terms = Terms {
+        nodes,
+        opening: Line64::zero(),
+        lease,
+    };
+    match L::open_with(alloc, 1, terms) {
+        Ok(opened) => Some(opened),
+        Err(_) => None,
+    }
+}
 
 /// An opened line, and the last of its ports.
 pub fn with_last<K: Keep, L: LineSync<K> + Drop>(opened: (L, Vec<L::Port>)) -> Option<(L, L::Port)>

@@ -1,11 +1,10 @@
 //! Threads share one number. Each takes the line, adds 1 to its first lane, and hands it on.
 ghost use Rattle.std.specs.Prelude.{IsTrue};
 ghost use Rattle.qolb_model.specs.PortStates.{may_ask};
-ghost use Rattle.line_rows.specs.Opened.{MayAskFor};
 
 use line_lanes::{Line64, Mask, lane, with_lane};
-use line_rows::together::{Work, together};
 use qolb_model::{Free, LineSync, OpenLine, Terms};
+use qolb_run::together::{Work, together};
 use qolb_run::{Got, acquire};
 use std::alloc::Global;
 use std::sync::Wait;
@@ -40,10 +39,14 @@ struct Rounds {
     rounds: u64,
 }
 
-impl<L: LineSync<Free>> Work<L, L::Port> for Rounds {
-    ghost fits = { MayAskFor L.belongs L.view };
+impl<R: Wait, L: LineSync<Free>> Work<R, L, L::Port> for Rounds {
+    type Back = L::Port;
 
-    fn work<R: Wait>(&self, rt: &R, line: &L, port: L::Port) -> L::Port {
+    ghost fits = { λ line port. L.belongs line port × IsTrue (may_ask (L.view port).state) };
+
+    ghost done = { λ _ line _ port. L.belongs line port × IsTrue (may_ask (L.view port).state) };
+
+    fn work(&self, rt: &R, line: &L, _place: usize, port: L::Port) -> L::Port {
         let mut port = port;
         add(rt, line, &mut port, self.rounds);
         port

@@ -5,11 +5,10 @@ ghost use Rattle.line_lanes.specs.Lane.{lane_of};
 ghost use Rattle.qolb_model.specs.PortStates.{may_ask};
 ghost use Rattle.qolb_model.specs.Views.{bytes_of};
 ghost use Rattle.qolb_model.specs.Turns.{IsGranted};
-ghost use Rattle.line_rows.specs.Opened.{MayAskFor};
 
 use line_lanes::{Line64, Mask, lane, with_lane};
-use line_rows::together::{Work, together};
 use qolb_model::{Enq, Free, LineSync, OpenLine, Out, Poll, Terms};
+use qolb_run::together::{Work, together};
 use std::alloc::Global;
 use std::sync::Wait;
 use std::sync::atomic::{AtomicU64, Ordering};
@@ -107,10 +106,14 @@ struct Exchange {
     sum: AtomicU64,
 }
 
-impl<L: LineSync<Free>> Work<L, L::Port> for Exchange {
-    ghost fits = { MayAskFor L.belongs L.view };
+impl<R: Wait, L: LineSync<Free>> Work<R, L, L::Port> for Exchange {
+    type Back = L::Port;
 
-    fn work<R: Wait>(&self, rt: &R, line: &L, port: L::Port) -> L::Port {
+    ghost fits = { λ line port. L.belongs line port × IsTrue (may_ask (L.view port).state) };
+
+    ghost done = { λ _ line _ port. L.belongs line port × IsTrue (may_ask (L.view port).state) };
+
+    fn work(&self, rt: &R, line: &L, _place: usize, port: L::Port) -> L::Port {
         let mut port = port;
         let is_giver = L::node(&port) == 1;
         for value in 0..self.values {

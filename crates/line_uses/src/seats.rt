@@ -3,12 +3,11 @@ ghost use Rattle.std.specs.Prelude.{◌≡◌, ◌≤◌, IfSome, IsTrue};
 ghost use Rattle.qolb_model.specs.PortStates.{may_ask};
 ghost use Rattle.qolb_model.specs.Turns.{IsGranted};
 ghost use Rattle.qolb_model.specs.Kept.{MayRelease};
-ghost use Rattle.line_rows.specs.Opened.{MayAskFor};
 ghost use Rattle.line_uses.specs.Seats.{IsWithin, StaysWithin};
 
 use line_lanes::{Line64, Mask, lane, with_lane};
-use line_rows::together::{Work, together};
 use qolb_model::{Keep, LineSync, OpenLine, Terms};
+use qolb_run::together::{Work, together};
 use qolb_run::{Got, acquire};
 use std::alloc::Global;
 use std::sync::Wait;
@@ -53,10 +52,14 @@ struct Clerk {
     customers: u64,
 }
 
-impl<L: LineSync<House>> Work<L, L::Port> for Clerk {
-    ghost fits = { MayAskFor L.belongs L.view };
+impl<R: Wait, L: LineSync<House>> Work<R, L, L::Port> for Clerk {
+    type Back = L::Port;
 
-    fn work<R: Wait>(&self, rt: &R, line: &L, port: L::Port) -> L::Port {
+    ghost fits = { λ line port. L.belongs line port × IsTrue (may_ask (L.view port).state) };
+
+    ghost done = { λ _ line _ port. L.belongs line port × IsTrue (may_ask (L.view port).state) };
+
+    fn work(&self, rt: &R, line: &L, _place: usize, port: L::Port) -> L::Port {
         let mut port = port;
         for _ in 0..self.customers {
             match acquire(rt, line, &mut port) {

@@ -1,14 +1,9 @@
 //! The uses, over the ring and over the list.
-ghost use Rattle.std.specs.Prelude.{◌≡◌, IfSome, IsTrue};
-ghost use Rattle.qolb_model.specs.PortStates.{may_ask};
-ghost use Rattle.line_rows.specs.Opened.{IsNewPort};
-
 use crate::mailbox::Asked;
 use crate::{counter, mailbox, seats};
 use line_lanes::Line64;
-use line_rows::opened::with_two;
 use link_line::LinkLine;
-use qolb_model::{Free, LineSync, OpenLine, PortState, Terms};
+use qolb_model::{Free, OpenLine, Terms};
 use ring_line::RingLine;
 use seats::House;
 use std::alloc::Global;

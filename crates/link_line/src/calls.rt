@@ -176,6 +176,7 @@ impl<K: Keep> LinkLine<K> {
     }
 
     /// Releases the line: the request has been served. The last turn of a lease closes the line, as `shut` does.
+    #[inline]
     pub fn deqolb(&self, port: &mut Port)
         requires belongs { IsPortOf K.good K.allows self.now port.old }
         requires state { port.old.view.state ≡ PortState.Holding }

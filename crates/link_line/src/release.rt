@@ -50,20 +50,18 @@ pub(crate) fn renew<K: Keep>(
     ensures goes_on { GoesOn K.allows seat.old.me seat.new.me (steps_to_renew result) }
     ensures renewed { IsRenewed state (known_of seat.old) (known_of seat.new) result }
 {
-    let looks = match state {
-        PortState::Left => {
-            if !look_left(ground, seat, node) {
-                return None;
-            }
-            1
+    let looks = if state == PortState::Left {
+        if !look_left(ground, seat, node) {
+            return None;
         }
-        PortState::Rolled => {
-            if !look_rolled(ground, seat, node) {
-                return None;
-            }
-            1
+        1
+    } else if state == PortState::Rolled {
+        if !look_rolled(ground, seat, node) {
+            return None;
         }
-        _ => 0,
+        1
+    } else {
+        0
     };
     reset(ground, seat, node);
     Some(looks + 1)
@@ -92,34 +90,41 @@ pub(crate) fn arrive<K: Keep>(
 {
     take(ground, seat, parcel);
     if parcel.closed {
-        pass_on(ground, seat, steps, node)
+        let (state, taken) = pass_on(ground, seat, *steps, node);
+        *steps = taken;
+        state
     } else {
         PortState::Holding
     }
 }
 
-/// Passes a closed line on, and returns the state that the port is then in.
+/// Passes a closed line on, after so many steps. Returns the state that the port is then in, and how many steps there are now.
+///
+/// The number of steps goes in and comes back by value, as in `walk`: a reference to it, which a call that is not inlined would get, would
+/// keep the whole port in memory.
 #[cold]
 #[inline(never)]
 fn pass_on<K: Keep>(
     ground: &Ground<K>,
     seat: &mut LinkSeat,
-    steps: &mut u64,
+    steps: u64,
     node: u64,
-) -> PortState
+) -> (PortState, u64)
     requires table { IsSeatOf ground.now.table_id seat.old }
     requires alone { Alone seat.old.me }
     requires own { IsOwnNode node seat.old }
     requires nodes { (1 ≤ (known_of seat.old).view.terms.nodes) × ((known_of seat.old).view.terms.nodes ≤ MOST_NODES) }
-    requires few { steps.old ≤ 3 }
+    requires few { steps ≤ 3 }
     requires comes { (y : Parcel) × HasSlot seat.old y × Comes (known_of seat.old) y × (y.closed ≡ true) }
     ensures same { SameSeat seat.old seat.new }
-    ensures goes_on { (n : ℕ) × (steps.new ≡ steps.old + n) × GoesOn K.allows seat.old.me seat.new.me n }
+    ensures goes_on { (n : ℕ) × (result.1 ≡ steps + n) × GoesOn K.allows seat.old.me seat.new.me n }
     ensures count { (known_of seat.new).view.count ≡ (known_of seat.old).view.count }
-    ensures arrived { (y : Parcel) → Arrived seat.new y steps.old steps.new result }
-    ensures not_held { result ≢ PortState.Holding }
+    ensures arrived { (y : Parcel) → Arrived seat.new y steps result.1 result.0 }
+    ensures not_held { result.0 ≢ PortState.Holding }
 {
-    release(ground, seat, true, steps, node)
+    let mut steps = steps;
+    let state = release(ground, seat, true, &mut steps, node);
+    (state, steps)
 }
 
 /// Lets the line go that lies in the slot, closed or not, and returns the state that the port is then in.
@@ -148,7 +153,7 @@ pub(crate) fn release<K: Keep>(
         Handed::On => left_by(closed),
         Handed::Left => PortState::Left,
         Handed::Passed(next) => {
-            walk(ground, seat, steps, next);
+            *steps = walk(ground, seat, *steps, next);
             left_by(closed)
         }
     }
@@ -182,36 +187,38 @@ fn hand_on<K: Keep>(ground: &Ground<K>, seat: &mut LinkSeat, steps: &mut u64, at
     }
 }
 
-/// Passes withdrawn requests, from that of the node `first` on up to one that is not, and frees their nodes.
+/// Passes withdrawn requests, from that of the node `first` on up to one that is not, and frees their nodes. So many steps were taken before;
+/// returns how many there are now.
 ///
 /// It is apart, and cold: room for the passed nodes is cleared at its entry, which a release that meets no withdrawn request need not pay.
 #[cold]
 #[inline(never)]
-fn walk<K: Keep>(ground: &Ground<K>, seat: &mut LinkSeat, steps: &mut u64, first: u64)
+fn walk<K: Keep>(ground: &Ground<K>, seat: &mut LinkSeat, steps: u64, first: u64) -> u64
     requires table { IsSeatOf ground.now.table_id seat.old }
     requires ready { IsAt (Leaving first) seat.old }
     requires high { first ≤ MOST_NODES }
     requires passed { (known_of seat.old).passed ≡ length (known_of seat.old).view.ends ∷ [] }
     requires first { (r : Request) × At (known_of seat.old).view.order (length (known_of seat.old).view.ends) r × (r.node ≡ first) }
     requires nodes { (2 ≤ (known_of seat.old).view.terms.nodes) × ((known_of seat.old).view.terms.nodes ≤ MOST_NODES) }
-    requires few { steps.old ≤ 6 }
+    requires few { steps ≤ 6 }
     requires parcel { HasSlot seat.old (known_of seat.old).line }
     requires state { (known_of seat.old).view.state ≡ states.left_by (known_of seat.old).line.closed }
     ensures same { SameSeat seat.old seat.new }
     ensures slot { HasNoSlot seat.new }
-    ensures goes_on { (n : ℕ) × (steps.new ≡ steps.old + n) × GoesOn K.allows seat.old.me seat.new.me n }
+    ensures goes_on { (n : ℕ) × (result ≡ steps + n) × GoesOn K.allows seat.old.me seat.new.me n }
     ensures walks_on { WalksOn (known_of seat.old) (known_of seat.new) }
-    ensures bound { steps.new + 6 ≤ steps.old + 4 * (known_of seat.old).view.terms.nodes }
+    ensures bound { result + 6 ≤ steps + 4 * (known_of seat.old).view.terms.nodes }
 {
+    let mut steps = steps;
     let mut passed = ArrayVec::<u64, MOST_PASSED>::new();
     let mut handed = Handed::Passed(first);
     while let Handed::Passed(node) = handed {
         passed.push(node);
-        handed = hand_on(ground, seat, steps, node);
+        handed = hand_on(ground, seat, &mut steps, node);
     }
     // Freed only now: a node that is freed may ask, and its new request must not be passed by this walk.
     free_passed(ground, seat, &passed);
-    *steps += passed.len() as u64;
+    steps + passed.len() as u64
 }
 
 /// Frees the nodes of all requests that were passed, in their order.

@@ -68,6 +68,7 @@ impl<K: Keep> LineSync<K> for LinkLine<K> {
         LinkLine::<K>::withdraw(self, port)
     }
 
+    #[inline]
     fn deqolb(&self, port: &mut Port) {
         LinkLine::<K>::deqolb(self, port)
     }

@@ -10,5 +10,6 @@ pub mod Shares
 pub mod BoardTurns
 pub mod BoardFinished
 pub mod Gathering
+pub mod Joined
 pub mod Summing
 pub mod Banking

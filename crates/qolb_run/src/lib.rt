@@ -14,6 +14,7 @@ mod replay;
 mod steps;
 mod tally;
 mod task;
+pub mod together;
 mod waiting;
 mod work;
 mod workers;

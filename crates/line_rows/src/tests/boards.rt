@@ -1,27 +1,48 @@
 //! The answers of the board's rows. The line is one of zeros.
-ghost use Rattle.std.specs.Prelude.{All, IfSome};
+ghost use Rattle.std.specs.Prelude.{IfSome};
 ghost use Rattle.line_rows.specs.Opened.{IsNewPort};
 
 use crate::boards::{eight_tasks, late_node, three_turns, two_tasks};
+use crate::opened::{open_zeros, with_last, with_two};
 use crate::producers::hand_over;
 use line_board::{BoardLaw, Put, Take};
-use qolb_model::{LineSync, PortState};
+use qolb_model::{OpenLine, PortState};
 use std::alloc::Global;
 use std::process::Abort;
 use std::sync::Wait;
 use std::test::Fail;
 use std::thread::Threads;
 
+/// A line of an empty board for one node.
+fn board<L: OpenLine<BoardLaw> + Drop>(alloc: Global, lease: Option<u64>) -> Option<(L, L::Port)>
+where
+    L::Port: Drop,
+    ensures { IfSome result (λ made. IsNewPort L.belongs L.view made.0 made.1) }
+{
+    let opened = open_zeros::<BoardLaw, L>(alloc, 1, lease)?;
+    with_last::<BoardLaw, L>(opened)
+}
+
+/// A line of an empty board for two nodes.
+fn shared_board<L: OpenLine<BoardLaw> + Drop>(alloc: Global) -> Option<(L, L::Port, L::Port)>
+where
+    L::Port: Drop,
+    ensures first { IfSome result (λ made. IsNewPort L.belongs L.view made.0 made.1) }
+    ensures second { IfSome result (λ made. IsNewPort L.belongs L.view made.0 made.2) }
+{
+    let opened = open_zeros::<BoardLaw, L>(alloc, 2, None)?;
+    with_two::<BoardLaw, L>(opened)
+}
+
 /// A line for one node. Seven tasks are stored, an eighth finds the board full, and the seven are taken in order; then none is left.
-pub(super) fn tasks_are_taken_in_their_order<R: Abort, L: LineSync<BoardLaw> + Drop>(
+pub(super) fn tasks_are_taken_in_their_order<R: Abort, L: OpenLine<BoardLaw> + Drop>(
     rt: &R,
-    opened: Option<(L, L::Port)>,
+    alloc: Global,
 ) -> Result<(), Fail>
 where
     L::Port: Drop,
-    requires { IfSome opened (λ made. IsNewPort L.belongs L.view made.0 made.1) }
 {
-    let (line, mut port) = opened.ok_or("opened")?;
+    let (line, mut port) = board::<L>(alloc, None).ok_or("opened")?;
     let (puts, takes) = eight_tasks(&line, &mut port);
     for (k, answer) in puts.iter().enumerate() {
         let want = if k < 7 { Put::Stored } else { Put::Full };
@@ -39,15 +60,14 @@ where
 }
 
 /// A line for one node. Tasks 5 and 9 lie in its bytes in this order.
-pub(super) fn tasks_lie_in_the_line<R: Abort, L: LineSync<BoardLaw> + Drop>(
+pub(super) fn tasks_lie_in_the_line<R: Abort, L: OpenLine<BoardLaw> + Drop>(
     rt: &R,
-    opened: Option<(L, L::Port)>,
+    alloc: Global,
 ) -> Result<(), Fail>
 where
     L::Port: Drop,
-    requires { IfSome opened (λ made. IsNewPort L.belongs L.view made.0 made.1) }
 {
-    let (line, mut port) = opened.ok_or("opened")?;
+    let (line, mut port) = board::<L>(alloc, None).ok_or("opened")?;
     let (puts, seen) = two_tasks(&line, &mut port);
     assert_eq!(rt; puts, [Put::Stored, Put::Stored]);
     let mut board = [0; 64];
@@ -59,16 +79,14 @@ where
 }
 
 /// A line for two nodes. A node that is late is then busy, until its request was passed.
-pub(super) fn a_late_node_is_busy_until_it_is_passed<R: Abort, L: LineSync<BoardLaw> + Drop>(
+pub(super) fn a_late_node_is_busy_until_it_is_passed<R: Abort, L: OpenLine<BoardLaw> + Drop>(
     rt: &R,
-    opened: Option<(L, L::Port, L::Port)>,
+    alloc: Global,
 ) -> Result<(), Fail>
 where
     L::Port: Drop,
-    requires first { IfSome opened (λ made. IsNewPort L.belongs L.view made.0 made.1) }
-    requires second { IfSome opened (λ made. IsNewPort L.belongs L.view made.0 made.2) }
 {
-    let (line, mut holder, mut port) = opened.ok_or("opened")?;
+    let (line, mut holder, mut port) = shared_board::<L>(alloc).ok_or("opened")?;
     let (puts, state, takes) = late_node(&line, &mut holder, &mut port).ok_or("granted")?;
     assert_eq!(rt; puts, [Put::Late, Put::Busy, Put::Stored]);
     assert_eq!(rt; state, PortState::Rolled);
@@ -77,15 +95,14 @@ where
 }
 
 /// A line for one node with a lease of three turns, which ends the board.
-pub(super) fn a_lease_ends_a_board<R: Abort, L: LineSync<BoardLaw> + Drop>(
+pub(super) fn a_lease_ends_a_board<R: Abort, L: OpenLine<BoardLaw> + Drop>(
     rt: &R,
-    opened: Option<(L, L::Port)>,
+    alloc: Global,
 ) -> Result<(), Fail>
 where
     L::Port: Drop,
-    requires { IfSome opened (λ made. IsNewPort L.belongs L.view made.0 made.1) }
 {
-    let (line, mut port) = opened.ok_or("opened")?;
+    let (line, mut port) = board::<L>(alloc, Some(3)).ok_or("opened")?;
     let (puts, takes, state) = three_turns(&line, &mut port);
     assert_eq!(rt; puts, [Put::Stored, Put::Closed]);
     assert_eq!(rt; takes, [Take::Task(5), Take::Empty, Take::Closed]);
@@ -100,13 +117,12 @@ const TASKS: u32 = 1_000;
 /// and none is left on the board.
 pub(super) fn each_task_is_taken_once<
     R: Threads + Wait + Sync + Abort,
-    L: LineSync<BoardLaw> + Sync + Drop,
->(rt: &R, alloc: Global, opened: Option<(L, Vec<L::Port>)>) -> Result<(), Fail>
+    L: OpenLine<BoardLaw> + Sync + Drop,
+>(rt: &R, alloc: Global) -> Result<(), Fail>
 where
     L::Port: Send + Drop,
-    requires { IfSome opened (λ made. All (IsNewPort L.belongs L.view made.0) made.1.items) }
 {
-    let (line, ports) = opened.ok_or("opened")?;
+    let (line, ports) = open_zeros::<BoardLaw, L>(alloc, 4, None).ok_or("opened")?;
     let handed = hand_over(rt, alloc, line, ports, TASKS).ok_or("handed over")?;
     assert!(rt; handed.rest.is_empty());
     let mut all = Vec::new(alloc);

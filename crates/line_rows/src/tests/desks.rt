@@ -5,41 +5,82 @@ ghost use Rattle.line_rows.specs.Opened.{IsNewPort};
 use crate::desks::{
     a_day, across, late, leased, limits, lower_line_first, over, over_one, over_two, settle_with,
 };
+use crate::opened::{open_zeros, with_last, with_two};
 use crate::transfers::{ACCOUNTS, PAID_IN, transfer_at_random};
 use line_accounts::{AccountLaw, Reply, SettleError};
-use qolb_model::{Enq, LineSync};
+use qolb_model::{Enq, OpenLine};
 use std::alloc::Global;
 use std::process::Abort;
 use std::sync::Wait;
 use std::test::Fail;
 use std::thread::Threads;
 
+/// A line of empty accounts for one node.
+fn accounts<L: OpenLine<AccountLaw> + Drop>(
+    alloc: Global,
+    lease: Option<u64>,
+) -> Option<(L, L::Port)>
+where
+    L::Port: Drop,
+    ensures { IfSome result (λ made. IsNewPort L.belongs L.view made.0 made.1) }
+{
+    let opened = open_zeros::<AccountLaw, L>(alloc, 1, lease)?;
+    with_last::<AccountLaw, L>(opened)
+}
+
+/// A line of empty accounts for two nodes.
+fn shared_accounts<L: OpenLine<AccountLaw> + Drop>(
+    alloc: Global,
+    lease: Option<u64>,
+) -> Option<(L, L::Port, L::Port)>
+where
+    L::Port: Drop,
+    ensures first { IfSome result (λ made. IsNewPort L.belongs L.view made.0 made.1) }
+    ensures second { IfSome result (λ made. IsNewPort L.belongs L.view made.0 made.2) }
+{
+    let opened = open_zeros::<AccountLaw, L>(alloc, 2, lease)?;
+    with_two::<AccountLaw, L>(opened)
+}
+
+/// Eight lines of empty accounts for so many nodes.
+fn eight_lines<L: OpenLine<AccountLaw> + Drop>(
+    alloc: Global,
+    nodes: u64,
+) -> Option<Vec<(L, Vec<L::Port>)>>
+where
+    L::Port: Drop,
+    ensures { IfSome result (λ lines. All (λ line. All (IsNewPort L.belongs L.view line.0) line.1.items) lines.items) }
+{
+    let mut lines = Vec::with_capacity(alloc, 8).ok()?;
+    for _ in 0..8 {
+        let opened = open_zeros::<AccountLaw, L>(alloc, nodes, None)?;
+        lines.push(opened).ok()?;
+    }
+    Some(lines)
+}
+
 /// A line for one node. Of the 100 that came in and the 10 that were paid out, 90 are left.
-pub(super) fn a_day_is_settled<R: Abort, L: LineSync<AccountLaw> + Drop>(
+pub(super) fn a_day_is_settled<R: Abort, L: OpenLine<AccountLaw> + Drop>(
     rt: &R,
     alloc: Global,
-    opened: Option<(L, L::Port)>,
 ) -> Result<(), Fail>
 where
     L::Port: Drop,
-    requires { IfSome opened (λ made. IsNewPort L.belongs L.view made.0 made.1) }
 {
-    let (line, port) = opened.ok_or("opened")?;
+    let (line, port) = accounts::<L>(alloc, None).ok_or("opened")?;
     assert_eq!(rt; a_day(alloc, line, port), Some(90));
     Ok(())
 }
 
 /// A line for one node.
-pub(super) fn a_balance_has_a_limit<R: Abort, L: LineSync<AccountLaw> + Drop>(
+pub(super) fn a_balance_has_a_limit<R: Abort, L: OpenLine<AccountLaw> + Drop>(
     rt: &R,
     alloc: Global,
-    opened: Option<(L, L::Port)>,
 ) -> Result<(), Fail>
 where
     L::Port: Drop,
-    requires { IfSome opened (λ made. IsNewPort L.belongs L.view made.0 made.1) }
 {
-    let (line, port) = opened.ok_or("opened")?;
+    let (line, port) = accounts::<L>(alloc, None).ok_or("opened")?;
     let (lines, mut desk) = over_one(alloc, line, port).ok_or("a desk")?;
     assert_eq!(rt;
         limits(&lines, &mut desk),
@@ -57,19 +98,15 @@ where
 }
 
 /// Two lines for one node.
-pub(super) fn a_transfer_goes_over_two_lines<R: Abort, L: LineSync<AccountLaw> + Drop>(
+pub(super) fn a_transfer_goes_over_two_lines<R: Abort, L: OpenLine<AccountLaw> + Drop>(
     rt: &R,
     alloc: Global,
-    first: Option<(L, L::Port)>,
-    second: Option<(L, L::Port)>,
 ) -> Result<(), Fail>
 where
     L::Port: Drop,
-    requires first { IfSome first (λ made. IsNewPort L.belongs L.view made.0 made.1) }
-    requires second { IfSome second (λ made. IsNewPort L.belongs L.view made.0 made.1) }
 {
-    let (first, first_port) = first.ok_or("opened")?;
-    let (second, second_port) = second.ok_or("opened")?;
+    let (first, first_port) = accounts::<L>(alloc, None).ok_or("opened")?;
+    let (second, second_port) = accounts::<L>(alloc, None).ok_or("opened")?;
     let (lines, mut desk) = over_two(alloc, first, first_port, second, second_port).ok_or(
         "a desk",
     )?;
@@ -80,19 +117,15 @@ where
 }
 
 /// Two lines for one node.
-pub(super) fn a_transfer_keeps_the_limit<R: Abort, L: LineSync<AccountLaw> + Drop>(
+pub(super) fn a_transfer_keeps_the_limit<R: Abort, L: OpenLine<AccountLaw> + Drop>(
     rt: &R,
     alloc: Global,
-    first: Option<(L, L::Port)>,
-    second: Option<(L, L::Port)>,
 ) -> Result<(), Fail>
 where
     L::Port: Drop,
-    requires first { IfSome first (λ made. IsNewPort L.belongs L.view made.0 made.1) }
-    requires second { IfSome second (λ made. IsNewPort L.belongs L.view made.0 made.1) }
 {
-    let (first, first_port) = first.ok_or("opened")?;
-    let (second, second_port) = second.ok_or("opened")?;
+    let (first, first_port) = accounts::<L>(alloc, None).ok_or("opened")?;
+    let (second, second_port) = accounts::<L>(alloc, None).ok_or("opened")?;
     let (lines, mut desk) = over_two(alloc, first, first_port, second, second_port).ok_or(
         "a desk",
     )?;
@@ -106,19 +139,15 @@ where
 }
 
 /// Two lines for one node, the first with a lease of two turns.
-pub(super) fn a_lease_closes_the_line<R: Abort, L: LineSync<AccountLaw> + Drop>(
+pub(super) fn a_lease_closes_the_line<R: Abort, L: OpenLine<AccountLaw> + Drop>(
     rt: &R,
     alloc: Global,
-    first: Option<(L, L::Port)>,
-    second: Option<(L, L::Port)>,
 ) -> Result<(), Fail>
 where
     L::Port: Drop,
-    requires first { IfSome first (λ made. IsNewPort L.belongs L.view made.0 made.1) }
-    requires second { IfSome second (λ made. IsNewPort L.belongs L.view made.0 made.1) }
 {
-    let (first, first_port) = first.ok_or("opened")?;
-    let (second, second_port) = second.ok_or("opened")?;
+    let (first, first_port) = accounts::<L>(alloc, Some(2)).ok_or("opened")?;
+    let (second, second_port) = accounts::<L>(alloc, None).ok_or("opened")?;
     let (lines, mut desk) = over_two(alloc, first, first_port, second, second_port).ok_or(
         "a desk",
     )?;
@@ -133,20 +162,15 @@ where
 }
 
 /// Two lines for two nodes. A transfer that is late moves nothing; and without the ports of node 2 nothing is settled.
-pub(super) fn a_late_transfer_moves_nothing<R: Abort, L: LineSync<AccountLaw> + Drop>(
+pub(super) fn a_late_transfer_moves_nothing<R: Abort, L: OpenLine<AccountLaw> + Drop>(
     rt: &R,
     alloc: Global,
-    first: Option<(L, L::Port, L::Port)>,
-    second: Option<(L, L::Port, L::Port)>,
 ) -> Result<(), Fail>
 where
     L::Port: Drop,
-    requires first { IfSome first (λ made. IsNewPort L.belongs L.view made.0 made.1) }
-    requires second { IfSome second (λ made. IsNewPort L.belongs L.view made.0 made.1) }
-    requires other { IfSome second (λ made. IsNewPort L.belongs L.view made.0 made.2) }
 {
-    let (first, first_port, _) = first.ok_or("opened")?;
-    let (second, second_port, mut other) = second.ok_or("opened")?;
+    let (first, first_port, _) = shared_accounts::<L>(alloc, None).ok_or("opened")?;
+    let (second, second_port, mut other) = shared_accounts::<L>(alloc, None).ok_or("opened")?;
     let (lines, mut desk) = over_two(alloc, first, first_port, second, second_port).ok_or(
         "a desk",
     )?;
@@ -167,22 +191,17 @@ where
 }
 
 /// Two lines for two nodes, the second with a lease of one turn, which a transfer that waits for the first has not used.
-pub(super) fn the_lower_line_is_asked_for_first<R: Abort, L: LineSync<AccountLaw> + Drop>(
+pub(super) fn the_lower_line_is_asked_for_first<R: Abort, L: OpenLine<AccountLaw> + Drop>(
     rt: &R,
     alloc: Global,
-    first: Option<(L, L::Port, L::Port)>,
-    second: Option<(L, L::Port, L::Port)>,
     from: u64,
     to: u64,
 ) -> Result<(), Fail>
 where
     L::Port: Drop,
-    requires first { IfSome first (λ made. IsNewPort L.belongs L.view made.0 made.1) }
-    requires other { IfSome first (λ made. IsNewPort L.belongs L.view made.0 made.2) }
-    requires second { IfSome second (λ made. IsNewPort L.belongs L.view made.0 made.1) }
 {
-    let (first, first_port, mut other) = first.ok_or("opened")?;
-    let (second, second_port, _) = second.ok_or("opened")?;
+    let (first, first_port, mut other) = shared_accounts::<L>(alloc, None).ok_or("opened")?;
+    let (second, second_port, _) = shared_accounts::<L>(alloc, Some(1)).ok_or("opened")?;
     let (lines, mut desk) = over_two(alloc, first, first_port, second, second_port).ok_or(
         "a desk",
     )?;
@@ -200,13 +219,12 @@ const ROUNDS: u64 = 250_000;
 /// Eight lines for as many nodes as there are customers, who transfer at random in threads. What is settled is what they paid in.
 pub(super) fn what_was_paid_in_is_settled<
     R: Threads + Wait + Sync + Abort,
-    L: LineSync<AccountLaw> + Sync + Drop,
->(rt: &R, alloc: Global, opened: Option<Vec<(L, Vec<L::Port>)>>) -> Result<(), Fail>
+    L: OpenLine<AccountLaw> + Sync + Drop,
+>(rt: &R, alloc: Global) -> Result<(), Fail>
 where
     L::Port: Send + Drop,
-    requires { IfSome opened (λ lines. All (λ line. All (IsNewPort L.belongs L.view line.0) line.1.items) lines.items) }
 {
-    let opened = opened.ok_or("opened")?;
+    let opened = eight_lines::<L>(alloc, CUSTOMERS).ok_or("opened")?;
     let settled = transfer_at_random(rt, alloc, opened, CUSTOMERS as usize, ROUNDS).ok_or(
         "settled",
     )?;
@@ -226,18 +244,17 @@ where
 
 /// Two lines for one node. Where memory is there, the total is settled; where it is refused to `settle`, nothing comes back. To be run with each
 /// allocation failing in turn, by `rt try --test --fail-alloc 1`, `2` and so on.
-pub(super) fn want_of_memory_is_answered<R: Abort, L: LineSync<AccountLaw> + Drop>(
+pub(super) fn want_of_memory_is_answered<R: Abort, L: OpenLine<AccountLaw> + Drop>(
     rt: &R,
     alloc: Global,
-    first: Option<(L, L::Port)>,
-    second: Option<(L, L::Port)>,
 ) -> Result<(), Fail>
 where
     L::Port: Drop,
-    requires first { IfSome first (λ made. IsNewPort L.belongs L.view made.0 made.1) }
-    requires second { IfSome second (λ made. IsNewPort L.belongs L.view made.0 made.1) }
 {
-    let (Some((first, first_port)), Some((second, second_port))) = (first, second) else {
+    let (Some((first, first_port)), Some((second, second_port))) = (
+        accounts::<L>(alloc, None),
+        accounts::<L>(alloc, None),
+    ) else {
         return Ok(());
     };
     let Some((lines, mut desk)) = over_two(alloc, first, first_port, second, second_port) else {

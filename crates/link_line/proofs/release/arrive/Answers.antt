@@ -2,7 +2,7 @@ use Rattle.link_line.proofs.Released.{arrives}
 use Rattle.link_line.proofs.release.arrive.Goals as goal
 
 pub returns-then-parcel-clause-arrived : goal.returns-then-parcel-clause-arrived
-returns-then-parcel-clause-arrived g c = c.pass_on.ensures.arrived c.take.new.parcel
+returns-then-parcel-clause-arrived g c = c.pass_on-state.ensures.arrived c.take.new.parcel
 
 pub returns-else-parcel-clause-arrived : goal.returns-else-parcel-clause-arrived
 returns-else-parcel-clause-arrived g c =

@@ -8,14 +8,14 @@ use Rattle.link_line.proofs.release.walk.Goals as goal
 pub loop-handed-preserved : goal.loop-handed-preserved
 loop-handed-preserved g c =
     let on = c.hand_on-handed.ensures.handed in
-    let was = subst (λ (h : Handed). IsWalking g.K.Keep.allows c.args.seat.now c.args.steps.now c.loop-handed.passed.items h c.loop-handed.seat c.loop-handed.steps) c.in-Passed.is c.loop-handed.invariant in
-    subst (λ (nodes : List ℕ). IsWalking g.K.Keep.allows c.args.seat.now c.args.steps.now nodes c.hand_on-handed.result c.hand_on-handed.new.seat c.hand_on-handed.new.steps) (sym c.push.ensures.items)
-    (walking_on g.K.Keep.allows c.args.seat.now c.loop-handed.seat c.hand_on-handed.new.seat c.args.steps.now c.loop-handed.passed.items c.in-Passed.node c.loop-handed.steps c.hand_on-handed.new.steps on.0 c.hand_on-handed.result was c.requires.parcel c.requires.state c.hand_on-handed.ensures.same on.1 on.2 on.3)
+    let was = subst (λ (h : Handed). IsWalking g.K.Keep.allows c.args.seat.now c.args.steps c.loop-handed.passed.items h c.loop-handed.seat c.loop-handed.steps) c.in-Passed.is c.loop-handed.invariant in
+    subst (λ (nodes : List ℕ). IsWalking g.K.Keep.allows c.args.seat.now c.args.steps nodes c.hand_on-handed.result c.hand_on-handed.new.seat c.hand_on-handed.new.steps) (sym c.push.ensures.items)
+    (walking_on g.K.Keep.allows c.args.seat.now c.loop-handed.seat c.hand_on-handed.new.seat c.args.steps c.loop-handed.passed.items c.in-Passed.node c.loop-handed.steps c.hand_on-handed.new.steps on.0 c.hand_on-handed.result was c.requires.parcel c.requires.state c.hand_on-handed.ensures.same on.1 on.2 on.3)
 
 pub returns : goal.returns
 returns g c =
     let k = c.loop-handed.invariant in
-    let away = away_by g.K.Keep.allows c.args.seat.now c.loop-handed.seat c.args.steps.now c.loop-handed.passed.items c.loop-handed.handed c.loop-handed.steps c.in_default.not-Passed k in
+    let away = away_by g.K.Keep.allows c.args.seat.now c.loop-handed.seat c.args.steps c.loop-handed.passed.items c.loop-handed.handed c.loop-handed.steps c.in_default.not-Passed k in
     let freed : GoesOn g.K.Keep.allows c.loop-handed.seat.me c.free_passed.new.seat.me (length c.loop-handed.passed.items) = subst (GoesOn g.K.Keep.allows c.loop-handed.seat.me c.free_passed.new.seat.me) (ap length c.deref.ensures.0) c.free_passed.ensures.goes_on in
     record {
       same = (c.free_passed.ensures.same.0 ∙ k.same.0, c.free_passed.ensures.same.1 ∙ k.same.1);

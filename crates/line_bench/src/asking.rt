@@ -1,0 +1,90 @@
+//! How a node under stress asks for the line: by one call, or by two with a pause in between.
+ghost use Rattle.std.specs.Prelude.{◌≡◌, ◌⊎◌, IsTrue};
+ghost use Rattle.qolb_model.specs.PortStates.{may_ask};
+ghost use Rattle.qolb_model.specs.Turns.{IsGranted};
+
+use crate::law::Rising;
+use link_line::{LinkLine, Port};
+use qolb_model::{Enq, LineSync, PortState, Prep};
+use rand::RngExt;
+use rand_xoshiro::Xoshiro256PlusPlus;
+use std::hint::spin_loop;
+use std::sync::atomic::{AtomicU64, Ordering};
+use std::thread::yield_now;
+
+/// A way to ask for a line.
+pub trait Asking<L: LineSync<Rising>> {
+    /// Asks for the line, as `enqolb` does.
+    fn ask(&self, line: &L, port: &mut L::Port, rng: &mut Xoshiro256PlusPlus) -> Enq
+        requires belongs { L.belongs line.now port.old }
+        requires state { IsTrue (may_ask (L.view port.old).state) }
+        ensures belongs { L.belongs line.now port.new }
+        ensures granted { result ≡ Enq.Granted → IsGranted (L.view port.new) (L.turn port.new) }
+        ensures queued { result ≡ Enq.Queued → (L.view port.new).state ≡ PortState.Queued }
+        ensures ended { (result ≡ Enq.Busy) ⊎ (result ≡ Enq.Closed) → IsTrue (may_ask (L.view port.new).state) };
+
+    /// How often the line was found left behind by a release that did not wait for the link.
+    fn late_links(&self) -> u64;
+}
+
+/// By one call, on any line.
+#[derive(Clone, Copy)]
+pub struct AtOnce;
+
+impl<L: LineSync<Rising>> Asking<L> for AtOnce {
+    fn ask(&self, line: &L, port: &mut L::Port, _rng: &mut Xoshiro256PlusPlus) -> Enq {
+        line.enqolb(port)
+    }
+
+    fn late_links(&self) -> u64 {
+        0
+    }
+}
+
+/// By the list's two calls, so that others release, ask and withdraw between a node's request and its link.
+#[derive(Drop)]
+pub struct Apart {
+    late: AtomicU64,
+}
+
+impl Apart {
+    /// With no late link yet.
+    pub fn new() -> Apart {
+        Apart {
+            late: AtomicU64::new(0),
+        }
+    }
+}
+
+impl Asking<LinkLine<Rising>> for Apart {
+    fn ask(&self, line: &LinkLine<Rising>, port: &mut Port, rng: &mut Xoshiro256PlusPlus) -> Enq {
+        match line.prepend(port) {
+            Prep::Granted => Enq::Granted,
+            Prep::Busy => Enq::Busy,
+            Prep::Closed => Enq::Closed,
+            Prep::Linking => {
+                dawdle(rng);
+                let answer = line.link(port);
+                if answer != Enq::Queued {
+                    self.late.fetch_add(1, Ordering::SeqCst);
+                }
+                answer
+            }
+        }
+    }
+
+    fn late_links(&self) -> u64 {
+        self.late.load(Ordering::SeqCst)
+    }
+}
+
+/// Gives the processor away, or pauses for a while, or goes on at once.
+fn dawdle(rng: &mut Xoshiro256PlusPlus) {
+    if rng.random_ratio(1, 8) {
+        yield_now();
+    } else {
+        for _ in 0..rng.random_range(0..64u64) {
+            spin_loop();
+        }
+    }
+}

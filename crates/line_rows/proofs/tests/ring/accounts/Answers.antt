@@ -1,5 +1,0 @@
-use Rattle.line_rows.proofs.NewPorts.{no_money}
-use Rattle.line_rows.proofs.tests.ring.accounts.Goals as goal
-
-pub alone-requires : goal.alone-requires
-alone-requires c = no_money

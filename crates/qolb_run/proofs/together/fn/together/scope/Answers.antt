@@ -1,0 +1,43 @@
+use Rattle.std.proofs.Common.{rules, ◌≡◌, ◌++◌, ◌∷◌, ◌+◌, ℕ, List, [], length, Some, slice_get, ap, sym, subst, ◌∙◌, arith, length-append}
+use Rattle.std.specs.Vec.Iter.{into_iter_items}
+use Rattle.std.specs.declared.thread.PromisedHandle.{PromisedHandle}
+use Rattle.std.proofs.lemmas.List.Elements.{All-rest}
+use Rattle.qolb_run.specs.declared.together.Done.{Done}
+use Rattle.qolb_run.proofs.Gathering.{each_pushed}
+use Rattle.qolb_run.proofs.Joined.{as_many_joined, each_joined}
+use Rattle.qolb_run.proofs.together.fn.together.scope.Goals as goal
+
+pub loop-part-preserved : goal.loop-part-preserved
+loop-part-preserved g c =
+    let pushed : c.push.new.self.items ≡ c.loop-part.handles.items ++ c.in-Ok.handle ∷ [] = search rules in
+    let one = ap length pushed in
+    let more = length-append c.loop-part.handles.items (c.in-Ok.handle ∷ []) in
+    let rest = ap length c.in-Some.ensures.steps.0 in
+    let before = c.loop-part.invariant.many in
+    record {
+      left = All-rest (λ (part : g.row.P.Denot). g.W.Work.fits c.captures.shared.now part) c.in-Some.part (into_iter_items c.next.new.self) (into_iter_items c.loop-part.part-iterator) c.in-Some.ensures.steps.0 c.loop-part.invariant.left;
+      many = omega (arith, one, more, rest, before);
+      promised = subst (λ (hs : List (PromisedHandle g.row.W-Back.Denot (Done g.row.R.Denot g.row.S.Denot g.row.P.Denot g.row.W.Denot))). (k : ℕ) (h : _) → slice_get hs k ≡ Some h → (h.promise.work.value ≡ c.captures.work.now) × (h.promise.shared.value ≡ c.captures.shared.now) × (h.promise.place ≡ k)) (sym pushed)
+          (each_pushed (λ k (h : PromisedHandle g.row.W-Back.Denot (Done g.row.R.Denot g.row.S.Denot g.row.P.Denot g.row.W.Denot)). (h.promise.work.value ≡ c.captures.work.now) × (h.promise.shared.value ≡ c.captures.shared.now) × (h.promise.place ≡ k)) c.loop-part.handles.items c.in-Ok.handle c.loop-part.invariant.promised (
+            ap (λ (p : Done g.row.R.Denot g.row.S.Denot g.row.P.Denot g.row.W.Denot). p.work.value) c.in-Ok.ensures.ok ∙ c.of.ensures,
+            ap (λ (p : Done g.row.R.Denot g.row.S.Denot g.row.P.Denot g.row.W.Denot). p.shared.value) c.in-Ok.ensures.ok ∙ c.of-in-loop-part.ensures,
+            ap (λ (p : Done g.row.R.Denot g.row.S.Denot g.row.P.Denot g.row.W.Denot). p.place) c.in-Ok.ensures.ok ∙ (c.len-place.ensures ∙ c.loop-part.handles.ok.0),
+          ));
+    }
+
+pub returns : goal.returns
+returns g c =
+    let before = c.loop-part.invariant.many in
+    let end : length (into_iter_items c.loop-part.part-iterator) ≡ 0 = search rules in
+    let all = ap length c.into_iter-part-iterator.ensures.into_iter_gives.0 in
+    record {
+      as_many = as_many_joined {P = Done g.row.R.Denot g.row.S.Denot g.row.P.Denot g.row.W.Denot} (record { kept_by = λ (p : Done g.row.R.Denot g.row.S.Denot g.row.P.Denot g.row.W.Denot) (back : g.row.W-Back.Denot). g.W.Work.done p.work.value p.shared.value p.place back })
+          c.loop-part.handles c.join_promised.result c.ok-2.result c.captures.parts.len c.ok-2.ensures.value c.join_promised.ensures.len (omega (arith, before, end, all, c.loop-part.handles.ok.0, c.captures.parts.ok.0));
+      done = each_joined {P = Done g.row.R.Denot g.row.S.Denot g.row.P.Denot g.row.W.Denot} (record { kept_by = λ (p : Done g.row.R.Denot g.row.S.Denot g.row.P.Denot g.row.W.Denot) (back : g.row.W-Back.Denot). g.W.Work.done p.work.value p.shared.value p.place back })
+          c.loop-part.handles (g.W.Work.done c.captures.work.now c.captures.shared.now) c.join_promised.result c.ok-2.result c.ok-2.ensures.value c.join_promised.ensures.len c.join_promised.ensures.each
+          (λ k h at back kept.
+          let (work_is, shared_is, place_is) = c.loop-part.invariant.promised k h at in
+          subst (λ work. g.W.Work.done work c.captures.shared.now k back) work_is
+          (subst (λ shared. g.W.Work.done h.promise.work.value shared k back) shared_is
+          (subst (λ place. g.W.Work.done h.promise.work.value h.promise.shared.value place back) place_is kept)));
+    }
