@@ -1,0 +1,2 @@
+pub mod WorkedPictures
+pub mod Rows

@@ -1,0 +1,30 @@
+-- A plain line whose calls are followed. (Of this project.)
+use Rattle.std.specs.Prelude.{◌≡◌, ℕ, Bool, true, false, if◌then◌else◌, List, [], ◌∷◌}
+use Rattle.qolb_model.specs.declared.answer.PortState.{PortState}
+use Rattle.qolb_model.specs.declared.answer.PortState.TheVariants as port
+use Rattle.qolb_model.specs.declared.answer.Enq.TheVariants as enq
+use Rattle.qolb_model.specs.Plain.{PlainView, node_state}
+use Rattle.qolb_script.specs.declared.said.Said.{Said}
+use Rattle.qolb_script.specs.declared.said.Said.TheVariants as said
+
+-- it answers a node that has made a request
+abbrev pub has_asked : Said → Bool
+has_asked (said.Enq enq.Granted) = true
+has_asked (said.Enq enq.Queued) = true
+has_asked (said.Enq enq.Closed) = true
+has_asked what = false
+
+-- a node in this state has a request without an end
+abbrev pub is_open : PortState → Bool
+is_open port.Idle = false
+is_open port.Linking = true
+is_open port.Queued = true
+is_open port.Holding = true
+is_open port.Left = false
+is_open port.Rolled = true
+is_open port.Shut = false
+
+-- the nodes from the first one on that has an open request
+abbrev pub after_ended : PlainView → List ℕ → List ℕ
+after_ended line [] = []
+after_ended line (n ∷ rest) = if is_open (node_state line n) then n ∷ rest else after_ended line rest
