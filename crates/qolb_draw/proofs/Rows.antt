@@ -49,15 +49,19 @@ pub head_pushed : (numbers : List ℕ) (last : ℕ) (values before : List ℕ) (
     → get_or values i d ≤ last → after ≡ text ++ head_text numbers (get_or values i d) → HasHeads numbers last values before (i + 1) after
 head_pushed numbers last values before i d text after had lt le pushed =
     let b : nat_le (get_or values i d) last ≡ true = grind (arith, nat_tests) in
-    record { text_is = pushed ∙ ap (λ t. t ++ head_text numbers (get_or values i d)) had.text_is ∙ append_assoc before _ (head_text numbers (get_or values i d))
-        ∙ ap (λ t. before ++ t) (sym (heads_more numbers last values i d lt ∙ ap (λ c. flat_map (head_text numbers) (filter (λ value. nat_le value last) (take i values)) ++ cond c (head_text numbers (get_or values i d)) []) b)) }
+    record {
+      text_is = pushed ∙ ap (λ t. t ++ head_text numbers (get_or values i d)) had.text_is ∙ append_assoc before _ (head_text numbers (get_or values i d))
+          ∙ ap (λ t. before ++ t) (sym (heads_more numbers last values i d lt ∙ ap (λ c. flat_map (head_text numbers) (filter (λ value. nat_le value last) (take i values)) ++ cond c (head_text numbers (get_or values i d)) []) b));
+    }
 
 pub head_left_out : (numbers : List ℕ) (last : ℕ) (values before : List ℕ) (i d : ℕ) (text after : List ℕ) → HasHeads numbers last values before i text → i < length values
     → last < get_or values i d → after ≡ text → HasHeads numbers last values before (i + 1) after
 head_left_out numbers last values before i d text after had lt gt same =
     let b : nat_le (get_or values i d) last ≡ false = grind (arith, nat_tests) in
-    record { text_is = same ∙ had.text_is
-        ∙ ap (λ t. before ++ t) (sym (heads_more numbers last values i d lt ∙ ap (λ c. flat_map (head_text numbers) (filter (λ value. nat_le value last) (take i values)) ++ cond c (head_text numbers (get_or values i d)) []) b ∙ append-nil _)) }
+    record {
+      text_is = same ∙ had.text_is
+          ∙ ap (λ t. before ++ t) (sym (heads_more numbers last values i d lt ∙ ap (λ c. flat_map (head_text numbers) (filter (λ value. nat_le value last) (take i values)) ++ cond c (head_text numbers (get_or values i d)) []) b ∙ append-nil _));
+    }
 
 -- one mark more in a row
 pub row_pushed : (f : ℕ → ℕ) (before label : List ℕ) (start k x : ℕ) (text after : List ℕ) → start ≤ k → text ≡ before ++ (label ++ map f (range_with_len start (k - start))) → x ≡ f k → after ≡ text ++ x ∷ []
@@ -78,3 +82,9 @@ piece_pushed f before k text after piece was is pushed =
 -- the place of a mark
 pub place_within : (k nodes n count : ℕ) → k < count → 1 ≤ n → n ≤ nodes → k * nodes + (n - 1) < count * nodes
 place_within k nodes n count lt first last = let below : n - 1 < nodes = omega arith in grind (arith, common_steps, rows)
+
+-- one more of a column
+pub column_pushed : {X : Type 0} (f : ℕ → X) (before : List X) (n : ℕ) (now after : List X) (x : X) → now ≡ before ++ map f (range_with_len 1 n) → x ≡ f (n + 1) → after ≡ now ++ x ∷ [] → after ≡ before ++ map f (range_with_len 1 (n + 1))
+column_pushed f before n now after x was is pushed =
+    pushed ∙ ap (λ xs. xs ++ x ∷ []) was ∙ ap (λ y. (before ++ map f (range_with_len 1 n)) ++ y ∷ []) is ∙ append_assoc before (map f (range_with_len 1 n)) (f (n + 1) ∷ [])
+    ∙ ap (λ xs. before ++ xs) (sym (map-range_with_len_more f 1 n (n + 1) (omega arith)))

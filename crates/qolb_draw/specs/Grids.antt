@@ -1,9 +1,12 @@
 -- Marks that lie command by command, and the texts that come out of them. (Of this project.)
-use Rattle.std.specs.Prelude.{◌≡◌, ℕ, ◌+◌, ◌-◌, ◌*◌, ◌==◌, min, List, [], ◌∷◌, ◌++◌, length, map, filter, flat_map, take, drop}
+use Rattle.std.specs.Prelude.{◌≡◌, ℕ, ◌+◌, ◌-◌, ◌*◌, ◌==◌, min, List, [], ◌∷◌, ◌++◌, length, map, filter, flat_map, take, drop, codes}
 use Rattle.std.specs.List.{list_any, range_with_len, slice_index_or}
+use Rattle.qolb_model.specs.Plain.{PlainView, node_state}
 use Rattle.qolb_script.specs.Commands.{node_of}
 use Rattle.qolb_draw.specs.declared.mark.Mark.{Mark}
 use Rattle.qolb_draw.specs.declared.mark.Mark.TheVariants as mark
+use Rattle.qolb_draw.specs.declared.mark.Change.{Change}
+use Rattle.qolb_draw.specs.Marks.{mark_of}
 use Rattle.qolb_draw.specs.declared.text.TheConstants.{COLUMNS}
 use Rattle.qolb_draw.specs.LineRuns.{Step, mark_at}
 use Rattle.qolb_draw.specs.Pictures.{letter_of, label_of, heads_text, block_count}
@@ -17,6 +20,17 @@ numbers_of steps = map (λ step. step.number) steps
 
 abbrev pub nodes_of : List Step → List ℕ
 nodes_of steps = map (λ step. node_of step.command) steps
+
+-- what is kept of some steps
+pub record IsGrid (nodes : ℕ) (steps : List Step) (rows : ℕ) (numbers callers : List ℕ) (marks : List Mark) : Type 0 where
+  pub rows_are : rows ≡ nodes
+  pub numbers_are : numbers ≡ numbers_of steps
+  pub callers_are : callers ≡ nodes_of steps
+  pub marks_are : marks ≡ marks_of nodes steps
+
+-- the marks of all nodes after a command that made this change and left the line so
+abbrev pub column_out_of : PlainView → Change → ℕ → List Mark
+column_out_of line change nodes = map (λ n. mark_of change (node_state line n) n) (range_with_len 1 nodes)
 
 -- the mark of a node after command k of these
 abbrev pub mark_out_of : ℕ → List Mark → ℕ → ℕ → Mark
@@ -36,3 +50,7 @@ blocks_out_of nodes marks numbers shown =
 -- the nodes among some that called
 abbrev pub shown_out_of : ℕ → List ℕ → List ℕ
 shown_out_of nodes called = filter (λ n. list_any (λ m. m == n) called) (range_with_len 1 nodes)
+
+-- the picture of a line
+abbrev pub line_out_of : ℕ → ℕ → List ℕ → List ℕ → List Mark → List ℕ
+line_out_of line nodes numbers callers marks = codes "line " ++ (48 + line) ∷ 10 ∷ [] ++ blocks_out_of nodes marks numbers (shown_out_of nodes callers) ++ 10 ∷ []

@@ -1,7 +1,8 @@
 -- The picture of a schedule as plain text: for each line, in blocks of commands, a row of marks for each node that calls on it.
 -- (Of this project.)
-use Rattle.std.specs.Prelude.{ℕ, ◌+◌, ◌-◌, ◌*◌, ◌/◌, ◌%◌, ◌==◌, nat_lt, nat_le, ◌&&◌, Bool, if◌then◌else◌, List, [], ◌∷◌, ◌++◌, length, map, filter, flat_map, take, drop, replicate, codes, Result, Ok, Err}
+use Rattle.std.specs.Prelude.{◌≡◌, ℕ, ◌+◌, ◌-◌, ◌≤◌, ◌*◌, ◌/◌, ◌%◌, ◌==◌, nat_lt, nat_le, ◌&&◌, Bool, if◌then◌else◌, List, [], ◌∷◌, ◌++◌, length, map, filter, flat_map, take, drop, replicate, codes, Result, Ok, Err}
 use Rattle.std.specs.List.{list_any, range_with_len, slice_index_or}
+use Rattle.qolb_run.specs.declared.input.TheConstants.{MOST_BYTES}
 use Rattle.qolb_script.specs.declared.error.ScriptError.{ScriptError}
 use Rattle.qolb_script.specs.Commands.{node_of}
 use Rattle.qolb_script.specs.Script.{Script, script_of}
@@ -82,3 +83,8 @@ drawn (Err error) = Err error
 
 abbrev pub picture_to : List ℕ → Result (List ℕ) ScriptError
 picture_to text = drawn (script_of text)
+
+-- the bytes are a schedule, and this is its picture
+pub record IsPicture (input text : List ℕ) : Type 0 where
+  pub fits : length input ≤ MOST_BYTES
+  pub picture : picture_to input ≡ Ok text

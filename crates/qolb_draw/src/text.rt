@@ -1,8 +1,8 @@
 //! The picture as plain text.
-ghost use Rattle.std.specs.Prelude.{◌≡◌, ◌++◌, ◌≤◌, ◌*◌, ◌-◌, length, All, OnOk, IfOk};
-ghost use Rattle.qolb_script.specs.declared.schedule.TheConstants.{MOST_COMMANDS};
+ghost use Rattle.std.specs.Prelude.{◌≡◌, ◌++◌, ◌<◌, ◌≤◌, ◌*◌, ◌-◌, length, All, OnOk, IfOk};
+ghost use Rattle.qolb_script.specs.declared.schedule.TheConstants.{MOST_COMMANDS, MOST_LINES};
 ghost use Rattle.qolb_draw.specs.Pictures as spec;
-ghost use Rattle.qolb_draw.specs.Grids.{row_out_of, block_out_of, blocks_out_of, shown_out_of};
+ghost use Rattle.qolb_draw.specs.Grids.{row_out_of, block_out_of, blocks_out_of, shown_out_of, line_out_of};
 
 use crate::grid::Grid;
 use crate::mark::Mark;
@@ -19,7 +19,8 @@ const MARGIN: &[u8] = b"         ";
 const PLACES: [u64; 6] = [100_000, 10_000, 1000, 100, 10, 1];
 
 /// What the letters mean.
-pub const LEGEND: &[u8] = b". idle   w waits   t its turn has come   H holds   > hands over to <\nx withdrawn   c told that the line is closed   - closed\n";
+pub const LEGEND: &[u8] =
+    b". idle   w waits   t its turn has come   H holds   > hands over to <\nx withdrawn   c told that the line is closed   - closed\n";
 
 /// The letter of a mark.
 fn letter(mark: Mark) -> u8
@@ -170,4 +171,26 @@ fn shown<A: Allocator + Copy>(alloc: A, grid: &Grid<A>) -> Result<Vec<u64, A>, A
         }
     }
     Ok(nodes)
+}
+
+/// Appends the picture of a line.
+pub fn push_line<A: Allocator + Copy>(
+    alloc: A,
+    text: &mut Vec<u8, A>,
+    grid: &Grid<A>,
+    number: u64,
+) -> Result<(), AllocError>
+    requires number { number < MOST_LINES }
+    requires nodes { grid.now.nodes ≤ MOST_NODES }
+    requires size { length grid.now.marks.items ≡ length grid.now.numbers.items * grid.now.nodes }
+    requires few { length grid.now.numbers.items ≤ MOST_COMMANDS }
+    ensures { OnOk result (text.new.items ≡ text.old.items ++ line_out_of number grid.now.nodes grid.now.numbers.items grid.now.callers.items grid.now.marks.items) }
+{
+    let nodes = shown(alloc, grid)?;
+    text.extend_from_slice(b"line ")?;
+    text.push(b'0' + number as u8)?;
+    text.push(b'\n')?;
+    push_blocks(text, grid, &nodes)?;
+    text.push(b'\n')?;
+    Ok(())
 }
