@@ -21,6 +21,7 @@ mod workers;
 
 pub use gate::{AlwaysOpen, Gate, MOST_REFUSALS};
 pub use input::{InputError, MOST_BYTES, read_all};
+pub use line::ReplayLine;
 pub use meetings::meet_all;
 pub use replay::{Kind, ReplayError, run_schedule};
 pub use steps::run_steps;

@@ -1,0 +1,123 @@
+-- What comes out of the marks of a line is its picture.
+use Rattle.std.proofs.Common.{◌≡◌, ℕ, zero, suc, ◌+◌, ◌-◌, ◌*◌, ◌<◌, ◌≤◌, ◌==◌, ◌||◌, min, Bool, cond, List, [], ◌∷◌, ◌++◌, length, map, take, drop, get_or, refl, sym, ap, ◌∙◌, subst, arith, add_comm, inl, inr, ◌⊎◌, length-append, length-drop}
+use Rattle.std.specs.Prelude.{codes}
+use Rattle.std.specs.List.{All, filter, flat_map, list_any, range_with_len}
+use Rattle.std.proofs.lemmas.List.{length-map, take_more, take_all, take-map, drop-map, map-append, get_or-drop, length-take-le}
+use Rattle.std.proofs.lemmas.List.Concat.{get_or-flat_map}
+use Rattle.std.proofs.lemmas.List.Elements.{All-filter}
+use Rattle.std.proofs.lemmas.List.FromFn.{length-map-range_with_len, get_or-map-range_with_len, get_or-range_with_len, length-range_with_len}
+use Rattle.std.proofs.lemmas.Bool.{cases_lt}
+use Rattle.qolb_script.specs.declared.command.Command.TheVariants.{Enq}
+use Rattle.qolb_script.specs.Commands.{node_of}
+use Rattle.qolb_script.specs.Script.{Script}
+use Rattle.qolb_model.specs.declared.terms.Terms.{Terms}
+use Rattle.qolb_model.specs.OneOwner.{opened}
+use Rattle.qolb_script.specs.Reply.{no_line}
+use Rattle.qolb_draw.specs.declared.mark.Mark.{Mark}
+use Rattle.qolb_draw.specs.declared.mark.Mark.TheVariants as mark
+use Rattle.qolb_draw.specs.declared.text.TheConstants.{COLUMNS}
+use Rattle.qolb_draw.specs.LineRuns.{Step, mark_at, steps_on}
+use Rattle.qolb_draw.specs.Pictures.{letter_of, label_of, heads_text, row_text, block_text, block_at, block_count, blocks_text, callers, line_text}
+use Rattle.qolb_draw.specs.Grids.{IsGrid, numbers_of, nodes_of, marks_of, mark_out_of, row_out_of, block_out_of, blocks_out_of, shown_out_of, line_out_of}
+use Rattle.qolb_draw.proofs.Rows.{range_more}
+
+-- a step, where none is asked for
+abbrev no_step : Step
+no_step = record { number = 0; command = Enq 0 0; before = no_line }
+
+-- each step has a mark for each node
+pub length-marks_of : (nodes : ℕ) (steps : List Step) → length (marks_of nodes steps) ≡ length steps * nodes
+length-marks_of nodes [] = omega arith
+length-marks_of nodes (step ∷ steps) =
+    length-append (map (mark_at step) (range_with_len 1 nodes)) (marks_of nodes steps)
+    ∙ ap (λ n. n + length (marks_of nodes steps)) (length-map-range_with_len (mark_at step) 1 nodes) ∙ ap (λ n. nodes + n) (length-marks_of nodes steps) ∙ one_row nodes (length steps)
+  where
+    one_row : (nodes n : ℕ) → nodes + n * nodes ≡ suc n * nodes
+    one_row nodes n = omega arith
+
+mark_found : (nodes n k : ℕ) (steps : List Step) → k < length steps → 1 ≤ n → n ≤ nodes → mark_out_of nodes (marks_of nodes steps) n k ≡ mark_at (get_or steps k no_step) n
+mark_found nodes n k steps lt first last =
+    let before : length (marks_of nodes (take k steps)) ≡ k * nodes = length-marks_of nodes (take k steps) ∙ ap (λ m. m * nodes) (length-take-le k steps (omega arith)) in
+    let below : n - 1 < nodes = omega arith in
+    let in_row : n - 1 < length (map (mark_at (get_or steps k no_step)) (range_with_len 1 nodes)) = subst (λ (m : ℕ). n - 1 < m) (sym (length-map-range_with_len (mark_at (get_or steps k no_step)) 1 nodes)) below in
+    ap (λ m. get_or (marks_of nodes steps) (m + (n - 1)) mark.Idle) (sym before)
+    ∙ get_or-flat_map (λ (step : Step). map (mark_at step) (range_with_len 1 nodes)) steps k (n - 1) no_step mark.Idle lt in_row
+    ∙ get_or-map-range_with_len (mark_at (get_or steps k no_step)) 1 nodes (n - 1) n mark.Idle below (omega arith)
+
+-- a row
+row_found : (nodes n start count : ℕ) (steps : List Step) → 1 ≤ n → n ≤ nodes → count ≤ length steps - start
+    → map (λ k. letter_of (mark_out_of nodes (marks_of nodes steps) n k)) (range_with_len start count) ≡ map (λ step. letter_of (mark_at step n)) (take count (drop start steps))
+row_found nodes n start zero steps first last fits = refl
+row_found nodes n start (suc count) steps first last fits =
+    let f : ℕ → ℕ = λ k. letter_of (mark_out_of nodes (marks_of nodes steps) n k) in
+    let g : Step → ℕ = λ step. letter_of (mark_at step n) in
+    let more : suc count ≡ count + 1 = omega arith in
+    let within : count < length (drop start steps) = omega (arith, length-drop start steps) in
+    ap (λ m. map f (range_with_len start m)) more ∙ ap (map f) (range_more start count) ∙ map-append f (range_with_len start count) ((start + count) ∷ [])
+    ∙ ap (λ xs. xs ++ f (start + count) ∷ []) (row_found nodes n start count steps first last (omega arith))
+    ∙ ap (λ x. map g (take count (drop start steps)) ++ x ∷ []) (ap letter_of (mark_found nodes n (start + count) steps (omega (arith, length-drop start steps)) first last) ∙ ap g (sym (get_or-drop start steps count no_step)))
+    ∙ sym (ap (λ m. map g (take m (drop start steps))) more ∙ ap (map g) (take_more (drop start steps) count no_step within) ∙ map-append g (take count (drop start steps)) (get_or (drop start steps) count no_step ∷ []))
+
+-- the rows of a block
+rows_found : (nodes start count : ℕ) (steps : List Step) (shown : List ℕ) → All (λ n. (1 ≤ n) × (n ≤ nodes)) shown → count ≤ length steps - start
+    → flat_map (row_out_of nodes (marks_of nodes steps) start count) shown ≡ flat_map (row_text (take count (drop start steps))) shown
+rows_found nodes start count steps [] all fits = refl
+rows_found nodes start count steps (n ∷ shown) all fits =
+    let here : (1 ≤ n) × (n ≤ nodes) = all 0 0 (omega arith) in
+    let rest : All (λ m. (1 ≤ m) × (m ≤ nodes)) shown = λ k d lt. all (suc k) d (omega (arith, lt)) in
+    ap (λ row. (label_of n ++ row ++ 10 ∷ []) ++ flat_map (row_out_of nodes (marks_of nodes steps) start count) shown) (row_found nodes n start count steps here.0 here.1 fits)
+    ∙ ap (λ t. row_text (take count (drop start steps)) n ++ t) (rows_found nodes start count steps shown rest fits)
+
+-- as many as there are, at most
+take_within : (n : ℕ) (xs : List Step) → take (min n (length xs)) xs ≡ take n xs
+take_within n xs = by (cases_lt n (length xs))
+  where
+    by : (n < length xs) ⊎ (length xs ≤ n) → take (min n (length xs)) xs ≡ take n xs
+    by (inl lt) = let least : min n (length xs) ≡ n = omega arith in ap (λ m. take m xs) least
+    by (inr le) = let least : min n (length xs) ≡ length xs = omega arith in ap (λ m. take m xs) least ∙ take_all (length xs) xs (omega arith) ∙ sym (take_all n xs le)
+
+block_found : (nodes k : ℕ) (steps : List Step) (shown : List ℕ) → All (λ n. (1 ≤ n) × (n ≤ nodes)) shown
+    → block_out_of nodes (marks_of nodes steps) (numbers_of steps) shown (COLUMNS * k) (min COLUMNS (length (numbers_of steps) - COLUMNS * k)) ≡ block_text shown (block_at steps k)
+block_found nodes k steps shown all =
+    let start : ℕ = COLUMNS * k in
+    let count : ℕ = min COLUMNS (length (numbers_of steps) - COLUMNS * k) in
+    let long : length (numbers_of steps) ≡ length steps = length-map steps (λ (step : Step). step.number) in
+    let many : count ≡ min COLUMNS (length (drop start steps)) = ap (λ m. min COLUMNS (m - start)) long ∙ ap (min COLUMNS) (sym (length-drop start steps)) in
+    let taken : take count (drop start steps) ≡ block_at steps k = ap (λ m. take m (drop start steps)) many ∙ take_within COLUMNS (drop start steps) in
+    ap (λ ns. 10 ∷ [] ++ heads_text ns ++ flat_map (row_out_of nodes (marks_of nodes steps) start count) shown) (ap (take count) (drop-map (λ (step : Step). step.number) start steps) ∙ take-map (λ (step : Step). step.number) count (drop start steps))
+    ∙ ap (λ t. 10 ∷ [] ++ heads_text (numbers_of (take count (drop start steps))) ++ t) (rows_found nodes start count steps shown all (omega (arith, long)))
+    ∙ ap (block_text shown) taken
+
+same_blocks : (f g : ℕ → List ℕ) → ((k : ℕ) → f k ≡ g k) → (xs : List ℕ) → flat_map f xs ≡ flat_map g xs
+same_blocks f g h [] = refl
+same_blocks f g h (x ∷ xs) = ap (λ t. t ++ flat_map f xs) (h x) ∙ ap (λ t. g x ++ t) (same_blocks f g h xs)
+
+-- the nodes that called
+any_called : (n : ℕ) (steps : List Step) → list_any (λ m. m == n) (nodes_of steps) ≡ list_any (λ step. node_of step.command == n) steps
+any_called n [] = refl
+any_called n (step ∷ steps) = ap (λ b. (node_of step.command == n) || b) (any_called n steps)
+
+same_filter : (p q : ℕ → Bool) → ((k : ℕ) → p k ≡ q k) → (xs : List ℕ) → filter p xs ≡ filter q xs
+same_filter p q h [] = refl
+same_filter p q h (x ∷ xs) = ap (λ b. cond b (x ∷ filter p xs) (filter p xs)) (h x) ∙ ap (λ ys. cond (q x) (x ∷ ys) ys) (same_filter p q h xs)
+
+shown_found : (nodes : ℕ) (steps : List Step) → shown_out_of nodes (nodes_of steps) ≡ callers nodes steps
+shown_found nodes steps = same_filter (λ n. list_any (λ m. m == n) (nodes_of steps)) (λ n. list_any (λ step. node_of step.command == n) steps) (λ n. any_called n steps) (range_with_len 1 nodes)
+
+pub shown_within : (nodes : ℕ) (called : List ℕ) → All (λ n. (1 ≤ n) × (n ≤ nodes)) (shown_out_of nodes called)
+shown_within nodes called = All-filter (λ n. list_any (λ m. m == n) called) (λ n. (1 ≤ n) × (n ≤ nodes)) (range_with_len 1 nodes)
+    (λ k d lt. let below : k < nodes = omega (arith, lt, length-range_with_len 1 nodes) in let is : get_or (range_with_len 1 nodes) k d ≡ 1 + k = get_or-range_with_len 1 nodes k d below in (omega arith, omega arith))
+
+blocks_found : (nodes : ℕ) (steps : List Step) (shown : List ℕ) → All (λ n. (1 ≤ n) × (n ≤ nodes)) shown → blocks_out_of nodes (marks_of nodes steps) (numbers_of steps) shown ≡ blocks_text shown steps
+blocks_found nodes steps shown all =
+    same_blocks _ (λ k. block_text shown (block_at steps k)) (λ k. block_found nodes k steps shown all) (range_with_len 0 (block_count (length (numbers_of steps))))
+    ∙ ap (λ m. flat_map (λ k. block_text shown (block_at steps k)) (range_with_len 0 (block_count m))) (length-map steps (λ (step : Step). step.number))
+
+-- the picture of a line
+pub line_found : (script : Script) (line rows : ℕ) (numbers called : List ℕ) (marks : List Mark) → IsGrid script.nodes (steps_on line script) rows numbers called marks → line_out_of line rows numbers called marks ≡ line_text script line
+line_found script line rows numbers called marks g =
+    let steps : List Step = steps_on line script in
+    ap (λ h. line_out_of line h numbers called marks) g.rows_are ∙ ap (λ xs. line_out_of line script.nodes xs called marks) g.numbers_are
+    ∙ ap (λ xs. line_out_of line script.nodes (numbers_of steps) xs marks) g.callers_are ∙ ap (λ ms. line_out_of line script.nodes (numbers_of steps) (nodes_of steps) ms) g.marks_are
+    ∙ ap (λ shown. codes "line " ++ (48 + line) ∷ 10 ∷ [] ++ blocks_out_of script.nodes (marks_of script.nodes steps) (numbers_of steps) shown ++ 10 ∷ []) (shown_found script.nodes steps)
+    ∙ ap (λ t. codes "line " ++ (48 + line) ∷ 10 ∷ [] ++ t ++ 10 ∷ []) (blocks_found script.nodes steps (callers script.nodes steps) (subst (All (λ n. (1 ≤ n) × (n ≤ script.nodes))) (shown_found script.nodes steps) (shown_within script.nodes (nodes_of steps))))

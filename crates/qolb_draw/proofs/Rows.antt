@@ -1,0 +1,90 @@
+-- Lemmas on rows and blocks that come out of marks.
+use Rattle.std.proofs.Common.{◌≡◌, ℕ, zero, suc, ◌+◌, ◌-◌, ◌*◌, ◌<◌, ◌≤◌, ◌==◌, cond, List, [], ◌∷◌, ◌++◌, length, map, take, drop, get_or, map-id, refl, sym, ap, ◌∙◌, subst, arith, add_assoc, append_assoc, append-nil, zero-add, nat_le, Bool, true, false}
+use Rattle.std.specs.List.{filter, flat_map, list_any, range_with_len}
+use Rattle.std.proofs.lemmas.List.{take_more, length-append}
+use Rattle.std.proofs.lemmas.List.Elements.{filter-append, filter_more}
+use Rattle.std.proofs.lemmas.Bool.Decides.{nat_tests}
+use Rattle.std.proofs.lemmas.List.FromFn.{map-range_with_len_more}
+use Rattle.std.proofs.lemmas.Nat.{rows}
+use Rattle.std.proofs.lemmas.Grind.{flat_map-append, common_steps}
+use Rattle.qolb_draw.specs.Pictures.{head_text}
+use Rattle.qolb_draw.specs.Grids.{shown_out_of}
+
+-- one number more
+pub range_more : (a n : ℕ) → range_with_len a (n + 1) ≡ range_with_len a n ++ (a + n) ∷ []
+range_more a n = sym (map-id (range_with_len a (n + 1))) ∙ map-range_with_len_more (λ k. k) a n (a + n) refl ∙ ap (λ xs. xs ++ (a + n) ∷ []) (map-id (range_with_len a n))
+
+-- one node more
+pub shown_more : (n : ℕ) (called : List ℕ) → shown_out_of (n + 1) called ≡ shown_out_of n called ++ cond (list_any (λ m. m == n + 1) called) ((n + 1) ∷ []) []
+shown_more n called =
+    ap (filter (λ k. list_any (λ m. m == k) called)) (range_more 1 n)
+    ∙ filter-append (λ k. list_any (λ m. m == k) called) (range_with_len 1 n) ((1 + n) ∷ [])
+    ∙ ap (λ k. shown_out_of n called ++ cond (list_any (λ m. m == k) called) (k ∷ []) []) (omega arith)
+
+pub node_shown : (n : ℕ) (called shown after : List ℕ) (b : Bool) → shown ≡ shown_out_of n called → b ≡ list_any (λ m. m == n + 1) called → b ≡ true → after ≡ shown ++ (n + 1) ∷ [] → after ≡ shown_out_of (n + 1) called
+node_shown n called shown after b was is found pushed =
+    pushed ∙ ap (λ xs. xs ++ (n + 1) ∷ []) was ∙ sym (shown_more n called ∙ ap (λ t. shown_out_of n called ++ cond t ((n + 1) ∷ []) []) (sym is ∙ found))
+
+pub node_left_out : (n : ℕ) (called shown after : List ℕ) (b : Bool) → shown ≡ shown_out_of n called → b ≡ list_any (λ m. m == n + 1) called → b ≡ false → after ≡ shown → after ≡ shown_out_of (n + 1) called
+node_left_out n called shown after b was is missed same =
+    same ∙ was ∙ sym (shown_more n called ∙ ap (λ t. shown_out_of n called ++ cond t ((n + 1) ∷ []) []) (sym is ∙ missed) ∙ append-nil (shown_out_of n called))
+
+-- a row of digits more, where the last number has that place, and none where it has not
+heads_cond : (numbers : List ℕ) (b : Bool) (v : ℕ) → flat_map (head_text numbers) (cond b (v ∷ []) []) ≡ cond b (head_text numbers v) []
+heads_cond numbers true v = append-nil (head_text numbers v)
+heads_cond numbers false v = refl
+
+heads_more : (numbers : List ℕ) (last : ℕ) (values : List ℕ) (i d : ℕ) → i < length values
+    → flat_map (head_text numbers) (filter (λ value. nat_le value last) (take (i + 1) values)) ≡ flat_map (head_text numbers) (filter (λ value. nat_le value last) (take i values)) ++ cond (nat_le (get_or values i d) last) (head_text numbers (get_or values i d)) []
+heads_more numbers last values i d lt =
+    ap (flat_map (head_text numbers)) (filter_more (λ value. nat_le value last) values i d lt)
+    ∙ flat_map-append (head_text numbers) (filter (λ value. nat_le value last) (take i values)) (cond (nat_le (get_or values i d) last) (get_or values i d ∷ []) [])
+    ∙ ap (λ t. flat_map (head_text numbers) (filter (λ value. nat_le value last) (take i values)) ++ t) (heads_cond numbers (nat_le (get_or values i d) last) (get_or values i d))
+
+-- the text so far, with the rows of digits at the first i places
+pub record HasHeads (numbers : List ℕ) (last : ℕ) (values : List ℕ) (before : List ℕ) (i : ℕ) (text : List ℕ) : Type 0 where
+  pub text_is : text ≡ before ++ flat_map (head_text numbers) (filter (λ value. nat_le value last) (take i values))
+
+pub head_pushed : (numbers : List ℕ) (last : ℕ) (values before : List ℕ) (i d : ℕ) (text after : List ℕ) → HasHeads numbers last values before i text → i < length values
+    → get_or values i d ≤ last → after ≡ text ++ head_text numbers (get_or values i d) → HasHeads numbers last values before (i + 1) after
+head_pushed numbers last values before i d text after had lt le pushed =
+    let b : nat_le (get_or values i d) last ≡ true = grind (arith, nat_tests) in
+    record {
+      text_is = pushed ∙ ap (λ t. t ++ head_text numbers (get_or values i d)) had.text_is ∙ append_assoc before _ (head_text numbers (get_or values i d))
+          ∙ ap (λ t. before ++ t) (sym (heads_more numbers last values i d lt ∙ ap (λ c. flat_map (head_text numbers) (filter (λ value. nat_le value last) (take i values)) ++ cond c (head_text numbers (get_or values i d)) []) b));
+    }
+
+pub head_left_out : (numbers : List ℕ) (last : ℕ) (values before : List ℕ) (i d : ℕ) (text after : List ℕ) → HasHeads numbers last values before i text → i < length values
+    → last < get_or values i d → after ≡ text → HasHeads numbers last values before (i + 1) after
+head_left_out numbers last values before i d text after had lt gt same =
+    let b : nat_le (get_or values i d) last ≡ false = grind (arith, nat_tests) in
+    record {
+      text_is = same ∙ had.text_is
+          ∙ ap (λ t. before ++ t) (sym (heads_more numbers last values i d lt ∙ ap (λ c. flat_map (head_text numbers) (filter (λ value. nat_le value last) (take i values)) ++ cond c (head_text numbers (get_or values i d)) []) b ∙ append-nil _));
+    }
+
+-- one mark more in a row
+pub row_pushed : (f : ℕ → ℕ) (before label : List ℕ) (start k x : ℕ) (text after : List ℕ) → start ≤ k → text ≡ before ++ (label ++ map f (range_with_len start (k - start))) → x ≡ f k → after ≡ text ++ x ∷ []
+    → after ≡ before ++ (label ++ map f (range_with_len start (k + 1 - start)))
+row_pushed f before label start k x text after le was is pushed =
+    let at : start + (k - start) ≡ k = omega arith in
+    let next : k + 1 - start ≡ k - start + 1 = omega arith in
+    pushed ∙ ap (λ t. t ++ x ∷ []) was ∙ ap (λ y. (before ++ (label ++ map f (range_with_len start (k - start)))) ++ y ∷ []) is
+    ∙ append_assoc before (label ++ map f (range_with_len start (k - start))) (f k ∷ [])
+    ∙ ap (λ t. before ++ t) (append_assoc label (map f (range_with_len start (k - start))) (f k ∷ []) ∙ ap (λ t. label ++ t) (sym (ap (λ n. map f (range_with_len start n)) next ∙ map-range_with_len_more f start (k - start) k at)))
+
+-- one piece more
+pub piece_pushed : (f : ℕ → List ℕ) (before : List ℕ) (k : ℕ) (text after piece : List ℕ) → text ≡ before ++ flat_map f (range_with_len 0 k) → piece ≡ f k → after ≡ text ++ piece → after ≡ before ++ flat_map f (range_with_len 0 (k + 1))
+piece_pushed f before k text after piece was is pushed =
+    pushed ∙ ap (λ t. t ++ piece) was ∙ ap (λ p. (before ++ flat_map f (range_with_len 0 k)) ++ p) is ∙ append_assoc before (flat_map f (range_with_len 0 k)) (f k)
+    ∙ ap (λ t. before ++ t) (sym (ap (flat_map f) (range_more 0 k ∙ ap (λ m. range_with_len 0 k ++ m ∷ []) (zero-add k)) ∙ flat_map-append f (range_with_len 0 k) (k ∷ []) ∙ ap (λ t. flat_map f (range_with_len 0 k) ++ t) (append-nil (f k))))
+
+-- the place of a mark
+pub place_within : (k nodes n count : ℕ) → k < count → 1 ≤ n → n ≤ nodes → k * nodes + (n - 1) < count * nodes
+place_within k nodes n count lt first last = let below : n - 1 < nodes = omega arith in grind (arith, common_steps, rows)
+
+-- one more of a column
+pub column_pushed : {X : Type 0} (f : ℕ → X) (before : List X) (n : ℕ) (now after : List X) (x : X) → now ≡ before ++ map f (range_with_len 1 n) → x ≡ f (n + 1) → after ≡ now ++ x ∷ [] → after ≡ before ++ map f (range_with_len 1 (n + 1))
+column_pushed f before n now after x was is pushed =
+    pushed ∙ ap (λ xs. xs ++ x ∷ []) was ∙ ap (λ y. (before ++ map f (range_with_len 1 n)) ++ y ∷ []) is ∙ append_assoc before (map f (range_with_len 1 n)) (f (n + 1) ∷ [])
+    ∙ ap (λ xs. before ++ xs) (sym (map-range_with_len_more f 1 n (n + 1) (omega arith)))

@@ -1,0 +1,56 @@
+-- Marks that lie command by command, and the texts that come out of them. (Of this project.)
+use Rattle.std.specs.Prelude.{◌≡◌, ℕ, ◌+◌, ◌-◌, ◌*◌, ◌==◌, min, List, [], ◌∷◌, ◌++◌, length, map, filter, flat_map, take, drop, codes}
+use Rattle.std.specs.List.{list_any, range_with_len, slice_index_or}
+use Rattle.qolb_model.specs.Plain.{PlainView, node_state}
+use Rattle.qolb_script.specs.Commands.{node_of}
+use Rattle.qolb_draw.specs.declared.mark.Mark.{Mark}
+use Rattle.qolb_draw.specs.declared.mark.Mark.TheVariants as mark
+use Rattle.qolb_draw.specs.declared.mark.Change.{Change}
+use Rattle.qolb_draw.specs.Marks.{mark_of}
+use Rattle.qolb_draw.specs.declared.text.TheConstants.{COLUMNS}
+use Rattle.qolb_draw.specs.LineRuns.{Step, mark_at}
+use Rattle.qolb_draw.specs.Pictures.{letter_of, label_of, heads_text, block_count}
+
+-- the marks of nodes 1 to `nodes` after each step, and the step's number and node
+abbrev pub marks_of : ℕ → List Step → List Mark
+marks_of nodes steps = flat_map (λ step. map (mark_at step) (range_with_len 1 nodes)) steps
+
+abbrev pub numbers_of : List Step → List ℕ
+numbers_of steps = map (λ step. step.number) steps
+
+abbrev pub nodes_of : List Step → List ℕ
+nodes_of steps = map (λ step. node_of step.command) steps
+
+-- what is kept of some steps
+pub record IsGrid (nodes : ℕ) (steps : List Step) (rows : ℕ) (numbers callers : List ℕ) (marks : List Mark) : Type 0 where
+  pub rows_are : rows ≡ nodes
+  pub numbers_are : numbers ≡ numbers_of steps
+  pub callers_are : callers ≡ nodes_of steps
+  pub marks_are : marks ≡ marks_of nodes steps
+
+-- the marks of all nodes after a command that made this change and left the line so
+abbrev pub column_out_of : PlainView → Change → ℕ → List Mark
+column_out_of line change nodes = map (λ n. mark_of change (node_state line n) n) (range_with_len 1 nodes)
+
+-- the mark of a node after command k of these
+abbrev pub mark_out_of : ℕ → List Mark → ℕ → ℕ → Mark
+mark_out_of nodes marks n k = slice_index_or marks (k * nodes + (n - 1)) mark.Idle
+
+-- the row of a node over some commands, the block of some nodes over them, and all blocks
+abbrev pub row_out_of : ℕ → List Mark → ℕ → ℕ → ℕ → List ℕ
+row_out_of nodes marks start count n = label_of n ++ map (λ k. letter_of (mark_out_of nodes marks n k)) (range_with_len start count) ++ 10 ∷ []
+
+abbrev pub block_out_of : ℕ → List Mark → List ℕ → List ℕ → ℕ → ℕ → List ℕ
+block_out_of nodes marks numbers shown start count = 10 ∷ [] ++ heads_text (take count (drop start numbers)) ++ flat_map (row_out_of nodes marks start count) shown
+
+abbrev pub blocks_out_of : ℕ → List Mark → List ℕ → List ℕ → List ℕ
+blocks_out_of nodes marks numbers shown =
+    flat_map (λ k. block_out_of nodes marks numbers shown (COLUMNS * k) (min COLUMNS (length numbers - COLUMNS * k))) (range_with_len 0 (block_count (length numbers)))
+
+-- the nodes among some that called
+abbrev pub shown_out_of : ℕ → List ℕ → List ℕ
+shown_out_of nodes called = filter (λ n. list_any (λ m. m == n) called) (range_with_len 1 nodes)
+
+-- the picture of a line
+abbrev pub line_out_of : ℕ → ℕ → List ℕ → List ℕ → List Mark → List ℕ
+line_out_of line nodes numbers callers marks = codes "line " ++ (48 + line) ∷ 10 ∷ [] ++ blocks_out_of nodes marks numbers (shown_out_of nodes callers) ++ 10 ∷ []

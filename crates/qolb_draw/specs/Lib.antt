@@ -1,0 +1,5 @@
+pub mod Marks
+pub mod LineRuns
+pub mod Pictures
+pub mod Following
+pub mod Grids

@@ -1,0 +1,42 @@
+-- The commands of a script on one line, one after another. (Of this project.)
+use Rattle.std.specs.Prelude.{ℕ, ◌+◌, ◌==◌, if◌then◌else◌, List, [], ◌∷◌, ◌++◌, fold}
+use Rattle.qolb_model.specs.declared.terms.Terms.{Terms}
+use Rattle.qolb_model.specs.OneOwner.{LineState, opened, state_of}
+use Rattle.qolb_script.specs.declared.command.Command.{Command}
+use Rattle.qolb_script.specs.Commands.{line_of}
+use Rattle.qolb_script.specs.Script.{Script}
+use Rattle.qolb_script.specs.Reply.{terms_of, after_command}
+use Rattle.qolb_draw.specs.declared.mark.Mark.{Mark}
+use Rattle.qolb_draw.specs.Marks.{change_of, mark_of}
+
+-- a command on the line, with its number in the script, counted from 1, and the state in which it finds the line
+pub record Step : Type 0 where
+  pub number : ℕ
+  pub command : Command
+  pub before : LineState
+
+-- the mark of a node after the command
+abbrev pub mark_at : Step → ℕ → Mark
+mark_at step n = mark_of (change_of step.before step.command) (state_of (after_command step.before step.command) n) n
+
+-- how many commands of the script were done, the state of the line, and what was done on it
+pub record LineRun : Type 0 where
+  pub done : ℕ
+  pub now : LineState
+  pub steps : List Step
+
+abbrev pub run_start : Terms → LineRun
+run_start terms = record { done = 0; now = opened terms; steps = [] }
+
+-- a command on the line is done; one on another line counts
+abbrev pub run_step : ℕ → LineRun → Command → LineRun
+run_step line run c =
+    if line_of c == line
+    then record { done = run.done + 1; now = after_command run.now c; steps = run.steps ++ record { number = run.done + 1; command = c; before = run.now } ∷ [] }
+    else record run { done = run.done + 1 }
+
+abbrev pub run_of : ℕ → Script → LineRun
+run_of line script = fold (run_step line) (run_start (terms_of script)) script.commands
+
+abbrev pub steps_on : ℕ → Script → List Step
+steps_on line script = (run_of line script).steps

@@ -1,0 +1,90 @@
+-- The picture of a schedule as plain text: for each line, in blocks of commands, a row of marks for each node that calls on it.
+-- (Of this project.)
+use Rattle.std.specs.Prelude.{◌≡◌, ℕ, ◌+◌, ◌-◌, ◌≤◌, ◌*◌, ◌/◌, ◌%◌, ◌==◌, nat_lt, nat_le, ◌&&◌, Bool, if◌then◌else◌, List, [], ◌∷◌, ◌++◌, length, map, filter, flat_map, take, drop, replicate, codes, Result, Ok, Err}
+use Rattle.std.specs.List.{list_any, range_with_len, slice_index_or}
+use Rattle.qolb_run.specs.declared.input.TheConstants.{MOST_BYTES}
+use Rattle.qolb_script.specs.declared.error.ScriptError.{ScriptError}
+use Rattle.qolb_script.specs.Commands.{node_of}
+use Rattle.qolb_script.specs.Script.{Script, script_of}
+use Rattle.qolb_draw.specs.declared.mark.Mark.{Mark}
+use Rattle.qolb_draw.specs.declared.mark.Mark.TheVariants as mark
+use Rattle.qolb_draw.specs.declared.text.TheConstants.{COLUMNS}
+use Rattle.qolb_draw.specs.LineRuns.{Step, mark_at, steps_on}
+
+-- the letter of each mark
+abbrev pub letter_of : Mark → ℕ
+letter_of mark.Idle = 46
+letter_of mark.Waits = 119
+letter_of mark.AtTurn = 116
+letter_of mark.Holds = 72
+letter_of mark.Withdrawn = 120
+letter_of mark.Shut = 45
+letter_of mark.Told = 99
+letter_of mark.Gives = 62
+letter_of mark.Takes = 60
+
+-- the digit of a number at a place of this value, and a space where the number has none there
+abbrev pub digit_at : ℕ → ℕ → ℕ
+digit_at value n = if nat_lt n value then 32 else 48 + n / value % 10
+
+-- a row of digits, at one place of each command's number
+abbrev pub head_text : List ℕ → ℕ → List ℕ
+head_text numbers value = replicate 9 32 ++ map (digit_at value) numbers ++ 10 ∷ []
+
+-- the values of the places that a number has, of at most six
+abbrev pub places_of : ℕ → List ℕ
+places_of n = filter (λ value. nat_le value n) (100000 ∷ 10000 ∷ 1000 ∷ 100 ∷ 10 ∷ 1 ∷ [])
+
+-- the numbers of commands, above one another's digits; the last is the greatest
+abbrev pub heads_text : List ℕ → List ℕ
+heads_text numbers = flat_map (head_text numbers) (places_of (slice_index_or numbers (length numbers - 1) 0))
+
+-- a node's row: its number, in three places, and its mark after each command
+abbrev pub label_of : ℕ → List ℕ
+label_of n = codes "node " ++ map (λ value. digit_at value n) (100 ∷ 10 ∷ 1 ∷ []) ++ 32 ∷ []
+
+abbrev pub row_text : List Step → ℕ → List ℕ
+row_text steps n = label_of n ++ map (λ step. letter_of (mark_at step n)) steps ++ 10 ∷ []
+
+-- a block: an empty line, the numbers of its commands, and the rows of these nodes
+abbrev pub block_text : List ℕ → List Step → List ℕ
+block_text nodes steps = 10 ∷ [] ++ heads_text (map (λ step. step.number) steps) ++ flat_map (row_text steps) nodes
+
+-- the nodes that call on the line
+abbrev pub callers : ℕ → List Step → List ℕ
+callers nodes steps = filter (λ n. list_any (λ step. node_of step.command == n) steps) (range_with_len 1 nodes)
+
+-- the steps of block k, and how many blocks there are
+abbrev pub block_at : List Step → ℕ → List Step
+block_at steps k = take COLUMNS (drop (COLUMNS * k) steps)
+
+abbrev pub block_count : ℕ → ℕ
+block_count n = (n + (COLUMNS - 1)) / COLUMNS
+
+abbrev pub blocks_text : List ℕ → List Step → List ℕ
+blocks_text nodes steps = flat_map (λ k. block_text nodes (block_at steps k)) (range_with_len 0 (block_count (length steps)))
+
+-- the picture of a line: its number, which has one digit, the blocks, and an empty line
+abbrev pub line_text : Script → ℕ → List ℕ
+line_text script line = codes "line " ++ (48 + line) ∷ 10 ∷ [] ++ blocks_text (callers script.nodes (steps_on line script)) (steps_on line script) ++ 10 ∷ []
+
+-- what the letters mean
+abbrev pub legend : List ℕ
+legend = codes ". idle   w waits   t its turn has come   H holds   > hands over to <\nx withdrawn   c told that the line is closed   - closed\n"
+
+-- the picture of a schedule: that of each line, and what the letters mean
+abbrev pub picture_of : Script → List ℕ
+picture_of script = flat_map (line_text script) (range_with_len 0 script.lines) ++ legend
+
+-- the picture of some bytes, or the first fault in them
+abbrev pub drawn : Result Script ScriptError → Result (List ℕ) ScriptError
+drawn (Ok script) = Ok (picture_of script)
+drawn (Err error) = Err error
+
+abbrev pub picture_to : List ℕ → Result (List ℕ) ScriptError
+picture_to text = drawn (script_of text)
+
+-- the bytes are a schedule, and this is its picture
+pub record IsPicture (input text : List ℕ) : Type 0 where
+  pub fits : length input ≤ MOST_BYTES
+  pub picture : picture_to input ≡ Ok text

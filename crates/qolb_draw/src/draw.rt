@@ -1,0 +1,55 @@
+//! Pictures of schedules: what a reader gives is drawn, and the picture written.
+ghost use Rattle.std.specs.Prelude.{◌≡◌, ◌≢◌, ◌↔◌, ℕ, List, true, false, Ok, Err, OnOk, IfOk, IfErr, IfSome};
+ghost use Rattle.std.specs.Io.KnownBytes.{Appends};
+ghost use Rattle.qolb_script.specs.Watched.{inner_of, has_failed};
+ghost use Rattle.qolb_run.specs.Outcome.{MayFail};
+ghost use Rattle.qolb_run.specs.declared.task.Task.TheVariants as task;
+ghost use Rattle.qolb_run.specs.declared.replay.Kind.TheVariants as kind;
+ghost use Rattle.qolb_draw.specs.Pictures.{picture_of, IsPicture};
+
+use crate::grid::draw_line;
+use crate::text::{LEGEND, push_line};
+use qolb_run::{ReplayError, read_all};
+use qolb_script::{Schedule, ScriptError, Watched, read_schedule};
+use std::alloc::{AllocError, Allocator};
+use std::io::{Read, Write};
+
+/// Draws the schedule that the reader gives, and writes its picture, by the answers of plain lines.
+///
+/// The whole input is read first, and the picture is built whole before its first byte is written: with every error but `Write`
+/// nothing was written. An error comes just where a replay of plain lines has it.
+pub fn draw_schedule<A: Allocator, R: Read, W: Write>(
+    alloc: A,
+    reader: &mut Watched<R>,
+    writer: &mut Watched<W>,
+) -> Result<(), ReplayError>
+    ensures ok { OnOk result (IfSome (R.remaining (inner_of reader.old)) (λ input. (text : List ℕ) × IsPicture input text × Appends (W.contents (inner_of writer.old)) (W.contents (inner_of writer.new)) text)) }
+    ensures refused { IfErr result (λ error. IfSome (R.remaining (inner_of reader.old)) (λ input. MayFail (task.Replay kind.Plain) input error)) }
+    ensures unwritten { IfErr result (λ error. error ≢ ReplayError.Write → writer.new ≡ writer.old) }
+    ensures read_fault { (result ≡ Err ReplayError.Read) ↔ (has_failed reader.new ≡ true) }
+    ensures write_fault { result ≡ Err ReplayError.Write → has_failed writer.new ≡ true }
+    ensures written { OnOk result (has_failed writer.new ≡ false) }
+    ensures memory { result ≢ Err (ReplayError.Script ScriptError.Memory) }
+{
+    let input = read_all(&alloc, reader)?;
+    let schedule = read_schedule(&alloc, input.as_slice())?;
+    let text = picture(&alloc, &schedule)?;
+    writer.write_all(text.as_slice())?;
+    Ok(())
+}
+
+/// The picture of a schedule.
+fn picture<A: Allocator + Copy>(alloc: A, schedule: &Schedule<A>) -> Result<Vec<u8, A>, AllocError>
+    ensures { IfOk result (λ text. text.items ≡ picture_of schedule.now) }
+{
+    let mut text = Vec::new(alloc);
+    for number in 0..schedule.lines() {
+        let grid = draw_line(alloc, schedule, number)?;
+        push_line(alloc, &mut text, &grid, number)?;
+    }
+    text.extend_from_slice(LEGEND)?;
+    Ok(text)
+}
+
+#[cfg(test)]
+mod tests;

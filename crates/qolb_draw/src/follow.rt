@@ -1,0 +1,110 @@
+//! A plain line whose calls are followed: what each command changes.
+ghost use Rattle.std.specs.Prelude.{◌≡◌, ◌≤◌, [], ℕ, List, IfOk, option_copied};
+ghost use Rattle.qolb_model.specs.OneOwner.{LineState};
+ghost use Rattle.qolb_script.specs.Commands.{node_of};
+ghost use Rattle.qolb_script.specs.Reply as reply;
+ghost use Rattle.qolb_draw.specs.Following as spec;
+
+use crate::mark::Change;
+use link_core::Told;
+use qolb_model::{Enq, Out, PlainLine, Poll, PortState};
+use qolb_run::ReplayLine;
+use qolb_script::{Command, Said};
+use std::alloc::{AllocError, Allocator};
+
+/// A plain line, and the nodes whose requests there have no end yet, the oldest first.
+#[derive(Drop)]
+pub struct FollowedLine<A: Allocator> {
+    pub line: PlainLine,
+    pub waiting: Vec<u64, A>,
+}
+
+impl<A: Allocator> FollowedLine<A> {
+    ghost use Rattle.qolb_model.specs.OneOwner.{LineState};
+    ghost use Rattle.qolb_script.specs.Commands.{node_of};
+    ghost use Rattle.qolb_script.specs.Reply.{after_command};
+    ghost use Rattle.qolb_draw.specs.Marks.{change_of};
+    ghost use Rattle.qolb_draw.specs.Following.{Follows};
+
+    /// A line that was just opened.
+    pub fn new(alloc: A, line: PlainLine) -> FollowedLine<A>
+        ensures line { result.line ≡ line }
+        ensures waiting { result.waiting.items ≡ [] }
+    {
+        FollowedLine {
+            line,
+            waiting: Vec::new(alloc),
+        }
+    }
+
+    /// Does a command, and says what it changed.
+    pub fn take(&mut self, command: &Command) -> Result<Change, AllocError>
+        requires first { 1 ≤ node_of command.now }
+        requires last { node_of command.now ≤ self.old.line.nodes }
+        ensures change { IfOk result (λ change. (s : LineState) → Follows self.old.line self.old.waiting.items s → change ≡ change_of s command.now) }
+        ensures follows { IfOk result (λ change. (s : LineState) → Follows self.old.line self.old.waiting.items s → Follows self.new.line self.new.waiting.items (after_command s command.now)) }
+        ensures nodes { self.new.line.nodes ≡ self.old.line.nodes }
+    {
+        let before = self.waiting.first().copied();
+        let said = self.line.answer(command);
+        if has_asked(&said) {
+            self.waiting.push(command.node())?;
+        }
+        pass(&mut self.waiting, &self.line);
+        Ok(Change {
+            node: command.node(),
+            told: is_told(&said),
+            before,
+            after: self.waiting.first().copied(),
+        })
+    }
+}
+
+/// It answers a node that has made a request.
+fn has_asked(said: &Said) -> bool
+    ensures { result ≡ spec.has_asked said.now }
+{
+    match *said {
+        Said::Enq(answer) => answer != Enq::Busy,
+        _ => false,
+    }
+}
+
+/// It says that the line is closed.
+fn is_told(said: &Said) -> bool
+    ensures { result ≡ reply.is_told said.now }
+{
+    matches!(
+        *said,
+        Said::Enq(Enq::Closed)
+            | Said::Poll(Poll::Closed)
+            | Said::Out(Out::Closed)
+            | Said::Told(Told::Closed)
+    )
+}
+
+/// Leaves out those at the front whose requests have ended.
+fn pass<A: Allocator>(waiting: &mut Vec<u64, A>, line: &PlainLine)
+    ensures { waiting.new.items ≡ spec.after_ended line.now waiting.old.items }
+{
+    while has_ended(waiting.first(), line) {
+        waiting.remove(0);
+    }
+}
+
+/// There is such a node, and it has no open request.
+fn has_ended(node: Option<&u64>, line: &PlainLine) -> bool
+    ensures { result ≡ spec.has_ended line.now (option_copied node.entry) }
+{
+    match node {
+        Some(node) => !is_open(line.state(*node)),
+        None => false,
+    }
+}
+
+/// A node in this state has a request without an end.
+fn is_open(state: PortState) -> bool
+    ensures { result ≡ spec.is_open state }
+{
+    !matches!(state, PortState::Idle | PortState::Left | PortState::Shut)
+}

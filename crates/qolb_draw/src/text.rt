@@ -1,0 +1,196 @@
+//! The picture as plain text.
+ghost use Rattle.std.specs.Prelude.{◌≡◌, ◌++◌, ◌<◌, ◌≤◌, ◌*◌, ◌-◌, length, All, OnOk, IfOk};
+ghost use Rattle.qolb_script.specs.declared.schedule.TheConstants.{MOST_COMMANDS, MOST_LINES};
+ghost use Rattle.qolb_draw.specs.Pictures as spec;
+ghost use Rattle.qolb_draw.specs.Grids.{row_out_of, block_out_of, blocks_out_of, shown_out_of, line_out_of};
+
+use crate::grid::Grid;
+use crate::mark::Mark;
+use qolb_model::MOST_NODES;
+use std::alloc::{AllocError, Allocator};
+
+/// The most commands of a block.
+pub const COLUMNS: usize = 70;
+
+/// As many spaces as the label of a row has characters.
+const MARGIN: &[u8] = b"         ";
+
+/// The values of the places of a command's number.
+const PLACES: [u64; 6] = [100_000, 10_000, 1000, 100, 10, 1];
+
+/// What the letters mean.
+pub const LEGEND: &[u8] =
+    b". idle   w waits   t its turn has come   H holds   > hands over to <\nx withdrawn   c told that the line is closed   - closed\n";
+
+/// The letter of a mark.
+fn letter(mark: Mark) -> u8
+    ensures { result ≡ spec.letter_of mark }
+{
+    match mark {
+        Mark::Idle => b'.',
+        Mark::Waits => b'w',
+        Mark::AtTurn => b't',
+        Mark::Holds => b'H',
+        Mark::Withdrawn => b'x',
+        Mark::Shut => b'-',
+        Mark::Told => b'c',
+        Mark::Gives => b'>',
+        Mark::Takes => b'<',
+    }
+}
+
+/// The digit of a number at a place of this value, or a space.
+fn digit_at(value: u64, number: u64) -> u8
+    requires { 1 ≤ value }
+    ensures { result ≡ spec.digit_at value number }
+{
+    if number < value {
+        b' '
+    } else {
+        b'0' + (number / value % 10) as u8
+    }
+}
+
+/// Appends a row of digits, at one place of each number.
+fn push_head<A: Allocator>(
+    text: &mut Vec<u8, A>,
+    numbers: &[u64],
+    value: u64,
+) -> Result<(), AllocError>
+    requires { 1 ≤ value }
+    ensures { OnOk result (text.new.items ≡ text.old.items ++ spec.head_text numbers.now value) }
+{
+    text.extend_from_slice(MARGIN)?;
+    for number in numbers {
+        text.push(digit_at(value, *number))?;
+    }
+    text.push(b'\n')?;
+    Ok(())
+}
+
+/// Appends the numbers of commands, digit below digit.
+fn push_heads<A: Allocator>(text: &mut Vec<u8, A>, numbers: &[u64]) -> Result<(), AllocError>
+    ensures { OnOk result (text.new.items ≡ text.old.items ++ spec.heads_text numbers.now) }
+{
+    let last = numbers.last().copied().unwrap_or(0);
+    for value in PLACES.iter() {
+        if *value <= last {
+            push_head(text, numbers, *value)?;
+        }
+    }
+    Ok(())
+}
+
+/// Appends the label of a node's row.
+fn push_label<A: Allocator>(text: &mut Vec<u8, A>, node: u64) -> Result<(), AllocError>
+    ensures { OnOk result (text.new.items ≡ text.old.items ++ spec.label_of node) }
+{
+    text.extend_from_slice(b"node ")?;
+    text.push(digit_at(100, node))?;
+    text.push(digit_at(10, node))?;
+    text.push(digit_at(1, node))?;
+    text.push(b' ')?;
+    Ok(())
+}
+
+/// Appends a node's row over some of the commands.
+fn push_row<A: Allocator>(
+    text: &mut Vec<u8, A>,
+    grid: &Grid<A>,
+    node: u64,
+    start: usize,
+    end: usize,
+) -> Result<(), AllocError>
+    requires first { 1 ≤ node }
+    requires last { node ≤ grid.now.nodes }
+    requires size { length grid.now.marks.items ≡ length grid.now.numbers.items * grid.now.nodes }
+    requires ordered { start ≤ end }
+    requires within { end ≤ length grid.now.numbers.items }
+    ensures { OnOk result (text.new.items ≡ text.old.items ++ row_out_of grid.now.nodes grid.now.marks.items start (end - start) node) }
+{
+    push_label(text, node)?;
+    let nodes = grid.nodes as usize;
+    for command in start..end {
+        text.push(letter(grid.marks[command * nodes + (node as usize - 1)]))?;
+    }
+    text.push(b'\n')?;
+    Ok(())
+}
+
+/// Appends a block: the rows of these nodes over some of the commands, below the commands' numbers.
+fn push_block<A: Allocator>(
+    text: &mut Vec<u8, A>,
+    grid: &Grid<A>,
+    shown: &[u64],
+    start: usize,
+    end: usize,
+) -> Result<(), AllocError>
+    requires nodes { All (λ n. (1 ≤ n) × (n ≤ grid.now.nodes)) shown.now }
+    requires size { length grid.now.marks.items ≡ length grid.now.numbers.items * grid.now.nodes }
+    requires ordered { start ≤ end }
+    requires within { end ≤ length grid.now.numbers.items }
+    ensures { OnOk result (text.new.items ≡ text.old.items ++ block_out_of grid.now.nodes grid.now.marks.items grid.now.numbers.items shown.now start (end - start)) }
+{
+    text.push(b'\n')?;
+    push_heads(text, &grid.numbers[start..end])?;
+    for node in shown {
+        push_row(text, grid, *node, start, end)?;
+    }
+    Ok(())
+}
+
+/// Appends all blocks, each of the rows of these nodes.
+fn push_blocks<A: Allocator>(
+    text: &mut Vec<u8, A>,
+    grid: &Grid<A>,
+    shown: &[u64],
+) -> Result<(), AllocError>
+    requires nodes { All (λ n. (1 ≤ n) × (n ≤ grid.now.nodes)) shown.now }
+    requires size { length grid.now.marks.items ≡ length grid.now.numbers.items * grid.now.nodes }
+    requires few { length grid.now.numbers.items ≤ MOST_COMMANDS }
+    ensures { OnOk result (text.new.items ≡ text.old.items ++ blocks_out_of grid.now.nodes grid.now.marks.items grid.now.numbers.items shown.now) }
+{
+    let count = grid.numbers.len();
+    for block in 0..(count + (COLUMNS - 1)) / COLUMNS {
+        let start = COLUMNS * block;
+        push_block(text, grid, shown, start, start + COLUMNS.min(count - start))?;
+    }
+    Ok(())
+}
+
+/// The nodes that called, in order.
+fn shown<A: Allocator + Copy>(alloc: A, grid: &Grid<A>) -> Result<Vec<u64, A>, AllocError>
+    requires { grid.now.nodes ≤ MOST_NODES }
+    ensures { IfOk result (λ nodes. nodes.items ≡ shown_out_of grid.now.nodes grid.now.callers.items) }
+{
+    let mut nodes = Vec::new(alloc);
+    for before in 0..grid.nodes {
+        let node = before + 1;
+        if grid.callers.contains(&node) {
+            nodes.push(node)?;
+        }
+    }
+    Ok(nodes)
+}
+
+/// Appends the picture of a line.
+pub fn push_line<A: Allocator + Copy>(
+    alloc: A,
+    text: &mut Vec<u8, A>,
+    grid: &Grid<A>,
+    number: u64,
+) -> Result<(), AllocError>
+    requires number { number < MOST_LINES }
+    requires nodes { grid.now.nodes ≤ MOST_NODES }
+    requires size { length grid.now.marks.items ≡ length grid.now.numbers.items * grid.now.nodes }
+    requires few { length grid.now.numbers.items ≤ MOST_COMMANDS }
+    ensures { OnOk result (text.new.items ≡ text.old.items ++ line_out_of number grid.now.nodes grid.now.numbers.items grid.now.callers.items grid.now.marks.items) }
+{
+    let nodes = shown(alloc, grid)?;
+    text.extend_from_slice(b"line ")?;
+    text.push(b'0' + number as u8)?;
+    text.push(b'\n')?;
+    push_blocks(text, grid, &nodes)?;
+    text.push(b'\n')?;
+    Ok(())
+}
