@@ -1,0 +1,4 @@
+pub mod Nodes
+pub mod Numbers
+pub mod Held
+pub mod Calls
