@@ -1,14 +1,17 @@
 -- What each call from C promises of the handle's node. `was` and `now` are the node before and after. (Of this project.)
-use Rattle.std.specs.Prelude.{◌≡◌, ◌≢◌, ℕ, List, Bool, true, false, Option, Some, None}
+use Rattle.std.specs.Prelude.{◌≡◌, ◌≢◌, ℕ, ◌*◌, ◌<◌, List, Bool, true, false, Option, Some, None}
 use Rattle.line_lanes.specs.Lane.{lane_of, with_lane_of}
+use Rattle.line_lanes.specs.Mask.{placed_mask}
 use Rattle.qolb_model.specs.declared.answer.Enq.{Enq}
 use Rattle.qolb_model.specs.declared.answer.Enq.TheVariants as enq
+use Rattle.qolb_model.specs.declared.answer.Prep.{Prep}
+use Rattle.qolb_model.specs.declared.answer.Prep.TheVariants as prep
 use Rattle.qolb_model.specs.declared.answer.Poll.{Poll}
 use Rattle.qolb_model.specs.declared.answer.Poll.TheVariants as poll
 use Rattle.qolb_model.specs.declared.answer.Out.{Out}
 use Rattle.qolb_model.specs.declared.answer.Out.TheVariants as out
 use Rattle.qolb_model.specs.declared.answer.PortState.{PortState}
-use Rattle.qolb_model.specs.declared.answer.PortState.TheVariants.{Queued, Holding}
+use Rattle.qolb_model.specs.declared.answer.PortState.TheVariants.{Linking, Queued, Holding}
 use Rattle.qolb_model.specs.declared.view.View.{View}
 use Rattle.qolb_model.specs.declared.write.Write.{Write}
 use Rattle.qolb_model.specs.Calls as line
@@ -41,6 +44,11 @@ AreOfOneLine (kind.Ring a) (kind.List b) = ⊥
 AreOfOneLine (kind.List a) (kind.Ring b) = ⊥
 AreOfOneLine (kind.List a) (kind.List b) = b.line ≡ a.line
 
+-- C's number of the kind of a node's line
+abbrev pub kind_of : AnyNode → ℕ
+kind_of (kind.Ring node) = 0
+kind_of (kind.List node) = 1
+
 -- the answers of a line's calls
 abbrev pub enq_told : Enq → Answer
 enq_told enq.Granted = answer.Granted
@@ -57,6 +65,12 @@ abbrev pub out_told : Out → Answer
 out_told out.Withdrawn = answer.Withdrawn
 out_told out.Granted = answer.Granted
 out_told out.Closed = answer.Closed
+
+abbrev pub prep_told : Prep → Answer
+prep_told prep.Granted = answer.Granted
+prep_told prep.Linking = answer.Linking
+prep_told prep.Closed = answer.Closed
+prep_told prep.Busy = answer.Busy
 
 -- a call that the node's state may forbid. Forbidden, it is misuse, and nothing changes; allowed, the line's call is made, which promises this of
 -- its own answer. The node stays of its line
@@ -77,6 +91,17 @@ Enqolbs was now a = IsCall (may_ask (state_of was) ≡ true) enq_told (line.Enqu
 abbrev pub Polls : AnyNode → AnyNode → Answer → Type 0
 Polls was now a = IsCall (state_of was ≡ Queued) poll_told (line.Polls anything (view_of was) (view_of now) (turn_of now)) was now a
 
+-- `wait`: where it waits, and may poll at least once; it promises what `poll` does
+abbrev pub Waits : ℕ → AnyNode → AnyNode → Answer → Type 0
+Waits polls was now a = IsCall ((state_of was ≡ Queued) × (0 < polls)) poll_told (line.Polls anything (view_of was) (view_of now) (turn_of now)) was now a
+
+-- `prepend` and `link`, of a list: where the node neither waits nor holds, and where it is linking
+abbrev pub Prepends : AnyNode → AnyNode → Answer → Type 0
+Prepends was now a = IsCall ((kind_of was ≡ 1) × (may_ask (state_of was) ≡ true)) prep_told (line.Prepends anything (view_of was) (view_of now) (turn_of now)) was now a
+
+abbrev pub LinksUp : AnyNode → AnyNode → Answer → Type 0
+LinksUp was now a = IsCall ((kind_of was ≡ 1) × (state_of was ≡ Linking)) enq_told (line.LinksUp anything (view_of was) (view_of now) (turn_of now)) was now a
+
 -- `withdraw`: where it waits
 abbrev pub Withdraws : AnyNode → AnyNode → Answer → Type 0
 Withdraws was now a = IsCall (state_of was ≡ Queued) out_told (line.Withdraws anything (view_of was) (view_of now) (turn_of now)) was now a
@@ -88,6 +113,15 @@ Reads out_was out_now was now a = IsDone (state_of was ≡ Holding) (out_now ≡
 -- `write`: where it holds, the bytes of the mask are written
 abbrev pub Writes : ℕ → List ℕ → AnyNode → AnyNode → Answer → Type 0
 Writes mask bytes was now a = IsDone (state_of was ≡ Holding) ((view_of now ≡ view_of was) × (turn_of now ≡ turn_after (turn_of was) mask bytes)) was now a
+
+-- `read_lane` and `write_lane`: the same for one lane of the eight. A lane is written by a write of its bytes
+abbrev pub ReadsLane : ℕ → ℕ → ℕ → AnyNode → AnyNode → Answer → Type 0
+ReadsLane k out_was out_now was now a =
+    IsDone ((state_of was ≡ Holding) × (k < 8)) (out_now ≡ lane_of (turn_of was).bytes.bytes k) was now a × (now ≡ was) × (((state_of was ≡ Holding) × (k < 8) → ⊥) → out_now ≡ out_was)
+
+abbrev pub WritesLane : ℕ → ℕ → AnyNode → AnyNode → Answer → Type 0
+WritesLane k value was now a =
+    IsDone ((state_of was ≡ Holding) × (k < 8)) ((view_of now ≡ view_of was) × (turn_of now ≡ turn_after (turn_of was) (placed_mask (8 * k) 8) (with_lane_of (turn_of was).bytes.bytes k value))) was now a
 
 -- `deqolb`, and with true `shut`: where it holds
 abbrev pub Releases : Bool → AnyNode → AnyNode → Answer → Type 0

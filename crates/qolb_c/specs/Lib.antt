@@ -2,3 +2,4 @@ pub mod Nodes
 pub mod Numbers
 pub mod Held
 pub mod Calls
+pub mod Opens

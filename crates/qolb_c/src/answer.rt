@@ -1,9 +1,9 @@
 //! What a call answers, and C's numbers for it.
 ghost use Rattle.std.specs.Prelude.{◌≡◌, MatchResult};
 ghost use Rattle.qolb_c.specs.Numbers.{number_of, state_number};
-ghost use Rattle.qolb_c.specs.Calls.{enq_told, poll_told, out_told};
+ghost use Rattle.qolb_c.specs.Calls.{enq_told, prep_told, poll_told, out_told};
 
-use qolb_model::{Enq, Out, Poll, PortState};
+use qolb_model::{Enq, Out, Poll, PortState, Prep};
 
 /// The node's state does not allow the call. Nothing changed.
 #[derive(Clone, Copy, Debug, PartialEq, Eq)]
@@ -54,6 +54,19 @@ impl Answer {
             Ok(Enq::Queued) => Answer::Queued,
             Ok(Enq::Closed) => Answer::Closed,
             Ok(Enq::Busy) => Answer::Busy,
+            Err(Misuse) => Answer::Misuse,
+        }
+    }
+
+    /// What is told of the first half of asking.
+    pub fn of_prep(made: Result<Prep, Misuse>) -> Answer
+        ensures { MatchResult made (λ answer. result ≡ prep_told answer) (λ _. result ≡ Answer.Misuse) }
+    {
+        match made {
+            Ok(Prep::Granted) => Answer::Granted,
+            Ok(Prep::Linking) => Answer::Linking,
+            Ok(Prep::Closed) => Answer::Closed,
+            Ok(Prep::Busy) => Answer::Busy,
             Err(Misuse) => Answer::Misuse,
         }
     }

@@ -1,5 +1,5 @@
 //! What C holds of a node: a pointer, which is null where there is no node.
-ghost use Rattle.std.specs.Prelude.{◌≡◌};
+ghost use Rattle.std.specs.Prelude.{◌≡◌, true, false};
 ghost use Rattle.std.specs.Option.{MatchOption};
 ghost use Rattle.std.specs.declared.option.Option.{Option};
 ghost use Rattle.std.specs.declared.option.Option.TheVariants.{None, Some};
@@ -29,14 +29,14 @@ impl Model for Handle {
 
 impl Handle {
     /// A handle without a node.
-    pub fn empty() -> Handle
+    fn empty() -> Handle
         ensures { result.held ≡ None }
     {
         Handle { at: null_mut() }
     }
 
     /// The handle of a node.
-    pub fn of(node: Box<AnyNode>) -> Handle
+    fn of(node: Box<AnyNode>) -> Handle
         ensures { result.held ≡ Some node.value }
     {
         Handle::of_parts(Parts::of(node))
@@ -50,6 +50,29 @@ impl Handle {
         match mem::replace(self, Handle::empty()).into_parts(alloc) {
             None => None,
             Some(parts) => Some(parts.into_box()),
+        }
+    }
+
+    /// Puts a node into an empty handle.
+    pub fn put(&mut self, node: Box<AnyNode>)
+        requires { self.old.held ≡ None }
+        ensures { self.new.held ≡ Some node.value }
+    {
+        *self = Handle::of(node);
+    }
+
+    /// Whether there is no node.
+    pub fn is_empty(&mut self, alloc: Global) -> bool
+        ensures same { self.new.held ≡ self.old.held }
+        ensures empty { result ≡ true → self.old.held ≡ None }
+        ensures node { result ≡ false → (node : AnyNode) × (self.old.held ≡ Some node) }
+    {
+        match self.take(alloc) {
+            None => true,
+            Some(node) => {
+                self.put(node);
+                false
+            }
         }
     }
 

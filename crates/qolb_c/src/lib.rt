@@ -5,16 +5,21 @@
 #![tactic(auto)]
 
 ghost use Rattle.std.specs.Prelude.{◌≡◌, true, false};
-ghost use Rattle.qolb_c.specs.Calls.{Calls, Enqolbs, Polls, Withdraws, Reads, Writes, Releases, Closes, node_number, state_told};
+ghost use Rattle.qolb_c.specs.declared.answer.Answer.{Answer};
+ghost use Rattle.qolb_c.specs.Numbers.{number_of};
+ghost use Rattle.qolb_c.specs.Opens.{Opens, terms_by};
+ghost use Rattle.qolb_c.specs.Calls.{Calls, Enqolbs, Polls, Waits, Prepends, LinksUp, Withdraws, Reads, ReadsLane, Writes, WritesLane, Releases, Closes, node_number, state_told};
 
 mod answer;
 mod any_node;
 mod handle;
 mod node;
+mod opening;
 
 use answer::{Answer, state_number};
 use handle::Handle;
 use line_lanes::{Line64, Mask};
+use qolb_model::Terms;
 use std::alloc::Global;
 
 /// 64 bytes, as C passes them.
@@ -22,6 +27,33 @@ use std::alloc::Global;
 #[derive(Drop)]
 pub struct Bytes {
     pub bytes: [u8; 64],
+}
+
+/// No lease.
+const NO_LEASE: u64 = u64::MAX;
+
+/// Opens a line of this kind (0 a ring, 1 a list) with the bytes of `opening`, and puts its nodes into the first of these handles. The line
+/// closes at the turn that is the lease's last; with a lease of 2^64 - 1 it has none.
+#[unsafe(no_mangle)]
+pub extern "C" fn qolb_open(
+    alloc: Global,
+    kind: u32,
+    label: u64,
+    nodes: u64,
+    lease: u64,
+    opening: &Bytes,
+    out: &mut [Handle],
+) -> u32
+    ensures { (answer : Answer) × (result ≡ number_of answer) × Opens kind label (terms_by nodes lease opening.now.bytes) out.old out.new answer }
+{
+    let terms = Terms {
+        nodes,
+        opening: Line64 {
+            bytes: opening.bytes,
+        },
+        lease: if lease == NO_LEASE { None } else { Some(lease) },
+    };
+    opening::open(alloc, kind, label, terms, out).number()
 }
 
 /// Asks for the line.
@@ -33,7 +65,7 @@ pub extern "C" fn qolb_enqolb(alloc: Global, node: &mut Handle) -> u32
         None => Answer::Misuse.number(),
         Some(mut taken) => {
             let answer = taken.enqolb();
-            *node = Handle::of(taken);
+            node.put(taken);
             answer.number()
         }
     }
@@ -48,7 +80,52 @@ pub extern "C" fn qolb_poll(alloc: Global, node: &mut Handle) -> u32
         None => Answer::Misuse.number(),
         Some(mut taken) => {
             let answer = taken.poll();
-            *node = Handle::of(taken);
+            node.put(taken);
+            answer.number()
+        }
+    }
+}
+
+/// Looks at most so many times whether the request has come to its turn, with a pause between two.
+#[unsafe(no_mangle)]
+pub extern "C" fn qolb_wait(alloc: Global, node: &mut Handle, polls: u64) -> u32
+    ensures { Calls (Waits polls) node.old.held node.new.held result }
+{
+    match node.take(alloc) {
+        None => Answer::Misuse.number(),
+        Some(mut taken) => {
+            let answer = taken.wait(polls);
+            node.put(taken);
+            answer.number()
+        }
+    }
+}
+
+/// The first half of asking, of a list alone: makes a request, and leaves it to be linked to the one before.
+#[unsafe(no_mangle)]
+pub extern "C" fn qolb_prepend(alloc: Global, node: &mut Handle) -> u32
+    ensures { Calls Prepends node.old.held node.new.held result }
+{
+    match node.take(alloc) {
+        None => Answer::Misuse.number(),
+        Some(mut taken) => {
+            let answer = taken.prepend();
+            node.put(taken);
+            answer.number()
+        }
+    }
+}
+
+/// The second half of asking, of a list alone: links the request to the one before.
+#[unsafe(no_mangle)]
+pub extern "C" fn qolb_link(alloc: Global, node: &mut Handle) -> u32
+    ensures { Calls LinksUp node.old.held node.new.held result }
+{
+    match node.take(alloc) {
+        None => Answer::Misuse.number(),
+        Some(mut taken) => {
+            let answer = taken.link();
+            node.put(taken);
             answer.number()
         }
     }
@@ -63,7 +140,7 @@ pub extern "C" fn qolb_withdraw(alloc: Global, node: &mut Handle) -> u32
         None => Answer::Misuse.number(),
         Some(mut taken) => {
             let answer = taken.withdraw();
-            *node = Handle::of(taken);
+            node.put(taken);
             answer.number()
         }
     }
@@ -77,14 +154,8 @@ pub extern "C" fn qolb_read(alloc: Global, node: &mut Handle, out: &mut Bytes) -
     match node.take(alloc) {
         None => Answer::Misuse.number(),
         Some(taken) => {
-            let answer = match taken.bytes() {
-                Some(line) => {
-                    out.bytes = line.bytes;
-                    Answer::Done
-                }
-                None => Answer::Misuse,
-            };
-            *node = Handle::of(taken);
+            let answer = taken.read(&mut out.bytes);
+            node.put(taken);
             answer.number()
         }
     }
@@ -100,7 +171,37 @@ pub extern "C" fn qolb_write(alloc: Global, node: &mut Handle, mask: u64, bytes:
         Some(mut taken) => {
             let line = Line64 { bytes: bytes.bytes };
             let answer = taken.write(Mask(mask), &line);
-            *node = Handle::of(taken);
+            node.put(taken);
+            answer.number()
+        }
+    }
+}
+
+/// The holder reads one of the eight lanes.
+#[unsafe(no_mangle)]
+pub extern "C" fn qolb_read_lane(alloc: Global, node: &mut Handle, lane: u64, out: &mut u64) -> u32
+    ensures { Calls (ReadsLane lane out.old out.new) node.old.held node.new.held result }
+{
+    match node.take(alloc) {
+        None => Answer::Misuse.number(),
+        Some(taken) => {
+            let answer = taken.read_lane(lane, out);
+            node.put(taken);
+            answer.number()
+        }
+    }
+}
+
+/// The holder writes one of the eight lanes.
+#[unsafe(no_mangle)]
+pub extern "C" fn qolb_write_lane(alloc: Global, node: &mut Handle, lane: u64, value: u64) -> u32
+    ensures { Calls (WritesLane lane value) node.old.held node.new.held result }
+{
+    match node.take(alloc) {
+        None => Answer::Misuse.number(),
+        Some(mut taken) => {
+            let answer = taken.write_lane(lane, value);
+            node.put(taken);
             answer.number()
         }
     }
@@ -115,7 +216,7 @@ pub extern "C" fn qolb_deqolb(alloc: Global, node: &mut Handle) -> u32
         None => Answer::Misuse.number(),
         Some(mut taken) => {
             let answer = taken.deqolb();
-            *node = Handle::of(taken);
+            node.put(taken);
             answer.number()
         }
     }
@@ -130,7 +231,7 @@ pub extern "C" fn qolb_shut(alloc: Global, node: &mut Handle) -> u32
         None => Answer::Misuse.number(),
         Some(mut taken) => {
             let answer = taken.shut();
-            *node = Handle::of(taken);
+            node.put(taken);
             answer.number()
         }
     }
@@ -148,7 +249,7 @@ pub extern "C" fn qolb_close(alloc: Global, node: &mut Handle) -> u32
                 drop(taken);
                 Answer::Done.number()
             } else {
-                *node = Handle::of(taken);
+                node.put(taken);
                 Answer::Misuse.number()
             }
         }
@@ -165,7 +266,7 @@ pub extern "C" fn qolb_number(alloc: Global, node: &mut Handle) -> u64
         None => 0,
         Some(taken) => {
             let number = taken.number();
-            *node = Handle::of(taken);
+            node.put(taken);
             number
         }
     }
@@ -181,7 +282,7 @@ pub extern "C" fn qolb_state(alloc: Global, node: &mut Handle) -> u32
         None => 0,
         Some(taken) => {
             let state = taken.state();
-            *node = Handle::of(taken);
+            node.put(taken);
             state_number(state)
         }
     }
