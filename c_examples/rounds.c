@@ -1,0 +1,95 @@
+/* Times rounds from C, to be compared with bench/ring.c: each thread asks, adds 1 to lane 0 and releases.
+ *
+ *   make -C c_examples build/rounds && c_examples/build/rounds THREADS ROUNDS [ring|list] [lanes|lines]
+ *
+ * Prints the lane sum, and nanoseconds a round over all threads. `lines` reads and writes whole lines in place of a lane. */
+#include <pthread.h>
+#include <qolb.h>
+#include <sched.h>
+#include <stdio.h>
+#include <stdlib.h>
+#include <string.h>
+#include <time.h>
+
+enum { MOST = 32, SPINS = 64 };
+
+struct task {
+    _Alignas(128) qolb_node node;
+};
+
+static struct task tasks[MOST];
+static uint64_t rounds;
+static int by_lines;
+static pthread_barrier_t gate;
+
+/* As bench/ring.c waits: single pauses first, and then the processor is given away between polls. */
+static void acquire(qolb_node *node) {
+    uint32_t got = qolb_enqolb(node);
+    if (got == QOLB_QUEUED) {
+        got = qolb_wait(node, SPINS);
+        while (got == QOLB_WAITING) {
+            sched_yield();
+            got = qolb_poll(node);
+        }
+    }
+    if (got != QOLB_GRANTED) abort();
+}
+
+static void add_one(qolb_node *node) {
+    uint64_t lane;
+    if (by_lines) {
+        qolb_bytes line;
+        if (qolb_read(node, &line) != QOLB_DONE) abort();
+        memcpy(&lane, line.byte, 8);
+        lane++;
+        memcpy(line.byte, &lane, 8);
+        if (qolb_write(node, 0xff, &line) != QOLB_DONE) abort();
+    } else {
+        if (qolb_read_lane(node, 0, &lane) != QOLB_DONE) abort();
+        if (qolb_write_lane(node, 0, lane + 1) != QOLB_DONE) abort();
+    }
+}
+
+static void *work(void *argument) {
+    qolb_node *node = &((struct task *)argument)->node;
+    pthread_barrier_wait(&gate);
+    for (uint64_t k = 0; k < rounds; k++) {
+        acquire(node);
+        add_one(node);
+        if (qolb_deqolb(node) != QOLB_DONE) abort();
+    }
+    return NULL;
+}
+
+int main(int argc, char **argv) {
+    int threads = argc > 1 ? atoi(argv[1]) : 2;
+    rounds = argc > 2 ? strtoull(argv[2], NULL, 10) : 1000;
+    uint32_t kind = argc > 3 && strcmp(argv[3], "list") == 0 ? QOLB_LIST : QOLB_RING;
+    by_lines = argc > 4 && strcmp(argv[4], "lines") == 0;
+    if (threads < 1 || threads > MOST) return 2;
+    qolb_bytes zeros = {{0}};
+    qolb_node nodes[MOST] = {{0}};
+    if (qolb_open(kind, 1, threads, QOLB_NO_LEASE, &zeros, nodes, MOST) != QOLB_DONE) return 3;
+    for (int k = 0; k < threads; k++) {
+        tasks[k].node = nodes[k];
+        nodes[k].own = NULL;
+    }
+    pthread_barrier_init(&gate, NULL, threads + 1);
+    pthread_t ids[MOST];
+    for (int k = 0; k < threads; k++)
+        if (pthread_create(&ids[k], NULL, work, &tasks[k])) return 3;
+    struct timespec from, to;
+    pthread_barrier_wait(&gate);
+    clock_gettime(CLOCK_MONOTONIC, &from);
+    for (int k = 0; k < threads; k++) pthread_join(ids[k], NULL);
+    clock_gettime(CLOCK_MONOTONIC, &to);
+    uint64_t sum;
+    acquire(&tasks[0].node);
+    if (qolb_read_lane(&tasks[0].node, 0, &sum) != QOLB_DONE) return 3;
+    if (qolb_deqolb(&tasks[0].node) != QOLB_DONE) return 3;
+    for (int k = 0; k < threads; k++)
+        if (qolb_close(&tasks[k].node) != QOLB_DONE) return 3;
+    double ns = (to.tv_sec - from.tv_sec) * 1e9 + (to.tv_nsec - from.tv_nsec), all = (double)threads * rounds;
+    printf("threads %d rounds %.0f lane sum %llu ns a round %.1f\n", threads, all, (unsigned long long)sum, ns / all);
+    return sum == threads * rounds ? 0 : 1;
+}

@@ -1,0 +1,200 @@
+/* Two threads add to one lane of a line, of a ring and of a list; then every mistake is made that the library must answer. Prints nothing but
+ * what went wrong. */
+#include <pthread.h>
+#include <qolb.h>
+#include <sched.h>
+#include <stdio.h>
+#include <string.h>
+
+enum { THREADS = 2, ROUNDS = 20000 };
+
+#define WANT(call, wanted)                                                                     \
+    do {                                                                                       \
+        unsigned long long got_ = (call);                                                      \
+        if (got_ != (wanted)) {                                                                \
+            printf("line %d: %s gave %llu\n", __LINE__, #call, got_);                          \
+            return 1;                                                                          \
+        }                                                                                      \
+    } while (0)
+
+/* Asks, and waits until the line is granted or closed. */
+static uint32_t acquire(qolb_node *node) {
+    uint32_t got;
+    while ((got = qolb_enqolb(node)) == QOLB_BUSY) sched_yield();
+    if (got != QOLB_QUEUED) return got;
+    while ((got = qolb_wait(node, 64)) == QOLB_WAITING) sched_yield();
+    return got;
+}
+
+/* A thread adds 1 to lane 3, half of its rounds by lanes and half by whole lines. The handle is the thread's alone. */
+static void *add(void *argument) {
+    qolb_node *node = argument;
+    for (int round = 0; round < ROUNDS; round++) {
+        if (acquire(node) != QOLB_GRANTED) return "not granted";
+        uint64_t count;
+        if (round % 2) {
+            if (qolb_read_lane(node, 3, &count) != QOLB_DONE) return "lane not read";
+            if (qolb_write_lane(node, 3, count + 1) != QOLB_DONE) return "lane not written";
+        } else {
+            qolb_bytes line;
+            if (qolb_read(node, &line) != QOLB_DONE) return "not read";
+            memcpy(&count, line.byte + 24, 8);
+            count++;
+            memset(line.byte, 0xee, sizeof line.byte);
+            memcpy(line.byte + 24, &count, 8);
+            if (qolb_write(node, 0xff000000, &line) != QOLB_DONE) return "not written";
+        }
+        if (qolb_deqolb(node) != QOLB_DONE) return "not released";
+    }
+    return NULL;
+}
+
+static int count(uint32_t kind) {
+    qolb_bytes zeros = {{0}}, line;
+    qolb_node nodes[THREADS] = {{0}};
+    pthread_t threads[THREADS];
+    WANT(qolb_open(kind, 1, THREADS, QOLB_NO_LEASE, &zeros, nodes, THREADS), QOLB_DONE);
+    for (int k = 0; k < THREADS; k++) WANT(pthread_create(&threads[k], NULL, add, &nodes[k]), 0);
+    for (int k = 0; k < THREADS; k++) {
+        void *wrong;
+        WANT(pthread_join(threads[k], &wrong), 0);
+        if (wrong) {
+            printf("thread %d: %s\n", k, (const char *)wrong);
+            return 1;
+        }
+    }
+    WANT(acquire(&nodes[0]), QOLB_GRANTED);
+    WANT(qolb_read(&nodes[0], &line), QOLB_DONE);
+    for (int k = 0; k < 64; k++)
+        if (k / 8 != 3) WANT(line.byte[k], 0);
+    uint64_t sum;
+    WANT(qolb_read_lane(&nodes[0], 3, &sum), QOLB_DONE);
+    WANT(sum, THREADS * ROUNDS);
+    WANT(qolb_deqolb(&nodes[0]), QOLB_DONE);
+    for (int k = 0; k < THREADS; k++) WANT(qolb_close(&nodes[k]), QOLB_DONE);
+    return 0;
+}
+
+static int refusals(void) {
+    qolb_bytes zeros = {{0}};
+    qolb_node nodes[3] = {{0}}, other = {0};
+    WANT(qolb_open(2, 7, 0, 0, &zeros, nodes, 3), QOLB_BAD_KIND);
+    WANT(qolb_open(QOLB_RING, 7, 0, 0, &zeros, nodes, 3), QOLB_BAD_NODES);
+    WANT(qolb_open(QOLB_LIST, 7, 201, QOLB_NO_LEASE, &zeros, nodes, 3), QOLB_BAD_NODES);
+    WANT(qolb_open(QOLB_LIST, 7, 4, 0, &zeros, nodes, 3), QOLB_BAD_LEASE);
+    WANT(qolb_open(QOLB_RING, 7, 4, 1, &zeros, nodes, 3), QOLB_TOO_FEW);
+    WANT(qolb_open(QOLB_LIST, 7, 1, 1, &zeros, &other, 1), QOLB_DONE);
+    void *own = other.own;
+    nodes[2] = other; /* moved there, and back */
+    other.own = NULL;
+    WANT(qolb_open(QOLB_RING, 8, 3, QOLB_NO_LEASE, &zeros, nodes, 3), QOLB_OCCUPIED);
+    WANT(nodes[0].own == NULL && nodes[1].own == NULL && nodes[2].own == own, 1);
+    WANT(qolb_open(QOLB_RING, 8, 2, QOLB_NO_LEASE, &zeros, nodes, 3), QOLB_DONE);
+    WANT(qolb_number(&nodes[0]), 1);
+    WANT(qolb_number(&nodes[1]), 2);
+    WANT(nodes[2].own == own, 1);
+    for (int k = 0; k < 3; k++) WANT(qolb_close(&nodes[k]), QOLB_DONE);
+    for (int k = 0; k < 3; k++) WANT(nodes[k].own == NULL, 1);
+    return 0;
+}
+
+static int empty_handle(void) {
+    qolb_bytes line = {{0}};
+    qolb_node node = {0};
+    uint64_t lane = 5;
+    WANT(qolb_enqolb(&node), QOLB_MISUSE);
+    WANT(qolb_poll(&node), QOLB_MISUSE);
+    WANT(qolb_wait(&node, 1), QOLB_MISUSE);
+    WANT(qolb_withdraw(&node), QOLB_MISUSE);
+    WANT(qolb_prepend(&node), QOLB_MISUSE);
+    WANT(qolb_link(&node), QOLB_MISUSE);
+    WANT(qolb_read(&node, &line), QOLB_MISUSE);
+    WANT(qolb_write(&node, 1, &line), QOLB_MISUSE);
+    WANT(qolb_read_lane(&node, 0, &lane), QOLB_MISUSE);
+    WANT(lane, 5);
+    WANT(qolb_write_lane(&node, 0, 1), QOLB_MISUSE);
+    WANT(qolb_deqolb(&node), QOLB_MISUSE);
+    WANT(qolb_shut(&node), QOLB_MISUSE);
+    WANT(qolb_close(&node), QOLB_MISUSE);
+    WANT(qolb_number(&node), 0);
+    WANT(qolb_state(&node), QOLB_STATE_EMPTY);
+    return 0;
+}
+
+static int misuse(uint32_t kind) {
+    qolb_bytes line = {{9}};
+    qolb_node n[3] = {{0}};
+    uint64_t lane = 5;
+    WANT(qolb_open(kind, 7, 3, QOLB_NO_LEASE, &line, n, 3), QOLB_DONE);
+    line.byte[0] = 1;
+    WANT(qolb_state(&n[0]), QOLB_STATE_IDLE);
+    WANT(qolb_poll(&n[0]), QOLB_MISUSE);
+    WANT(qolb_withdraw(&n[0]), QOLB_MISUSE);
+    WANT(qolb_deqolb(&n[0]), QOLB_MISUSE);
+    WANT(qolb_shut(&n[0]), QOLB_MISUSE);
+    WANT(qolb_link(&n[0]), QOLB_MISUSE);
+    WANT(qolb_read(&n[0], &line), QOLB_MISUSE);
+    WANT(line.byte[0], 1);
+    WANT(qolb_write(&n[0], 1, &line), QOLB_MISUSE);
+    WANT(qolb_enqolb(&n[0]), QOLB_GRANTED);
+    WANT(qolb_state(&n[0]), QOLB_STATE_HOLDING);
+    WANT(qolb_enqolb(&n[0]), QOLB_MISUSE);
+    WANT(qolb_prepend(&n[0]), QOLB_MISUSE);
+    WANT(qolb_poll(&n[0]), QOLB_MISUSE);
+    WANT(qolb_close(&n[0]), QOLB_MISUSE);
+    WANT(qolb_read_lane(&n[0], 8, &lane), QOLB_MISUSE);
+    WANT(lane, 5);
+    WANT(qolb_write_lane(&n[0], 8, 1), QOLB_MISUSE);
+    WANT(qolb_read_lane(&n[0], 0, &lane), QOLB_DONE);
+    WANT(lane, 9);
+    WANT(qolb_enqolb(&n[1]), QOLB_QUEUED);
+    WANT(qolb_state(&n[1]), QOLB_STATE_QUEUED);
+    WANT(qolb_wait(&n[1], 0), QOLB_MISUSE);
+    WANT(qolb_wait(&n[1], 3), QOLB_WAITING);
+    WANT(qolb_enqolb(&n[2]), QOLB_QUEUED);
+    WANT(qolb_close(&n[1]), QOLB_MISUSE);
+    WANT(qolb_read(&n[1], &line), QOLB_MISUSE);
+    WANT(qolb_withdraw(&n[1]), QOLB_WITHDRAWN);
+    WANT(qolb_state(&n[1]), QOLB_STATE_ROLLED);
+    WANT(qolb_enqolb(&n[1]), QOLB_BUSY);
+    WANT(qolb_poll(&n[2]), QOLB_WAITING);
+    WANT(qolb_deqolb(&n[0]), QOLB_DONE);
+    WANT(qolb_poll(&n[2]), QOLB_GRANTED);
+    WANT(qolb_write_lane(&n[2], 7, UINT64_MAX), QOLB_DONE);
+    WANT(qolb_read(&n[2], &line), QOLB_DONE);
+    for (int k = 0; k < 64; k++) WANT(line.byte[k], k / 8 == 7 ? 255 : k == 0 ? 9 : 0);
+    WANT(qolb_shut(&n[2]), QOLB_DONE);
+    WANT(qolb_state(&n[2]), QOLB_STATE_SHUT);
+    WANT(qolb_enqolb(&n[1]), QOLB_CLOSED);
+    for (int k = 0; k < 3; k++) WANT(qolb_close(&n[k]), QOLB_DONE);
+    return 0;
+}
+
+/* A node that has asked and not linked; and a lease of two turns. */
+static int halves(void) {
+    qolb_bytes zeros = {{0}};
+    qolb_node n[2] = {{0}}, ring = {0};
+    WANT(qolb_open(QOLB_RING, 7, 1, QOLB_NO_LEASE, &zeros, &ring, 1), QOLB_DONE);
+    WANT(qolb_prepend(&ring), QOLB_MISUSE);
+    WANT(qolb_link(&ring), QOLB_MISUSE);
+    WANT(qolb_close(&ring), QOLB_DONE);
+    WANT(qolb_open(QOLB_LIST, 7, 2, 2, &zeros, n, 2), QOLB_DONE);
+    WANT(qolb_prepend(&n[0]), QOLB_GRANTED);
+    WANT(qolb_prepend(&n[1]), QOLB_LINKING);
+    WANT(qolb_state(&n[1]), QOLB_STATE_LINKING);
+    WANT(qolb_poll(&n[1]), QOLB_MISUSE);
+    WANT(qolb_close(&n[1]), QOLB_MISUSE);
+    WANT(qolb_deqolb(&n[0]), QOLB_DONE);
+    WANT(qolb_state(&n[0]), QOLB_STATE_LEFT);
+    WANT(qolb_link(&n[1]), QOLB_GRANTED);
+    WANT(qolb_deqolb(&n[1]), QOLB_DONE); /* the last turn of the lease */
+    WANT(qolb_enqolb(&n[0]), QOLB_CLOSED);
+    for (int k = 0; k < 2; k++) WANT(qolb_close(&n[k]), QOLB_DONE);
+    return 0;
+}
+
+int main(void) {
+    if (count(QOLB_RING) || count(QOLB_LIST)) return 1;
+    if (refusals() || empty_handle() || misuse(QOLB_RING) || misuse(QOLB_LIST) || halves()) return 1;
+    return 0;
+}

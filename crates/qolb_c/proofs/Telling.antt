@@ -1,0 +1,26 @@
+-- From a node's call to what is told of it.
+use Rattle.std.proofs.Common.{◌≡◌, ◌∙◌, ℕ, ap, sym, subst}
+use Rattle.std.specs.Prelude.{Option, Some, Result, Ok, Err, MatchResult}
+use Rattle.qolb_c.specs.declared.answer.Answer.{Answer}
+use Rattle.qolb_c.specs.declared.answer.Answer.TheVariants as answer
+use Rattle.qolb_c.specs.declared.answer.Misuse.{Misuse}
+use Rattle.qolb_c.specs.declared.any_node.AnyNode.{AnyNode}
+use Rattle.qolb_c.specs.Calls.{AreOfOneLine, IsCall, Calls}
+use Rattle.qolb_c.specs.Numbers.{number_of}
+
+-- a call of a node, of either kind, by its own result and by what is told of that
+pub told :
+    {A X : Type 0} (make : X → AnyNode) (Allowed : Type 0) (tell : A → Answer) (Promise : A → Type 0) (was now : X) (made : Result A Misuse) (a : Answer)
+    → AreOfOneLine (make was) (make now)
+    → MatchResult made (λ own. Allowed × Promise own) (λ _. (Allowed → ⊥) × (now ≡ was))
+    → MatchResult made (λ own. a ≡ tell own) (λ _. a ≡ answer.Misuse)
+    → IsCall Allowed tell Promise (make was) (make now) a
+told make Allowed tell Promise was now (Ok own) a line call is = record { misuse = λ no. absurd (no call.0); does = λ _. (own, is, call.1); line = line }
+told make Allowed tell Promise was now (Err e) a line call is = record { misuse = λ _. (is, ap make call.1); does = λ yes. absurd (call.0 yes); line = line }
+
+-- a call of a handle that has a node, by what its node did
+pub called :
+    (Does : AnyNode → AnyNode → Answer → Type 0) (old new : Option AnyNode) (held was now : AnyNode) (a : Answer) (n : ℕ)
+    → old ≡ Some held → was ≡ held → new ≡ Some now → n ≡ number_of a → Does was now a → Calls Does old new n
+called Does old new held was now a n had same has tells does =
+    subst (λ (o : Option AnyNode). Calls Does o new n) (sym (had ∙ ap (λ (node : AnyNode). Some node) (sym same))) (now, a, has, tells, does)

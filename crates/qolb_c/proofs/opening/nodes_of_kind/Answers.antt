@@ -1,0 +1,15 @@
+use Rattle.std.proofs.Common.{refl, sym, arith}
+use Rattle.qolb_c.specs.declared.any_node.AnyNode.TheVariants as kind
+use Rattle.qolb_c.proofs.Opened.{if_ok_then, new_nodes_of}
+use Rattle.qolb_c.proofs.opening.nodes_of_kind.Goals as goal
+
+pub returns-in_ok-new_nodes-clause-nodes : goal.returns-in_ok-new_nodes-clause-nodes
+returns-in_ok-new_nodes-clause-nodes c =
+    if_ok_then c.boxed.result
+    (λ boxes is. new_nodes_of (λ p. p.view) kind.Ring c.args.kind c.args.label c.args.terms _ _ (λ n. refl) (λ n. sym c.if-kind-eq-RING.true) (λ line p q. refl) c.in_ok-new_nodes.ensures.nodes is) c.boxed.ensures.nodes
+
+pub returns-in_ok-new_nodes-2-clause-nodes : goal.returns-in_ok-new_nodes-2-clause-nodes
+returns-in_ok-new_nodes-2-clause-nodes c =
+    if_ok_then c.boxed-else-kind-eq-RING.result
+    (λ boxes is. new_nodes_of (λ p. p.view) kind.List c.args.kind c.args.label c.args.terms _ _ (λ n. refl) (λ n. omega (arith, c.requires, c.if-kind-eq-RING.false)) (λ line p q. refl) c.in_ok-new_nodes-2.ensures.nodes is)
+    c.boxed-else-kind-eq-RING.ensures.nodes

@@ -1,0 +1,147 @@
+-- What each call from C promises of the handle's node. `was` and `now` are the node before and after. (Of this project.)
+use Rattle.std.specs.Prelude.{◌≡◌, ◌≢◌, ℕ, ◌*◌, ◌<◌, List, Bool, true, false, Option, Some, None}
+use Rattle.line_lanes.specs.Lane.{lane_of, with_lane_of}
+use Rattle.line_lanes.specs.Mask.{placed_mask}
+use Rattle.qolb_model.specs.declared.answer.Enq.{Enq}
+use Rattle.qolb_model.specs.declared.answer.Enq.TheVariants as enq
+use Rattle.qolb_model.specs.declared.answer.Prep.{Prep}
+use Rattle.qolb_model.specs.declared.answer.Prep.TheVariants as prep
+use Rattle.qolb_model.specs.declared.answer.Poll.{Poll}
+use Rattle.qolb_model.specs.declared.answer.Poll.TheVariants as poll
+use Rattle.qolb_model.specs.declared.answer.Out.{Out}
+use Rattle.qolb_model.specs.declared.answer.Out.TheVariants as out
+use Rattle.qolb_model.specs.declared.answer.PortState.{PortState}
+use Rattle.qolb_model.specs.declared.answer.PortState.TheVariants.{Linking, Queued, Holding}
+use Rattle.qolb_model.specs.declared.view.View.{View}
+use Rattle.qolb_model.specs.declared.write.Write.{Write}
+use Rattle.qolb_model.specs.Calls as line
+use Rattle.qolb_model.specs.OneOwner.{turn_after}
+use Rattle.qolb_model.specs.PortStates.{may_ask}
+use Rattle.qolb_c.specs.declared.answer.Answer.{Answer}
+use Rattle.qolb_c.specs.declared.answer.Answer.TheVariants as answer
+use Rattle.qolb_c.specs.declared.any_node.AnyNode.{AnyNode}
+use Rattle.qolb_c.specs.declared.any_node.AnyNode.TheVariants as kind
+use Rattle.qolb_c.specs.Nodes.{anything}
+use Rattle.qolb_c.specs.Numbers.{number_of, state_number}
+
+-- what the node's port knows of its line
+abbrev pub view_of : AnyNode → View
+view_of (kind.Ring node) = node.port.view
+view_of (kind.List node) = node.port.view
+
+-- what the node has written, where it holds the line
+abbrev pub turn_of : AnyNode → Write
+turn_of (kind.Ring node) = node.port.turn
+turn_of (kind.List node) = node.port.turn
+
+abbrev pub state_of : AnyNode → PortState
+state_of node = (view_of node).state
+
+-- two nodes are of one line
+abbrev pub AreOfOneLine : AnyNode → AnyNode → Type 0
+AreOfOneLine (kind.Ring a) (kind.Ring b) = b.line ≡ a.line
+AreOfOneLine (kind.Ring a) (kind.List b) = ⊥
+AreOfOneLine (kind.List a) (kind.Ring b) = ⊥
+AreOfOneLine (kind.List a) (kind.List b) = b.line ≡ a.line
+
+-- C's number of the kind of a node's line
+abbrev pub kind_of : AnyNode → ℕ
+kind_of (kind.Ring node) = 0
+kind_of (kind.List node) = 1
+
+-- the answers of a line's calls
+abbrev pub enq_told : Enq → Answer
+enq_told enq.Granted = answer.Granted
+enq_told enq.Queued = answer.Queued
+enq_told enq.Closed = answer.Closed
+enq_told enq.Busy = answer.Busy
+
+abbrev pub poll_told : Poll → Answer
+poll_told poll.Granted = answer.Granted
+poll_told poll.Waiting = answer.Waiting
+poll_told poll.Closed = answer.Closed
+
+abbrev pub out_told : Out → Answer
+out_told out.Withdrawn = answer.Withdrawn
+out_told out.Granted = answer.Granted
+out_told out.Closed = answer.Closed
+
+abbrev pub prep_told : Prep → Answer
+prep_told prep.Granted = answer.Granted
+prep_told prep.Linking = answer.Linking
+prep_told prep.Closed = answer.Closed
+prep_told prep.Busy = answer.Busy
+
+-- a call that the node's state may forbid. Forbidden, it is misuse, and nothing changes; allowed, the line's call is made, which promises this of
+-- its own answer. The node stays of its line
+pub record IsCall {A : Type 0} (Allowed : Type 0) (told : A → Answer) (Promise : A → Type 0) (was now : AnyNode) (a : Answer) : Type 0 where
+  pub misuse : ¬ Allowed → (a ≡ answer.Misuse) × (now ≡ was)
+  pub does : Allowed → (made : A) × (a ≡ told made) × Promise made
+  pub line : AreOfOneLine was now
+
+-- a call that is done where it is allowed
+abbrev pub IsDone : Type 0 → Type 0 → AnyNode → AnyNode → Answer → Type 0
+IsDone Allowed Promise was now a = IsCall Allowed (λ (made : Unit {0}). answer.Done) (λ _. Promise) was now a
+
+-- `enqolb`: where the node neither waits nor holds
+abbrev pub Enqolbs : AnyNode → AnyNode → Answer → Type 0
+Enqolbs was now a = IsCall (may_ask (state_of was) ≡ true) enq_told (line.Enqueues anything (view_of was) (view_of now) (turn_of now)) was now a
+
+-- `poll`: where it waits
+abbrev pub Polls : AnyNode → AnyNode → Answer → Type 0
+Polls was now a = IsCall (state_of was ≡ Queued) poll_told (line.Polls anything (view_of was) (view_of now) (turn_of now)) was now a
+
+-- `wait`: where it waits, and may poll at least once; it promises what `poll` does
+abbrev pub Waits : ℕ → AnyNode → AnyNode → Answer → Type 0
+Waits polls was now a = IsCall ((state_of was ≡ Queued) × (0 < polls)) poll_told (line.Polls anything (view_of was) (view_of now) (turn_of now)) was now a
+
+-- `prepend` and `link`, of a list: where the node neither waits nor holds, and where it is linking
+abbrev pub Prepends : AnyNode → AnyNode → Answer → Type 0
+Prepends was now a = IsCall ((kind_of was ≡ 1) × (may_ask (state_of was) ≡ true)) prep_told (line.Prepends anything (view_of was) (view_of now) (turn_of now)) was now a
+
+abbrev pub LinksUp : AnyNode → AnyNode → Answer → Type 0
+LinksUp was now a = IsCall ((kind_of was ≡ 1) × (state_of was ≡ Linking)) enq_told (line.LinksUp anything (view_of was) (view_of now) (turn_of now)) was now a
+
+-- `withdraw`: where it waits
+abbrev pub Withdraws : AnyNode → AnyNode → Answer → Type 0
+Withdraws was now a = IsCall (state_of was ≡ Queued) out_told (line.Withdraws anything (view_of was) (view_of now) (turn_of now)) was now a
+
+-- `read`: where it holds, its bytes are written to `out`, and nothing else changes
+abbrev pub Reads : List ℕ → List ℕ → AnyNode → AnyNode → Answer → Type 0
+Reads out_was out_now was now a = IsDone (state_of was ≡ Holding) (out_now ≡ (turn_of was).bytes.bytes) was now a × (now ≡ was) × (state_of was ≢ Holding → out_now ≡ out_was)
+
+-- `write`: where it holds, the bytes of the mask are written
+abbrev pub Writes : ℕ → List ℕ → AnyNode → AnyNode → Answer → Type 0
+Writes mask bytes was now a = IsDone (state_of was ≡ Holding) ((view_of now ≡ view_of was) × (turn_of now ≡ turn_after (turn_of was) mask bytes)) was now a
+
+-- `read_lane` and `write_lane`: the same for one lane of the eight. A lane is written by a write of its bytes
+abbrev pub ReadsLane : ℕ → ℕ → ℕ → AnyNode → AnyNode → Answer → Type 0
+ReadsLane k out_was out_now was now a =
+    IsDone ((state_of was ≡ Holding) × (k < 8)) (out_now ≡ lane_of (turn_of was).bytes.bytes k) was now a × (now ≡ was) × (((state_of was ≡ Holding) × (k < 8) → ⊥) → out_now ≡ out_was)
+
+abbrev pub WritesLane : ℕ → ℕ → AnyNode → AnyNode → Answer → Type 0
+WritesLane k value was now a =
+    IsDone ((state_of was ≡ Holding) × (k < 8)) ((view_of now ≡ view_of was) × (turn_of now ≡ turn_after (turn_of was) (placed_mask (8 * k) 8) (with_lane_of (turn_of was).bytes.bytes k value))) was now a
+
+-- `deqolb`, and with true `shut`: where it holds
+abbrev pub Releases : Bool → AnyNode → AnyNode → Answer → Type 0
+Releases shut was now a = IsDone (state_of was ≡ Holding) (line.Releases anything shut (view_of was) (view_of now) (turn_of was)) was now a
+
+-- a call of an empty handle is misuse, and the handle stays empty; else its node is called, and the answer's number is told
+abbrev pub Calls : (AnyNode → AnyNode → Answer → Type 0) → Option AnyNode → Option AnyNode → ℕ → Type 0
+Calls Does None now n = (now ≡ None) × (n ≡ number_of answer.Misuse)
+Calls Does (Some was) now n = (node : AnyNode) × (a : Answer) × (now ≡ Some node) × (n ≡ number_of a) × Does was node a
+
+-- `close`: a node that neither waits nor holds is let go of; any other stays
+abbrev pub Closes : Option AnyNode → Option AnyNode → ℕ → Type 0
+Closes None now n = (now ≡ None) × (n ≡ number_of answer.Misuse)
+Closes (Some was) now n = (may_ask (state_of was) ≡ true → (now ≡ None) × (n ≡ number_of answer.Done)) × (may_ask (state_of was) ≡ false → (now ≡ Some was) × (n ≡ number_of answer.Misuse))
+
+-- `number` and `state`: of an empty handle 0; nothing changes
+abbrev pub node_number : Option AnyNode → ℕ
+node_number None = 0
+node_number (Some node) = (view_of node).node
+
+abbrev pub state_told : Option AnyNode → ℕ
+state_told None = 0
+state_told (Some node) = state_number (state_of node)

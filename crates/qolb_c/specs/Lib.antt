@@ -1,0 +1,5 @@
+pub mod Nodes
+pub mod Numbers
+pub mod Held
+pub mod Calls
+pub mod Opens

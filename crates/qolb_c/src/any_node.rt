@@ -1,0 +1,220 @@
+//! A node of a line of either kind.
+ghost use Rattle.std.specs.Prelude.{◌≡◌, ◌≢◌, ℕ, true, false, MatchOption, MatchResult};
+ghost use Rattle.qolb_model.specs.PortStates.{may_ask};
+ghost use Rattle.qolb_c.specs.Calls.{view_of, turn_of, state_of, Enqolbs, Polls, Waits, Prepends, LinksUp, Withdraws, Reads, ReadsLane, Writes, WritesLane, Releases};
+ghost use Rattle.qolb_c.specs.declared.any_node.AnyNode.{AnyNode};
+
+use crate::answer::Answer;
+use crate::node::Node;
+use line_lanes::{Line64, Mask, lane, placed, with_lane};
+use link_line::LinkLine;
+use qolb_model::{Free, PortState};
+use ring_line::RingLine;
+
+/// How many lanes a line has.
+const LANES: u64 = 8;
+
+/// A node of a line of either kind.
+#[derive(Drop)]
+pub enum AnyNode {
+    /// Of a ring.
+    Ring(Node<RingLine<Free>>),
+    /// Of a list.
+    List(Node<LinkLine<Free>>),
+}
+
+impl AnyNode {
+    /// The node's number.
+    pub fn number(&self) -> u64
+        ensures { result ≡ (view_of self.now).node }
+    {
+        match self {
+            AnyNode::Ring(node) => node.number(),
+            AnyNode::List(node) => node.number(),
+        }
+    }
+
+    /// What the node's last call left.
+    pub fn state(&self) -> PortState
+        ensures { result ≡ state_of self.now }
+    {
+        match self {
+            AnyNode::Ring(node) => node.state(),
+            AnyNode::List(node) => node.state(),
+        }
+    }
+
+    /// Asks for the line.
+    pub fn enqolb(&mut self) -> Answer
+        ensures { Enqolbs self.old self.new result }
+    {
+        match self {
+            AnyNode::Ring(node) => Answer::of_enq(node.enqolb()),
+            AnyNode::List(node) => Answer::of_enq(node.enqolb()),
+        }
+    }
+
+    /// Looks whether the request has come to its turn.
+    pub fn poll(&mut self) -> Answer
+        ensures { Polls self.old self.new result }
+    {
+        match self {
+            AnyNode::Ring(node) => Answer::of_poll(node.poll()),
+            AnyNode::List(node) => Answer::of_poll(node.poll()),
+        }
+    }
+
+    /// Looks at most so many times, with a pause between two.
+    pub fn wait(&mut self, polls: u64) -> Answer
+        ensures { Waits polls self.old self.new result }
+    {
+        match self {
+            AnyNode::Ring(node) => Answer::of_poll(node.wait(polls)),
+            AnyNode::List(node) => Answer::of_poll(node.wait(polls)),
+        }
+    }
+
+    /// The first half of asking, of a list alone.
+    pub fn prepend(&mut self) -> Answer
+        ensures { Prepends self.old self.new result }
+    {
+        match self {
+            AnyNode::Ring(_) => Answer::Misuse,
+            AnyNode::List(node) => Answer::of_prep(node.prepend()),
+        }
+    }
+
+    /// The second half of asking, of a list alone.
+    pub fn link(&mut self) -> Answer
+        ensures { LinksUp self.old self.new result }
+    {
+        match self {
+            AnyNode::Ring(_) => Answer::Misuse,
+            AnyNode::List(node) => Answer::of_enq(node.link()),
+        }
+    }
+
+    /// Gives the request up, unless it has come to its turn.
+    pub fn withdraw(&mut self) -> Answer
+        ensures { Withdraws self.old self.new result }
+    {
+        match self {
+            AnyNode::Ring(node) => Answer::of_out(node.withdraw()),
+            AnyNode::List(node) => Answer::of_out(node.withdraw()),
+        }
+    }
+
+    /// The line's bytes, where the node holds the line.
+    fn bytes(&self) -> Option<&Line64>
+        ensures { MatchOption result (state_of self.now ≢ PortState.Holding) (λ line. (state_of self.now ≡ PortState.Holding) × (line.now ≡ (turn_of self.now).bytes)) }
+    {
+        match self {
+            AnyNode::Ring(node) => node.bytes().ok(),
+            AnyNode::List(node) => node.bytes().ok(),
+        }
+    }
+
+    /// The holder reads the line.
+    pub fn read(&self, out: &mut [u8; 64]) -> Answer
+        ensures { Reads out.old out.new self.now self.now result }
+    {
+        match self.bytes() {
+            Some(line) => {
+                *out = line.bytes;
+                Answer::Done
+            }
+            None => Answer::Misuse,
+        }
+    }
+
+    /// The holder reads lane `k` of the eight.
+    pub fn read_lane(&self, k: u64, out: &mut u64) -> Answer
+        ensures { ReadsLane k out.old out.new self.now self.now result }
+    {
+        if k >= LANES {
+            return Answer::Misuse;
+        }
+        match self.bytes() {
+            Some(line) => {
+                *out = lane(line, k as usize);
+                Answer::Done
+            }
+            None => Answer::Misuse,
+        }
+    }
+
+    /// The holder writes lane `k` of the eight.
+    pub fn write_lane(&mut self, k: u64, value: u64) -> Answer
+        ensures { WritesLane k value self.old self.new result }
+    {
+        if k >= LANES {
+            return Answer::Misuse;
+        }
+        let Some((mask, _)) = placed(8 * k as usize, &[0; 8]) else {
+            return Answer::Misuse;
+        };
+        match self.bytes() {
+            Some(line) => {
+                let line = with_lane(line, k as usize, value);
+                self.write(mask, &line)
+            }
+            None => Answer::Misuse,
+        }
+    }
+
+    /// The holder writes the bytes of the mask.
+    pub fn write(&mut self, mask: Mask, bytes: &Line64) -> Answer
+        ensures { Writes mask.0 bytes.now.bytes self.old self.new result }
+    {
+        match self {
+            AnyNode::Ring(node) => Answer::of_done(node.write(mask, bytes)),
+            AnyNode::List(node) => Answer::of_done(node.write(mask, bytes)),
+        }
+    }
+
+    /// Releases the line.
+    pub fn deqolb(&mut self) -> Answer
+        ensures { Releases false self.old self.new result }
+    {
+        match self {
+            AnyNode::Ring(node) => Answer::of_done(node.deqolb()),
+            AnyNode::List(node) => Answer::of_done(node.deqolb()),
+        }
+    }
+
+    /// Releases the line, and closes it.
+    pub fn shut(&mut self) -> Answer
+        ensures { Releases true self.old self.new result }
+    {
+        match self {
+            AnyNode::Ring(node) => Answer::of_done(node.shut()),
+            AnyNode::List(node) => Answer::of_done(node.shut()),
+        }
+    }
+}
+
+/// A node of some kind of line.
+pub trait IntoAny: Drop {
+    /// The node among those of either kind.
+    ghost as_any: { Self → AnyNode };
+
+    /// The node as one of either kind.
+    fn into_any(self) -> AnyNode
+        ensures { result ≡ as_any self };
+}
+
+impl IntoAny for Node<RingLine<Free>> {
+    ghost as_any = { λ node. AnyNode.Ring node };
+
+    fn into_any(self) -> AnyNode {
+        AnyNode::Ring(self)
+    }
+}
+
+impl IntoAny for Node<LinkLine<Free>> {
+    ghost as_any = { λ node. AnyNode.List node };
+
+    fn into_any(self) -> AnyNode {
+        AnyNode::List(self)
+    }
+}

@@ -1,0 +1,289 @@
+//! The lock for C: a static library. The header `qolb.h` has these calls.
+//!
+//! C holds a node by a handle, a struct of one pointer that is null where there is no node. Each call takes the node out of its handle, calls
+//! it, and puts it back; a call that the node's state does not allow is answered `Misuse` and changes nothing.
+#![tactic(auto)]
+
+ghost use Rattle.std.specs.Prelude.{◌≡◌, true, false};
+ghost use Rattle.qolb_c.specs.declared.answer.Answer.{Answer};
+ghost use Rattle.qolb_c.specs.Numbers.{number_of};
+ghost use Rattle.qolb_c.specs.Opens.{Opens, terms_by};
+ghost use Rattle.qolb_c.specs.Calls.{Calls, Enqolbs, Polls, Waits, Prepends, LinksUp, Withdraws, Reads, ReadsLane, Writes, WritesLane, Releases, Closes, node_number, state_told};
+
+mod answer;
+mod any_node;
+mod handle;
+mod node;
+mod opening;
+
+use answer::{Answer, state_number};
+use handle::Handle;
+use line_lanes::{Line64, Mask};
+use qolb_model::Terms;
+use std::alloc::Global;
+
+/// 64 bytes, as C passes them.
+#[repr(C)]
+#[derive(Drop)]
+pub struct Bytes {
+    pub bytes: [u8; 64],
+}
+
+/// No lease.
+const NO_LEASE: u64 = u64::MAX;
+
+/// Opens a line of this kind (0 a ring, 1 a list) with the bytes of `opening`, and puts its nodes into the first of these handles. The line
+/// closes at the turn that is the lease's last; with a lease of 2^64 - 1 it has none.
+#[unsafe(no_mangle)]
+pub extern "C" fn qolb_open(
+    alloc: Global,
+    kind: u32,
+    label: u64,
+    nodes: u64,
+    lease: u64,
+    opening: &Bytes,
+    out: &mut [Handle],
+) -> u32
+    ensures { (answer : Answer) × (result ≡ number_of answer) × Opens kind label (terms_by nodes lease opening.now.bytes) out.old out.new answer }
+{
+    let terms = Terms {
+        nodes,
+        opening: Line64 {
+            bytes: opening.bytes,
+        },
+        lease: if lease == NO_LEASE { None } else { Some(lease) },
+    };
+    opening::open(alloc, kind, label, terms, out).number()
+}
+
+/// Asks for the line.
+#[unsafe(no_mangle)]
+pub extern "C" fn qolb_enqolb(alloc: Global, node: &mut Handle) -> u32
+    ensures { Calls Enqolbs node.old.held node.new.held result }
+{
+    match node.take(alloc) {
+        None => Answer::Misuse.number(),
+        Some(mut taken) => {
+            let answer = taken.enqolb();
+            node.put(taken);
+            answer.number()
+        }
+    }
+}
+
+/// Looks whether the request has come to its turn.
+#[unsafe(no_mangle)]
+pub extern "C" fn qolb_poll(alloc: Global, node: &mut Handle) -> u32
+    ensures { Calls Polls node.old.held node.new.held result }
+{
+    match node.take(alloc) {
+        None => Answer::Misuse.number(),
+        Some(mut taken) => {
+            let answer = taken.poll();
+            node.put(taken);
+            answer.number()
+        }
+    }
+}
+
+/// Looks at most so many times whether the request has come to its turn, with a pause between two.
+#[unsafe(no_mangle)]
+pub extern "C" fn qolb_wait(alloc: Global, node: &mut Handle, polls: u64) -> u32
+    ensures { Calls (Waits polls) node.old.held node.new.held result }
+{
+    match node.take(alloc) {
+        None => Answer::Misuse.number(),
+        Some(mut taken) => {
+            let answer = taken.wait(polls);
+            node.put(taken);
+            answer.number()
+        }
+    }
+}
+
+/// The first half of asking, of a list alone: makes a request, and leaves it to be linked to the one before.
+#[unsafe(no_mangle)]
+pub extern "C" fn qolb_prepend(alloc: Global, node: &mut Handle) -> u32
+    ensures { Calls Prepends node.old.held node.new.held result }
+{
+    match node.take(alloc) {
+        None => Answer::Misuse.number(),
+        Some(mut taken) => {
+            let answer = taken.prepend();
+            node.put(taken);
+            answer.number()
+        }
+    }
+}
+
+/// The second half of asking, of a list alone: links the request to the one before.
+#[unsafe(no_mangle)]
+pub extern "C" fn qolb_link(alloc: Global, node: &mut Handle) -> u32
+    ensures { Calls LinksUp node.old.held node.new.held result }
+{
+    match node.take(alloc) {
+        None => Answer::Misuse.number(),
+        Some(mut taken) => {
+            let answer = taken.link();
+            node.put(taken);
+            answer.number()
+        }
+    }
+}
+
+/// Gives the request up, unless it has come to its turn.
+#[unsafe(no_mangle)]
+pub extern "C" fn qolb_withdraw(alloc: Global, node: &mut Handle) -> u32
+    ensures { Calls Withdraws node.old.held node.new.held result }
+{
+    match node.take(alloc) {
+        None => Answer::Misuse.number(),
+        Some(mut taken) => {
+            let answer = taken.withdraw();
+            node.put(taken);
+            answer.number()
+        }
+    }
+}
+
+/// The holder reads the line.
+#[unsafe(no_mangle)]
+pub extern "C" fn qolb_read(alloc: Global, node: &mut Handle, out: &mut Bytes) -> u32
+    ensures { Calls (Reads out.old.bytes out.new.bytes) node.old.held node.new.held result }
+{
+    match node.take(alloc) {
+        None => Answer::Misuse.number(),
+        Some(taken) => {
+            let answer = taken.read(&mut out.bytes);
+            node.put(taken);
+            answer.number()
+        }
+    }
+}
+
+/// The holder writes the bytes of the mask: byte k where bit k is set.
+#[unsafe(no_mangle)]
+pub extern "C" fn qolb_write(alloc: Global, node: &mut Handle, mask: u64, bytes: &Bytes) -> u32
+    ensures { Calls (Writes mask bytes.now.bytes) node.old.held node.new.held result }
+{
+    match node.take(alloc) {
+        None => Answer::Misuse.number(),
+        Some(mut taken) => {
+            let line = Line64 { bytes: bytes.bytes };
+            let answer = taken.write(Mask(mask), &line);
+            node.put(taken);
+            answer.number()
+        }
+    }
+}
+
+/// The holder reads one of the eight lanes.
+#[unsafe(no_mangle)]
+pub extern "C" fn qolb_read_lane(alloc: Global, node: &mut Handle, lane: u64, out: &mut u64) -> u32
+    ensures { Calls (ReadsLane lane out.old out.new) node.old.held node.new.held result }
+{
+    match node.take(alloc) {
+        None => Answer::Misuse.number(),
+        Some(taken) => {
+            let answer = taken.read_lane(lane, out);
+            node.put(taken);
+            answer.number()
+        }
+    }
+}
+
+/// The holder writes one of the eight lanes.
+#[unsafe(no_mangle)]
+pub extern "C" fn qolb_write_lane(alloc: Global, node: &mut Handle, lane: u64, value: u64) -> u32
+    ensures { Calls (WritesLane lane value) node.old.held node.new.held result }
+{
+    match node.take(alloc) {
+        None => Answer::Misuse.number(),
+        Some(mut taken) => {
+            let answer = taken.write_lane(lane, value);
+            node.put(taken);
+            answer.number()
+        }
+    }
+}
+
+/// Releases the line.
+#[unsafe(no_mangle)]
+pub extern "C" fn qolb_deqolb(alloc: Global, node: &mut Handle) -> u32
+    ensures { Calls (Releases false) node.old.held node.new.held result }
+{
+    match node.take(alloc) {
+        None => Answer::Misuse.number(),
+        Some(mut taken) => {
+            let answer = taken.deqolb();
+            node.put(taken);
+            answer.number()
+        }
+    }
+}
+
+/// Releases the line, and closes it.
+#[unsafe(no_mangle)]
+pub extern "C" fn qolb_shut(alloc: Global, node: &mut Handle) -> u32
+    ensures { Calls (Releases true) node.old.held node.new.held result }
+{
+    match node.take(alloc) {
+        None => Answer::Misuse.number(),
+        Some(mut taken) => {
+            let answer = taken.shut();
+            node.put(taken);
+            answer.number()
+        }
+    }
+}
+
+/// Lets go of a node that neither waits nor holds. The last one of a line frees the line.
+#[unsafe(no_mangle)]
+pub extern "C" fn qolb_close(alloc: Global, node: &mut Handle) -> u32
+    ensures { Closes node.old.held node.new.held result }
+{
+    match node.take(alloc) {
+        None => Answer::Misuse.number(),
+        Some(taken) => {
+            if taken.state().may_ask() {
+                drop(taken);
+                Answer::Done.number()
+            } else {
+                node.put(taken);
+                Answer::Misuse.number()
+            }
+        }
+    }
+}
+
+/// The node's number, from 1; 0 where there is no node.
+#[unsafe(no_mangle)]
+pub extern "C" fn qolb_number(alloc: Global, node: &mut Handle) -> u64
+    ensures held { node.new.held ≡ node.old.held }
+    ensures number { result ≡ node_number node.old.held }
+{
+    match node.take(alloc) {
+        None => 0,
+        Some(taken) => {
+            let number = taken.number();
+            node.put(taken);
+            number
+        }
+    }
+}
+
+/// The number of the node's state, from 1; 0 where there is no node.
+#[unsafe(no_mangle)]
+pub extern "C" fn qolb_state(alloc: Global, node: &mut Handle) -> u32
+    ensures held { node.new.held ≡ node.old.held }
+    ensures state { result ≡ state_told node.old.held }
+{
+    match node.take(alloc) {
+        None => 0,
+        Some(taken) => {
+            let state = taken.state();
+            node.put(taken);
+            state_number(state)
+        }
+    }
+}

@@ -1,0 +1,230 @@
+//! A node of a line that several share, for any kind of line.
+ghost use Rattle.std.specs.Prelude.{◌≡◌, ◌≢◌, ℕ, ◌<◌, true, false, MatchResult};
+ghost use Rattle.std.specs.Arc.{arc_value};
+ghost use Rattle.qolb_model.specs.Calls.{Enqueues, Prepends, LinksUp, Polls, Withdraws, Releases};
+ghost use Rattle.qolb_model.specs.OneOwner.{turn_after};
+ghost use Rattle.qolb_model.specs.PortStates.{may_ask};
+ghost use Rattle.qolb_c.specs.Nodes.{anything};
+
+use crate::answer::Misuse;
+use line_lanes::{Line64, Mask};
+use link_line::LinkLine;
+use qolb_model::{Enq, Free, LineSync, Out, Poll, PortState, Prep};
+use std::alloc::Global;
+use std::hint::spin_loop;
+use std::marker::Model;
+use std::sync::Arc;
+
+/// A share of a line, and a port of it.
+#[derive(Drop)]
+pub struct Node<L: LineSync<Free>> {
+    line: Arc<L, Global>,
+    port: L::Port,
+}
+
+impl<L: LineSync<Free>> Model for Node<L> {
+    ghost use Rattle.std.specs.Arc.{arc_value};
+    ghost use Rattle.qolb_c.specs.Nodes.{NodeOf};
+
+    ghost Value = { NodeOf L L.Port };
+
+    ghost view = { λ node. record { line = arc_value node.line; port = node.port } };
+
+    ghost invariant = { λ node. L.belongs (arc_value node.line) node.port };
+}
+
+impl<L: LineSync<Free>> Node<L> {
+    /// The node of this port.
+    pub fn new(line: Arc<L, Global>, port: L::Port) -> Node<L>
+        requires { L.belongs (arc_value line) port }
+        ensures { result ≡ record { line = arc_value line; port = port } }
+    {
+        Node { line, port }
+    }
+
+    /// The node's number.
+    pub fn number(&self) -> u64
+        ensures { result ≡ (L.view self.now.port).node }
+    {
+        L::node(&self.port)
+    }
+
+    /// What the node's last call left.
+    pub fn state(&self) -> PortState
+        ensures { result ≡ (L.view self.now.port).state }
+    {
+        L::state(&self.port)
+    }
+
+    /// Asks for the line.
+    ///
+    /// # Errors
+    ///
+    /// `Misuse` where the node waits or holds.
+    pub fn enqolb(&mut self) -> Result<Enq, Misuse>
+        ensures line { self.new.line ≡ self.old.line }
+        ensures enqueues { MatchResult result (λ answer. (may_ask (L.view self.old.port).state ≡ true) × Enqueues anything (L.view self.old.port) (L.view self.new.port) (L.turn self.new.port) answer) (λ _. (may_ask (L.view self.old.port).state ≢ true) × (self.new ≡ self.old)) }
+    {
+        if !self.state().may_ask() {
+            return Err(Misuse);
+        }
+        Ok(self.line.enqolb(&mut self.port))
+    }
+
+    /// Looks whether the request has come to its turn.
+    ///
+    /// # Errors
+    ///
+    /// `Misuse` where the node does not wait.
+    pub fn poll(&mut self) -> Result<Poll, Misuse>
+        ensures line { self.new.line ≡ self.old.line }
+        ensures polls { MatchResult result (λ answer. ((L.view self.old.port).state ≡ PortState.Queued) × Polls anything (L.view self.old.port) (L.view self.new.port) (L.turn self.new.port) answer) (λ _. ((L.view self.old.port).state ≢ PortState.Queued) × (self.new ≡ self.old)) }
+    {
+        if self.state() != PortState::Queued {
+            return Err(Misuse);
+        }
+        Ok(self.line.poll(&mut self.port))
+    }
+
+    /// Looks at most so many times whether the request has come to its turn, with a pause between two.
+    ///
+    /// # Errors
+    ///
+    /// `Misuse` where the node does not wait, or may not look even once.
+    pub fn wait(&mut self, polls: u64) -> Result<Poll, Misuse>
+        ensures line { self.new.line ≡ self.old.line }
+        ensures polls { MatchResult result (λ answer. ((L.view self.old.port).state ≡ PortState.Queued) × (0 < polls) × Polls anything (L.view self.old.port) (L.view self.new.port) (L.turn self.new.port) answer) (λ _. (((L.view self.old.port).state ≡ PortState.Queued) × (0 < polls) → ⊥) × (self.new ≡ self.old)) }
+    {
+        if polls == 0 || self.state() != PortState::Queued {
+            return Err(Misuse);
+        }
+        Ok(poll_on(&*self.line, &mut self.port, polls))
+    }
+
+    /// Gives the request up, unless it has come to its turn.
+    ///
+    /// # Errors
+    ///
+    /// `Misuse` where the node does not wait.
+    pub fn withdraw(&mut self) -> Result<Out, Misuse>
+        ensures line { self.new.line ≡ self.old.line }
+        ensures withdraws { MatchResult result (λ answer. ((L.view self.old.port).state ≡ PortState.Queued) × Withdraws anything (L.view self.old.port) (L.view self.new.port) (L.turn self.new.port) answer) (λ _. ((L.view self.old.port).state ≢ PortState.Queued) × (self.new ≡ self.old)) }
+    {
+        if self.state() != PortState::Queued {
+            return Err(Misuse);
+        }
+        Ok(self.line.withdraw(&mut self.port))
+    }
+
+    /// The line's bytes as the holder sees them.
+    ///
+    /// # Errors
+    ///
+    /// `Misuse` where the node does not hold the line.
+    pub fn bytes(&self) -> Result<&Line64, Misuse>
+        ensures { MatchResult result (λ line. ((L.view self.now.port).state ≡ PortState.Holding) × (line.now ≡ (L.turn self.now.port).bytes)) (λ _. (L.view self.now.port).state ≢ PortState.Holding) }
+    {
+        if self.state() != PortState::Holding {
+            return Err(Misuse);
+        }
+        Ok(L::bytes(&self.port))
+    }
+
+    /// The holder writes the bytes of the mask.
+    ///
+    /// # Errors
+    ///
+    /// `Misuse` where the node does not hold the line.
+    pub fn write(&mut self, mask: Mask, bytes: &Line64) -> Result<(), Misuse>
+        ensures line { self.new.line ≡ self.old.line }
+        ensures view { L.view self.new.port ≡ L.view self.old.port }
+        ensures turn { MatchResult result (λ _. ((L.view self.old.port).state ≡ PortState.Holding) × (L.turn self.new.port ≡ turn_after (L.turn self.old.port) mask.0 bytes.now.bytes)) (λ _. ((L.view self.old.port).state ≢ PortState.Holding) × (self.new ≡ self.old)) }
+    {
+        if self.state() != PortState::Holding {
+            return Err(Misuse);
+        }
+        L::write(&mut self.port, mask, bytes);
+        Ok(())
+    }
+
+    /// Releases the line.
+    ///
+    /// # Errors
+    ///
+    /// `Misuse` where the node does not hold it.
+    pub fn deqolb(&mut self) -> Result<(), Misuse>
+        ensures line { self.new.line ≡ self.old.line }
+        ensures releases { MatchResult result (λ _. ((L.view self.old.port).state ≡ PortState.Holding) × Releases anything false (L.view self.old.port) (L.view self.new.port) (L.turn self.old.port)) (λ _. ((L.view self.old.port).state ≢ PortState.Holding) × (self.new ≡ self.old)) }
+    {
+        if self.state() != PortState::Holding {
+            return Err(Misuse);
+        }
+        self.line.deqolb(&mut self.port);
+        Ok(())
+    }
+
+    /// Releases the line, and closes it.
+    ///
+    /// # Errors
+    ///
+    /// `Misuse` where the node does not hold it.
+    pub fn shut(&mut self) -> Result<(), Misuse>
+        ensures line { self.new.line ≡ self.old.line }
+        ensures releases { MatchResult result (λ _. ((L.view self.old.port).state ≡ PortState.Holding) × Releases anything true (L.view self.old.port) (L.view self.new.port) (L.turn self.old.port)) (λ _. ((L.view self.old.port).state ≢ PortState.Holding) × (self.new ≡ self.old)) }
+    {
+        if self.state() != PortState::Holding {
+            return Err(Misuse);
+        }
+        self.line.shut(&mut self.port);
+        Ok(())
+    }
+}
+
+impl Node<LinkLine<Free>> {
+    /// The first half of asking: makes a request, and leaves it to be linked to the one before.
+    ///
+    /// # Errors
+    ///
+    /// `Misuse` where the node waits or holds.
+    pub fn prepend(&mut self) -> Result<Prep, Misuse>
+        ensures line { self.new.line ≡ self.old.line }
+        ensures prepends { MatchResult result (λ answer. (may_ask self.old.port.view.state ≡ true) × Prepends anything self.old.port.view self.new.port.view self.new.port.turn answer) (λ _. (may_ask self.old.port.view.state ≢ true) × (self.new ≡ self.old)) }
+    {
+        if !self.state().may_ask() {
+            return Err(Misuse);
+        }
+        Ok(self.line.prepend(&mut self.port))
+    }
+
+    /// The second half of asking: links the request to the one before.
+    ///
+    /// # Errors
+    ///
+    /// `Misuse` where the node has no request to link.
+    pub fn link(&mut self) -> Result<Enq, Misuse>
+        ensures line { self.new.line ≡ self.old.line }
+        ensures links { MatchResult result (λ answer. (self.old.port.view.state ≡ PortState.Linking) × LinksUp anything self.old.port.view self.new.port.view self.new.port.turn answer) (λ _. (self.old.port.view.state ≢ PortState.Linking) × (self.new ≡ self.old)) }
+    {
+        if self.state() != PortState::Linking {
+            return Err(Misuse);
+        }
+        Ok(self.line.link(&mut self.port))
+    }
+}
+
+/// Polls at most so many times, with a pause between two.
+fn poll_on<L: LineSync<Free>>(line: &L, port: &mut L::Port, polls: u64) -> Poll
+    requires belongs { L.belongs line.now port.old }
+    requires state { (L.view port.old).state ≡ PortState.Queued }
+    requires some { 0 < polls }
+    ensures belongs { L.belongs line.now port.new }
+    ensures polls { Polls anything (L.view port.old) (L.view port.new) (L.turn port.new) result }
+{
+    for _ in 1..polls {
+        match line.poll(port) {
+            Poll::Waiting => spin_loop(),
+            answer => return answer,
+        }
+    }
+    line.poll(port)
+}

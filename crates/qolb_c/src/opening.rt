@@ -1,0 +1,165 @@
+//! How a line is opened for C.
+ghost use Rattle.std.specs.Prelude.{◌≡◌, ◌≢◌, ◌≤◌, ◌++◌, ℕ, true, false, length, map, drop, Some, None, IsTrue, IfOk, IfErr};
+ghost use Rattle.qolb_model.specs.Opening.{MayOpen, MayNotOpen};
+ghost use Rattle.qolb_c.specs.Opens.{AreOfLine, AreNewNodes, held_by, AreEmpty, HasNode, AreOpened, WhyRefused, refused_by};
+
+use crate::answer::Answer;
+use crate::any_node::{AnyNode, IntoAny};
+use crate::handle::Handle;
+use crate::node::Node;
+use link_line::LinkLine;
+use qolb_model::{Free, OpenError, OpenLine, Terms};
+use ring_line::RingLine;
+use std::alloc::Global;
+use std::sync::Arc;
+
+/// C's number for a ring.
+const RING: u32 = 0;
+
+/// C's number for a list.
+const LIST: u32 = 1;
+
+/// Opens a line of this kind, and puts its nodes into the first of these handles.
+pub fn open(alloc: Global, kind: u32, label: u64, terms: Terms, out: &mut [Handle]) -> Answer
+    ensures opened { result ≡ Answer.Done → AreOpened kind label terms out.old out.new }
+    ensures unchanged { result ≢ Answer.Done → held_by out.new ≡ held_by out.old }
+    ensures why { result ≢ Answer.Done → WhyRefused kind terms out.old result }
+{
+    if kind != RING && kind != LIST {
+        return Answer::BadKind;
+    }
+    if let Err(error) = terms.check() {
+        return refusal(error);
+    }
+    if (out.len() as u64) < terms.nodes {
+        return Answer::TooFew;
+    }
+    if !are_empty(alloc, out, terms.nodes as usize) {
+        return Answer::Occupied;
+    }
+    match nodes_of_kind(alloc, kind, label, terms) {
+        Ok(nodes) => {
+            fill(out, nodes);
+            Answer::Done
+        }
+        Err(error) => refusal(error),
+    }
+}
+
+/// What is told of a line that was not opened.
+fn refusal(error: OpenError) -> Answer
+    ensures { result ≡ refused_by error }
+{
+    match error {
+        OpenError::Memory => Answer::NoMemory,
+        OpenError::Nodes => Answer::BadNodes,
+        OpenError::Lease => Answer::BadLease,
+    }
+}
+
+/// Whether the first `many` of these handles are empty.
+fn are_empty(alloc: Global, handles: &mut [Handle], many: usize) -> bool
+    requires { many ≤ length handles.old }
+    ensures same { held_by handles.new ≡ held_by handles.old }
+    ensures empty { result ≡ true → AreEmpty many handles.old }
+    ensures occupied { result ≡ false → HasNode many handles.old }
+{
+    for place in 0..many {
+        if !handles[place].is_empty(alloc) {
+            return false;
+        }
+    }
+    true
+}
+
+/// The nodes of a new line of this kind, each in a box of its own.
+///
+/// # Errors
+///
+/// As `OpenLine::open_with`.
+fn nodes_of_kind(
+    alloc: Global,
+    kind: u32,
+    label: u64,
+    terms: Terms,
+) -> Result<Vec<Box<AnyNode>>, OpenError>
+    requires { kind ≤ 1 }
+    ensures nodes { IfOk result (λ boxes. AreNewNodes kind label terms (map (λ node. node.value) boxes.items)) }
+    ensures why { IfErr result (λ error. MayNotOpen terms error) }
+{
+    if kind == RING {
+        boxed(alloc, new_nodes::<RingLine<Free>>(alloc, label, terms)?)
+    } else {
+        boxed(alloc, new_nodes::<LinkLine<Free>>(alloc, label, terms)?)
+    }
+}
+
+/// The nodes of a new line.
+///
+/// # Errors
+///
+/// As `OpenLine::open_with`.
+fn new_nodes<L: OpenLine<Free> + Drop>(
+    alloc: Global,
+    label: u64,
+    terms: Terms,
+) -> Result<Vec<Node<L>>, OpenError>
+where
+    L::Port: Drop,
+    ensures nodes { IfOk result (λ nodes. AreOfLine L.view label terms nodes.items) }
+    ensures may_open { IfOk result (λ _. MayOpen terms) }
+    ensures why { IfErr result (λ error. MayNotOpen terms error) }
+{
+    let (line, ports) = L::open_with(alloc, label, terms)?;
+    let Ok(line) = Arc::new(alloc, line) else {
+        return Err(OpenError::Memory);
+    };
+    let Ok(mut nodes) = Vec::with_capacity(alloc, ports.len()) else {
+        return Err(OpenError::Memory);
+    };
+    for port in ports {
+        let Ok(share) = Arc::try_clone(&line) else {
+            return Err(OpenError::Memory);
+        };
+        let Ok(()) = nodes.push(Node::new(share, port)) else {
+            return Err(OpenError::Memory);
+        };
+    }
+    Ok(nodes)
+}
+
+/// The nodes, each in a box of its own.
+///
+/// # Errors
+///
+/// `Memory`.
+fn boxed<N: IntoAny>(alloc: Global, nodes: Vec<N>) -> Result<Vec<Box<AnyNode>>, OpenError>
+    ensures nodes { IfOk result (λ boxes. map (λ node. node.value) boxes.items ≡ map N.as_any nodes.items) }
+    ensures why { IfErr result (λ error. error ≡ OpenError.Memory) }
+{
+    let Ok(mut boxes) = Vec::with_capacity(alloc, nodes.len()) else {
+        return Err(OpenError::Memory);
+    };
+    for node in nodes {
+        let Ok(node) = Box::new(alloc, node.into_any()) else {
+            return Err(OpenError::Memory);
+        };
+        let Ok(()) = boxes.push(node) else {
+            return Err(OpenError::Memory);
+        };
+    }
+    Ok(boxes)
+}
+
+/// Puts the nodes into the first of these handles, which are empty.
+fn fill(out: &mut [Handle], nodes: Vec<Box<AnyNode>>)
+    requires room { length nodes.items ≤ length out.old }
+    requires empty { AreEmpty (length nodes.items) out.old }
+    ensures { held_by out.new ≡ map (λ node. Some node.value) nodes.items ++ drop (length nodes.items) (held_by out.old) }
+{
+    let mut place = 0;
+    for node in nodes {
+        out[place].put(node);
+        place += 1;
+    }
+}
