@@ -1,7 +1,7 @@
 //! A node of a line that several share, for any kind of line.
 ghost use Rattle.std.specs.Prelude.{◌≡◌, ◌≢◌, ℕ, ◌<◌, true, false, MatchResult};
 ghost use Rattle.std.specs.Arc.{arc_value};
-ghost use Rattle.qolb_model.specs.Calls.{Enqueues, Prepends, LinksUp, Polls, Withdraws, Releases};
+ghost use Rattle.qolb_model.specs.Calls.{Enqueues, Prepends, LinksUp, Polls, Withdraws, Releases, TellEachOther};
 ghost use Rattle.qolb_model.specs.OneOwner.{turn_after};
 ghost use Rattle.qolb_model.specs.PortStates.{may_ask};
 ghost use Rattle.qolb_c.specs.Nodes.{anything};
@@ -135,6 +135,7 @@ impl<L: LineSync<Free>> Node<L> {
     /// # Errors
     ///
     /// `Misuse` where the node does not hold the line.
+    #[inline(always)]
     pub fn write(&mut self, mask: Mask, bytes: &Line64) -> Result<(), Misuse>
         ensures line { self.new.line ≡ self.old.line }
         ensures view { L.view self.new.port ≡ L.view self.old.port }
@@ -177,6 +178,16 @@ impl<L: LineSync<Free>> Node<L> {
         }
         self.line.shut(&mut self.port);
         Ok(())
+    }
+
+    /// Two nodes of one line tell each other what they know, which is of one history. C has no call for it: it says what it means that the
+    /// nodes of an opened line are of one line.
+    pub fn meet(&mut self, other: &mut Node<L>)
+        requires one_line { other.old.line ≡ self.old.line }
+        ensures lines { (self.new.line ≡ self.old.line) × (other.new.line ≡ other.old.line) }
+        ensures tell { TellEachOther anything (L.view self.old.port) (L.view other.old.port) (L.view self.new.port) (L.view other.new.port) }
+    {
+        self.line.meet(&mut self.port, &mut other.port);
     }
 }
 
