@@ -78,7 +78,8 @@ impl Write for FailingWriter {
 }
 
 /// The status of a run and its standard error.
-fn run<R: Read, W: Write>(
+fn run<T: Threads + Wait + Sync, R: Read, W: Write>(
+    rt: &T,
     alloc: Global,
     words: &[&str],
     reader: &mut R,
@@ -89,7 +90,7 @@ fn run<R: Read, W: Write>(
         all.push(word.to_string(alloc)?)?;
     }
     let mut err: Vec<u8> = Vec::new(alloc);
-    let status = serve(alloc, all.as_slice(), reader, out, &mut err);
+    let status = serve(rt, alloc, all.as_slice(), reader, out, &mut err);
     Ok((status, String::from_utf8(err)?))
 }
 
@@ -106,7 +107,7 @@ fn each_read_fails(rt: HostRuntime) -> Result<(), Fail> {
                     good,
                 };
                 let mut out: Vec<u8> = Vec::new(rt.alloc());
-                let (status, err) = run(rt.alloc(), words, &mut reader, &mut out)?;
+                let (status, err) = run(&rt, rt.alloc(), words, &mut reader, &mut out)?;
                 let (want, text, fault) = if good < reads {
                     (4, "", "read fault\n")
                 } else {
@@ -142,7 +143,7 @@ fn each_write_fails(rt: HostRuntime) -> Result<(), Fail> {
                     fails,
                 };
                 let mut reader = script.as_bytes();
-                let (status, err) = run(rt.alloc(), words, &mut reader, &mut writer)?;
+                let (status, err) = run(&rt, rt.alloc(), words, &mut reader, &mut writer)?;
                 let (want, fault) = if good < writes {
                     (4, "write fault\n")
                 } else {
@@ -201,6 +202,7 @@ fn a_script_that_was_cut_off(rt: HostRuntime) -> Result<(), Fail> {
             let mut reader = script.as_bytes();
             let mut out: Vec<u8> = Vec::new(rt.alloc());
             let (status, err) = run(
+                &rt,
                 rt.alloc(),
                 &["replay", "--kind", kind],
                 &mut reader,
