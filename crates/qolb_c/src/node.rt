@@ -65,10 +65,11 @@ impl<L: LineSync<Free>> Node<L> {
         ensures line { self.new.line ≡ self.old.line }
         ensures enqueues { MatchResult result (λ answer. (may_ask (L.view self.old.port).state ≡ true) × Enqueues anything (L.view self.old.port) (L.view self.new.port) (L.turn self.new.port) answer) (λ _. (may_ask (L.view self.old.port).state ≢ true) × (self.new ≡ self.old)) }
     {
-        if !self.state().may_ask() {
-            return Err(Misuse);
+        if self.state().may_ask() {
+            Ok(self.line.enqolb(&mut self.port))
+        } else {
+            Err(Misuse)
         }
-        Ok(self.line.enqolb(&mut self.port))
     }
 
     /// Looks whether the request has come to its turn.
@@ -124,10 +125,11 @@ impl<L: LineSync<Free>> Node<L> {
     pub fn bytes(&self) -> Result<&Line64, Misuse>
         ensures { MatchResult result (λ line. ((L.view self.now.port).state ≡ PortState.Holding) × (line.now ≡ (L.turn self.now.port).bytes)) (λ _. (L.view self.now.port).state ≢ PortState.Holding) }
     {
-        if self.state() != PortState::Holding {
-            return Err(Misuse);
+        if self.state() == PortState::Holding {
+            Ok(L::bytes(&self.port))
+        } else {
+            Err(Misuse)
         }
-        Ok(L::bytes(&self.port))
     }
 
     /// The holder writes the bytes of the mask.
