@@ -3,6 +3,7 @@
  *   make -C c_examples build/rounds && c_examples/build/rounds THREADS ROUNDS [ring|list] [lanes|lines]
  *
  * Prints the lane sum, and nanoseconds a round over all threads. `lines` reads and writes whole lines in place of a lane. */
+#define _POSIX_C_SOURCE 200809L
 #include <pthread.h>
 #include <qolb.h>
 #include <sched.h>

@@ -4,7 +4,7 @@
     nice -n 19 tools/fuzz.py [--count 100000] [--seed 1] [--first 0] [--jobs 2] [--program PATH] [TASK..]
 
 TASK is replay, steps, board or bank; without one all four are run, each on that many scripts; replay runs each script by the plain line, by
-rings and by lists, board and bank by rings and lists in turn. Every run must end by itself, within a minute, with the status and the very
+rings and by lists, board and bank by rings and lists in turn. Every run must end by itself, within ten minutes, with the status and the very
 bytes that definitions.py says of the script; of workers, whose order is free, with a report that it allows. Script number n of a seed is the
 same in every run. The first script that is answered wrongly is printed, and ends all.
 """

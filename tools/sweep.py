@@ -5,10 +5,14 @@
 
 A refused allocation or thread must end with status 3, `out of memory` and nothing on standard output; a failed read with 4, `read fault`
 and nothing on standard output; a failed write with 4, `write fault` and a beginning of the answer. With reads and writes of one byte, and
-with each of them interrupted once, the answer must be whole. What a run must answer is from definitions.py. Needs Linux with glibc and cc.
+with each of them interrupted once, the answer must be whole. With little address space a run must say that memory is wanting or answer
+whole, from the least with which the system can start it. What a run must answer is from definitions.py. Needs Linux with glibc and cc.
 """
 
+import itertools
 import os
+import resource
+import signal
 import subprocess
 import sys
 import tempfile
@@ -45,6 +49,11 @@ TASKS = [
     (["bank", "--kind", "ring"], BANK),
     (["bank", "--kind", "link"], BANK),
 ]
+
+
+def grown(script):
+    """The script with its last command 20,000 times more."""
+    return script + script.splitlines(keepends=True)[-1] * 20_000
 
 
 def built(folder):
@@ -98,10 +107,31 @@ def whole(program, library, words, script, **settings):
         sys.exit(f"wrong: {' '.join(words)}, {settings}: {found}")
 
 
+def in_little_memory(program, words, script):
+    """Gives the program more and more address space, until its answer is whole ten times; how many runs said that memory was wanting, and
+    how many kilobytes the first whole answer took. With too little the system cannot start the program at all."""
+    wanted, started, short, served = answer_to(words[0], script), False, 0, []
+    for kilobytes in itertools.count(1024, 128):
+
+        def limit():
+            resource.setrlimit(resource.RLIMIT_AS, (kilobytes << 10, kilobytes << 10))
+
+        found = run(program, words, script, preexec_fn=limit)
+        if is_refusal("memory", wanted, found):
+            started, short = True, short + 1
+        elif is_right(wanted, found):
+            started = True
+            served.append(kilobytes)
+        elif started or found[0] not in (127, -signal.SIGSEGV, -signal.SIGKILL):
+            sys.exit(f"wrong: {' '.join(words)}, {kilobytes} kilobytes: {found}")
+        if len(served) == 10:
+            return short, served[0]
+
+
 def main():
     program = the_program()
     began = time.monotonic()
-    print("task                  allocations  threads  reads  writes  reads and writes of one byte")
+    print("task                  allocations  threads  reads  writes  reads and writes of one byte  too little memory")
     with tempfile.TemporaryDirectory() as folder:
         library = built(folder)
         for words, script in TASKS:
@@ -117,8 +147,9 @@ def main():
             whole(program, library, words, script, SHORT="1")
             whole(program, library, words, script, INTERRUPT="1")
             whole(program, library, words, script, INTERRUPT="1", SHORT="1")
-            row = "{:11}  {:7}  {:5}  {:6}  {:5} and {}".format(*counts)
-            print(f"{' '.join(words):20}  {row}", flush=True)
+            row = "{:11}  {:7}  {:5}  {:6}  {:11} and {:12}".format(*counts)
+            short, enough = in_little_memory(program, words, grown(script))
+            print(f"{' '.join(words):20}  {row}  {short} runs, up to {enough} KB", flush=True)
     print(f"all as they must be, in {time.monotonic() - began:.0f} seconds")
 
 

@@ -20,11 +20,11 @@ use Rattle.link_core.specs.Shown.{has_line, Lies, at_home, in_hand, granted, lef
 use Rattle.link_line.specs.declared.known.Known.{Known}
 use Rattle.link_line.specs.declared.rule.Setup.{Setup}
 use Rattle.link_line.specs.declared.parcel.Parcel.{Parcel}
-use Rattle.link_line.specs.Links.{At, NodeOk, InSlot, HasLine}
-use Rattle.link_line.specs.Joins.{AllRest, is_at_rest, node_of, views_of}
+use Rattle.link_line.specs.Links.{node_of, At, NodeOk, InSlot, HasLine}
+use Rattle.link_line.specs.Joins.{AllRest, is_at_rest, views_of}
 use Rattle.link_line.proofs.Histories.{one_history, at_point}
 use Rattle.link_line.proofs.Laying.{St}
-use Rattle.link_line.proofs.Seats.{Rule, members_of}
+use Rattle.link_line.proofs.Seats.{Rule}
 
 -- a node at rest does not have the line
 rests_without : (p : Point) → is_at_rest p ≡ true → has_line p ≡ true → ⊥
@@ -85,7 +85,7 @@ module _ (good : List ℕ → Type 0) (allows : List ℕ → List ℕ → Type 0
       slot.at,
       record {
         may_open = r.may_open;
-        once = once_map (λ (e : Known). e.view) entries (once_each node_of about.terms.nodes r.who r.owner s.views (members_of good allows about s r) id entries at);
+        once = once_map (λ (e : Known). e.view) entries (once_each node_of about.terms.nodes r.who r.owner s.views r.members id entries at);
         history = one_history allows about r.past r.fine (views_of entries) among;
         terms_are = refl;
         all_ended = home.ended;

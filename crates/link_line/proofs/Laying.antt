@@ -17,7 +17,8 @@ use Rattle.link_line.specs.declared.parcel.Parcel.{Parcel}
 use Rattle.link_line.specs.declared.rule.Setup.{Setup}
 use Rattle.link_line.specs.Words.{home_at, entry_at, pack}
 use Rattle.link_line.specs.Links.{Past, NodeOk, PastOk, Laid, InSlot, Homes, LinkRule}
-use Rattle.link_line.proofs.Lists.{put, put_here, put_else, members_step}
+use Rattle.qolb_model.proofs.Updates.{put, put_here, put_else}
+use Rattle.link_line.proofs.Lists.{members_step}
 
 -- only the home word changes
 pub home_laid : (c d : Core) (words : List ℕ) (homes homes2 : Homes) (w : ℕ) → Laid c words homes → w ≡ d.home → d.nodes ≡ c.nodes → d.entries ≡ c.entries → length homes2 ≡ 1 → InSlot d homes2 d.place → Laid d (set words home_at w) homes2

@@ -26,12 +26,12 @@ use Rattle.link_core.specs.Shown.{has_line, Sits}
 use Rattle.link_line.specs.declared.known.Known.{Known}
 use Rattle.link_line.specs.declared.rule.Setup.{Setup}
 use Rattle.link_line.specs.declared.parcel.Parcel.{Parcel}
-use Rattle.link_line.specs.Links.{Past, NodeOk, PastOk, InSlot}
+use Rattle.link_line.specs.Links.{node_of, Past, NodeOk, PastOk, InSlot}
 use Rattle.link_line.specs.Steps.{Contents}
-use Rattle.link_line.specs.Joins.{informed, met, parked, node_of}
+use Rattle.link_line.specs.Joins.{informed, met, parked}
 use Rattle.link_line.proofs.Histories.{one_history, continues, at_point}
 use Rattle.link_line.proofs.Laying.{St, mine_ok, is_node}
-use Rattle.link_line.proofs.Seats.{Rule, members_of}
+use Rattle.link_line.proofs.Seats.{Rule}
 
 module _ (about : Setup) (x : Past) (n m : ℕ) (v u : Known) (ok : NodeOk about x n v) (other : NodeOk about x m u) where
   orders : IsPrefix v.view.order (longer v.view.order u.view.order)
@@ -125,19 +125,19 @@ module _ (good : List ℕ → Type 0) (allows : List ℕ → List ℕ → Type 0
     second_informed = informed_ok about r.past u.view.node v.view.node u v second_ok first_ok
 
     differ : v.view.node ≢ u.view.node
-    differ = two_differ node_of about.terms.nodes r.who r.owner s.views (members_of good allows about s r) me v u at
+    differ = two_differ node_of about.terms.nodes r.who r.owner s.views r.members me v u at
 
     pair_rule : Rule good allows about record { words = s.words; homes = s.homes; views = set s.views me (informed v u ∷ informed u v ∷ []) }
     pair_rule = record {
       past = r.past;
-      who = both_put node_of about.terms.nodes r.who r.owner s.views (members_of good allows about s r) me v u at (informed v u) (informed u v);
+      who = both_put node_of about.terms.nodes r.who r.owner s.views r.members me v u at (informed v u) (informed u v);
       owner = r.owner;
       may_open = r.may_open;
       opened_good = r.opened_good;
       fine = r.fine;
       laid = r.laid;
-      each = pair_each node_of about.terms.nodes r.who r.owner s.views (members_of good allows about s r) me v u at (informed v u) (informed u v) (NodeOk about r.past) first_informed second_informed r.each;
-      members = λ j i es e a b. let m = pair_members node_of about.terms.nodes r.who r.owner s.views (members_of good allows about s r) me v u at (informed v u) (informed u v) refl refl j i es e a b in record { low = m.low; high = m.high; is = m.is; at = m.at };
+      each = pair_each node_of about.terms.nodes r.who r.owner s.views r.members me v u at (informed v u) (informed u v) (NodeOk about r.past) first_informed second_informed r.each;
+      members = pair_members node_of about.terms.nodes r.who r.owner s.views r.members me v u at (informed v u) (informed u v) refl refl;
     }
 
     before : OneHistory (v.view ∷ u.view ∷ [])

@@ -19,21 +19,12 @@ use Rattle.link_line.specs.declared.known.Known.{Known}
 use Rattle.link_line.specs.declared.rule.Setup.{Setup}
 use Rattle.link_line.specs.declared.parcel.Parcel.{Parcel}
 use Rattle.link_line.specs.Words.{home_at, entry_at, word_count, pack}
-use Rattle.link_line.specs.Links.{newcomer, newcomers_from, newcomers, MayServe, Member, LinkRule}
-use Rattle.link_line.specs.Joins.{node_of}
+use Rattle.link_line.specs.Links.{newcomer, newcomers, node_of, MayServe, LinkRule}
 use Rattle.link_line.proofs.Laying.{St}
-
--- the newcomers are each its node's
-pub newcomers_each : (about : Setup) (n k : ℕ) → newcomers_from about n k ≡ each_from (newcomer about) n k
-newcomers_each about n zero = refl
-newcomers_each about n (suc k) = ap (λ es. newcomer about (suc n) ∷ es) (newcomers_each about (suc n) k)
 
 module _ (good : List ℕ → Type 0) (allows : List ℕ → List ℕ → Type 0) (about : Setup) where
   abbrev pub Rule : St good allows about → Type 0
   Rule = LinkRule good allows about
-
-  pub members_of : (s : St good allows about) (r : Rule s) → AreMembers node_of about.terms.nodes r.who r.owner s.views
-  members_of s r j i es e a b = let m = r.members j i es e a b in record { low = m.low; high = m.high; is = m.is; at = m.at }
 
   -- the same views in other seats
   reseated : (s : St good allows about) (r : Rule s) (views : List (List Known)) (owner : ℕ → ℕ × ℕ) → AreMembers node_of about.terms.nodes r.who owner views → Rule record { words = s.words; homes = s.homes; views = views }
@@ -46,20 +37,20 @@ module _ (good : List ℕ → Type 0) (allows : List ℕ → List ℕ → Type 0
     fine = r.fine;
     laid = r.laid;
     each = r.each;
-    members = λ j i es e a b. let m = all j i es e a b in record { low = m.low; high = m.high; is = m.is; at = m.at };
+    members = all;
   }
 
   -- the views of a seat are cut behind the first
   pub cuts : (me : ℕ) (vs : List Known) → Splits Rule me vs (front vs) (behind vs)
-  cuts me vs s r at = reseated s r _ _ (cut_members node_of about.terms.nodes r.who r.owner s.views (members_of s r) me vs at)
+  cuts me vs s r at = reseated s r _ _ (cut_members node_of about.terms.nodes r.who r.owner s.views r.members me vs at)
 
   -- a new seat with no view
   pub blanks : (me : ℕ) (vs : List Known) → Splits Rule me vs vs []
-  blanks me vs s r at = reseated s r _ r.owner (blank_members node_of about.terms.nodes r.who r.owner s.views (members_of s r) me vs at)
+  blanks me vs s r at = reseated s r _ r.owner (blank_members node_of about.terms.nodes r.who r.owner s.views r.members me vs at)
 
   -- the views of two seats are put into one
   pub joins : (me other : ℕ) (vs ws : List Known) → Joins Rule me vs other ws (vs ++ ws) []
-  joins me other vs ws s r at apart there = reseated s r _ _ (join_members node_of about.terms.nodes r.who r.owner s.views (members_of s r) me other vs ws at apart there)
+  joins me other vs ws s r at apart there = reseated s r _ _ (join_members node_of about.terms.nodes r.who r.owner s.views r.members me other vs ws at apart there)
 
   -- the table as it is opened
   pub starts : (words : List ℕ) (y : Parcel) → MayOpen about.terms → length about.terms.opening.bytes ≡ 64 → good about.terms.opening.bytes → length words ≡ word_count → ((i : ℕ) → i < word_count → slice_index words i ≡ 0)
@@ -116,6 +107,5 @@ module _ (good : List ℕ → Type 0) (allows : List ℕ → List ℕ → Type 0
         ended = λ _ i p at. absurd (at_none i p at);
       };
     };
-    members = subst (λ es. (j i : ℕ) (vs : List Known) (e : Known) → get_elem? (es ∷ []) j ≡ some vs → slice_get vs i ≡ Some e → Member about.terms.nodes (newcomer about) (λ n. (0, n - 1)) j i e) (sym (newcomers_each about 0 about.terms.nodes))
-        (λ j i vs e a b. let m = first_members node_of about.terms.nodes (newcomer about) (λ n. refl) j i vs e a b in record { low = m.low; high = m.high; is = m.is; at = m.at });
+    members = first_members node_of about.terms.nodes (newcomer about) (λ n. refl);
   }

@@ -3,26 +3,25 @@ use Rattle.std.proofs.Common.{◌≡◌, ℕ, ◌+◌, ◌-◌, ◌<◌, List, [
 use Rattle.atomic_table.specs.Seated.{TableId}
 use Rattle.qolb_model.specs.declared.answer.PortState.TheVariants as shows
 use Rattle.qolb_model.specs.Opening.{MayOpen, new_view}
-use Rattle.qolb_model.specs.Entries.{front, behind}
+use Rattle.qolb_model.specs.Entries.{each_from, front, behind}
 use Rattle.qolb_model.proofs.Lists.{push_cases}
 use Rattle.qolb_model.proofs.Agreeing.{opens_new}
 use Rattle.qolb_model.proofs.Seats.{each_from_more}
 use Rattle.link_line.specs.declared.rule.Setup.{Setup}
 use Rattle.link_line.specs.declared.parcel.Parcel.{Parcel}
-use Rattle.link_line.specs.Links.{newcomer, newcomers_from}
+use Rattle.link_line.specs.Links.{newcomer}
 use Rattle.link_line.specs.Steps.{LinkSeat, sole}
 use Rattle.link_line.specs.Ports.{Standing, standing, IsPort, BelongsTo}
 use Rattle.link_line.specs.Opened.{AreSplit, IsOpened}
-use Rattle.link_line.proofs.Seats.{newcomers_each}
 
-from_more : (about : Setup) (n : ℕ) → n < about.terms.nodes → newcomers_from about n (about.terms.nodes - n) ≡ newcomer about (n + 1) ∷ newcomers_from about (n + 1) (about.terms.nodes - (n + 1))
-from_more about n l = newcomers_each about n (about.terms.nodes - n) ∙ each_from_more (newcomer about) n about.terms.nodes l ∙ (λ i. newcomer about (n + 1) ∷ sym (newcomers_each about (n + 1) (about.terms.nodes - (n + 1))) i)
+from_more : (about : Setup) (n : ℕ) → n < about.terms.nodes → each_from (newcomer about) n (about.terms.nodes - n) ≡ newcomer about (n + 1) ∷ each_from (newcomer about) (n + 1) (about.terms.nodes - (n + 1))
+from_more about n l = each_from_more (newcomer about) n about.terms.nodes l
 
-module _ (about : Setup) (n : ℕ) (old first rest : LinkSeat) (more : n < about.terms.nodes) (whole : old.me ≡ (newcomers_from about n (about.terms.nodes - n), [])) where
+module _ (about : Setup) (n : ℕ) (old first rest : LinkSeat) (more : n < about.terms.nodes) (whole : old.me ≡ (each_from (newcomer about) n (about.terms.nodes - n), [])) where
   pub first_me : first.me ≡ (front old.me.0, old.me.1) → first.me ≡ (newcomer about (n + 1) ∷ [], [])
   first_me e = e ∙ (λ i. (front (whole i).0, (whole i).1)) ∙ (λ i. (front (from_more about n more i), []))
 
-  pub rest_me : rest.me ≡ (behind old.me.0, []) → rest.me ≡ (newcomers_from about (n + 1) (about.terms.nodes - (n + 1)), [])
+  pub rest_me : rest.me ≡ (behind old.me.0, []) → rest.me ≡ (each_from (newcomer about) (n + 1) (about.terms.nodes - (n + 1)), [])
   rest_me e = e ∙ (λ i. (behind (whole i).0, [])) ∙ (λ i. (behind (from_more about n more i), []))
 
   pub first_port : (y : Parcel) (older : ℕ) → first.me ≡ (front old.me.0, old.me.1) → IsPort about.label (n + 1) first y older shows.Idle

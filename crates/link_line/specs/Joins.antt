@@ -9,6 +9,7 @@ use Rattle.qolb_model.specs.Entries.{AllAtRest, behind}
 use Rattle.qolb_model.specs.Calls.{TellEachOther}
 use Rattle.link_line.specs.declared.parcel.Parcel.{Parcel}
 use Rattle.link_line.specs.declared.known.Known.{Known}
+use Rattle.link_line.specs.Links.{node_of}
 use Rattle.link_line.specs.Steps.{Contents, sole}
 
 -- what the table knows of v's node, once its port has learned what u's knows
@@ -28,10 +29,6 @@ parked st m n m' = (m'.0 ≡ m.0) × ((y : Parcel) → m.1 ≡ (0, y) ∷ [] →
 -- what a seat's nodes know
 abbrev pub views_of : List Known → List View
 views_of entries = map (λ (e : Known). e.view) entries
-
--- the node of what the table knows of one
-abbrev pub node_of : Known → ℕ
-node_of e = e.view.node
 
 -- the node is in no call, and neither waits nor holds
 abbrev pub is_at_rest : Point → Bool

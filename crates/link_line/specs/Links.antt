@@ -11,6 +11,7 @@ use Rattle.qolb_model.specs.declared.request.Request.{Request}
 use Rattle.qolb_model.specs.declared.end.End.{End}
 use Rattle.qolb_model.specs.declared.view.View.{View}
 use Rattle.qolb_model.specs.EndKinds.{is_gone}
+use Rattle.qolb_model.specs.Entries.{AreMembers, each_from}
 use Rattle.qolb_model.specs.Ends.{bytes_after}
 use Rattle.qolb_model.specs.Histories.{Clears}
 use Rattle.qolb_model.specs.Kept.{AreAllowed}
@@ -47,13 +48,12 @@ no_line = record { bytes = record { bytes = [] }; mask = no_mask; turns_left = N
 abbrev pub newcomer : Setup → ℕ → Known
 newcomer about n = record { view = new_view about.label about.terms n; seat = unused; passed = []; line = no_line; steps = 0 }
 
--- the nodes n+1 .. n+k
-abbrev pub newcomers_from : Setup → ℕ → ℕ → List Known
-newcomers_from about n zero = []
-newcomers_from about n (suc k) = newcomer about (suc n) ∷ newcomers_from about (suc n) k
-
 abbrev pub newcomers : Setup → List Known
-newcomers about = newcomers_from about 0 about.terms.nodes
+newcomers about = each_from (newcomer about) 0 about.terms.nodes
+
+-- the node of what the table knows of one
+abbrev pub node_of : Known → ℕ
+node_of e = e.view.node
 
 -- in a release, with the line in hand
 abbrev pub is_leaving : Point → Bool
@@ -173,13 +173,6 @@ pub record NodeOk (about : Setup) (x : Past) (n : ℕ) (e : Known) : Type 0 wher
   pub stands : Standing x.core x.queue.ends n e
   pub passes : Passing x.queue.order e
 
--- the member at the i-th place of the seat j
-pub record Member (nodes : ℕ) (who : ℕ → Known) (owner : ℕ → ℕ × ℕ) (j i : ℕ) (e : Known) : Type 0 where
-  pub low : 0 < e.view.node
-  pub high : e.view.node ≤ nodes
-  pub is : who e.view.node ≡ e
-  pub at : owner e.view.node ≡ (j, i)
-
 abbrev pub Homes : Type 0
 Homes = List (maybe.Option Parcel)
 
@@ -236,4 +229,4 @@ module _ (good : List ℕ → Type 0) (allows : List ℕ → List ℕ → Type 0
     pub fine : PastOk allows about past
     pub laid : Laid past.core s.words s.homes
     pub each : (n : ℕ) → 0 < n → n ≤ about.terms.nodes → NodeOk about past n (who n)
-    pub members : (j i : ℕ) (es : List Known) (e : Known) → get_elem? s.views j ≡ some es → At es i e → Member about.terms.nodes who owner j i e
+    pub members : AreMembers node_of about.terms.nodes who owner s.views

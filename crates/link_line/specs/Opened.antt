@@ -4,8 +4,9 @@ use Rattle.std.specs.List.{All}
 use Rattle.atomic_table.specs.Seated.{TableId}
 use Rattle.qolb_model.specs.declared.terms.Terms.{Terms}
 use Rattle.qolb_model.specs.Opening.{new_view, Opens}
+use Rattle.qolb_model.specs.Entries.{each_from}
 use Rattle.link_line.specs.declared.rule.Setup.{Setup}
-use Rattle.link_line.specs.Links.{At, newcomers_from}
+use Rattle.link_line.specs.Links.{At, newcomer}
 use Rattle.link_line.specs.Steps.{LinkSeat}
 use Rattle.link_line.specs.Ports.{Standing, BelongsTo}
 
@@ -17,7 +18,7 @@ pub record AreSplit (table_id : TableId) (about : Setup) (n : ℕ) (ports : List
 -- the ports of the first n nodes are there, and the seat `rest` has the others' views
 pub record HasSplit (table_id : TableId) (about : Setup) (n : ℕ) (rest : LinkSeat) (ports : List Standing) : Type 0 where
   pub table : rest.table_id ≡ table_id
-  pub me : rest.me ≡ (newcomers_from about n (about.terms.nodes - n), [])
+  pub me : rest.me ≡ (each_from (newcomer about) n (about.terms.nodes - n), [])
   pub new_ports : AreSplit table_id about n ports
 
 -- none of these ports has taken a step

@@ -5,58 +5,84 @@ use Rattle.std.specs.Str.{bytes_eq}
 use Rattle.clap.specs.Words.{App, Row, Rule, Text, first_of, new_app, new_rule, subcommand_of, takes, with_rule, with_subcommand}
 use Rattle.clap.specs.declared.builder.ArgAction.TheVariants.{Set}
 use Rattle.clap.specs.declared.builder.value_parser.ValueParser.TheVariants as parser
+use Rattle.qolb_script.specs.declared.job.WorkKind.TheVariants.{Board, Bank}
 use Rattle.qolb_run.specs.declared.replay.Kind.{Kind}
 use Rattle.qolb_run.specs.declared.replay.Kind.TheVariants as kind
+use Rattle.qolb_run.specs.declared.work.Lines.{Lines}
+use Rattle.qolb_run.specs.declared.work.Lines.TheVariants as lines
 use Rattle.qolb_run.specs.declared.task.Task.{Task}
 use Rattle.qolb_run.specs.declared.task.Task.TheVariants as task
-
--- the kinds that a replay takes
-abbrev pub kind_names : List Text
-kind_names = codes "plain" ∷ codes "ring" ∷ codes "link" ∷ []
 
 abbrev pub Names : Type 0
 Names = Bor (List (Bor Text))
 
--- these are the names of the kinds
-abbrev pub AreKinds : Names → Type 0
-AreKinds names = map (λ (name : Bor Text). name.now) names.now ≡ kind_names
+-- these are the names
+abbrev pub AreNames : Names → List Text → Type 0
+AreNames names texts = map (λ (name : Bor Text). name.now) names.now ≡ texts
 
--- `replay --kind KIND`, where the kind must be given
+-- the names of the kinds that a replay takes, and of those that workers share
+pub record KindNames : Type 0 where
+  pub replayed : Names
+  pub shared : Names
+  pub replayed_are : AreNames replayed (codes "plain" ∷ codes "ring" ∷ codes "link" ∷ [])
+  pub shared_are : AreNames shared (codes "ring" ∷ codes "link" ∷ [])
+
+-- `--kind KIND`, with one of these names
 abbrev pub kind_rule : Names → Rule
 kind_rule names = record (new_rule (codes "kind")) {
   long = Some (codes "kind");
   action = Some Set;
   value_names = 1;
   parser = Some (parser.Names names);
-  required = true;
 }
 
+-- `replay --kind KIND`, where the kind must be given
 abbrev pub replay_command : Names → App
-replay_command names = with_rule (new_app (codes "replay")) (kind_rule names)
+replay_command names = with_rule (new_app (codes "replay")) (record (kind_rule names) { required = true })
 
 abbrev pub steps_command : App
 steps_command = new_app (codes "steps")
 
+-- work by this name, over lists where no kind is given
+abbrev pub work_command : Text → Names → App
+work_command name names = with_rule (new_app name) (record (kind_rule names) { defaults = codes "link" ∷ [] })
+
 abbrev pub needs_subcommand : App → App
 needs_subcommand app = record app { top = record app.top { subcommand_required = true } }
 
--- the program's command: `replay --kind KIND`, or `steps`
-abbrev pub the_command : Names → App
-the_command names = with_subcommand (with_subcommand (needs_subcommand (new_app (codes "qolb"))) (replay_command names).top) steps_command.top
+-- the program's command: `replay --kind KIND`, `steps`, `board [--kind KIND]` or `bank [--kind KIND]`
+abbrev pub replay_or_steps : Names → App
+replay_or_steps replayed = with_subcommand (with_subcommand (needs_subcommand (new_app (codes "qolb"))) (replay_command replayed).top) steps_command.top
+
+abbrev pub the_command : KindNames → App
+the_command names = with_subcommand (with_subcommand (replay_or_steps names.replayed) (work_command (codes "board") names.shared).top) (work_command (codes "bank") names.shared).top
 
 -- the kind of this name
 abbrev pub kind_of_name : Option Text → Kind
 kind_of_name None = kind.Plain
 kind_of_name (Some name) = if bytes_eq name (codes "ring") then kind.Ring else if bytes_eq name (codes "link") then kind.Link else kind.Plain
 
+abbrev pub lines_of_name : Option Text → Lines
+lines_of_name None = lines.Link
+lines_of_name (Some name) = if bytes_eq name (codes "ring") then lines.Ring else lines.Link
+
 -- the task of a subcommand with these arguments
+abbrev pub task_of : Text → Option Text → Task
+task_of name kind =
+    if bytes_eq name (codes "steps") then task.Steps
+    else if bytes_eq name (codes "board") then task.Work Board (lines_of_name kind)
+    else if bytes_eq name (codes "bank") then task.Work Bank (lines_of_name kind)
+    else task.Replay (kind_of_name kind)
+
 abbrev pub task_at : Text × List Row → Task
-task_at entered = if bytes_eq entered.0 (codes "steps") then task.Steps else task.Replay (kind_of_name (first_of (codes "kind") entered.1))
+task_at entered = task_of entered.0 (first_of (codes "kind") entered.1)
 
 -- the words name this task
-abbrev pub NamesTask : List Text → Task → Type 0
-NamesTask words wanted = (names : Names) × AreKinds names × (option_map task_at (subcommand_of (the_command names) words) ≡ Some wanted)
+pub record NamesTask (words : List Text) (wanted : Task) : Type 0 where
+  pub names : KindNames
+  pub named : option_map task_at (subcommand_of (the_command names) words) ≡ Some wanted
 
 -- the command does not take the words
-abbrev pub IsNotTaken : List Text → Type 0
-IsNotTaken words = (names : Names) × AreKinds names × (takes (the_command names) words ≡ false)
+pub record IsNotTaken (words : List Text) : Type 0 where
+  pub names : KindNames
+  pub refused : takes (the_command names) words ≡ false

@@ -1,8 +1,10 @@
-//! Replays scripts of calls on queued lines.
+//! Replays scripts of calls on queued lines, and runs scripts of work over them.
 #![tactic(auto)]
 
+mod command_line;
 mod serve;
 
+use qolb_run::{ReplayError, TaskError};
 use std::env;
 use std::io::{self, ErrorKind};
 use std::process::ExitCode;
@@ -19,6 +21,7 @@ fn words(rt: &HostRuntime) -> io::Result<Vec<String>> {
 fn main(rt: HostRuntime) -> ExitCode {
     match words(&rt) {
         Ok(words) => ExitCode::from(serve::serve(
+            &rt,
             rt.alloc(),
             words.as_slice(),
             &mut rt.stdin(),
@@ -26,8 +29,8 @@ fn main(rt: HostRuntime) -> ExitCode {
             &mut rt.stderr(),
         )),
         Err(error) if error.kind() == ErrorKind::OutOfMemory => {
-            let _ = eprintln!(rt; "out of memory");
-            ExitCode::from(3)
+            let memory = TaskError::Replay(ReplayError::Memory);
+            ExitCode::from(serve::fail(&mut rt.stderr(), memory))
         }
         Err(_) => {
             let _ = eprintln!(rt; "error: the arguments are no UTF-8 text");

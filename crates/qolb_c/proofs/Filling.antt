@@ -1,9 +1,9 @@
 -- Handles and boxes of nodes, as they are filled.
-use Rattle.std.proofs.Common.{◌≡◌, All, ℕ, zero, suc, ◌+◌, ◌<◌, ◌≤◌, List, [], ◌∷◌, ◌++◌, map, length, set, take, drop, get_or, Option, Some, None, Box, Global, slice_get, refl, sym, ap, ◌∙◌, subst, arith, append_assoc, append-nil, length-append}
+use Rattle.std.proofs.Common.{◌≡◌, All, ℕ, zero, suc, ◌<◌, List, [], ◌∷◌, ◌++◌, map, length, set, drop, get_or, Option, Some, None, Box, Global, slice_get, refl, sym, ap, ◌∙◌, subst, arith, append_assoc, length-append}
 use Rattle.qolb_c.specs.declared.any_node.AnyNode.{AnyNode}
 use Rattle.qolb_c.specs.declared.handle.Handle.{Handle}
 use Rattle.qolb_c.specs.Nodes.{NodeOf}
-use Rattle.qolb_c.specs.Opens.{held_by, AreEmpty}
+use Rattle.qolb_c.specs.Opens.{held_by}
 
 abbrev pub Boxes : Type 0
 Boxes = List (Box AnyNode Global)

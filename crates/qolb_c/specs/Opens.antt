@@ -1,5 +1,5 @@
 -- What opening a line for C gives, and why it is refused. (Of this project.)
-use Rattle.std.specs.Prelude.{◌≡◌, ◌≢◌, ◌⊎◌, ℕ, ◌+◌, ◌<◌, ◌≤◌, ◌==◌, if◌then◌else◌, List, ◌++◌, map, drop, length, slice_get, Option, Some, None}
+use Rattle.std.specs.Prelude.{◌≡◌, ◌≢◌, ◌⊎◌, ℕ, ◌<◌, ◌≤◌, ◌==◌, if◌then◌else◌, List, ◌++◌, map, drop, length, slice_get, Option, Some, None}
 use Rattle.std.specs.List.{All}
 use Rattle.qolb_model.specs.declared.answer.OpenError.{OpenError}
 use Rattle.qolb_model.specs.declared.answer.OpenError.TheVariants as error

@@ -163,6 +163,7 @@ impl AnyNode {
     }
 
     /// The holder writes the bytes of the mask.
+    #[inline(always)]
     pub fn write(&mut self, mask: Mask, bytes: &Line64) -> Answer
         ensures { Writes mask.0 bytes.now.bytes self.old self.new result }
     {

@@ -4,7 +4,7 @@
 //! it, and puts it back; a call that the node's state does not allow is answered `Misuse` and changes nothing.
 #![tactic(auto)]
 
-ghost use Rattle.std.specs.Prelude.{◌≡◌, true, false};
+ghost use Rattle.std.specs.Prelude.{◌≡◌, true, false, None};
 ghost use Rattle.qolb_c.specs.declared.answer.Answer.{Answer};
 ghost use Rattle.qolb_c.specs.Numbers.{number_of};
 ghost use Rattle.qolb_c.specs.Opens.{Opens, terms_by};
@@ -149,7 +149,8 @@ pub extern "C" fn qolb_withdraw(alloc: Global, node: &mut Handle) -> u32
 /// The holder reads the line.
 #[unsafe(no_mangle)]
 pub extern "C" fn qolb_read(alloc: Global, node: &mut Handle, out: &mut Bytes) -> u32
-    ensures { Calls (Reads out.old.bytes out.new.bytes) node.old.held node.new.held result }
+    ensures calls { Calls (Reads out.old.bytes out.new.bytes) node.old.held node.new.held result }
+    ensures empty { node.old.held ≡ None → out.new.bytes ≡ out.old.bytes }
 {
     match node.take(alloc) {
         None => Answer::Misuse.number(),
@@ -180,7 +181,8 @@ pub extern "C" fn qolb_write(alloc: Global, node: &mut Handle, mask: u64, bytes:
 /// The holder reads one of the eight lanes.
 #[unsafe(no_mangle)]
 pub extern "C" fn qolb_read_lane(alloc: Global, node: &mut Handle, lane: u64, out: &mut u64) -> u32
-    ensures { Calls (ReadsLane lane out.old out.new) node.old.held node.new.held result }
+    ensures calls { Calls (ReadsLane lane out.old out.new) node.old.held node.new.held result }
+    ensures empty { node.old.held ≡ None → out.new ≡ out.old }
 {
     match node.take(alloc) {
         None => Answer::Misuse.number(),

@@ -1,7 +1,7 @@
 //! A node of a line that several share, for any kind of line.
 ghost use Rattle.std.specs.Prelude.{◌≡◌, ◌≢◌, ℕ, ◌<◌, true, false, MatchResult};
 ghost use Rattle.std.specs.Arc.{arc_value};
-ghost use Rattle.qolb_model.specs.Calls.{Enqueues, Prepends, LinksUp, Polls, Withdraws, Releases};
+ghost use Rattle.qolb_model.specs.Calls.{Enqueues, Prepends, LinksUp, Polls, Withdraws, Releases, TellEachOther};
 ghost use Rattle.qolb_model.specs.OneOwner.{turn_after};
 ghost use Rattle.qolb_model.specs.PortStates.{may_ask};
 ghost use Rattle.qolb_c.specs.Nodes.{anything};
@@ -65,10 +65,11 @@ impl<L: LineSync<Free>> Node<L> {
         ensures line { self.new.line ≡ self.old.line }
         ensures enqueues { MatchResult result (λ answer. (may_ask (L.view self.old.port).state ≡ true) × Enqueues anything (L.view self.old.port) (L.view self.new.port) (L.turn self.new.port) answer) (λ _. (may_ask (L.view self.old.port).state ≢ true) × (self.new ≡ self.old)) }
     {
-        if !self.state().may_ask() {
-            return Err(Misuse);
+        if self.state().may_ask() {
+            Ok(self.line.enqolb(&mut self.port))
+        } else {
+            Err(Misuse)
         }
-        Ok(self.line.enqolb(&mut self.port))
     }
 
     /// Looks whether the request has come to its turn.
@@ -124,10 +125,11 @@ impl<L: LineSync<Free>> Node<L> {
     pub fn bytes(&self) -> Result<&Line64, Misuse>
         ensures { MatchResult result (λ line. ((L.view self.now.port).state ≡ PortState.Holding) × (line.now ≡ (L.turn self.now.port).bytes)) (λ _. (L.view self.now.port).state ≢ PortState.Holding) }
     {
-        if self.state() != PortState::Holding {
-            return Err(Misuse);
+        if self.state() == PortState::Holding {
+            Ok(L::bytes(&self.port))
+        } else {
+            Err(Misuse)
         }
-        Ok(L::bytes(&self.port))
     }
 
     /// The holder writes the bytes of the mask.
@@ -135,6 +137,7 @@ impl<L: LineSync<Free>> Node<L> {
     /// # Errors
     ///
     /// `Misuse` where the node does not hold the line.
+    #[inline(always)]
     pub fn write(&mut self, mask: Mask, bytes: &Line64) -> Result<(), Misuse>
         ensures line { self.new.line ≡ self.old.line }
         ensures view { L.view self.new.port ≡ L.view self.old.port }
@@ -177,6 +180,16 @@ impl<L: LineSync<Free>> Node<L> {
         }
         self.line.shut(&mut self.port);
         Ok(())
+    }
+
+    /// Two nodes of one line tell each other what they know, which is of one history. C has no call for it: it says what it means that the
+    /// nodes of an opened line are of one line.
+    pub fn meet(&mut self, other: &mut Node<L>)
+        requires one_line { other.old.line ≡ self.old.line }
+        ensures lines { (self.new.line ≡ self.old.line) × (other.new.line ≡ other.old.line) }
+        ensures tell { TellEachOther anything (L.view self.old.port) (L.view other.old.port) (L.view self.new.port) (L.view other.new.port) }
+    {
+        self.line.meet(&mut self.port, &mut other.port);
     }
 }
 

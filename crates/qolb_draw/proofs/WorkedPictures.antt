@@ -1,26 +1,27 @@
 -- Worked pictures: what the definition of a picture says of small scripts, by computation.
 use Rattle.std.specs.Prelude.{◌≡◌, ◌++◌, codes, refl, Ok, Err}
 use Rattle.qolb_script.specs.declared.error.ScriptError.TheVariants.{BadLine}
+use Rattle.qolb_draw.specs.declared.draw.Form.TheVariants.{Text, Svg}
 use Rattle.qolb_draw.specs.Pictures.{picture_to, legend}
 
 -- three nodes, each handing the line on to the next
-handed_over : picture_to (codes "nodes 3 lines 1\nenq 1 0\nenq 2 0\nenq 3 0\nshow 1 0\ndeq 1 0\npoll 3 0\npoll 2 0\nshow 2 0\ndeq 2 0\npoll 3 0\nshow 3 0\ndeq 3 0\n")
+handed_over : picture_to Text (codes "nodes 3 lines 1\nenq 1 0\nenq 2 0\nenq 3 0\nshow 1 0\ndeq 1 0\npoll 3 0\npoll 2 0\nshow 2 0\ndeq 2 0\npoll 3 0\nshow 3 0\ndeq 3 0\n")
     ≡ Ok (codes "line 0\n\n                  111\n         123456789012\nnode   1 HHHH>.......\nnode   2 .www<tHH>...\nnode   3 ..wwwwww<HH.\n\n" ++ legend)
 handed_over = refl
 
 -- a withdrawn node is passed when the line is closed, and those that wait are told in turn
-closed : picture_to (codes "nodes 3 lines 1\nenq 1 0\nenq 2 0\nenq 3 0\nout 2 0\nenq 2 0\nshut 1 0\nenq 2 0\npoll 3 0\nenq 1 0\n")
+closed : picture_to Text (codes "nodes 3 lines 1\nenq 1 0\nenq 2 0\nenq 3 0\nout 2 0\nenq 2 0\nshut 1 0\nenq 2 0\npoll 3 0\nenq 1 0\n")
     ≡ Ok (codes "line 0\n\n         123456789\nnode   1 HHHHH>--w\nnode   2 .wwxx-w<t\nnode   3 ..www<tc-\n\n" ++ legend)
 closed = refl
 
 -- commands on two lines, of which each node calls on one
-two_lines : picture_to (codes "nodes 3 lines 2\nenq 1 0\nenq 3 1\n\ndeq 3 1\ndeq 1 0\n")
+two_lines : picture_to Text (codes "nodes 3 lines 2\nenq 1 0\nenq 3 1\n\ndeq 3 1\ndeq 1 0\n")
     ≡ Ok (codes "line 0\n\n         14\nnode   1 H.\n\nline 1\n\n         23\nnode   3 H.\n\n" ++ legend)
 two_lines = refl
 
 -- no command
-no_commands : picture_to (codes "nodes 2 lines 1\n") ≡ Ok (codes "line 0\n\n" ++ legend)
+no_commands : picture_to Text (codes "nodes 2 lines 1\n") ≡ Ok (codes "line 0\n\n" ++ legend)
 no_commands = refl
 
-no_script : picture_to (codes "nodes 2 lines 1\njoin 1 0\n") ≡ Err (BadLine 2)
+no_script : picture_to Text (codes "nodes 2 lines 1\njoin 1 0\n") ≡ Err (BadLine 2)
 no_script = refl

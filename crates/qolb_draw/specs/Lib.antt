@@ -3,3 +3,4 @@ pub mod LineRuns
 pub mod Pictures
 pub mod Following
 pub mod Grids
+pub mod Svg

@@ -6,9 +6,12 @@ use Rattle.qolb_run.specs.declared.input.TheConstants.{MOST_BYTES}
 use Rattle.qolb_script.specs.declared.error.ScriptError.{ScriptError}
 use Rattle.qolb_script.specs.Commands.{node_of}
 use Rattle.qolb_script.specs.Script.{Script, script_of}
+use Rattle.qolb_draw.specs.declared.draw.Form.{Form}
+use Rattle.qolb_draw.specs.declared.draw.Form.TheVariants as form
 use Rattle.qolb_draw.specs.declared.mark.Mark.{Mark}
 use Rattle.qolb_draw.specs.declared.mark.Mark.TheVariants as mark
 use Rattle.qolb_draw.specs.declared.text.TheConstants.{COLUMNS}
+use Rattle.qolb_draw.specs.Svg.{svg_of}
 use Rattle.qolb_draw.specs.LineRuns.{Step, mark_at, steps_on}
 
 -- the letter of each mark
@@ -76,15 +79,20 @@ legend = codes ". idle   w waits   t its turn has come   H holds   > hands over 
 abbrev pub picture_of : Script → List ℕ
 picture_of script = flat_map (line_text script) (range_with_len 0 script.lines) ++ legend
 
--- the picture of some bytes, or the first fault in them
-abbrev pub drawn : Result Script ScriptError → Result (List ℕ) ScriptError
-drawn (Ok script) = Ok (picture_of script)
-drawn (Err error) = Err error
+-- the same in a form
+abbrev pub in_form : Form → List ℕ → List ℕ
+in_form form.Text text = text
+in_form form.Svg text = svg_of text
 
-abbrev pub picture_to : List ℕ → Result (List ℕ) ScriptError
-picture_to text = drawn (script_of text)
+-- the picture of some bytes, or the first fault in them
+abbrev pub drawn : Form → Result Script ScriptError → Result (List ℕ) ScriptError
+drawn form (Ok script) = Ok (in_form form (picture_of script))
+drawn form (Err error) = Err error
+
+abbrev pub picture_to : Form → List ℕ → Result (List ℕ) ScriptError
+picture_to form text = drawn form (script_of text)
 
 -- the bytes are a schedule, and this is its picture
-pub record IsPicture (input text : List ℕ) : Type 0 where
+pub record IsPicture (form : Form) (input text : List ℕ) : Type 0 where
   pub fits : length input ≤ MOST_BYTES
-  pub picture : picture_to input ≡ Ok text
+  pub picture : picture_to form input ≡ Ok text

@@ -5,16 +5,26 @@ ghost use Rattle.qolb_script.specs.Watched.{inner_of, has_failed};
 ghost use Rattle.qolb_run.specs.Outcome.{MayFail};
 ghost use Rattle.qolb_run.specs.declared.task.Task.TheVariants as task;
 ghost use Rattle.qolb_run.specs.declared.replay.Kind.TheVariants as kind;
-ghost use Rattle.qolb_draw.specs.Pictures.{picture_of, IsPicture};
+ghost use Rattle.qolb_draw.specs.Pictures.{picture_of, in_form, IsPicture};
 
 use crate::grid::draw_line;
+use crate::svg::svg;
 use crate::text::{LEGEND, push_line};
 use qolb_run::{ReplayError, read_all};
 use qolb_script::{Schedule, ScriptError, Watched, read_schedule};
 use std::alloc::{AllocError, Allocator};
 use std::io::{Read, Write};
 
-/// Draws the schedule that the reader gives, and writes its picture, by the answers of plain lines.
+/// What a picture is written as.
+#[derive(Clone, Copy, Debug, PartialEq, Eq)]
+pub enum Form {
+    /// Plain text, of at most 79 characters a line.
+    Text,
+    /// The same as an SVG.
+    Svg,
+}
+
+/// Draws the schedule that the reader gives, and writes its picture in this form, by the answers of plain lines.
 ///
 /// The whole input is read first, and the picture is built whole before its first byte is written: with every error but `Write`
 /// nothing was written. An error comes just where a replay of plain lines has it.
@@ -22,8 +32,9 @@ pub fn draw_schedule<A: Allocator, R: Read, W: Write>(
     alloc: A,
     reader: &mut Watched<R>,
     writer: &mut Watched<W>,
+    form: Form,
 ) -> Result<(), ReplayError>
-    ensures ok { OnOk result (IfSome (R.remaining (inner_of reader.old)) (λ input. (text : List ℕ) × IsPicture input text × Appends (W.contents (inner_of writer.old)) (W.contents (inner_of writer.new)) text)) }
+    ensures ok { OnOk result (IfSome (R.remaining (inner_of reader.old)) (λ input. (text : List ℕ) × IsPicture form input text × Appends (W.contents (inner_of writer.old)) (W.contents (inner_of writer.new)) text)) }
     ensures refused { IfErr result (λ error. IfSome (R.remaining (inner_of reader.old)) (λ input. MayFail (task.Replay kind.Plain) input error)) }
     ensures unwritten { IfErr result (λ error. error ≢ ReplayError.Write → writer.new ≡ writer.old) }
     ensures read_fault { (result ≡ Err ReplayError.Read) ↔ (has_failed reader.new ≡ true) }
@@ -33,12 +44,27 @@ pub fn draw_schedule<A: Allocator, R: Read, W: Write>(
 {
     let input = read_all(&alloc, reader)?;
     let schedule = read_schedule(&alloc, input.as_slice())?;
-    let text = picture(&alloc, &schedule)?;
+    let text = picture_in(&alloc, &schedule, form)?;
     writer.write_all(text.as_slice())?;
     Ok(())
 }
 
-/// The picture of a schedule.
+/// The picture of a schedule in this form.
+fn picture_in<A: Allocator + Copy>(
+    alloc: A,
+    schedule: &Schedule<A>,
+    form: Form,
+) -> Result<Vec<u8, A>, AllocError>
+    ensures { IfOk result (λ text. text.items ≡ in_form form (picture_of schedule.now)) }
+{
+    let text = picture(alloc, schedule)?;
+    match form {
+        Form::Text => Ok(text),
+        Form::Svg => svg(alloc, &text),
+    }
+}
+
+/// The picture of a schedule, as plain text.
 fn picture<A: Allocator + Copy>(alloc: A, schedule: &Schedule<A>) -> Result<Vec<u8, A>, AllocError>
     ensures { IfOk result (λ text. text.items ≡ picture_of schedule.now) }
 {

@@ -5,6 +5,7 @@ mod draw;
 mod follow;
 mod grid;
 mod mark;
+mod svg;
 mod text;
 
-pub use draw::draw_schedule;
+pub use draw::{Form, draw_schedule};

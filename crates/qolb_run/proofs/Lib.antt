@@ -13,3 +13,4 @@ pub mod Gathering
 pub mod Joined
 pub mod Summing
 pub mod Banking
+pub mod Reported

@@ -1,4 +1,4 @@
--- How a replay of some bytes ends.
+-- How a task with some bytes for its script ends.
 use Rattle.std.specs.Prelude.{◌≡◌, ◌<◌, ◌≤◌, ◌⊎◌, ℕ, List, length, Ok, Err}
 use Rattle.qolb_run.specs.declared.replay.ReplayError.{ReplayError}
 use Rattle.qolb_run.specs.declared.replay.ReplayError.TheVariants as error
@@ -11,21 +11,45 @@ use Rattle.qolb_script.specs.Reply.{reply_to}
 use Rattle.qolb_script.specs.StepScript.{steps_of}
 use Rattle.qolb_run.specs.StepRuns.{IsStepReplyTo}
 use Rattle.qolb_run.specs.declared.task.Task.{Task}
-use Rattle.qolb_run.specs.declared.task.Task.TheVariants.{Replay, Steps}
+use Rattle.qolb_run.specs.declared.task.Task.TheVariants.{Replay, Steps, Work}
+use Rattle.qolb_run.specs.declared.report.TaskError.{TaskError}
+use Rattle.qolb_run.specs.declared.report.TaskError.TheVariants as ending
+use Rattle.qolb_run.specs.declared.work.RunError.{RunError}
+use Rattle.qolb_run.specs.declared.work.RunError.TheVariants as run
+use Rattle.qolb_run.specs.Workers.{MayStop}
+use Rattle.qolb_run.specs.Reports.{IsReportOf}
+use Rattle.qolb_script.specs.declared.job.WorkKind.{WorkKind}
+use Rattle.qolb_script.specs.declared.report.Report.{Report}
+use Rattle.qolb_script.specs.Reports.{report_text}
+use Rattle.qolb_script.specs.WorkScript.{WorkScript, work_of}
 
 -- the bytes are a script, and this is its reply
 pub record IsReply (input text : List ℕ) : Type 0 where
   pub fits : length input ≤ MOST_BYTES
   pub reply : reply_to input ≡ Ok text
 
+-- the bytes are this work script; and the text is a report of its work
+pub record IsWork (kind : WorkKind) (input : List ℕ) (work : WorkScript) : Type 0 where
+  pub fits : length input ≤ MOST_BYTES
+  pub read : work_of kind input ≡ Ok work
+
+pub record IsWorkReply (kind : WorkKind) (input text : List ℕ) : Type 0 where
+  pub work : WorkScript
+  pub is : IsWork kind input work
+  pub report : Report
+  pub of_work : IsReportOf work report
+  pub text_is : text ≡ report_text report
+
 -- the text is the reply to the bytes, and the first fault in them is this one, as what the task takes
 abbrev pub Answers : Task → List ℕ → List ℕ → Type 0
 Answers (Replay kind) input text = IsReply input text
 Answers Steps input text = IsStepReplyTo input text
+Answers (Work kind lines) input text = IsWorkReply kind input text
 
 abbrev pub HasFault : Task → List ℕ → ScriptError → Type 0
 HasFault (Replay kind) input fault = reply_to input ≡ Err fault
 HasFault Steps input fault = steps_of input ≡ Err fault
+HasFault (Work kind lines) input fault = work_of kind input ≡ Err fault
 
 -- the bytes have a reply; and they are too many, or have a first fault
 abbrev pub IsAnswered : Task → List ℕ → Type 0
@@ -42,6 +66,18 @@ MayFail task input error.Read = Unit {0}
 MayFail task input error.Long = MOST_BYTES < length input
 MayFail task input (error.Script fault) = (length input ≤ MOST_BYTES) × HasFault task input fault
 MayFail task input error.Write = IsAnswered task input
+
+-- when a task may end without an answer: with an error as of a replay; or, with work, because one of its workers gave up
+abbrev pub MayEnd : Task → List ℕ → TaskError → Type 0
+MayEnd task input (ending.Replay why) = MayFail task input why
+MayEnd (Replay kind) input (ending.Stalled worker) = ⊥
+MayEnd Steps input (ending.Stalled worker) = ⊥
+MayEnd (Work kind lines) input (ending.Stalled worker) = (work : WorkScript) × IsWork kind input work × MayStop work (run.Stalled worker)
+
+-- the error of a task whose work has no report
+abbrev pub task_error : RunError → TaskError
+task_error run.Memory = ending.Replay error.Memory
+task_error (run.Stalled worker) = ending.Stalled worker
 
 -- the error of a replay whose input could not be read
 abbrev pub as_replay_error : InputError → ReplayError

@@ -1,4 +1,4 @@
-//! Runs over queued lines: waiting for a line, and replays of scripts.
+//! Runs over queued lines: waiting for a line, workers that share lines, and replays of scripts.
 #![tactic(auto)]
 
 mod bank;
@@ -11,6 +11,7 @@ mod meetings;
 mod opening;
 mod plain;
 mod replay;
+mod report;
 mod steps;
 mod tally;
 mod task;
@@ -24,6 +25,7 @@ pub use input::{InputError, MOST_BYTES, read_all};
 pub use line::ReplayLine;
 pub use meetings::meet_all;
 pub use replay::{Kind, ReplayError, run_schedule};
+pub use report::{TaskError, report_work};
 pub use steps::run_steps;
 pub use task::Task;
 pub use waiting::{Got, acquire};

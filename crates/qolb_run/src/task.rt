@@ -1,5 +1,7 @@
 //! What a script is for.
 use crate::replay::Kind;
+use crate::work::Lines;
+use qolb_script::WorkKind;
 
 /// A task that takes a script.
 #[derive(Clone, Copy, Debug, PartialEq, Eq)]
@@ -8,4 +10,6 @@ pub enum Task {
     Replay(Kind),
     /// To run a step script.
     Steps,
+    /// To do the work of a work script of this kind, over lines of that kind.
+    Work(WorkKind, Lines),
 }

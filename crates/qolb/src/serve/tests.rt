@@ -1,9 +1,14 @@
 use super::*;
+use std::process::Abort;
 use std::test::Fail;
 
 /// The status, standard output and standard error of a run.
-fn run(rt: &HostRuntime, words: &[&str], script: &str) -> Result<(u8, String, String), Fail> {
-    let alloc = rt.alloc();
+fn run<T: Threads + Wait + Sync>(
+    rt: &T,
+    alloc: Global,
+    words: &[&str],
+    script: &str,
+) -> Result<(u8, String, String), Fail> {
     let mut all = Vec::new(alloc);
     all.push("qolb".to_string(alloc)?)?;
     for word in words {
@@ -12,7 +17,7 @@ fn run(rt: &HostRuntime, words: &[&str], script: &str) -> Result<(u8, String, St
     let mut reader = script.as_bytes();
     let mut out: Vec<u8> = Vec::new(alloc);
     let mut err: Vec<u8> = Vec::new(alloc);
-    let status = serve(alloc, all.as_slice(), &mut reader, &mut out, &mut err);
+    let status = serve(rt, alloc, all.as_slice(), &mut reader, &mut out, &mut err);
     Ok((status, String::from_utf8(out)?, String::from_utf8(err)?))
 }
 
@@ -46,7 +51,7 @@ fn replays_and_refuses_scripts(rt: HostRuntime) -> Result<(), Fail> {
     ];
     for (script, status, out, err) in rows {
         for kind in ["plain", "ring", "link"] {
-            let found = run(&rt, &["replay", "--kind", kind], script)?;
+            let found = run(&rt, rt.alloc(), &["replay", "--kind", kind], script)?;
             assert_eq!(rt; found.0, status, "of {script}");
             assert_eq!(rt; found.1.as_str(), out, "of {script}");
             assert_eq!(rt; found.2.as_str(), err, "of {script}");
@@ -57,27 +62,135 @@ fn replays_and_refuses_scripts(rt: HostRuntime) -> Result<(), Fail> {
 
 #[test]
 fn refuses_command_lines(rt: HostRuntime) -> Result<(), Fail> {
-    let rows: [&[&str]; 9] = [
+    let rows: [&[&str]; 14] = [
         &[],
         &["replay"],
         &["replay", "--kind"],
         &["replay", "--kind", "rings"],
         &["replay", "--kind", "lists"],
         &["steps", "--kind", "plain"],
+        &["board", "--kind", "plain"],
+        &["board", "--kind"],
+        &["bank", "--kind", "plain"],
+        &["bank", "ring"],
+        &["work"],
         &["--help"],
         &["replay", "--help"],
         &["--version"],
     ];
     for words in rows {
-        let (status, out, err) = run(&rt, words, "nodes 1 lines 1\n")?;
+        let (status, out, err) = run(&rt, rt.alloc(), words, "nodes 1 lines 1\n")?;
         assert_eq!(rt; status, 2, "of {words:?}");
         assert_eq!(rt; out.as_str(), "", "of {words:?}");
         assert!(rt; err.len() > 20, "of {words:?}");
     }
-    let (_, _, help) = run(&rt, &["replay", "--help"], "")?;
+    let (_, _, help) = run(&rt, rt.alloc(), &["replay", "--help"], "")?;
     assert!(rt; help.contains("--kind <KIND>") && help.contains("nodes N lines L"));
-    let (_, _, help) = run(&rt, &["steps", "--help"], "")?;
+    let (_, _, help) = run(&rt, rt.alloc(), &["steps", "--help"], "")?;
     assert!(rt; help.contains("prepend 1") && help.contains("nodes N "));
+    let (_, _, help) = run(&rt, rt.alloc(), &["board", "--help"], "")?;
+    assert!(rt; help.contains("[default: link]") && help.contains("1 put 9"));
+    let (_, _, help) = run(&rt, rt.alloc(), &["bank", "--help"], "")?;
+    assert!(rt; help.contains("[default: link]") && help.contains("1 move 0 3 4"));
+    Ok(())
+}
+
+/// Work of this name gives this status, standard output and standard error, by either kind of lines, and by none that is named.
+fn works<T: Threads + Wait + Abort + Sync>(
+    rt: &T,
+    alloc: Global,
+    name: &str,
+    script: &str,
+    want: (u8, &str, &str),
+) -> Result<(), Fail> {
+    let rows: [&[&str]; 3] = [
+        &[name],
+        &[name, "--kind", "ring"],
+        &[name, "--kind", "link"],
+    ];
+    for words in rows {
+        let (status, out, err) = run(rt, alloc, words, script)?;
+        assert_eq!(rt;
+            (status, out.as_str(), err.as_str()),
+            want,
+            "of {words:?}, {script}"
+        );
+    }
+    Ok(())
+}
+
+#[test]
+fn runs_work(rt: HostRuntime) -> Result<(), Fail> {
+    let rows = [
+        (
+            "board",
+            "board workers 1\n1 put 5\n1 put 9\n1 take\n1 take\n1 take\n",
+            "stored 2\nfull 0\ntaken 2\nempty 1\nleft 0\n",
+        ),
+        (
+            "board",
+            "board workers 1\n1 put 3\n1 put 3\n1 put 3\n1 put 3\n1 put 3\n1 put 3\n1 put 3\n1 put 3",
+            "stored 7\nfull 1\ntaken 0\nempty 0\nleft 7\n",
+        ),
+        // a board without jobs, and a worker without any
+        (
+            "board",
+            "board workers 200",
+            "stored 0\nfull 0\ntaken 0\nempty 0\nleft 0\n",
+        ),
+        (
+            "bank",
+            "bank workers 1 lines 2\n1 in 0 10\n1 move 0 9 4\n1 out 9 9\n1 out 9 1\n",
+            "in 10\nout 1\ntotal 9\n",
+        ),
+        (
+            "bank",
+            "bank workers 3 lines 8\n1 in 0 1\n2 in 63 2\n",
+            "in 3\nout 0\ntotal 3\n",
+        ),
+        // nothing is lost, though no order between the workers is said
+        (
+            "bank",
+            "bank workers 2 lines 1\n1 in 0 281474976710656\n2 in 1 281474976710656\n1 in 0 1\n2 in 1 1\n",
+            "in 562949953421312\nout 0\ntotal 562949953421312\n",
+        ),
+    ];
+    for (name, script, report) in rows {
+        works(&rt, rt.alloc(), name, script, (0, report, ""))?;
+    }
+    Ok(())
+}
+
+#[test]
+fn refuses_work(rt: HostRuntime) -> Result<(), Fail> {
+    let rows = [
+        ("board", "", "bad line 1\n"),
+        ("board", "board workers 201", "bad line 1\n"),
+        ("board", "board workers 0", "bad line 1\n"),
+        ("board", "board workers 1 lines 1", "bad line 1\n"),
+        // a board's script is none of a bank's, and the other way round
+        ("board", "bank workers 1 lines 1", "bad line 1\n"),
+        ("bank", "board workers 1", "bad line 1\n"),
+        ("board", "board workers 1\n\n2 take", "bad line 3\n"),
+        ("board", "board workers 1\n1 in 0 1", "bad line 2\n"),
+        ("bank", "bank workers 1 lines 1\n1 in 8 1", "bad line 2\n"),
+        ("bank", "bank workers 1 lines 9", "bad line 1\n"),
+        ("bank", "bank workers 1 lines 1\n1 put 5", "bad line 2\n"),
+    ];
+    for (name, script, fault) in rows {
+        works(&rt, rt.alloc(), name, script, (1, "", fault))?;
+    }
+    Ok(())
+}
+
+#[test]
+fn tells_who_stalled(rt: HostRuntime) -> Result<(), Fail> {
+    let mut err: Vec<u8> = Vec::new(rt.alloc());
+    assert_eq!(rt; fail(&mut err, TaskError::Stalled(17)), 3);
+    assert_eq!(rt; err.as_slice(), b"stalled 17\n".as_slice());
+    let mut err: Vec<u8> = Vec::new(rt.alloc());
+    assert_eq!(rt; fail(&mut err, TaskError::Replay(ReplayError::Memory)), 3);
+    assert_eq!(rt; err.as_slice(), b"out of memory\n".as_slice());
     Ok(())
 }
 
@@ -113,7 +226,14 @@ fn tells_faults(rt: HostRuntime) -> Result<(), Fail> {
     let mut out: Vec<u8> = Vec::new(alloc);
     let mut err: Vec<u8> = Vec::new(alloc);
     assert_eq!(rt;
-        serve(alloc, words.as_slice(), &mut Broken, &mut out, &mut err),
+        serve(
+            &rt,
+            alloc,
+            words.as_slice(),
+            &mut Broken,
+            &mut out,
+            &mut err
+        ),
         4
     );
     assert_eq!(rt;
@@ -124,7 +244,14 @@ fn tells_faults(rt: HostRuntime) -> Result<(), Fail> {
     let mut script: &[u8] = b"nodes 1 lines 1\n";
     let mut err: Vec<u8> = Vec::new(alloc);
     assert_eq!(rt;
-        serve(alloc, words.as_slice(), &mut script, &mut Broken, &mut err),
+        serve(
+            &rt,
+            alloc,
+            words.as_slice(),
+            &mut script,
+            &mut Broken,
+            &mut err
+        ),
         4
     );
     assert_eq!(rt; err.as_slice(), b"write fault\n".as_slice());
@@ -132,10 +259,20 @@ fn tells_faults(rt: HostRuntime) -> Result<(), Fail> {
     // A failed write to standard error changes no status.
     let mut script: &[u8] = b"nodes 0 lines 1\n";
     assert_eq!(rt;
-        serve(alloc, words.as_slice(), &mut script, &mut out, &mut Broken),
+        serve(
+            &rt,
+            alloc,
+            words.as_slice(),
+            &mut script,
+            &mut out,
+            &mut Broken
+        ),
         1
     );
-    assert_eq!(rt; serve(alloc, &[], &mut script, &mut out, &mut Broken), 2);
+    assert_eq!(rt;
+        serve(&rt, alloc, &[], &mut script, &mut out, &mut Broken),
+        2
+    );
     Ok(())
 }
 
@@ -208,14 +345,14 @@ fn runs_step_scripts(rt: HostRuntime) -> Result<(), Fail> {
     for (script, words, summary) in rows {
         let script = script.replace(rt.alloc(), ", ", "\n")?;
         let words = words.replace(rt.alloc(), ", ", "\n")?;
-        let (status, out, err) = run(&rt, &["steps"], script.as_str())?;
+        let (status, out, err) = run(&rt, rt.alloc(), &["steps"], script.as_str())?;
         assert_eq!(rt; status, 0, "of {script}");
         assert_eq!(rt; err.as_str(), "", "of {script}");
         assert!(rt; out.starts_with(words.as_str()), "of {script}");
         assert!(rt; out.trim_end().ends_with(summary), "of {script}");
         assert_eq!(rt; out.lines().count(), script.lines().count(), "of {script}");
     }
-    let (status, out, err) = run(&rt, &["steps"], "nodes 2\nreset 3\n")?;
+    let (status, out, err) = run(&rt, rt.alloc(), &["steps"], "nodes 2\nreset 3\n")?;
     assert_eq!(rt;
         (status, out.as_str(), err.as_str()),
         (1, "", "bad line 2\n")

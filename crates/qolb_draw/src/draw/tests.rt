@@ -5,10 +5,10 @@ use std::io;
 use std::test::Fail;
 
 /// What is drawn of the script.
-fn drawn(alloc: Global, script: &str) -> Result<String, Fail> {
+fn drawn(alloc: Global, script: &str, form: Form) -> Result<String, Fail> {
     let mut reader = Watched::new(script.as_bytes());
     let mut text: Vec<u8> = Vec::new(alloc);
-    draw_schedule(alloc, &mut reader, &mut Watched::new(&mut text))?;
+    draw_schedule(alloc, &mut reader, &mut Watched::new(&mut text), form)?;
     Ok(String::from_utf8(text)?)
 }
 
@@ -60,7 +60,11 @@ fn draws_scripts(rt: HostRuntime) -> Result<(), Fail> {
     ];
     for (script, picture) in rows {
         let whole = format!(in rt.alloc(); "{picture}{LETTERS}")?;
-        assert_eq!(rt; drawn(rt.alloc(), script)?, whole, "of {script}");
+        assert_eq!(rt;
+            drawn(rt.alloc(), script, Form::Text)?,
+            whole,
+            "of {script}"
+        );
     }
     Ok(())
 }
@@ -71,7 +75,7 @@ fn draws_long_scripts_in_blocks(rt: HostRuntime) -> Result<(), Fail> {
     for _ in 0..70 {
         script.push_str("show 1 0\n")?;
     }
-    let picture = drawn(rt.alloc(), script.as_str())?;
+    let picture = drawn(rt.alloc(), script.as_str(), Form::Text)?;
     let blocks = "line 0
 
                   1111111111222222222233333333334444444444555555555566666666667
@@ -100,7 +104,12 @@ fn refuses_what_a_replay_refuses(rt: HostRuntime) {
     ] {
         let mut reader = Watched::new(script.as_bytes());
         let mut text: Vec<u8> = Vec::new(rt.alloc());
-        let done = draw_schedule(rt.alloc(), &mut reader, &mut Watched::new(&mut text));
+        let done = draw_schedule(
+            rt.alloc(),
+            &mut reader,
+            &mut Watched::new(&mut text),
+            Form::Text,
+        );
         assert_eq!(rt; done, Err(ReplayError::Script(error)), "of {script}");
         assert_eq!(rt; text.len(), 0);
     }
@@ -130,24 +139,34 @@ impl Write for Failing {
 fn tells_faults_of_reader_and_writer(rt: HostRuntime) {
     let mut text: Vec<u8> = Vec::new(rt.alloc());
     let mut reader = Watched::new(Failing);
-    let done = draw_schedule(rt.alloc(), &mut reader, &mut Watched::new(&mut text));
+    let done = draw_schedule(
+        rt.alloc(),
+        &mut reader,
+        &mut Watched::new(&mut text),
+        Form::Text,
+    );
     assert_eq!(rt; done, Err(ReplayError::Read));
     assert_eq!(rt; text.len(), 0);
     let mut reader = Watched::new(HAND_OVER.as_bytes());
-    let done = draw_schedule(rt.alloc(), &mut reader, &mut Watched::new(Failing));
+    let done = draw_schedule(
+        rt.alloc(),
+        &mut reader,
+        &mut Watched::new(Failing),
+        Form::Text,
+    );
     assert_eq!(rt; done, Err(ReplayError::Write));
 }
 
 #[test]
 fn each_allocation_is_refused(rt: HostRuntime) -> Result<(), Fail> {
-    let whole = drawn(rt.alloc(), HAND_OVER)?;
+    let whole = drawn(rt.alloc(), HAND_OVER, Form::Svg)?;
     let mut refused = 0u32;
     let mut served = false;
     for step in 1..400usize {
         let heap = LocalHeap::new(rt.alloc(), 32 * step)?;
         let mut reader = Watched::new(HAND_OVER.as_bytes());
         let mut text: Vec<u8> = Vec::new(rt.alloc());
-        match draw_schedule(&heap, &mut reader, &mut Watched::new(&mut text)) {
+        match draw_schedule(&heap, &mut reader, &mut Watched::new(&mut text), Form::Svg) {
             Ok(()) => {
                 served = true;
                 assert_eq!(rt; text.as_slice(), whole.as_bytes());
@@ -163,5 +182,32 @@ fn each_allocation_is_refused(rt: HostRuntime) -> Result<(), Fail> {
     }
     assert!(rt; served);
     assert!(rt; refused > 5);
+    Ok(())
+}
+
+#[test]
+fn draws_the_same_as_an_svg(rt: HostRuntime) -> Result<(), Fail> {
+    let picture = drawn(
+        rt.alloc(),
+        "nodes 2 lines 1\nenq 1 0\nenq 2 0\ndeq 1 0\n",
+        Form::Svg,
+    )?;
+    let want =
+        "<svg xmlns='http://www.w3.org/2000/svg' font-family='monospace' font-size='14' width='52em' height='10em'>
+<rect width='100%' height='100%' fill='white'/>
+<text xml:space='preserve'>
+<tspan x='1em' dy='1em'> line 0</tspan>
+<tspan x='1em' dy='1em'> </tspan>
+<tspan x='1em' dy='1em'>          123</tspan>
+<tspan x='1em' dy='1em'> node   1 <tspan fill='green' font-weight='bold'>H</tspan><tspan fill='green' font-weight='bold'>H</tspan><tspan fill='red'>&gt;</tspan></tspan>
+<tspan x='1em' dy='1em'> node   2 .w<tspan fill='red'>&lt;</tspan></tspan>
+<tspan x='1em' dy='1em'> </tspan>
+<tspan x='1em' dy='1em'> . idle   w waits   t its turn has come   <tspan fill='green' font-weight='bold'>H</tspan> holds   <tspan fill='red'>&gt;</tspan> hands over to <tspan fill='red'>&lt;</tspan></tspan>
+<tspan x='1em' dy='1em'> x withdrawn   c told that the line is closed   - closed</tspan>
+<tspan x='1em' dy='1em'> </tspan>
+</text>
+</svg>
+";
+    assert_eq!(rt; picture.as_str(), want);
     Ok(())
 }

@@ -27,7 +27,12 @@ returns-then-not-is_empty-clause-same c =
 pub returns-then-not-is_empty-clause-occupied : goal.returns-then-not-is_empty-clause-occupied
 returns-then-not-is_empty-clause-occupied c = λ _.
     let low : c.loop-place.place < length c.loop-place.handles = omega (arith, c.loop-place-test.true, c.requires, c.loop-place.auto.handles) in
-    let had = c.is_empty.ensures.node c.if-not-is_empty.true in
-    (c.loop-place.place, c.loop-place-test.true, (had.0,
-    ap (λ (os : List (Option AnyNode)). slice_get os c.loop-place.place) (sym c.loop-place.invariant.same) ∙ held_there c.loop-place.handles c.loop-place.place c.index-handles-place.result low
-    ∙ ap (λ (o : Option AnyNode). Some o) had.1))
+    let had = c.is_empty.ensures.node c.if-not-is_empty.true in (
+      c.loop-place.place,
+      c.loop-place-test.true,
+      (
+        had.0,
+        ap (λ (os : List (Option AnyNode)). slice_get os c.loop-place.place) (sym c.loop-place.invariant.same) ∙ held_there c.loop-place.handles c.loop-place.place c.index-handles-place.result low
+            ∙ ap (λ (o : Option AnyNode). Some o) had.1,
+      ),
+    )

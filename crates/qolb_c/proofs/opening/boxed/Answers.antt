@@ -1,4 +1,4 @@
-use Rattle.std.proofs.Common.{◌≡◌, ◌++◌, List, map, append-nil, refl, sym, ap, ◌∙◌}
+use Rattle.std.proofs.Common.{◌++◌, List, map, append-nil, sym, ap, ◌∙◌}
 use Rattle.std.specs.Vec.Iter.{into_iter_items}
 use Rattle.qolb_c.proofs.Filling.{Boxes, values, boxed_more, empty_rest}
 use Rattle.qolb_c.proofs.opening.boxed.Goals as goal

@@ -1,4 +1,4 @@
-use Rattle.std.proofs.Common.{◌≡◌, ◌++◌, drop, length, map, Option, Some}
+use Rattle.std.proofs.Common.{◌≡◌, ◌++◌, drop, length}
 use Rattle.std.specs.Vec.Iter.{into_iter_items}
 use Rattle.qolb_c.specs.Opens.{held_by}
 use Rattle.qolb_c.proofs.Filling.{held_values}

@@ -1,0 +1,13 @@
+use Rattle.std.proofs.Common.{rules, ap, ap₂, codes, true, false, ◌≡◌, ◌∙◌}
+use Rattle.std.proofs.lemmas.Result.{IfOk-weaker}
+use Rattle.clap.specs.Words.{Rule, app_of, new_app, rule_of, with_rule}
+use Rattle.clap.specs.declared.builder.arg.Arg.{Arg}
+use Rattle.qolb.specs.CommandLine.{kind_rule}
+use Rattle.qolb.proofs.command_line.replay.Goals as goal
+
+pub returns : goal.returns
+returns c =
+    let local_is : c.required.result.global ≡ false = ap (λ (a : Arg). a.global) c.required.ensures ∙ c.kind_argument.ensures.local in
+    let rule_is : rule_of c.required.result ≡ record (kind_rule c.args.kinds) { required = true } = ap rule_of c.required.ensures ∙ ap (λ (r : Rule). record r { required = true }) c.kind_argument.ensures.rule in
+    let named_is : app_of c.after_help.result ≡ new_app (codes "replay") = search rules in
+    IfOk-weaker c.arg.result _ _ (λ r h. h.shape local_is ∙ ap₂ with_rule named_is rule_is) c.arg.ensures

@@ -1,0 +1,217 @@
+//! The command line: what the words ask for, and what `--help` says.
+ghost use Rattle.std.specs.Prelude.{◌≡◌, ◌≢◌, false, map, option_map, string_bytes, codes, IfOk, IfErr};
+ghost use Rattle.clap.specs.Words.{app_of, found_of, kind_of, new_app, rows_of, rule_of};
+ghost use Rattle.qolb.specs.CommandLine as spec;
+ghost use Rattle.qolb.specs.CommandLine.{KindNames, NamesTask, IsNotTaken, kind_rule, needs_subcommand, replay_command, steps_command, work_command, the_command};
+
+use clap::error::ErrorKind;
+use clap::{Arg, ArgAction, ArgMatches, Command, Error};
+use qolb_run::{Kind, Lines, Task};
+use qolb_script::WorkKind;
+use std::alloc::{AllocError, Global};
+
+/// The names of the kinds of lines that replay a schedule.
+static REPLAYED: [&str; 3] = ["plain", "ring", "link"];
+
+/// The names of those that workers share.
+static SHARED: [&str; 2] = ["ring", "link"];
+
+const ABOUT: &str =
+    "Queued line locks: nodes queue at a line of 64 bytes, and a release hands lock and\nline to the next";
+
+const STATUSES: &str = "Exit statuses:
+  0  done
+  1  the script was refused: `bad line N` or `script too long` on standard error
+  2  the command line was refused, or asked for help
+  3  want of memory: `out of memory`; or worker W gave up: `stalled W`
+  4  a failed read or write: `read fault` or `write fault`";
+
+const REPLAY: &str = "The script, on standard input:
+  nodes N lines L             its first line: 1 to 200 nodes and 1 to 8 lines
+  nodes N lines L lease C     the same; each line closes at its C-th served turn
+  COMMAND n l                 a call of node n on line l: enq, poll, deq, show,
+                              out (withdraw) or shut (release and close)
+  write n l OFFSET HEX        the holder writes these bytes into the line
+
+Example: with
+  nodes 1 lines 1
+  enq 1 0
+  write 1 0 0 a1b2
+  deq 1 0
+it prints granted, ok, released, and the counts of the line.";
+
+const STEPS: &str = "The script, on standard input:
+  nodes N                     its first line: 1 to 200 nodes
+  nodes N lease C             the same; the line closes at its C-th served turn
+  EVENT n                     a word step of node n: reset, prepend, link, load, home,
+                              done, grant, roll or freed; or close, in a holder's hand
+  write n OFFSET HEX          the holder writes these bytes into the line
+
+Example: with
+  nodes 1
+  reset 1
+  prepend 1
+  home 1
+it prints went, granted, released, and the counts of the line.";
+
+const BOARD: &str = "The script, on standard input:
+  board workers W             its first line: 1 to 200 workers
+  w put TASK                  worker w puts a task, a number below 2^64, on the board
+  w take                      worker w takes the oldest task off the board
+
+The board holds seven tasks. Each worker does its jobs in the script's order; nothing is
+said of the order between workers.
+
+Example: with
+  board workers 1
+  1 put 5
+  1 put 9
+  1 take
+it prints stored 2, full 0, taken 1, empty 0, left 1.";
+
+const BANK: &str = "The script, on standard input:
+  bank workers W lines L      its first line: 1 to 200 workers and 1 to 8 lines
+  w in ACCOUNT AMOUNT         worker w pays an amount into an account, 0 to 8L - 1
+  w out ACCOUNT AMOUNT        worker w pays it out
+  w move FROM TO AMOUNT       worker w moves it from one account to another
+
+An account holds 0 to 2^48; a job that would go beyond that changes nothing. Each worker
+does its jobs in the script's order; nothing is said of the order between workers.
+
+Example: with
+  bank workers 1 lines 1
+  1 in 0 10
+  1 move 0 3 4
+  1 out 3 1
+it prints in 10, out 1, total 9.";
+
+/// What the words ask for, with the program's name first.
+pub fn parse_args(alloc: Global, words: &[String]) -> Result<Task, Error>
+    ensures task { IfOk result (λ task. NamesTask (map string_bytes words.now) task) }
+    ensures usage { IfErr result (λ error. kind_of error ≢ ErrorKind.OutOfMemory → IsNotTaken (map string_bytes words.now)) }
+{
+    let matches = command(alloc)?.try_get_matches_from(words)?;
+    match matches.subcommand() {
+        Some((name, arguments)) => Ok(task_at(name, arguments)),
+        None => unreachable!(),
+    }
+}
+
+/// The task of a subcommand with these arguments.
+fn task_at(name: &str, arguments: &ArgMatches<'_>) -> Task
+    ensures { result ≡ spec.task_at (name.now, rows_of (found_of arguments.now)) }
+{
+    task_of(name, arguments.get_str("kind"))
+}
+
+/// The task of this name, on lines of the kind that is named.
+fn task_of(name: &str, kind: Option<&str>) -> Task
+    ensures { result ≡ spec.task_of name.now (option_map (λ n. n.now) kind.entry) }
+{
+    if name == "steps" {
+        Task::Steps
+    } else if name == "board" {
+        Task::Work(WorkKind::Board, lines_named(kind))
+    } else if name == "bank" {
+        Task::Work(WorkKind::Bank, lines_named(kind))
+    } else {
+        Task::Replay(kind_named(kind))
+    }
+}
+
+/// The kind of this name.
+fn kind_named(name: Option<&str>) -> Kind
+    ensures { result ≡ spec.kind_of_name (option_map (λ n. n.now) name.entry) }
+{
+    match name {
+        Some("ring") => Kind::Ring,
+        Some("link") => Kind::Link,
+        _ => Kind::Plain,
+    }
+}
+
+/// The lines of this name.
+fn lines_named(name: Option<&str>) -> Lines
+    ensures { result ≡ spec.lines_of_name (option_map (λ n. n.now) name.entry) }
+{
+    match name {
+        Some("ring") => Lines::Ring,
+        _ => Lines::Link,
+    }
+}
+
+/// The program's command.
+fn command<'a>(alloc: Global) -> Result<Command<'a>, AllocError>
+    ensures { IfOk result (λ r. (names : KindNames) × (app_of r ≡ the_command names)) }
+{
+    let replayed = REPLAYED.as_slice();
+    let shared = SHARED.as_slice();
+    program(alloc)
+        .subcommand(replay(alloc, replayed)?)?
+        .subcommand(steps(alloc))?
+        .subcommand(work(alloc, "board", BOARD, shared)?)?
+        .subcommand(work(alloc, "bank", BANK, shared)?)
+}
+
+/// The program's command without its subcommands.
+fn program<'a>(alloc: Global) -> Command<'a>
+    ensures { app_of result ≡ needs_subcommand (new_app (codes "qolb")) }
+{
+    Command::new(alloc, "qolb")
+        .about(ABOUT)
+        .after_help(STATUSES)
+        .subcommand_required(true)
+}
+
+/// To replay a schedule, on lines of one of these kinds.
+fn replay<'a>(alloc: Global, kinds: &'a [&'a str]) -> Result<Command<'a>, AllocError>
+    ensures { IfOk result (λ r. app_of r ≡ replay_command kinds.entry) }
+{
+    Command::new(alloc, "replay")
+        .about("Replays the schedule script on standard input, and prints what each call answers")
+        .after_help(REPLAY)
+        .arg(kind_argument(alloc, kinds).required(true))
+}
+
+/// To run a step script.
+fn steps<'a>(alloc: Global) -> Command<'a>
+    ensures { app_of result ≡ steps_command }
+{
+    Command::new(alloc, "steps")
+        .about(
+            "Runs the step script on standard input on the core of reversed links, and prints what\neach event tells",
+        )
+        .after_help(STEPS)
+}
+
+/// Work of workers, by this name, over lines of these kinds.
+fn work<'a>(
+    alloc: Global,
+    name: &'a str,
+    script: &'a str,
+    kinds: &'a [&'a str],
+) -> Result<Command<'a>, AllocError>
+    ensures { IfOk result (λ r. app_of r ≡ work_command name.entry.now kinds.entry) }
+{
+    Command::new(alloc, name)
+        .about(
+            "Does the jobs of the work script on standard input, a thread for each worker, and prints\na report",
+        )
+        .after_help(script)
+        .arg(kind_argument(alloc, kinds).default_value("link"))
+}
+
+/// `--kind`, with one of these names.
+fn kind_argument<'a>(alloc: Global, kinds: &'a [&'a str]) -> Arg<'a>
+    ensures rule { rule_of result ≡ kind_rule kinds.entry }
+    ensures local { result.global ≡ false }
+{
+    Arg::new(alloc, "kind")
+        .long("kind")
+        .value_name("KIND")
+        .help(
+            "What represents the lines: the plain reference with one owner, or rings or lists that nodes share",
+        )
+        .action(ArgAction::Set)
+        .value_parser(kinds)
+}

@@ -1,0 +1,25 @@
+-- How work from a script ends.
+use Rattle.std.proofs.Common.{◌≡◌, ℕ, List, Option, Some, None, refl, sym, subst, IfSome, IfErr, IsErrAnd, Result, Ok, Err}
+use Rattle.qolb_script.specs.declared.job.WorkKind.{WorkKind}
+use Rattle.qolb_script.specs.declared.report.Report.{Report}
+use Rattle.qolb_script.specs.Reports.{report_text}
+use Rattle.qolb_script.specs.WorkScript.{WorkScript}
+use Rattle.qolb_run.specs.declared.replay.ReplayError.{ReplayError}
+use Rattle.qolb_run.specs.declared.report.TaskError.{TaskError}
+use Rattle.qolb_run.specs.declared.report.TaskError.TheVariants.{Replay}
+use Rattle.qolb_run.specs.declared.work.Lines.{Lines}
+use Rattle.qolb_run.specs.declared.task.Task.TheVariants.{Work}
+use Rattle.qolb_run.specs.Reports.{IsReportOf}
+use Rattle.qolb_run.specs.Outcome.{IsWork, IsAnswered, MayFail, MayEnd}
+
+-- a script that is refused ends the task, over whatever lines
+pub refused : {T : Type 0} (kind : WorkKind) (lines : Lines) (why : ReplayError) (known : Option (List ℕ)) → IfSome known (λ input. (lines : Lines) → MayFail (Work kind lines) input why)
+    → (r : Result T TaskError) → IsErrAnd r (λ e. e ≡ Replay why) → IfErr r (λ e. IfSome known (λ input. MayEnd (Work kind lines) input e))
+refused kind lines why known may (Ok x) is = tt
+refused kind lines why None may (Err e) is = tt
+refused kind lines why (Some input) may (Err e) is = subst (λ e. MayEnd (Work kind lines) input e) (sym is) (may lines)
+
+-- a report of the work is an answer
+pub answered : (kind : WorkKind) (lines : Lines) (known : Option (List ℕ)) (work : WorkScript) (report : Report) → IfSome known (λ input. IsWork kind input work) → IsReportOf work report → IfSome known (λ input. IsAnswered (Work kind lines) input)
+answered kind lines None work report is of_work = tt
+answered kind lines (Some input) work report is of_work = (report_text report, record { work = work; is = is; report = report; of_work = of_work; text_is = refl })

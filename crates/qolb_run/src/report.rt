@@ -1,0 +1,94 @@
+//! Work scripts, from the bytes in to the report out.
+ghost use Rattle.std.specs.Prelude.{◌≡◌, ◌≢◌, ◌↔◌, ℕ, List, true, false, Ok, Err, OnOk, IfOk, IfErr, IfSome};
+ghost use Rattle.std.specs.Io.KnownBytes.{Appends};
+ghost use Rattle.qolb_script.specs.Watched.{inner_of, has_failed};
+ghost use Rattle.qolb_run.specs.declared.task.Task.TheVariants as task;
+ghost use Rattle.qolb_run.specs.declared.work.Lines.{Lines};
+ghost use Rattle.qolb_run.specs.declared.report.TaskError.TheVariants.{Replay};
+ghost use Rattle.qolb_run.specs.Outcome.{IsWork, IsWorkReply, MayFail, MayEnd, task_error};
+
+use crate::gate::Gate;
+use crate::input::read_all;
+use crate::replay::ReplayError;
+use crate::work::{Lines, RunError, run_work};
+use qolb_script::{ScriptError, Watched, Work, WorkKind, read_work, write_report};
+use std::alloc::Global;
+use std::io::{Read, Write};
+use std::sync::Wait;
+use std::thread::Threads;
+use thiserror::Error;
+
+/// Why a task was not done.
+#[derive(Clone, Copy, Debug, PartialEq, Eq, Error)]
+pub enum TaskError {
+    /// An error that a replay may have, too.
+    #[error(transparent)]
+    Replay(ReplayError),
+    /// This worker gave up, and none before it.
+    #[error("stalled {0}")]
+    Stalled(u64),
+}
+
+impl From<ReplayError> for TaskError {
+    ghost from_gives = { λ error gives. gives ≡ Replay error };
+
+    fn from(error: ReplayError) -> TaskError {
+        TaskError::Replay(error)
+    }
+}
+
+impl From<RunError> for TaskError {
+    ghost from_gives = { λ error gives. gives ≡ task_error error };
+
+    fn from(error: RunError) -> TaskError {
+        match error {
+            RunError::Memory => TaskError::Replay(ReplayError::Memory),
+            RunError::Stalled(worker) => TaskError::Stalled(worker),
+        }
+    }
+}
+
+/// Does the work of the script that the reader gives, and writes its report.
+///
+/// The whole input is read first, and the work is done before the first byte is written: with every error but `Write` nothing was
+/// written.
+pub fn report_work<T: Threads + Wait + Sync, G: Gate + Sync, R: Read, W: Write>(
+    rt: &T,
+    alloc: Global,
+    gate: &G,
+    reader: &mut Watched<R>,
+    writer: &mut Watched<W>,
+    kind: WorkKind,
+    lines: Lines,
+) -> Result<(), TaskError>
+    ensures ok { OnOk result (IfSome (R.remaining (inner_of reader.old)) (λ input. (text : List ℕ) × IsWorkReply kind input text × Appends (W.contents (inner_of writer.old)) (W.contents (inner_of writer.new)) text)) }
+    ensures refused { IfErr result (λ error. IfSome (R.remaining (inner_of reader.old)) (λ input. MayEnd (task.Work kind lines) input error)) }
+    ensures unwritten { IfErr result (λ error. error ≢ TaskError.Replay ReplayError.Write → writer.new ≡ writer.old) }
+    ensures read_fault { (result ≡ Err (TaskError.Replay ReplayError.Read)) ↔ (has_failed reader.new ≡ true) }
+    ensures write_fault { result ≡ Err (TaskError.Replay ReplayError.Write) → has_failed writer.new ≡ true }
+    ensures written { OnOk result (has_failed writer.new ≡ false) }
+    ensures memory { result ≢ Err (TaskError.Replay (ReplayError.Script ScriptError.Memory)) }
+{
+    let work = read_script(alloc, reader, kind)?;
+    let report = run_work(rt, alloc, gate, &work, lines)?;
+    if write_report(&report, writer).is_err() {
+        return Err(TaskError::Replay(ReplayError::Write));
+    }
+    Ok(())
+}
+
+/// The work of the script that the reader gives.
+fn read_script<R: Read>(
+    alloc: Global,
+    reader: &mut Watched<R>,
+    kind: WorkKind,
+) -> Result<Work, ReplayError>
+    ensures work { IfOk result (λ work. IfSome (R.remaining (inner_of reader.old)) (λ input. IsWork kind input work)) }
+    ensures refused { IfErr result (λ error. (error ≢ ReplayError.Write) × IfSome (R.remaining (inner_of reader.old)) (λ input. (lines : Lines) → MayFail (task.Work kind lines) input error)) }
+    ensures read_fault { (result ≡ Err ReplayError.Read) ↔ (has_failed reader.new ≡ true) }
+    ensures memory { result ≢ Err (ReplayError.Script ScriptError.Memory) }
+{
+    let input = read_all(alloc, reader)?;
+    let work = read_work(alloc, input.as_slice(), kind)?;
+    Ok(work)
+}
