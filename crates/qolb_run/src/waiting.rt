@@ -85,3 +85,6 @@ fn wait<R: Wait, K: Keep, L: LineSync<K>>(rt: &R, line: &L, port: &mut L::Port) 
     }
     unreachable!()
 }
+
+#[cfg(test)]
+mod tests;
