@@ -87,8 +87,9 @@ Example: with
 it prints in 10, out 1, total 9.";
 
 const DRAW: &str =
-    "The script, on standard input, is a schedule as `qolb replay` takes it. For each line a row for each
-node that calls on it, with a letter for each command on the line: how the node stands after it.
+    "The script, on standard input, is a schedule, as of `qolb replay`. Each line is drawn as a
+row for each node that calls on it, with a letter for each command on the line: how the
+node stands after it.
 
 Example: with
   nodes 2 lines 1

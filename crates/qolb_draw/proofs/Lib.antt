@@ -4,3 +4,4 @@ pub mod Turns
 pub mod Drawn
 pub mod Outs
 pub mod Refusing
+pub mod SameRuns

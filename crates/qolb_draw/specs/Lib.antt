@@ -4,3 +4,4 @@ pub mod Pictures
 pub mod Following
 pub mod Grids
 pub mod Svg
+pub mod Laws

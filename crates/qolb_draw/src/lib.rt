@@ -4,6 +4,7 @@
 mod draw;
 mod follow;
 mod grid;
+pub mod laws;
 mod mark;
 mod svg;
 mod text;
