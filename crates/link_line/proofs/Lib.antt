@@ -26,4 +26,3 @@ pub mod Meets
 pub mod Lasting
 pub mod Splitting
 pub mod Finishing
-pub mod Trials

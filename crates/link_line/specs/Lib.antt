@@ -7,4 +7,3 @@ pub mod Line
 pub mod Opened
 pub mod Finish
 pub mod Releases
-pub mod Trial

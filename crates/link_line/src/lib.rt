@@ -20,6 +20,3 @@ mod words;
 
 pub use line::LinkLine;
 pub use port::Port;
-
-#[cfg(test)]
-mod tests;

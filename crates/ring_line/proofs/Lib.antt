@@ -14,8 +14,6 @@ pub mod Reset
 pub mod Clearing
 pub mod Free
 pub mod Finishing
-pub mod Trials
-pub mod Handing
 pub mod Passed
 pub mod Ending
 pub mod Grant

@@ -5,4 +5,3 @@ pub mod Releases
 pub mod Ports
 pub mod Line
 pub mod Finish
-pub mod Trial

@@ -19,6 +19,3 @@ mod words;
 pub use line::RingLine;
 pub use port::Port;
 pub use words::CELLS;
-
-#[cfg(test)]
-mod tests;

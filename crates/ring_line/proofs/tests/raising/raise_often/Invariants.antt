@@ -1,5 +1,0 @@
-use Rattle.ring_line.specs.Trial.{IsTheirs}
-use Rattle.ring_line.proofs.tests.raising.raise_often.Given as goal
-
-abbrev pub invariant-loop : goal.invariant-loop
-invariant-loop g l = IsTheirs l.line.table.shared.key l.line.table.shared.table_id l.port
