@@ -23,9 +23,11 @@ static uint64_t rounds;
 static int by_lines;
 static pthread_barrier_t gate;
 
-/* As bench/ring.c waits: single pauses first, and then the processor is given away between polls. */
+/* As the programs of bench/ wait: single pauses first, and then the processor is given away between polls. */
 static void acquire(qolb_node *node) {
-    uint32_t got = qolb_enqolb(node);
+    uint32_t got;
+    for (unsigned tries = 0; (got = qolb_enqolb(node)) == QOLB_BUSY; tries++)
+        if (tries >= SPINS) sched_yield();
     if (got == QOLB_QUEUED) {
         got = qolb_wait(node, SPINS);
         while (got == QOLB_WAITING) {

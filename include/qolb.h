@@ -81,7 +81,7 @@ uint32_t qolb_enqolb(qolb_node *node);
 uint32_t qolb_poll(qolb_node *node);
 
 /* Polls at most `polls` times, with a pause between two. In the state QUEUED, with polls above 0: GRANTED, WAITING, CLOSED. Else MISUSE.
- * With more threads than processors give the processor away between two waits. */
+ * It spins meanwhile: with more threads than processors, wait for few polls, and give the processor away between two waits. */
 uint32_t qolb_wait(qolb_node *node, uint64_t polls);
 
 /* Gives the request up, unless it has come to its turn. In the state QUEUED: WITHDRAWN, GRANTED, CLOSED. Else MISUSE. */

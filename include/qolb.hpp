@@ -1,4 +1,4 @@
-// QOLB for C++: a node that moves and is never copied. qolb.h says what each call answers, and what its caller must keep.
+// QOLB for C++14 and later: a node that moves and is never copied. qolb.h says what each call answers, and what its caller must keep.
 #ifndef QOLB_HPP
 #define QOLB_HPP
 
@@ -46,7 +46,7 @@ class Node {
     std::uint64_t number() { return qolb_number(&node_); }
     qolb_node_state state() { return static_cast<qolb_node_state>(qolb_state(&node_)); }
 
-    // Asks, and waits until the line is granted (true) or told to be closed (false). It never returns false before it is.
+    // Asks, and waits until the line is granted. False where it is closed, and at once where the node is none, or waits or holds already.
     bool acquire() {
         qolb_answer got;
         while ((got = enqolb()) == QOLB_BUSY) std::this_thread::yield();
@@ -57,7 +57,7 @@ class Node {
         return got == QOLB_GRANTED;
     }
 
-    // Acquires the line, lets `change` change its bytes, writes them and releases the line. False where the line is closed.
+    // Acquires the line, lets `change` change its bytes, writes them and releases the line. False as acquire is.
     template <class Change> bool with(Change change) {
         if (!acquire()) return false;
         qolb_bytes bytes;

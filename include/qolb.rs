@@ -175,7 +175,7 @@ impl Node {
         }
     }
 
-    /// Asks, and waits until the line is granted (true) or told to be closed (false). It never returns false before it is.
+    /// Asks, and waits until the line is granted. False where it is closed, and at once where the node waits or holds already.
     pub fn acquire(&mut self) -> bool {
         loop {
             match self.enqolb() {

@@ -2,9 +2,11 @@
 ghost use Rattle.std.specs.Prelude.{◌≡◌, ◌↔◌, IsOk};
 
 use anyhow::{bail, ensure};
-use qolb_run::{Kind, ReplayError, run_schedule, run_steps};
-use qolb_script::Watched;
+use qolb_run::{AlwaysOpen, Kind, Lines, report_work, run_schedule, run_steps};
+use qolb_script::{Watched, WorkKind};
 use std::alloc::Global;
+use std::sync::Wait;
+use std::thread::Threads;
 
 /// What a script is.
 #[derive(Clone, Copy)]
@@ -13,17 +15,28 @@ pub enum Form {
     Schedule,
     /// A step script.
     Steps,
+    /// A work script of one worker, whose report is the same over lines of each kind.
+    Work(WorkKind),
 }
 
 /// The kinds of line that answer a schedule.
 static KINDS: [Kind; 3] = [Kind::Plain, Kind::Ring, Kind::Link];
+
+/// The kinds that workers share.
+static LINES: [Lines; 2] = [Lines::Ring, Lines::Link];
 
 /// Answers the script in each way that there is for it, and compares.
 ///
 /// # Errors
 ///
 /// An answer is another one than is wanted, or the script is refused.
-pub fn compare(alloc: Global, form: Form, script: &[u8], wanted: &[u8]) -> anyhow::Result<()> {
+pub fn compare<R: Threads + Wait + Sync>(
+    rt: &R,
+    alloc: Global,
+    form: Form,
+    script: &[u8],
+    wanted: &[u8],
+) -> anyhow::Result<()> {
     match form {
         Form::Schedule => {
             for kind in KINDS {
@@ -34,6 +47,12 @@ pub fn compare(alloc: Global, form: Form, script: &[u8], wanted: &[u8]) -> anyho
         Form::Steps => {
             let said = steps(alloc, script)?;
             expect(said.as_slice(), wanted)?;
+        }
+        Form::Work(kind) => {
+            for lines in LINES {
+                let said = report(rt, alloc, script, kind, lines)?;
+                expect(said.as_slice(), wanted)?;
+            }
         }
     }
     Ok(())
@@ -56,7 +75,10 @@ fn replay(alloc: Global, script: &[u8], kind: Kind) -> anyhow::Result<Vec<u8>> {
         &mut Watched::new(&mut said),
         kind,
     );
-    answered(done, said)
+    match done {
+        Ok(()) => Ok(said),
+        Err(why) => bail!("it is refused: {why}"),
+    }
 }
 
 /// What the core answers the step script.
@@ -67,11 +89,30 @@ fn steps(alloc: Global, script: &[u8]) -> anyhow::Result<Vec<u8>> {
         &mut Watched::new(script),
         &mut Watched::new(&mut said),
     );
-    answered(done, said)
+    match done {
+        Ok(()) => Ok(said),
+        Err(why) => bail!("it is refused: {why}"),
+    }
 }
 
-/// The answer, if the script was not refused.
-fn answered(done: Result<(), ReplayError>, said: Vec<u8>) -> anyhow::Result<Vec<u8>> {
+/// What is reported of the work, over lines of the kind.
+fn report<R: Threads + Wait + Sync>(
+    rt: &R,
+    alloc: Global,
+    script: &[u8],
+    kind: WorkKind,
+    lines: Lines,
+) -> anyhow::Result<Vec<u8>> {
+    let mut said = Vec::new(alloc);
+    let done = report_work(
+        rt,
+        alloc,
+        &AlwaysOpen,
+        &mut Watched::new(script),
+        &mut Watched::new(&mut said),
+        kind,
+        lines,
+    );
     match done {
         Ok(()) => Ok(said),
         Err(why) => bail!("it is refused: {why}"),
@@ -88,8 +129,8 @@ mod tests {
         let script = b"nodes 1 lines 1\nenq 1 0\n";
         let right = b"granted\nline 0 served 0 withdrawn 0 told 0 left 1\n";
         let wrong = b"queued\nline 0 served 0 withdrawn 0 told 0 left 1\n";
-        assert!(rt; compare(alloc, Form::Schedule, script, right).is_ok());
-        assert!(rt; compare(alloc, Form::Schedule, script, wrong).is_err());
-        assert!(rt; compare(alloc, Form::Steps, script, right).is_err());
+        assert!(rt; compare(&rt, alloc, Form::Schedule, script, right).is_ok());
+        assert!(rt; compare(&rt, alloc, Form::Schedule, script, wrong).is_err());
+        assert!(rt; compare(&rt, alloc, Form::Steps, script, right).is_err());
     }
 }

@@ -5,9 +5,12 @@ mod compare;
 
 use anyhow::{Context, ensure};
 use compare::{Form, compare};
+use qolb_script::WorkKind;
 use std::alloc::Global;
 use std::fs;
 use std::rt::Files;
+use std::sync::Wait;
+use std::thread::Threads;
 
 /// A script `NAME.txt`, of which `NAME.out` is the answer.
 #[derive(Clone, Copy)]
@@ -17,7 +20,7 @@ struct Example {
 }
 
 /// All examples.
-static EXAMPLES: [Example; 7] = [
+static EXAMPLES: [Example; 9] = [
     Example {
         name: "hand_over",
         form: Form::Schedule,
@@ -46,6 +49,14 @@ static EXAMPLES: [Example; 7] = [
         name: "passed_by_the_list",
         form: Form::Steps,
     },
+    Example {
+        name: "board_of_one",
+        form: Form::Work(WorkKind::Board),
+    },
+    Example {
+        name: "bank_of_one",
+        form: Form::Work(WorkKind::Bank),
+    },
 ];
 
 fn main(rt: HostRuntime) -> anyhow::Result<()> {
@@ -67,13 +78,18 @@ fn main(rt: HostRuntime) -> anyhow::Result<()> {
 }
 
 /// Compares the example's answer with what its script is answered.
-fn check<R: Files + AllocGlobal>(rt: &R, alloc: Global, example: Example) -> anyhow::Result<()> {
+fn check<R: Files + AllocGlobal + Threads + Wait + Sync>(
+    rt: &R,
+    alloc: Global,
+    example: Example,
+) -> anyhow::Result<()> {
     let Example { name, form } = example;
     let script = format!(in alloc; "{name}.txt")?;
     let answer = format!(in alloc; "{name}.out")?;
     let script = fs::read_to_string(rt, script.as_str()).context(name)?;
     let answer = fs::read_to_string(rt, answer.as_str()).context(name)?;
     compare(
+        rt,
         alloc,
         form,
         script.as_str().as_bytes(),

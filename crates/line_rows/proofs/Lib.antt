@@ -1,3 +1,5 @@
 pub mod Columns
 pub mod NewPorts
-pub mod Promises
+pub mod Each
+pub mod Rows
+pub mod HandedOver

@@ -1,2 +1,4 @@
 pub mod Columns
 pub mod Opened
+pub mod Rows
+pub mod HandingOver

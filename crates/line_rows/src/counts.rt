@@ -1,7 +1,6 @@
 //! Counts in a line's first lane, which nodes raise: each by a thread of its own, and in a race of a release with a withdrawal.
-ghost use Rattle.std.specs.Prelude.{◌≡◌, ◌⊎◌, ℕ, All, IfSome, IsTrue};
-ghost use Rattle.qolb_model.specs.PortStates.{may_ask};
-ghost use Rattle.line_rows.specs.Opened.{MayAskFor};
+ghost use Rattle.std.specs.Prelude.{◌≡◌, All, IfSome};
+ghost use Rattle.line_rows.specs.Opened.{HoldsOrWaits, IsNewPort, MayAskFor};
 
 use line_lanes::{Line64, changed, lane, with_lane};
 use qolb_model::{Enq, Free, LineSync, Out, PortState};
@@ -39,6 +38,23 @@ impl<R: Wait, L: LineSync<Free>> Work<R, L, L::Port> for Raising {
     }
 }
 
+/// Each node of a line that was just opened raises its count so often, in a thread of its own. The line's last bytes; `None` where memory or a
+/// thread was refused.
+pub fn raise_all<R: Threads + Wait + Sync, L: LineSync<Free> + Sync + Drop>(
+    rt: &R,
+    alloc: Global,
+    line: L,
+    ports: Vec<L::Port>,
+    rounds: u64,
+) -> Option<Line64>
+where
+    L::Port: Send + Drop,
+    requires { All (IsNewPort L.belongs L.view line) ports.items }
+{
+    let ports = together(rt, alloc, &Raising { rounds }, &line, ports)?;
+    line.finish(alloc, ports).ok()
+}
+
 /// The holder adds 1 to the first lane.
 fn add_one<L: LineSync<Free>>(port: &mut L::Port)
     requires { (L.view port.old).state ≡ PortState.Holding }
@@ -53,7 +69,7 @@ fn add_one<L: LineSync<Free>>(port: &mut L::Port)
 
 /// One round of a race: the holder adds 1 and releases, while the node that waits withdraws. If that was granted the line, it adds 1 too.
 #[derive(Clone, Copy)]
-struct Race;
+struct Contest;
 
 /// A node after its round.
 #[derive(Drop)]
@@ -63,10 +79,10 @@ struct Racer<P> {
     was_granted: bool,
 }
 
-impl<R: Wait, L: LineSync<Free>> Work<R, L, L::Port> for Race {
+impl<R: Wait, L: LineSync<Free>> Work<R, L, L::Port> for Contest {
     type Back = Racer<L::Port>;
 
-    ghost fits = { λ line port. L.belongs line port × (((L.view port).state ≡ PortState.Holding) ⊎ ((L.view port).state ≡ PortState.Queued)) };
+    ghost fits = { λ line port. HoldsOrWaits L.belongs L.view line port };
 
     ghost done = { λ _ line _ racer. MayAskFor L.belongs L.view line racer.port };
 
@@ -114,8 +130,8 @@ pub fn race<R: Threads + Wait + Sync, L: LineSync<Free> + Sync + Drop>(
 ) -> Option<Raced>
 where
     L::Port: Send + Drop,
-    requires one { MayAskFor L.belongs L.view line one }
-    requires two { MayAskFor L.belongs L.view line two }
+    requires one { IsNewPort L.belongs L.view line one }
+    requires two { IsNewPort L.belongs L.view line two }
 {
     let mut one = one;
     let mut two = two;
@@ -161,7 +177,7 @@ where
     let mut ports = Vec::new(alloc);
     ports.push(one).ok()?;
     ports.push(two).ok()?;
-    let mut back = together(rt, alloc, &Race, line, ports)?;
+    let mut back = together(rt, alloc, &Contest, line, ports)?;
     let mut second = back.pop()?;
     let mut first = back.pop()?;
     line.meet(&mut first.port, &mut second.port);

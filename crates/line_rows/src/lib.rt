@@ -3,10 +3,11 @@
 
 pub mod bank;
 pub mod boards;
+pub mod counts;
 pub mod desks;
+pub mod handing;
 pub mod opened;
 pub mod producers;
 #[cfg(test)]
 mod tests;
-pub mod together;
 pub mod transfers;

@@ -3,9 +3,9 @@ ghost use Rattle.std.specs.Prelude.{◌*◌, ◌<◌, ◌^◌, All, IfSome, IsTr
 ghost use Rattle.qolb_model.specs.PortStates.{may_ask};
 ghost use Rattle.line_rows.specs.Opened.{IsNewPort, MayAskFor};
 
-use crate::together::{Work, together};
 use line_board::{BoardLaw, Put, Take, Tasks, decode, put, take};
 use qolb_model::LineSync;
+use qolb_run::together::{Work, together};
 use std::alloc::Global;
 use std::sync::Wait;
 use std::sync::atomic::{AtomicU64, Ordering};
@@ -89,10 +89,14 @@ pub struct Board {
     left: AtomicU64,
 }
 
-impl<L: LineSync<BoardLaw>> Work<L, Worker<L::Port>> for Board {
+impl<R: Wait, L: LineSync<BoardLaw>> Work<R, L, Worker<L::Port>> for Board {
+    type Back = Worker<L::Port>;
+
     ghost fits = { λ line worker. MayAskFor L.belongs L.view line worker.port };
 
-    fn work<R: Wait>(&self, rt: &R, line: &L, worker: Worker<L::Port>) -> Worker<L::Port> {
+    ghost done = { λ _ line _ worker. MayAskFor L.belongs L.view line worker.port };
+
+    fn work(&self, rt: &R, line: &L, _place: usize, worker: Worker<L::Port>) -> Worker<L::Port> {
         let Worker {
             mut port,
             job,

@@ -4,9 +4,9 @@ ghost use Rattle.line_accounts.specs.Desks.{IsDeskOver};
 ghost use Rattle.line_rows.specs.Opened.{IsNewPort};
 
 use crate::bank::desks_over;
-use crate::together::{Work, together};
 use line_accounts::{AccountLaw, Desk, Reply, deposit, settle, transfer};
 use qolb_model::LineSync;
+use qolb_run::together::{Work, together};
 use rand::{RngExt, SeedableRng};
 use rand_xoshiro::Xoshiro256PlusPlus;
 use std::alloc::Global;
@@ -50,10 +50,14 @@ pub struct Transfers {
     rounds: u64,
 }
 
-impl<L: LineSync<AccountLaw>> Work<Vec<L>, Customer<L>> for Transfers {
+impl<R: Wait, L: LineSync<AccountLaw>> Work<R, Vec<L>, Customer<L>> for Transfers {
+    type Back = Customer<L>;
+
     ghost fits = { λ lines customer. IsDeskOver L.belongs L.view lines.items customer.desk };
 
-    fn work<R: Wait>(&self, rt: &R, lines: &Vec<L>, customer: Customer<L>) -> Customer<L> {
+    ghost done = { λ _ lines _ customer. IsDeskOver L.belongs L.view lines.items customer.desk };
+
+    fn work(&self, rt: &R, lines: &Vec<L>, _place: usize, customer: Customer<L>) -> Customer<L> {
         let Customer {
             mut desk,
             mut rng,

@@ -1,3 +1,4 @@
+//! What the table's rule knows of a node.
 use crate::parcel::Parcel;
 use link_core::Seat;
 use qolb_model::View;

@@ -1,3 +1,4 @@
+//! What lies in the table's slot: the line.
 use line_lanes::{Line64, Mask};
 
 /// The line, with the mask of what its holder has written in this turn, how many turns are left of its lease, and whether it is closed.

@@ -50,6 +50,7 @@ pub(crate) fn renew<K: Keep>(
     ensures goes_on { GoesOn K.allows seat.old.me seat.new.me (steps_to_renew result) }
     ensures renewed { IsRenewed state (known_of seat.old) (known_of seat.new) result }
 {
+    // By comparisons, rarest last: as a `match` on all states this is a table of jumps, which each round would go through.
     let looks = if state == PortState::Left {
         if !look_left(ground, seat, node) {
             return None;
@@ -170,6 +171,7 @@ fn hand_on<K: Keep>(ground: &Ground<K>, seat: &mut LinkSeat, steps: &mut u64, at
     ensures same { SameSeat seat.old seat.new }
     ensures handed { (n : ℕ) × (steps.new ≡ steps.old + n) × GoesOn K.allows seat.old.me seat.new.me n × ((y : Parcel) → HasSlot seat.old y → HandsOn seat.old y seat.new n result) }
 {
+    // Home first: only where home names another node does a link come, so that a done entry without one is left for somebody.
     *steps += 1;
     if home(ground, seat, at) {
         return Handed::On;

@@ -13,7 +13,8 @@ pub struct Setup {
     pub terms: Terms,
 }
 
-/// The rule of a table whose line is under the law `K`.
+/// The rule of a table whose line is under the law `K`: the invariant of all its interleavings. It says that the words and the slot are those
+/// of a core of `link_core`, which refines the queue machine.
 pub struct Links<K> {
     law: PhantomData<K>,
 }

@@ -31,6 +31,9 @@ pub(crate) fn reset<K: Keep>(ground: &Ground<K>, seat: &mut LinkSeat, node: u64)
 }
 
 /// Asks: puts the own number into the home word. Returns what that was: 0 where the line has come, else the node before.
+///
+/// This swap is where a request takes effect (its linearization point): it puts the request into the order. The link is made later, and
+/// changes no order.
 pub(crate) fn prepend<K: Keep>(ground: &Ground<K>, seat: &mut LinkSeat, node: u64) -> u64
     requires table { IsSeatOf ground.now.table_id seat.old }
     requires ready { IsAt Ready seat.old }
@@ -105,7 +108,8 @@ pub(crate) fn look_left<K: Keep>(ground: &Ground<K>, seat: &mut LinkSeat, node: 
     link_of(ground.load::<Look<K>>(seat, entry_word(node))) != 0
 }
 
-/// Loads the own entry after the request was withdrawn: whether it is clear. It is freed then, and the line is not left in it.
+/// Loads the own entry after the request was withdrawn: whether it is clear. It is freed then, and the line is not left in it: where the
+/// release that passed this node ended here, a late linker still comes to this entry for the line.
 pub(crate) fn look_rolled<K: Keep>(ground: &Ground<K>, seat: &mut LinkSeat, node: u64) -> bool
     requires table { IsSeatOf ground.now.table_id seat.old }
     requires ready { IsAt Rolled seat.old }
@@ -121,6 +125,8 @@ pub(crate) fn look_rolled<K: Keep>(ground: &Ground<K>, seat: &mut LinkSeat, node
 
 /// Tries to send the line home, where the release has come to the entry of the node `at`: whether home names it, so that nobody is behind
 /// it.
+///
+/// An exchange, since one who asks at the same time must find either the line at home or somebody to link to, and never neither.
 pub(crate) fn home<K: Keep>(ground: &Ground<K>, seat: &mut LinkSeat, at: u64) -> bool
     requires table { IsSeatOf ground.now.table_id seat.old }
     requires alone { Alone seat.old.me }
@@ -135,6 +141,9 @@ pub(crate) fn home<K: Keep>(ground: &Ground<K>, seat: &mut LinkSeat, at: u64) ->
 
 /// Marks the entry of the node `at` as done. Returns the node that is linked to it; or 0, and then the line is left there, for a late
 /// linker.
+///
+/// One addition both marks the entry and reads it, as `link` does on the other side: of the two the later one finds the other's mark, and it
+/// alone has the line.
 pub(crate) fn done<K: Keep>(ground: &Ground<K>, seat: &mut LinkSeat, at: u64) -> u64
     requires table { IsSeatOf ground.now.table_id seat.old }
     requires ready { IsAt (Marking at) seat.old }

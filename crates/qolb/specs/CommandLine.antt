@@ -3,13 +3,17 @@ use Rattle.std.specs.Prelude.{◌≡◌, true, false, if◌then◌else◌, List,
 use Rattle.std.specs.Borrow.{Bor}
 use Rattle.std.specs.Str.{bytes_eq}
 use Rattle.clap.specs.Words.{App, Row, Rule, Text, first_of, new_app, new_rule, subcommand_of, takes, with_rule, with_subcommand}
-use Rattle.clap.specs.declared.builder.ArgAction.TheVariants.{Set}
+use Rattle.clap.specs.declared.builder.ArgAction.TheVariants.{Set, SetTrue}
 use Rattle.clap.specs.declared.builder.value_parser.ValueParser.TheVariants as parser
 use Rattle.qolb_script.specs.declared.job.WorkKind.TheVariants.{Board, Bank}
 use Rattle.qolb_run.specs.declared.replay.Kind.{Kind}
 use Rattle.qolb_run.specs.declared.replay.Kind.TheVariants as kind
 use Rattle.qolb_run.specs.declared.work.Lines.{Lines}
 use Rattle.qolb_run.specs.declared.work.Lines.TheVariants as lines
+use Rattle.qolb_draw.specs.declared.draw.Form.{Form}
+use Rattle.qolb_draw.specs.declared.draw.Form.TheVariants as form
+use Rattle.qolb.specs.declared.command_line.Wish.{Wish}
+use Rattle.qolb.specs.declared.command_line.Wish.TheVariants.{Answer, Draw}
 use Rattle.qolb_run.specs.declared.task.Task.{Task}
 use Rattle.qolb_run.specs.declared.task.Task.TheVariants as task
 
@@ -47,15 +51,25 @@ steps_command = new_app (codes "steps")
 abbrev pub work_command : Text → Names → App
 work_command name names = with_rule (new_app name) (record (kind_rule names) { defaults = codes "link" ∷ [] })
 
+-- `draw [--svg]`
+abbrev pub svg_rule : Rule
+svg_rule = record (new_rule (codes "svg")) { long = Some (codes "svg"); action = Some SetTrue }
+
+abbrev pub draw_command : App
+draw_command = with_rule (new_app (codes "draw")) svg_rule
+
 abbrev pub needs_subcommand : App → App
 needs_subcommand app = record app { top = record app.top { subcommand_required = true } }
 
--- the program's command: `replay --kind KIND`, `steps`, `board [--kind KIND]` or `bank [--kind KIND]`
+-- the program's command: `replay --kind KIND`, `steps`, `board [--kind KIND]`, `bank [--kind KIND]` or `draw [--svg]`
 abbrev pub replay_or_steps : Names → App
 replay_or_steps replayed = with_subcommand (with_subcommand (needs_subcommand (new_app (codes "qolb"))) (replay_command replayed).top) steps_command.top
 
+abbrev pub any_answer : KindNames → App
+any_answer names = with_subcommand (with_subcommand (replay_or_steps names.replayed) (work_command (codes "board") names.shared).top) (work_command (codes "bank") names.shared).top
+
 abbrev pub the_command : KindNames → App
-the_command names = with_subcommand (with_subcommand (replay_or_steps names.replayed) (work_command (codes "board") names.shared).top) (work_command (codes "bank") names.shared).top
+the_command names = with_subcommand (any_answer names) draw_command.top
 
 -- the kind of this name
 abbrev pub kind_of_name : Option Text → Kind
@@ -77,10 +91,22 @@ task_of name kind =
 abbrev pub task_at : Text × List Row → Task
 task_at entered = task_of entered.0 (first_of (codes "kind") entered.1)
 
--- the words name this task
-pub record NamesTask (words : List Text) (wanted : Task) : Type 0 where
+-- the form of a picture, by what `--svg` is set to
+abbrev pub form_of : Option Text → Form
+form_of None = form.Text
+form_of (Some value) = if bytes_eq value (codes "true") then form.Svg else form.Text
+
+abbrev pub form_at : List Row → Form
+form_at rows = form_of (first_of (codes "svg") rows)
+
+-- what a subcommand asks for, with these arguments
+abbrev pub wish_at : Text × List Row → Wish
+wish_at entered = if bytes_eq entered.0 (codes "draw") then Draw (form_at entered.1) else Answer (task_at entered)
+
+-- the words ask for this
+pub record NamesWish (words : List Text) (wanted : Wish) : Type 0 where
   pub names : KindNames
-  pub named : option_map task_at (subcommand_of (the_command names) words) ≡ Some wanted
+  pub named : option_map wish_at (subcommand_of (the_command names) words) ≡ Some wanted
 
 -- the command does not take the words
 pub record IsNotTaken (words : List Text) : Type 0 where

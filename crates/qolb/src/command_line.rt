@@ -2,10 +2,11 @@
 ghost use Rattle.std.specs.Prelude.{◌≡◌, ◌≢◌, false, map, option_map, string_bytes, codes, IfOk, IfErr};
 ghost use Rattle.clap.specs.Words.{app_of, found_of, kind_of, new_app, rows_of, rule_of};
 ghost use Rattle.qolb.specs.CommandLine as spec;
-ghost use Rattle.qolb.specs.CommandLine.{KindNames, NamesTask, IsNotTaken, kind_rule, needs_subcommand, replay_command, steps_command, work_command, the_command};
+ghost use Rattle.qolb.specs.CommandLine.{KindNames, NamesWish, IsNotTaken, draw_command, kind_rule, needs_subcommand, replay_command, steps_command, work_command, the_command};
 
 use clap::error::ErrorKind;
 use clap::{Arg, ArgAction, ArgMatches, Command, Error};
+use qolb_draw::Form;
 use qolb_run::{Kind, Lines, Task};
 use qolb_script::WorkKind;
 use std::alloc::{AllocError, Global};
@@ -85,15 +86,69 @@ Example: with
   1 out 3 1
 it prints in 10, out 1, total 9.";
 
+const DRAW: &str =
+    "The script, on standard input, is a schedule as `qolb replay` takes it. For each line a row for each
+node that calls on it, with a letter for each command on the line: how the node stands after it.
+
+Example: with
+  nodes 2 lines 1
+  enq 1 0
+  enq 2 0
+  deq 1 0
+  poll 2 0
+it prints, and then what the letters mean:
+  line 0
+
+           1234
+  node   1 HH>.
+  node   2 .w<H";
+
+/// What the words ask for.
+#[derive(Clone, Copy, Debug, PartialEq, Eq)]
+pub enum Wish {
+    /// To answer a script.
+    Answer(Task),
+    /// To draw a schedule.
+    Draw(Form),
+}
+
 /// What the words ask for, with the program's name first.
-pub fn parse_args(alloc: Global, words: &[String]) -> Result<Task, Error>
-    ensures task { IfOk result (λ task. NamesTask (map string_bytes words.now) task) }
+pub fn parse_args(alloc: Global, words: &[String]) -> Result<Wish, Error>
+    ensures wish { IfOk result (λ wish. NamesWish (map string_bytes words.now) wish) }
     ensures usage { IfErr result (λ error. kind_of error ≢ ErrorKind.OutOfMemory → IsNotTaken (map string_bytes words.now)) }
 {
     let matches = command(alloc)?.try_get_matches_from(words)?;
     match matches.subcommand() {
-        Some((name, arguments)) => Ok(task_at(name, arguments)),
+        Some((name, arguments)) => Ok(wish_at(name, arguments)),
         None => unreachable!(),
+    }
+}
+
+/// What a subcommand with these arguments asks for.
+fn wish_at(name: &str, arguments: &ArgMatches<'_>) -> Wish
+    ensures { result ≡ spec.wish_at (name.now, rows_of (found_of arguments.now)) }
+{
+    if name == "draw" {
+        Wish::Draw(form_at(arguments))
+    } else {
+        Wish::Answer(task_at(name, arguments))
+    }
+}
+
+/// The form of a picture, by these arguments.
+fn form_at(arguments: &ArgMatches<'_>) -> Form
+    ensures { result ≡ spec.form_at (rows_of (found_of arguments.now)) }
+{
+    form_of(arguments.get_str("svg"))
+}
+
+/// The form of a picture, by the value of `--svg`.
+fn form_of(svg: Option<&str>) -> Form
+    ensures { result ≡ spec.form_of (option_map (λ n. n.now) svg.entry) }
+{
+    match svg {
+        Some("true") => Form::Svg,
+        _ => Form::Text,
     }
 }
 
@@ -150,7 +205,8 @@ fn command<'a>(alloc: Global) -> Result<Command<'a>, AllocError>
         .subcommand(replay(alloc, replayed)?)?
         .subcommand(steps(alloc))?
         .subcommand(work(alloc, "board", BOARD, shared)?)?
-        .subcommand(work(alloc, "bank", BANK, shared)?)
+        .subcommand(work(alloc, "bank", BANK, shared)?)?
+        .subcommand(draw(alloc)?)
 }
 
 /// The program's command without its subcommands.
@@ -199,6 +255,29 @@ fn work<'a>(
         )
         .after_help(script)
         .arg(kind_argument(alloc, kinds).default_value("link"))
+}
+
+/// To draw a schedule.
+fn draw<'a>(alloc: Global) -> Result<Command<'a>, AllocError>
+    ensures { IfOk result (λ r. app_of r ≡ draw_command) }
+{
+    Command::new(alloc, "draw")
+        .about(
+            "Draws the schedule script on standard input: how each node stands after each command",
+        )
+        .after_help(DRAW)
+        .arg(svg_argument(alloc))
+}
+
+/// `--svg`.
+fn svg_argument<'a>(alloc: Global) -> Arg<'a>
+    ensures rule { rule_of result ≡ spec.svg_rule }
+    ensures local { result.global ≡ false }
+{
+    Arg::new(alloc, "svg")
+        .long("svg")
+        .help("Draws an SVG in place of plain text")
+        .action(ArgAction::SetTrue)
 }
 
 /// `--kind`, with one of these names.

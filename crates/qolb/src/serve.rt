@@ -2,13 +2,18 @@
 ghost use Rattle.std.specs.Prelude.{◌≡◌, ◌≢◌, ◌≤◌, ℕ, List, map, string_bytes, IfSome, IfErr, OnOk};
 ghost use Rattle.std.specs.Io.KnownBytes.{Appends};
 ghost use Rattle.qolb_script.specs.Watched.{inner_of};
-ghost use Rattle.qolb.specs.CommandLine.{NamesTask, IsNotTaken};
-ghost use Rattle.qolb_run.specs.Outcome.{Answers, IsAnswered, IsRefused};
+ghost use Rattle.qolb.specs.CommandLine.{NamesWish, IsNotTaken};
+ghost use Rattle.qolb_run.specs.Outcome.{Answers, IsRefused};
+ghost use Rattle.qolb_draw.specs.Pictures.{IsPicture};
+ghost use Rattle.qolb_run.specs.declared.task.Task.TheVariants as task;
+ghost use Rattle.qolb_run.specs.declared.replay.Kind.TheVariants as kind;
+ghost use Rattle.qolb.specs.Wishes.{Grants, IsGranted, IsDenied};
 ghost use Rattle.qolb.specs.Status.{status_of};
-ghost use Rattle.qolb_run.specs.declared.task.Task.{Task};
+ghost use Rattle.qolb.specs.declared.command_line.Wish.{Wish};
 
-use crate::command_line::parse_args;
+use crate::command_line::{Wish, parse_args};
 use clap::error::ErrorKind;
+use qolb_draw::{Form, draw_schedule};
 use qolb_run::{AlwaysOpen, ReplayError, Task, TaskError, report_work, run_schedule, run_steps};
 use qolb_script::Watched;
 use std::alloc::Global;
@@ -27,13 +32,13 @@ pub fn serve<T: Threads + Wait + Sync, R: Read, W: Write, E: Write>(
     err: &mut E,
 ) -> u8
     ensures statuses { result ≤ 4 }
-    ensures done { result ≡ 0 → (task : Task) × NamesTask (map string_bytes words.now) task × IfSome (R.remaining reader.old) (IsAnswered task) }
-    ensures refused { result ≡ 1 → (task : Task) × NamesTask (map string_bytes words.now) task × IfSome (R.remaining reader.old) (IsRefused task) }
+    ensures done { result ≡ 0 → (wish : Wish) × NamesWish (map string_bytes words.now) wish × IfSome (R.remaining reader.old) (IsGranted wish) }
+    ensures refused { result ≡ 1 → (wish : Wish) × NamesWish (map string_bytes words.now) wish × IfSome (R.remaining reader.old) (IsDenied wish) }
     ensures usage { result ≡ 2 → IsNotTaken (map string_bytes words.now) }
     ensures unwritten { 1 ≤ result → result ≤ 3 → out.new ≡ out.old }
 {
-    let task = match parse_args(alloc, words) {
-        Ok(task) => task,
+    let wish = match parse_args(alloc, words) {
+        Ok(wish) => wish,
         Err(error) if error.kind() == ErrorKind::OutOfMemory => {
             return fail(err, TaskError::Replay(ReplayError::Memory));
         }
@@ -44,10 +49,42 @@ pub fn serve<T: Threads + Wait + Sync, R: Read, W: Write, E: Write>(
     };
     let mut input = Watched::new(&mut *reader);
     let mut output = Watched::new(&mut *out);
-    match run(rt, alloc, task, &mut input, &mut output) {
+    match grant(rt, alloc, wish, &mut input, &mut output) {
         Ok(()) => 0,
         Err(error) => fail(err, error),
     }
+}
+
+/// Does what is wished.
+fn grant<T: Threads + Wait + Sync, R: Read, W: Write>(
+    rt: &T,
+    alloc: Global,
+    wish: Wish,
+    input: &mut Watched<R>,
+    output: &mut Watched<W>,
+) -> Result<(), TaskError>
+    ensures granted { OnOk result (IfSome (R.remaining (inner_of input.old)) (λ script. (text : List ℕ) × Grants wish script text × Appends (W.contents (inner_of output.old)) (W.contents (inner_of output.new)) text)) }
+    ensures denied { IfErr result (λ error. status_of error ≡ 1 → IfSome (R.remaining (inner_of input.old)) (IsDenied wish)) }
+    ensures unwritten { IfErr result (λ error. error ≢ TaskError.Replay ReplayError.Write → output.new ≡ output.old) }
+{
+    match wish {
+        Wish::Answer(task) => run(rt, alloc, task, input, output),
+        Wish::Draw(form) => draw(alloc, form, input, output),
+    }
+}
+
+/// Draws a schedule.
+fn draw<R: Read, W: Write>(
+    alloc: Global,
+    form: Form,
+    input: &mut Watched<R>,
+    output: &mut Watched<W>,
+) -> Result<(), TaskError>
+    ensures drawn { OnOk result (IfSome (R.remaining (inner_of input.old)) (λ script. (text : List ℕ) × IsPicture form script text × Appends (W.contents (inner_of output.old)) (W.contents (inner_of output.new)) text)) }
+    ensures refused { IfErr result (λ error. status_of error ≡ 1 → IfSome (R.remaining (inner_of input.old)) (IsRefused (task.Replay kind.Plain))) }
+    ensures unwritten { IfErr result (λ error. error ≢ TaskError.Replay ReplayError.Write → output.new ≡ output.old) }
+{
+    Ok(draw_schedule(alloc, input, output, form)?)
 }
 
 /// Does the task.

@@ -1,3 +1,4 @@
+//! What the table's rule knows of a node.
 use qolb_model::View;
 use std::collections::LinkedList;
 

@@ -24,7 +24,7 @@ pub struct Parcel {
     pub closed: bool,
 }
 
-/// The rule of a table whose line is under the law `K`.
+/// The rule of a table whose line is under the law `K`: the invariant of all its interleavings.
 pub struct Ring<K> {
     law: PhantomData<K>,
 }

@@ -17,6 +17,8 @@ use crate::words::{
 use qolb_model::Keep;
 
 /// Draws a ticket, and returns its cell.
+///
+/// This is where a request takes effect (its linearization point): it puts the request into the order, and a grant puts its end.
 pub(crate) fn ask<K: Keep>(ground: &Ground<K>, seat: &mut RingSeat) -> u64
     requires table { IsSeatOf ground.now.table_id seat.old }
     requires ready { IsAt Idle seat.old }

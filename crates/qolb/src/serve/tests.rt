@@ -194,6 +194,29 @@ fn tells_who_stalled(rt: HostRuntime) -> Result<(), Fail> {
     Ok(())
 }
 
+#[test]
+fn draws_schedules(rt: HostRuntime) -> Result<(), Fail> {
+    let script = "nodes 2 lines 1\nenq 1 0\nenq 2 0\ndeq 1 0\npoll 2 0\n";
+    let (status, out, err) = run(&rt, rt.alloc(), &["draw"], script)?;
+    assert_eq!(rt; (status, err.as_str()), (0, ""));
+    assert!(rt; out.starts_with("line 0\n\n         1234\nnode   1 HH>.\nnode   2 .w<H\n\n"));
+    let (status, out, err) = run(&rt, rt.alloc(), &["draw", "--svg"], script)?;
+    assert_eq!(rt; (status, err.as_str()), (0, ""));
+    assert!(rt; out.starts_with("<svg ") && out.contains(".w<tspan fill='red'>&lt;</tspan>"));
+    let (status, out, err) = run(&rt, rt.alloc(), &["draw"], "nodes 2 lines 1\nenq 3 0")?;
+    assert_eq!(rt;
+        (status, out.as_str(), err.as_str()),
+        (1, "", "bad line 2\n")
+    );
+    for words in [["draw", "--kind"], ["draw", "plain"], ["draw", "--svg=1"]] {
+        let (status, out, _) = run(&rt, rt.alloc(), words.as_slice(), script)?;
+        assert_eq!(rt; (status, out.as_str()), (2, ""));
+    }
+    let (_, _, help) = run(&rt, rt.alloc(), &["draw", "--help"], "")?;
+    assert!(rt; help.contains("--svg") && help.contains("node   1 HH>."));
+    Ok(())
+}
+
 /// A reader and writer that always fail.
 #[derive(Drop)]
 struct Broken;

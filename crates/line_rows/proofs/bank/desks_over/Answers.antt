@@ -5,7 +5,7 @@ use Rattle.line_accounts.specs.Desks.{DeskOf, IsDeskOver}
 use Rattle.line_rows.specs.Opened.{IsNewPort}
 use Rattle.line_rows.specs.Columns.{IsColumn}
 use Rattle.line_rows.proofs.Columns.{columns_none}
-use Rattle.line_rows.proofs.Promises.{all_first, all_pushed}
+use Rattle.line_rows.proofs.Each.{all_first, all_pushed}
 use Rattle.line_rows.proofs.bank.desks_over.Goals as goal
 
 pub loop-line-init : goal.loop-line-init

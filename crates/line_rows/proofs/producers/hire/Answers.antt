@@ -4,7 +4,7 @@ use Rattle.std.proofs.lemmas.List.Elements.{All-rest}
 use Rattle.qolb_model.specs.PortStates.{may_ask}
 use Rattle.line_rows.specs.declared.producers.Worker.{Worker}
 use Rattle.line_rows.specs.Opened.{IsNewPort, MayAskFor}
-use Rattle.line_rows.proofs.Promises.{all_first, all_pushed}
+use Rattle.line_rows.proofs.Each.{all_first, all_pushed}
 use Rattle.line_rows.proofs.producers.hire.Goals as goal
 
 pub loop-port-preserved : goal.loop-port-preserved

@@ -1,7 +1,7 @@
 use Rattle.std.proofs.Common.{rules, ap, ap₂, codes, Bool, ◌≡◌, ◌∙◌}
 use Rattle.std.proofs.lemmas.Result.{IfOk-weaker}
 use Rattle.clap.specs.Words.{App, Shape, app_of, new_app, with_subcommand}
-use Rattle.qolb.specs.CommandLine.{KindNames, needs_subcommand, replay_command, steps_command, work_command, replay_or_steps}
+use Rattle.qolb.specs.CommandLine.{KindNames, needs_subcommand, replay_command, steps_command, work_command, replay_or_steps, any_answer, draw_command}
 use Rattle.qolb.proofs.CommandLines.{no_globals}
 use Rattle.qolb.proofs.command_line.command.Goals as goal
 
@@ -19,4 +19,6 @@ returns c =
     let second_is : app_of c.in_ok-subcommand-2.field-0 ≡ replay_or_steps names.replayed = c.in_ok-subcommand-2.ensures.shape (no_globals _ _ _ _ (ap plain steps_is)) ∙ ap₂ with_subcommand first_is (ap top steps_is) in
     let third_is : app_of c.in_ok-subcommand-3.field-0 ≡ with_subcommand (replay_or_steps names.replayed) (work_command (codes "board") names.shared).top =
     c.in_ok-subcommand-3.ensures.shape (no_globals _ _ _ _ (ap plain board_is)) ∙ ap₂ with_subcommand second_is (ap top board_is) in
-    IfOk-weaker c.subcommand-4.result _ _ (λ r h. (names, h.shape (no_globals _ _ _ _ (ap plain bank_is)) ∙ ap₂ with_subcommand third_is (ap top bank_is))) c.subcommand-4.ensures
+    let fourth_is : app_of c.in_ok-subcommand-4.field-0 ≡ any_answer names = c.in_ok-subcommand-4.ensures.shape (no_globals _ _ _ _ (ap plain bank_is)) ∙ ap₂ with_subcommand third_is (ap top bank_is) in
+    let draw_is : app_of c.in_ok-draw.field-0 ≡ draw_command = c.in_ok-draw.ensures in
+    IfOk-weaker c.subcommand-5.result _ _ (λ r h. (names, h.shape (no_globals _ _ _ _ (ap plain draw_is)) ∙ ap₂ with_subcommand fourth_is (ap top draw_is))) c.subcommand-5.ensures

@@ -1,6 +1,6 @@
 use Rattle.std.proofs.Common.{◌≡◌, map, option_map, string_bytes, true, Some, sym, ap, rules, ◌∙◌}
 use Rattle.clap.specs.Words.{App, Text, app_of, is_simple, subcommand_of, subcommand_rows_of}
-use Rattle.qolb.specs.CommandLine.{task_at, the_command}
+use Rattle.qolb.specs.CommandLine.{wish_at, the_command}
 use Rattle.qolb.proofs.CommandLines.{refused_words}
 use Rattle.qolb.proofs.command_line.parse_args.Goals as goal
 
@@ -9,11 +9,11 @@ returns-in_err-matches-clause-usage c = let command = c.in_ok-command.ensures in
     refused_words command.0 (app_of c.in_ok-command.field-0) command.1 (map string_bytes c.args.words.now) c.in_err-matches.field-0.0 c.in_err-matches.ensures.passes
     c.from_residual-in_err-matches.result c.from_residual-in_err-matches.ensures.1
 
-pub returns-clause-task : goal.returns-clause-task
-returns-clause-task c =
+pub returns-clause-wish : goal.returns-clause-wish
+returns-clause-wish c =
     let names = c.in_ok-command.ensures.0 in
     let is : app_of c.in_ok-command.field-0 ≡ the_command names = c.in_ok-command.ensures.1 in
     let simple : is_simple (app_of c.in_ok-command.field-0) ≡ true = ap is_simple is in
     let rows : subcommand_rows_of c.in_ok-matches.matches ≡ subcommand_of (the_command names) (map string_bytes c.args.words.now) =
     (c.in_ok-matches.ensures.matches simple).1 ∙ ap (λ (a : App). subcommand_of a (map string_bytes c.args.words.now)) is in
-    record { names = names; named = ap (option_map task_at) (sym rows) ∙ search rules }
+    record { names = names; named = ap (option_map wish_at) (sym rows) ∙ search rules }

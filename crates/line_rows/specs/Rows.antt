@@ -1,0 +1,12 @@
+-- What tests say of ports, of which some may be another line's. (Of this project.)
+use Rattle.std.specs.Prelude.{◌≡◌, ℕ, List}
+use Rattle.std.specs.List.{All}
+use Rattle.qolb_model.specs.declared.view.View.{View}
+
+-- the port is the line's, if it has the line's label
+abbrev pub IsTheirs : {Line Port : Type 0} → (Line → Port → Type 0) → (Port → View) → (Line → ℕ) → Line → Port → Type 0
+IsTheirs belongs view label_of line port = (view port).label ≡ label_of line → belongs line port
+
+-- so is each of them
+abbrev pub AreTheirs : {Line Port : Type 0} → (Line → Port → Type 0) → (Port → View) → (Line → ℕ) → Line → List Port → Type 0
+AreTheirs belongs view label_of line ports = All (IsTheirs belongs view label_of line) ports

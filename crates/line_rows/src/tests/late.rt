@@ -1,0 +1,120 @@
+//! What the list alone answers: asking by two calls, and a release that does not wait for the link.
+
+use super::row::Row;
+use line_lanes::{Line64, placed};
+use link_line::LinkLine;
+use qolb_model::{Enq, FinishError, Free, Out, Poll, PortState, Prep, Terms};
+use std::alloc::Global;
+use std::test::Fail;
+
+type List = Row<LinkLine<Free>>;
+
+#[test]
+fn a_late_linker_finds_the_line_in_the_mailbox_before_it(rt: HostRuntime) -> Result<(), Fail> {
+    let mut row = List::of_zeros(rt.alloc(), 2)?;
+    assert_eq!(rt; row.ask(1), Some(Enq::Granted));
+    let (mask, bytes) = placed(0, &[0xab]).ok_or("no place")?;
+    assert_eq!(rt; row.write(1, mask, &bytes), Some(true));
+    assert_eq!(rt; row.prepend(2), Some(Prep::Linking));
+    assert_eq!(rt; row.release(1), Some(true));
+    assert_eq!(rt; row.state(1), Some(PortState::Left));
+    assert_eq!(rt; row.ask(1), Some(Enq::Busy));
+    assert_eq!(rt; row.link(2), Some(Enq::Granted));
+    assert_eq!(rt; row.bytes(2).map(|bytes| bytes[0]), Some(0xab));
+    assert_eq!(rt; row.ask(1), Some(Enq::Queued));
+    Ok(())
+}
+
+#[test]
+fn those_behind_a_late_linker_wait_for_it(rt: HostRuntime) -> Result<(), Fail> {
+    let mut row = List::of_zeros(rt.alloc(), 3)?;
+    assert_eq!(rt; row.ask(1), Some(Enq::Granted));
+    assert_eq!(rt; row.prepend(2), Some(Prep::Linking));
+    assert_eq!(rt; row.ask(3), Some(Enq::Queued));
+    assert_eq!(rt; row.release(1), Some(true));
+    assert_eq!(rt; row.state(1), Some(PortState::Left));
+    assert_eq!(rt; row.poll(3), Some(Poll::Waiting));
+    assert_eq!(rt; row.link(2), Some(Enq::Granted));
+    assert_eq!(rt; row.release(2), Some(true));
+    assert_eq!(rt; row.state(2), Some(PortState::Idle));
+    assert_eq!(rt; row.poll(3), Some(Poll::Granted));
+    Ok(())
+}
+
+#[test]
+fn one_who_links_before_the_release_waits(rt: HostRuntime) -> Result<(), Fail> {
+    let mut row = List::of_zeros(rt.alloc(), 2)?;
+    assert_eq!(rt; row.prepend(1), Some(Prep::Granted));
+    assert_eq!(rt; row.prepend(2), Some(Prep::Linking));
+    assert_eq!(rt; row.state(2), Some(PortState::Linking));
+    assert_eq!(rt; row.poll(2), None);
+    assert_eq!(rt; row.link(2), Some(Enq::Queued));
+    assert_eq!(rt; row.release(1), Some(true));
+    assert_eq!(rt; row.state(1), Some(PortState::Idle));
+    assert_eq!(rt; row.poll(2), Some(Poll::Granted));
+    Ok(())
+}
+
+#[test]
+fn a_chain_of_withdrawn_nodes_ends_at_a_late_linker(rt: HostRuntime) -> Result<(), Fail> {
+    let mut row = List::of_zeros(rt.alloc(), 4)?;
+    assert_eq!(rt; row.ask(1), Some(Enq::Granted));
+    assert_eq!(rt; row.ask(2), Some(Enq::Queued));
+    assert_eq!(rt; row.ask(3), Some(Enq::Queued));
+    assert_eq!(rt; row.withdraw(2), Some(Out::Withdrawn));
+    assert_eq!(rt; row.withdraw(3), Some(Out::Withdrawn));
+    assert_eq!(rt; row.prepend(4), Some(Prep::Linking));
+    assert_eq!(rt; row.release(1), Some(true));
+    assert_eq!(rt; row.steps(1), Some(10));
+    assert_eq!(rt; row.state(1), Some(PortState::Idle));
+    assert_eq!(rt; row.ask(3), Some(Enq::Busy));
+    assert_eq!(rt; row.ask(2), Some(Enq::Queued));
+    assert_eq!(rt; row.link(4), Some(Enq::Granted));
+    assert_eq!(rt; row.ask(3), Some(Enq::Queued));
+    assert_eq!(rt; row.release(4), Some(true));
+    assert_eq!(rt; row.poll(2), Some(Poll::Granted));
+    Ok(())
+}
+
+/// A line on which node 1 has left the line for node 2, which has not linked yet, and node 3 is idle.
+fn left_behind(alloc: Global) -> Result<List, Fail> {
+    let mut row = List::of_zeros(alloc, 3)?;
+    row.ask(1);
+    row.prepend(2);
+    row.release(1);
+    Ok(row)
+}
+
+#[test]
+fn finish_waits_for_a_late_linker(rt: HostRuntime) -> Result<(), Fail> {
+    let row = left_behind(rt.alloc())?;
+    assert_eq!(rt; row.state(1), Some(PortState::Left));
+    assert_eq!(rt; row.state(2), Some(PortState::Linking));
+    let (why, mut row) = row.finish(rt.alloc()).err().ok_or("one is linking")?;
+    assert_eq!(rt; why, FinishError::Unquiet(2));
+    assert_eq!(rt; row.link(2), Some(Enq::Granted));
+    assert_eq!(rt; row.release(2), Some(true));
+    assert!(rt; row.finish(rt.alloc()).is_ok());
+    Ok(())
+}
+
+#[test]
+fn finish_names_the_first_cause(rt: HostRuntime) -> Result<(), Fail> {
+    let mut row = left_behind(rt.alloc())?;
+    assert!(rt; row.take(3).is_some());
+    let (why, mut row) = row.finish(rt.alloc()).err().ok_or("a port is missing")?;
+    assert_eq!(rt; why, FinishError::Missing(3));
+
+    let terms = Terms {
+        nodes: 3,
+        opening: Line64::zero(),
+        lease: None,
+    };
+    let mut other = List::open(rt.alloc(), 8, terms)?;
+    let stranger = other.take(1).ok_or("no stranger")?;
+    assert!(rt; !row.owns(&stranger));
+    assert!(rt; row.put(stranger));
+    let (why, _) = row.finish(rt.alloc()).err().ok_or("a stranger finishes")?;
+    assert_eq!(rt; why, FinishError::Missing(0));
+    Ok(())
+}

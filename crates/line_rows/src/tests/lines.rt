@@ -1,0 +1,396 @@
+//! What both lines answer, called by one thread, node by node.
+
+use super::row::{Counted, Row};
+use crate::handing::hand_over;
+use crate::opened::{open_zeros, with_two};
+use line_lanes::{Line64, Mask, changed, lane, placed, with_lane};
+use linked_list_allocator::LocalHeap;
+use qolb_model::{Enq, FinishError, Free, OpenError, Out, Poll, PortState, Terms};
+use std::alloc::Global;
+use std::process::Abort;
+use std::test::Fail;
+
+/// What refuses a line: its number of nodes, and only else its lease.
+pub(super) fn lines_have_nodes_and_turns<R: Abort, L: Counted + Drop>(rt: &R, alloc: Global)
+where
+    L::Port: Drop,
+{
+    for (nodes, lease, want) in [
+        (0, None, Some(OpenError::Nodes)),
+        (1, None, None),
+        (33, None, None),
+        (200, None, None),
+        (201, None, Some(OpenError::Nodes)),
+        (0, Some(0), Some(OpenError::Nodes)),
+        (1, Some(0), Some(OpenError::Lease)),
+        (201, Some(1), Some(OpenError::Nodes)),
+        (1, Some(1), None),
+    ] {
+        let terms = Terms {
+            nodes,
+            opening: Line64::zero(),
+            lease,
+        };
+        let refused = Row::<L>::open(alloc, 7, terms).err();
+        assert_eq!(rt; refused, want, "{nodes} nodes, the lease {lease:?}");
+    }
+}
+
+pub(super) fn a_release_passes_those_who_withdrew<R: Abort, L: Counted + Drop>(
+    rt: &R,
+    alloc: Global,
+    steps: u64,
+) -> Result<(), Fail>
+where
+    L::Port: Drop,
+{
+    let mut row = Row::<L>::of_zeros(alloc, 3)?;
+    assert_eq!(rt; row.ask(1), Some(Enq::Granted));
+    assert_eq!(rt; row.ask(2), Some(Enq::Queued));
+    assert_eq!(rt; row.ask(3), Some(Enq::Queued));
+    assert_eq!(rt; row.withdraw(2), Some(Out::Withdrawn));
+    assert_eq!(rt; row.withdraw(3), Some(Out::Withdrawn));
+    assert_eq!(rt; row.release(1), Some(true));
+    assert_eq!(rt; row.steps(1), Some(steps));
+    assert_eq!(rt; row.ask(3), Some(Enq::Granted));
+    Ok(())
+}
+
+pub(super) fn a_node_asks_again_once_it_was_passed<R: Abort, L: Counted + Drop>(
+    rt: &R,
+    alloc: Global,
+) -> Result<(), Fail>
+where
+    L::Port: Drop,
+{
+    let mut row = Row::<L>::of_zeros(alloc, 3)?;
+    assert_eq!(rt; row.steps(2), Some(0));
+    assert_eq!(rt; row.ask(1), Some(Enq::Granted));
+    assert_eq!(rt; row.ask(2), Some(Enq::Queued));
+    assert_eq!(rt; row.ask(3), Some(Enq::Queued));
+    assert_eq!(rt; row.withdraw(2), Some(Out::Withdrawn));
+    assert_eq!(rt; row.ask(2), Some(Enq::Busy));
+    assert_eq!(rt; row.release(1), Some(true));
+    assert_eq!(rt; row.ask(2), Some(Enq::Queued));
+    assert_eq!(rt; row.poll(3), Some(Poll::Granted));
+    assert_eq!(rt; row.release(3), Some(true));
+    assert_eq!(rt; row.poll(2), Some(Poll::Granted));
+    Ok(())
+}
+
+pub(super) fn who_withdraws_at_its_turn_is_granted<R: Abort, L: Counted + Drop>(
+    rt: &R,
+    alloc: Global,
+) -> Result<(), Fail>
+where
+    L::Port: Drop,
+{
+    let mut row = Row::<L>::of_zeros(alloc, 2)?;
+    assert_eq!(rt; row.ask(1), Some(Enq::Granted));
+    assert_eq!(rt; row.ask(2), Some(Enq::Queued));
+    assert_eq!(rt; row.release(1), Some(true));
+    assert_eq!(rt; row.withdraw(2), Some(Out::Granted));
+    assert_eq!(rt; row.release(2), Some(true));
+    Ok(())
+}
+
+pub(super) fn all_are_told_of_a_closed_line<R: Abort, L: Counted + Drop>(
+    rt: &R,
+    alloc: Global,
+) -> Result<(), Fail>
+where
+    L::Port: Drop,
+{
+    let mut row = Row::<L>::of_zeros(alloc, 3)?;
+    assert_eq!(rt; row.ask(1), Some(Enq::Granted));
+    assert_eq!(rt; row.ask(2), Some(Enq::Queued));
+    assert_eq!(rt; row.ask(3), Some(Enq::Queued));
+    assert_eq!(rt; row.shut(1), Some(true));
+    assert_eq!(rt; row.poll(3), Some(Poll::Waiting));
+    assert_eq!(rt; row.poll(2), Some(Poll::Closed));
+    assert_eq!(rt; row.poll(3), Some(Poll::Closed));
+    assert_eq!(rt; row.ask(1), Some(Enq::Closed));
+    assert_eq!(rt; row.ask(2), Some(Enq::Closed));
+    assert!(rt; row.finish(alloc).is_ok());
+    Ok(())
+}
+
+pub(super) fn the_last_turn_of_a_lease_closes_the_line<R: Abort, L: Counted + Drop>(
+    rt: &R,
+    alloc: Global,
+) -> Result<(), Fail>
+where
+    L::Port: Drop,
+{
+    let terms = Terms {
+        nodes: 2,
+        opening: Line64::zero(),
+        lease: Some(2),
+    };
+    let mut row = Row::<L>::open(alloc, 7, terms)?;
+    assert_eq!(rt; row.ask(1), Some(Enq::Granted));
+    assert_eq!(rt; row.turns_left(1), Some(Some(2)));
+    let (mask, bytes) = placed(0, &[7]).ok_or("no place")?;
+    assert_eq!(rt; row.write(1, mask, &bytes), Some(true));
+    assert_eq!(rt; row.ask(2), Some(Enq::Queued));
+    assert_eq!(rt; row.release(1), Some(true));
+    assert_eq!(rt; row.state(1), Some(PortState::Idle));
+    assert_eq!(rt; row.poll(2), Some(Poll::Granted));
+    assert_eq!(rt; row.turns_left(2), Some(Some(1)));
+    assert_eq!(rt; row.ask(1), Some(Enq::Queued));
+    assert_eq!(rt; row.release(2), Some(true));
+    assert_eq!(rt; row.state(2), Some(PortState::Shut));
+    assert_eq!(rt; row.poll(1), Some(Poll::Closed));
+    assert_eq!(rt; row.ask(2), Some(Enq::Closed));
+    let line = row.finish(alloc).ok().ok_or("no end")?;
+    let mut want = [0; 64];
+    want[0] = 7;
+    assert_eq!(rt; line.to_bytes(), want);
+    Ok(())
+}
+
+pub(super) fn a_line_without_a_lease_counts_no_turns<R: Abort, L: Counted + Drop>(
+    rt: &R,
+    alloc: Global,
+) -> Result<(), Fail>
+where
+    L::Port: Drop,
+{
+    let mut row = Row::<L>::of_zeros(alloc, 1)?;
+    assert_eq!(rt; row.ask(1), Some(Enq::Granted));
+    assert_eq!(rt; row.turns_left(1), Some(None));
+    Ok(())
+}
+
+pub(super) fn one_node_takes_300_turns<R: Abort, L: Counted + Drop>(
+    rt: &R,
+    alloc: Global,
+) -> Result<(), Fail>
+where
+    L::Port: Drop,
+{
+    let mut row = Row::<L>::of_zeros(alloc, 1)?;
+    for round in 0..300u32 {
+        assert_eq!(rt; row.ask(1), Some(Enq::Granted), "round {round}");
+        let held = Line64::from_bytes(row.bytes(1).ok_or("not held")?);
+        let raised = with_lane(&held, 0, lane(&held, 0).wrapping_add(1));
+        assert_eq!(rt; row.write(1, changed(&held, &raised), &raised), Some(true));
+        assert_eq!(rt; row.release(1), Some(true));
+    }
+    let line = row.finish(alloc).ok().ok_or("no end")?;
+    assert_eq!(rt; lane(&line, 0), 300);
+    Ok(())
+}
+
+pub(super) fn a_release_passes_all_other_nodes_of_200<R: Abort, L: Counted + Drop>(
+    rt: &R,
+    alloc: Global,
+    steps: u64,
+) -> Result<(), Fail>
+where
+    L::Port: Drop,
+{
+    let mut row = Row::<L>::of_zeros(alloc, 200)?;
+    assert_eq!(rt; row.ask(1), Some(Enq::Granted));
+    for node in 2..201u64 {
+        assert_eq!(rt; row.ask(node), Some(Enq::Queued), "node {node}");
+    }
+    for node in 2..201u64 {
+        assert_eq!(rt; row.withdraw(node), Some(Out::Withdrawn), "node {node}");
+    }
+    assert_eq!(rt; row.release(1), Some(true));
+    assert_eq!(rt; row.steps(1), Some(steps));
+    Ok(())
+}
+
+pub(super) fn finish_wants_a_quiet_port_of_each_node<R: Abort, L: Counted + Drop>(
+    rt: &R,
+    alloc: Global,
+) -> Result<(), Fail>
+where
+    L::Port: Drop,
+{
+    let terms = Terms {
+        nodes: 2,
+        opening: Line64::from_bytes([7; 64]),
+        lease: None,
+    };
+    let mut row = Row::<L>::open(alloc, 7, terms)?;
+    let two = row.take(2).ok_or("no second port")?;
+    let (why, mut row) = row.finish(alloc).err().ok_or("one port finishes")?;
+    assert_eq!(rt; why, FinishError::Missing(2));
+
+    assert!(rt; row.put(two));
+    assert_eq!(rt; row.ask(1), Some(Enq::Granted));
+    assert_eq!(rt; row.ask(2), Some(Enq::Queued));
+    let (why, mut row) = row.finish(alloc).err().ok_or("a holder finishes")?;
+    assert_eq!(rt; why, FinishError::Unquiet(1));
+
+    assert_eq!(rt; row.release(1), Some(true));
+    assert_eq!(rt; row.poll(2), Some(Poll::Granted));
+    assert_eq!(rt; row.release(2), Some(true));
+    let line = row.finish(alloc).ok().ok_or("idle ports do not finish")?;
+    assert_eq!(rt; line.to_bytes(), [7; 64]);
+    Ok(())
+}
+
+pub(super) fn finish_wants_no_other_port<R: Abort, L: Counted + Drop>(
+    rt: &R,
+    alloc: Global,
+) -> Result<(), Fail>
+where
+    L::Port: Drop,
+{
+    let mut row = Row::<L>::of_zeros(alloc, 2)?;
+    let terms = Terms {
+        nodes: 3,
+        opening: Line64::zero(),
+        lease: None,
+    };
+    let mut other = Row::<L>::open(alloc, 8, terms)?;
+    let three = other.take(3).ok_or("no third port")?;
+    assert!(rt; !row.owns(&three));
+    assert!(rt; row.put(three));
+    let (why, mut row) = row.finish(alloc).err().ok_or("another port finishes")?;
+    assert_eq!(rt; why, FinishError::Missing(0));
+    assert!(rt; row.take(3).is_some());
+    assert!(rt; row.finish(alloc).is_ok());
+    Ok(())
+}
+
+pub(super) fn each_growth_of_finish_is_refused<R: Abort, L: Counted + Drop>(
+    rt: &R,
+    alloc: Global,
+) -> Result<(), Fail>
+where
+    L::Port: Drop,
+{
+    let mut refused = 0u32;
+    let mut finished = false;
+    for step in 1..40usize {
+        let heap = LocalHeap::new(alloc, 64 * step)?;
+        let mut row = Row::<L>::of_zeros(alloc, 4)?;
+        assert_eq!(rt; row.ask(3), Some(Enq::Granted));
+        let nines = Line64::from_bytes([9; 64]);
+        assert_eq!(rt; row.write(3, Mask(0b110), &nines), Some(true));
+        assert_eq!(rt; row.release(3), Some(true));
+        let mut want = [0; 64];
+        want[1] = 9;
+        want[2] = 9;
+        let line = match row.finish_in(&heap) {
+            Ok(line) => {
+                finished = true;
+                line
+            }
+            Err((why, row)) => {
+                assert_eq!(rt; why, FinishError::Memory, "at {step}");
+                assert!(rt; !finished, "at {step}");
+                refused = refused.saturating_add(1);
+                row.finish(alloc).ok().ok_or("nothing was handed back")?
+            }
+        };
+        assert_eq!(rt; line.to_bytes(), want, "at {step}");
+        assert_eq!(rt; heap.used(), 0, "at {step}");
+    }
+    assert!(rt; finished);
+    assert!(rt; refused > 0);
+    Ok(())
+}
+
+pub(super) fn four_nodes_are_served_in_order<R: Abort, L: Counted + Drop>(
+    rt: &R,
+    alloc: Global,
+) -> Result<(), Fail>
+where
+    L::Port: Drop,
+{
+    let mut row = Row::<L>::of_zeros(alloc, 4)?;
+    assert_eq!(rt; row.ask(4), Some(Enq::Granted));
+    assert_eq!(rt; row.ask(3), Some(Enq::Queued));
+    assert_eq!(rt; row.ask(1), Some(Enq::Queued));
+    assert_eq!(rt; row.ask(2), Some(Enq::Queued));
+    assert_eq!(rt; row.release(4), Some(true));
+    assert_eq!(rt; row.poll(1), Some(Poll::Waiting));
+    assert_eq!(rt; row.poll(3), Some(Poll::Granted));
+    assert_eq!(rt; row.release(3), Some(true));
+    assert_eq!(rt; row.poll(2), Some(Poll::Waiting));
+    assert_eq!(rt; row.poll(1), Some(Poll::Granted));
+    assert_eq!(rt; row.release(1), Some(true));
+    assert_eq!(rt; row.poll(2), Some(Poll::Granted));
+    Ok(())
+}
+
+pub(super) fn a_line_is_handed_over_with_its_bytes<R: Abort, L: Counted + Drop>(
+    rt: &R,
+    alloc: Global,
+) -> Result<(), Fail>
+where
+    L::Port: Drop,
+{
+    let mut row = Row::<L>::of_zeros(alloc, 2)?;
+    assert_eq!(rt; row.ask(1), Some(Enq::Granted));
+    let (mask, bytes) = placed(0, &[0xa1, 0xb2]).ok_or("no seat")?;
+    assert_eq!(rt; row.write(1, mask, &bytes), Some(true));
+    assert_eq!(rt; row.ask(2), Some(Enq::Queued));
+    assert_eq!(rt; row.poll(2), Some(Poll::Waiting));
+    assert_eq!(rt; row.release(1), Some(true));
+    assert_eq!(rt; row.poll(2), Some(Poll::Granted));
+    let mut want = [0; 64];
+    want[0] = 0xa1;
+    want[1] = 0xb2;
+    assert_eq!(rt; row.bytes(2), Some(want));
+    assert_eq!(rt; row.release(2), Some(true));
+    Ok(())
+}
+
+/// To be run with each allocation failing in turn, by `rt try --test --fail-alloc 1`, `2` and so on.
+pub(super) fn want_of_memory_is_answered<R: Abort, L: Counted + Drop>(
+    rt: &R,
+    alloc: Global,
+) -> Result<(), Fail>
+where
+    L::Port: Drop,
+{
+    let terms = Terms {
+        nodes: 200,
+        opening: Line64::from_bytes([3; 64]),
+        lease: None,
+    };
+    let row = match Row::<L>::open(alloc, 7, terms) {
+        Ok(row) => row,
+        Err(why) => {
+            assert_eq!(rt; why, OpenError::Memory);
+            return Ok(());
+        }
+    };
+    let line = match row.finish(alloc) {
+        Ok(line) => line,
+        Err((why, row)) => {
+            assert_eq!(rt; why, FinishError::Memory);
+            row.finish(alloc).ok().ok_or("nothing was handed back")?
+        }
+    };
+    assert_eq!(rt; line.to_bytes(), [3; 64]);
+    Ok(())
+}
+
+/// What a function over any line hands from one node to another.
+pub(super) fn any_line_is_handed_over<R: Abort, L: Counted + Drop>(
+    rt: &R,
+    alloc: Global,
+) -> Result<(), Fail>
+where
+    L::Port: Drop,
+{
+    let opened = open_zeros::<Free, L>(alloc, 2, None).ok_or("opened")?;
+    let (line, mut one, mut two) = with_two::<Free, L>(opened).ok_or("two ports")?;
+    let fives = Line64::from_bytes([5; 64]);
+    let (released, seen) = hand_over(&line, &mut two, &mut one, Mask(0b1000), &fives).ok_or(
+        "handed over",
+    )?;
+    let mut want = [0; 64];
+    want[3] = 5;
+    assert_eq!(rt; released.to_bytes(), want);
+    assert_eq!(rt; seen.to_bytes(), want);
+    Ok(())
+}

@@ -1,0 +1,22 @@
+-- What a wish asks for of the bytes on standard input.
+use Rattle.std.specs.Prelude.{ℕ, List}
+use Rattle.qolb_run.specs.declared.replay.Kind.TheVariants.{Plain}
+use Rattle.qolb_run.specs.declared.task.Task.TheVariants.{Replay}
+use Rattle.qolb_run.specs.Outcome.{Answers, IsRefused}
+use Rattle.qolb_draw.specs.Pictures.{IsPicture}
+use Rattle.qolb.specs.declared.command_line.Wish.{Wish}
+use Rattle.qolb.specs.declared.command_line.Wish.TheVariants.{Answer, Draw}
+
+-- the text is the answer to the bytes, or their picture
+abbrev pub Grants : Wish → List ℕ → List ℕ → Type 0
+Grants (Answer task) input text = Answers task input text
+Grants (Draw form) input text = IsPicture form input text
+
+-- there is such a text
+abbrev pub IsGranted : Wish → List ℕ → Type 0
+IsGranted wish input = (text : List ℕ) × Grants wish input text
+
+-- the bytes are too many, or have a first fault; a schedule that is to be drawn has those that a replay finds
+abbrev pub IsDenied : Wish → List ℕ → Type 0
+IsDenied (Answer task) input = IsRefused task input
+IsDenied (Draw form) input = IsRefused (Replay Plain) input
