@@ -47,21 +47,25 @@ replay_command names = with_rule (new_app (codes "replay")) (record (kind_rule n
 abbrev pub steps_command : App
 steps_command = new_app (codes "steps")
 
+-- `--name`, without a value
+abbrev pub flag_rule : Text → Rule
+flag_rule name = record (new_rule name) { long = Some name; action = Some SetTrue }
+
 -- work by this name, over lists where no kind is given
+abbrev pub work_over : Text → Names → App
+work_over name names = with_rule (new_app name) (record (kind_rule names) { defaults = codes "link" ∷ [] })
+
 abbrev pub work_command : Text → Names → App
-work_command name names = with_rule (new_app name) (record (kind_rule names) { defaults = codes "link" ∷ [] })
+work_command name names = with_rule (work_over name names) (flag_rule (codes "progress"))
 
 -- `draw [--svg]`
-abbrev pub svg_rule : Rule
-svg_rule = record (new_rule (codes "svg")) { long = Some (codes "svg"); action = Some SetTrue }
-
 abbrev pub draw_command : App
-draw_command = with_rule (new_app (codes "draw")) svg_rule
+draw_command = with_rule (new_app (codes "draw")) (flag_rule (codes "svg"))
 
 abbrev pub needs_subcommand : App → App
 needs_subcommand app = record app { top = record app.top { subcommand_required = true } }
 
--- the program's command: `replay --kind KIND`, `steps`, `board [--kind KIND]`, `bank [--kind KIND]` or `draw [--svg]`
+-- the program's command: `replay --kind KIND`, `steps`, `board [--kind KIND] [--progress]`, `bank` with the same, or `draw [--svg]`
 abbrev pub replay_or_steps : Names → App
 replay_or_steps replayed = with_subcommand (with_subcommand (needs_subcommand (new_app (codes "qolb"))) (replay_command replayed).top) steps_command.top
 

@@ -113,14 +113,24 @@ pub enum Wish {
     Draw(Form),
 }
 
+/// What the words ask for, and whether standard error is to say how far it is.
+#[derive(Clone, Copy, Debug, PartialEq, Eq)]
+pub struct Request {
+    pub wish: Wish,
+    pub progress: bool,
+}
+
 /// What the words ask for, with the program's name first.
-pub fn parse_args(alloc: Global, words: &[String]) -> Result<Wish, Error>
-    ensures wish { IfOk result (λ wish. NamesWish (map string_bytes words.now) wish) }
+pub fn parse_args(alloc: Global, words: &[String]) -> Result<Request, Error>
+    ensures wish { IfOk result (λ request. NamesWish (map string_bytes words.now) request.wish) }
     ensures usage { IfErr result (λ error. kind_of error ≢ ErrorKind.OutOfMemory → IsNotTaken (map string_bytes words.now)) }
 {
     let matches = command(alloc)?.try_get_matches_from(words)?;
     match matches.subcommand() {
-        Some((name, arguments)) => Ok(wish_at(name, arguments)),
+        Some((name, arguments)) => Ok(Request {
+            wish: wish_at(name, arguments),
+            progress: arguments.get_str("progress") == Some("true"),
+        }),
         None => unreachable!(),
     }
 }
@@ -255,7 +265,12 @@ fn work<'a>(
             "Does the jobs of the work script on standard input, a thread for each worker, and prints\na report",
         )
         .after_help(script)
-        .arg(kind_argument(alloc, kinds).default_value("link"))
+        .arg(kind_argument(alloc, kinds).default_value("link"))?
+        .arg(flag(
+            alloc,
+            "progress",
+            "Says on standard error, once a second, how many of all jobs are done",
+        ))
 }
 
 /// To draw a schedule.
@@ -267,17 +282,17 @@ fn draw<'a>(alloc: Global) -> Result<Command<'a>, AllocError>
             "Draws the schedule script on standard input: how each node stands after each command",
         )
         .after_help(DRAW)
-        .arg(svg_argument(alloc))
+        .arg(flag(alloc, "svg", "Draws an SVG in place of plain text"))
 }
 
-/// `--svg`.
-fn svg_argument<'a>(alloc: Global) -> Arg<'a>
-    ensures rule { rule_of result ≡ spec.svg_rule }
+/// An argument without a value: `--name`.
+fn flag<'a>(alloc: Global, name: &'a str, help: &'a str) -> Arg<'a>
+    ensures rule { rule_of result ≡ spec.flag_rule name.entry.now }
     ensures local { result.global ≡ false }
 {
-    Arg::new(alloc, "svg")
-        .long("svg")
-        .help("Draws an SVG in place of plain text")
+    Arg::new(alloc, name)
+        .long(name)
+        .help(help)
         .action(ArgAction::SetTrue)
 }
 

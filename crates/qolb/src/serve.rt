@@ -3,7 +3,7 @@ ghost use Rattle.std.specs.Prelude.{◌≡◌, ◌≢◌, ◌≤◌, ℕ, List, 
 ghost use Rattle.std.specs.Io.KnownBytes.{Appends};
 ghost use Rattle.qolb_script.specs.Watched.{inner_of};
 ghost use Rattle.qolb.specs.CommandLine.{NamesWish, IsNotTaken};
-ghost use Rattle.qolb_run.specs.Outcome.{Answers, IsRefused};
+ghost use Rattle.qolb_run.specs.Outcome.{Answers, IsRefused, IsWorkReply, MayEnd};
 ghost use Rattle.qolb_draw.specs.Pictures.{IsPicture};
 ghost use Rattle.qolb_run.specs.declared.task.Task.TheVariants as task;
 ghost use Rattle.qolb_run.specs.declared.replay.Kind.TheVariants as kind;
@@ -11,19 +11,22 @@ ghost use Rattle.qolb.specs.Wishes.{Grants, IsGranted, IsDenied};
 ghost use Rattle.qolb.specs.Status.{status_of};
 ghost use Rattle.qolb.specs.declared.command_line.Wish.{Wish};
 
-use crate::command_line::{Wish, parse_args};
+use crate::command_line::{Request, Wish, parse_args};
 use clap::error::ErrorKind;
 use qolb_draw::{Form, draw_schedule};
-use qolb_run::{AlwaysOpen, ReplayError, Task, TaskError, report_work, run_schedule, run_steps};
-use qolb_script::Watched;
+use qolb_run::{
+    AlwaysOpen, Lines, Progress, ReplayError, Task, TaskError, report_work, run_schedule, run_steps,
+};
+use qolb_script::{Watched, WorkKind};
 use std::alloc::Global;
 use std::io::{self, Read, Write};
+use std::rt::Clock;
 use std::sync::Wait;
 use std::thread::Threads;
 
 /// Does what the words ask for, with the program's name first: reads from `reader`, writes to `out`, complains to `err`.
 /// Answers the exit status; a failed write to `err` changes none.
-pub fn serve<T: Threads + Wait + Sync, R: Read, W: Write, E: Write>(
+pub fn serve<T: Threads + Wait + Clock + Eprint + Sync, R: Read, W: Write, E: Write>(
     rt: &T,
     alloc: Global,
     words: &[String],
@@ -37,8 +40,8 @@ pub fn serve<T: Threads + Wait + Sync, R: Read, W: Write, E: Write>(
     ensures usage { result ≡ 2 → IsNotTaken (map string_bytes words.now) }
     ensures unwritten { 1 ≤ result → result ≤ 3 → out.new ≡ out.old }
 {
-    let wish = match parse_args(alloc, words) {
-        Ok(wish) => wish,
+    let request = match parse_args(alloc, words) {
+        Ok(request) => request,
         Err(error) if error.kind() == ErrorKind::OutOfMemory => {
             return fail(err, TaskError::Replay(ReplayError::Memory));
         }
@@ -49,26 +52,26 @@ pub fn serve<T: Threads + Wait + Sync, R: Read, W: Write, E: Write>(
     };
     let mut input = Watched::new(&mut *reader);
     let mut output = Watched::new(&mut *out);
-    match grant(rt, alloc, wish, &mut input, &mut output) {
+    match grant(rt, alloc, request, &mut input, &mut output) {
         Ok(()) => 0,
         Err(error) => fail(err, error),
     }
 }
 
 /// Does what is wished.
-fn grant<T: Threads + Wait + Sync, R: Read, W: Write>(
+fn grant<T: Threads + Wait + Clock + Eprint + Sync, R: Read, W: Write>(
     rt: &T,
     alloc: Global,
-    wish: Wish,
+    request: Request,
     input: &mut Watched<R>,
     output: &mut Watched<W>,
 ) -> Result<(), TaskError>
-    ensures granted { OnOk result (IfSome (R.remaining (inner_of input.old)) (λ script. (text : List ℕ) × Grants wish script text × Appends (W.contents (inner_of output.old)) (W.contents (inner_of output.new)) text)) }
-    ensures denied { IfErr result (λ error. status_of error ≡ 1 → IfSome (R.remaining (inner_of input.old)) (IsDenied wish)) }
+    ensures granted { OnOk result (IfSome (R.remaining (inner_of input.old)) (λ script. (text : List ℕ) × Grants request.wish script text × Appends (W.contents (inner_of output.old)) (W.contents (inner_of output.new)) text)) }
+    ensures denied { IfErr result (λ error. status_of error ≡ 1 → IfSome (R.remaining (inner_of input.old)) (IsDenied request.wish)) }
     ensures unwritten { IfErr result (λ error. error ≢ TaskError.Replay ReplayError.Write → output.new ≡ output.old) }
 {
-    match wish {
-        Wish::Answer(task) => run(rt, alloc, task, input, output),
+    match request.wish {
+        Wish::Answer(task) => run(rt, alloc, task, request.progress, input, output),
         Wish::Draw(form) => draw(alloc, form, input, output),
     }
 }
@@ -87,11 +90,12 @@ fn draw<R: Read, W: Write>(
     Ok(draw_schedule(alloc, input, output, form)?)
 }
 
-/// Does the task.
-fn run<T: Threads + Wait + Sync, R: Read, W: Write>(
+/// Does the task; work says how far it is, if that is wished.
+fn run<T: Threads + Wait + Clock + Eprint + Sync, R: Read, W: Write>(
     rt: &T,
     alloc: Global,
     task: Task,
+    progress: bool,
     input: &mut Watched<R>,
     output: &mut Watched<W>,
 ) -> Result<(), TaskError>
@@ -102,10 +106,30 @@ fn run<T: Threads + Wait + Sync, R: Read, W: Write>(
     match task {
         Task::Replay(kind) => Ok(run_schedule(alloc, input, output, kind)?),
         Task::Steps => Ok(run_steps(alloc, input, output)?),
-        Task::Work(kind, lines) => {
-            report_work(rt, alloc, &AlwaysOpen, input, output, kind, lines)
+        Task::Work(kind, lines) => work(rt, alloc, kind, lines, progress, input, output),
+    }
+}
+
+/// Does the work of a work script. It says how far it is, if that is wished and there is a clock.
+fn work<T: Threads + Wait + Clock + Eprint + Sync, R: Read, W: Write>(
+    rt: &T,
+    alloc: Global,
+    kind: WorkKind,
+    lines: Lines,
+    progress: bool,
+    input: &mut Watched<R>,
+    output: &mut Watched<W>,
+) -> Result<(), TaskError>
+    ensures ok { OnOk result (IfSome (R.remaining (inner_of input.old)) (λ script. (text : List ℕ) × IsWorkReply kind script text × Appends (W.contents (inner_of output.old)) (W.contents (inner_of output.new)) text)) }
+    ensures refused { IfErr result (λ error. IfSome (R.remaining (inner_of input.old)) (λ script. MayEnd (task.Work kind lines) script error)) }
+    ensures unwritten { IfErr result (λ error. error ≢ TaskError.Replay ReplayError.Write → output.new ≡ output.old) }
+{
+    if progress {
+        if let Ok(gate) = Progress::new(rt) {
+            return report_work(rt, alloc, &gate, input, output, kind, lines);
         }
     }
+    report_work(rt, alloc, &AlwaysOpen, input, output, kind, lines)
 }
 
 /// Says why nothing was done, and answers the exit status.

@@ -8,6 +8,9 @@ pub const MOST_REFUSALS: u32 = 1_000_000;
 
 /// Says when a worker may do its next job.
 pub trait Gate {
+    /// The workers are about to begin, with so many jobs in all. A gate that does not count does nothing.
+    fn begins(&self, _jobs: usize) {}
+
     /// Whether the worker may do its job number `at`, counted from 0. After its last job it asks once more, with the number of its jobs,
     /// and does not look at the answer.
     fn may(&self, worker: u64, at: u64) -> bool;

@@ -57,6 +57,7 @@ pub fn run_work<R: Threads + Wait + Sync, G: Gate + Sync>(
     ensures report { IfOk result (IsReportOf work.now) }
     ensures stalled { IfErr result (MayStop work.now) }
 {
+    gate.begins(work.jobs().len());
     match (work.kind(), lines) {
         (WorkKind::Board, Lines::Ring) => {
             run_board::<R, G, RingLine<BoardLaw>>(rt, alloc, gate, work)

@@ -90,7 +90,7 @@ impl Write for FailingWriter {
 }
 
 /// The status of a run and its standard error.
-fn run<T: Threads + Wait + Sync, R: Read, W: Write>(
+fn run<T: Threads + Wait + Clock + Eprint + Sync, R: Read, W: Write>(
     rt: &T,
     alloc: Global,
     words: &[&str],

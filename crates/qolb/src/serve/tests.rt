@@ -3,7 +3,7 @@ use std::process::Abort;
 use std::test::Fail;
 
 /// The status, standard output and standard error of a run.
-fn run<T: Threads + Wait + Sync>(
+fn run<T: Threads + Wait + Clock + Eprint + Sync>(
     rt: &T,
     alloc: Global,
     words: &[&str],
@@ -62,7 +62,7 @@ fn replays_and_refuses_scripts(rt: HostRuntime) -> Result<(), Fail> {
 
 #[test]
 fn refuses_command_lines(rt: HostRuntime) -> Result<(), Fail> {
-    let rows: [&[&str]; 14] = [
+    let rows: [&[&str]; 16] = [
         &[],
         &["replay"],
         &["replay", "--kind"],
@@ -70,6 +70,8 @@ fn refuses_command_lines(rt: HostRuntime) -> Result<(), Fail> {
         &["replay", "--kind", "lists"],
         &["steps", "--kind", "plain"],
         &["board", "--kind", "plain"],
+        &["board", "--progress", "yes"],
+        &["steps", "--progress"],
         &["board", "--kind"],
         &["bank", "--kind", "plain"],
         &["bank", "ring"],
@@ -95,16 +97,18 @@ fn refuses_command_lines(rt: HostRuntime) -> Result<(), Fail> {
     Ok(())
 }
 
-/// Work of this name gives this status, standard output and standard error, by either kind of lines, and by none that is named.
-fn works<T: Threads + Wait + Abort + Sync>(
+/// Work of this name gives this status, standard output and standard error, by either kind of lines, and by none that is
+/// named; and with its progress told, of which there is none within a second.
+fn works<T: Threads + Wait + Clock + Eprint + Abort + Sync>(
     rt: &T,
     alloc: Global,
     name: &str,
     script: &str,
     want: (u8, &str, &str),
 ) -> Result<(), Fail> {
-    let rows: [&[&str]; 3] = [
+    let rows: [&[&str]; 4] = [
         &[name],
+        &[name, "--progress"],
         &[name, "--kind", "ring"],
         &[name, "--kind", "link"],
     ];

@@ -6,4 +6,4 @@ use Rattle.qolb.proofs.command_line.draw.Goals as goal
 pub returns : goal.returns
 returns c =
     let named_is : app_of c.after_help.result ≡ new_app (codes "draw") = search rules in
-    IfOk-weaker c.arg.result _ _ (λ r h. h.shape c.svg_argument.ensures.local ∙ ap₂ with_rule named_is c.svg_argument.ensures.rule) c.arg.ensures
+    IfOk-weaker c.arg.result _ _ (λ r h. h.shape c.flag.ensures.local ∙ ap₂ with_rule named_is c.flag.ensures.rule) c.arg.ensures

@@ -15,5 +15,5 @@ returns-in_err-run_steps-in-Steps-clause-refused g c = subst (λ t. IfErr c.from
     (replay_refused Steps c.in_err-run_steps-in-Steps.field-0.0 (g.R.Read.remaining (inner_of c.args.input.now)) c.in_err-run_steps-in-Steps.ensures.refused c.from_residual-in_err-run_steps-in-Steps.result c.from_residual-in_err-run_steps-in-Steps.ensures.1)
 
 pub returns-in-Work-clause-refused : goal.returns-in-Work-clause-refused
-returns-in-Work-clause-refused g c = subst (λ t. IfErr c.report_work.result (λ e. status_of e ≡ 1 → IfSome (g.R.Read.remaining (inner_of c.args.input.now)) (IsRefused t))) (sym c.in-Work.is)
-    (refused (Work c.in-Work.kind c.in-Work.lines) c.report_work.result (g.R.Read.remaining (inner_of c.args.input.now)) c.report_work.ensures.refused)
+returns-in-Work-clause-refused g c = subst (λ t. IfErr c.work.result (λ e. status_of e ≡ 1 → IfSome (g.R.Read.remaining (inner_of c.args.input.now)) (IsRefused t))) (sym c.in-Work.is)
+    (refused (Work c.in-Work.kind c.in-Work.lines) c.work.result (g.R.Read.remaining (inner_of c.args.input.now)) c.work.ensures.refused)

@@ -1,0 +1,72 @@
+//! A gate that says how far the work is.
+ghost use Rattle.std.specs.Prelude.{◌≡◌, true};
+
+use crate::gate::Gate;
+use std::io;
+use std::rt::Clock;
+use std::sync::atomic::{AtomicU64, Ordering};
+use std::time::Instant;
+
+/// The gate that is always open, and says once a second on standard error how many of all jobs are done.
+///
+/// A worker that asks says it, if nobody has in that second: so where all workers wait for long, nothing is said.
+#[derive(Drop)]
+pub struct Progress<'a, R> {
+    rt: &'a R,
+    start: Instant,
+    jobs: AtomicU64,
+    done: AtomicU64,
+    /// The last second, counted from the start, in which it was said.
+    said: AtomicU64,
+}
+
+impl<'a, R: Clock + Eprint> Progress<'a, R> {
+    /// A gate from whose making on the seconds are counted.
+    ///
+    /// # Errors
+    ///
+    /// Where there is no clock.
+    pub fn new(rt: &'a R) -> io::Result<Progress<'a, R>> {
+        Ok(Progress {
+            rt,
+            start: Instant::now(rt)?,
+            jobs: AtomicU64::new(0),
+            done: AtomicU64::new(0),
+            said: AtomicU64::new(0),
+        })
+    }
+
+    /// Says how many jobs are done, if nobody has in this second. What standard error refuses is not said.
+    fn say(&self, done: u64) {
+        let Ok(time) = self.start.elapsed(self.rt) else {
+            return;
+        };
+        let second = time.as_secs();
+        let said = self.said.load(Ordering::SeqCst);
+        if second > said
+            && self
+                .said
+                .compare_exchange(said, second, Ordering::SeqCst, Ordering::SeqCst)
+                .is_ok()
+        {
+            let jobs = self.jobs.load(Ordering::SeqCst);
+            let _ = eprintln!(self.rt; "{done} of {jobs} jobs done");
+        }
+    }
+}
+
+impl<R: Clock + Eprint> Gate for Progress<'_, R> {
+    fn begins(&self, jobs: usize) {
+        self.jobs.store(jobs as u64, Ordering::SeqCst);
+    }
+
+    fn may(&self, _worker: u64, at: u64) -> bool
+        ensures { result ≡ true }
+    {
+        // A worker that asks for its next job has done the one before.
+        if at > 0 {
+            self.say(self.done.fetch_add(1, Ordering::SeqCst).saturating_add(1));
+        }
+        true
+    }
+}
