@@ -102,7 +102,7 @@ fn refuses_command_lines(rt: HostRuntime) -> Result<(), Fail> {
 fn works<T: Threads + Wait + Clock + Eprint + Abort + Sync>(
     rt: &T,
     alloc: Global,
-    name: &str,
+    name: &'static str,
     script: &str,
     want: (u8, &str, &str),
 ) -> Result<(), Fail> {
