@@ -19,6 +19,14 @@ struct parcel {
 
 static _Alignas(128) struct parcel slot;
 
+// With -DCOPIES the line is copied out and in as a program's own would be, whose turn may do anything with it. Else clang sees through both copies:
+// it adds to lane 0 in the slot, and copies nothing.
+#ifdef COPIES
+#define USED(held) __asm__ volatile("" : : "r"(held) : "memory")
+#else
+#define USED(held) (void)(held)
+#endif
+
 // Copies the line out of the slot, for a turn in which nothing is written yet.
 static void take(struct parcel *held) {
     memcpy(held->bytes, slot.bytes, 64);
@@ -26,10 +34,12 @@ static void take(struct parcel *held) {
     held->is_leased = slot.is_leased;
     held->closed = slot.closed;
     held->mask = 0;
+    USED(held);
 }
 
 // Copies the line of a turn that is over into its slot.
 static void put(const struct parcel *held) {
+    USED(held);
     memcpy(slot.bytes, held->bytes, 64);
     slot.mask = held->mask;
     if (held->is_leased) slot.turns_left = held->turns_left - 1;
