@@ -237,7 +237,7 @@ fn replay<'a>(alloc: Global, kinds: &'a [&'a str]) -> Result<Command<'a>, AllocE
     Command::new(alloc, "replay")
         .about("Replays the schedule script on standard input, and prints what each call answers")
         .after_help(REPLAY)
-        .arg(kind_argument(alloc, kinds).required(true))
+        .arg(kind_argument(alloc, kinds, "What represents the lines: the plain reference with one owner, or rings or lists that nodes share").required(true))
 }
 
 /// To run a step script.
@@ -265,7 +265,7 @@ fn work<'a>(
             "Does the jobs of the work script on standard input, a thread for each worker, and prints\na report",
         )
         .after_help(script)
-        .arg(kind_argument(alloc, kinds).default_value("link"))?
+        .arg(kind_argument(alloc, kinds, "What represents the lines: rings or lists").default_value("link"))?
         .arg(flag(
             alloc,
             "progress",
@@ -297,16 +297,14 @@ fn flag<'a>(alloc: Global, name: &'a str, help: &'a str) -> Arg<'a>
 }
 
 /// `--kind`, with one of these names.
-fn kind_argument<'a>(alloc: Global, kinds: &'a [&'a str]) -> Arg<'a>
+fn kind_argument<'a>(alloc: Global, kinds: &'a [&'a str], help: &'a str) -> Arg<'a>
     ensures rule { rule_of result ≡ kind_rule kinds.entry }
     ensures local { result.global ≡ false }
 {
     Arg::new(alloc, "kind")
         .long("kind")
         .value_name("KIND")
-        .help(
-            "What represents the lines: the plain reference with one owner, or rings or lists that nodes share",
-        )
+        .help(help)
         .action(ArgAction::Set)
         .value_parser(kinds)
 }
