@@ -17,6 +17,11 @@ static REPLAYED: [&str; 3] = ["plain", "ring", "link"];
 /// The names of those that workers share.
 static SHARED: [&str; 2] = ["ring", "link"];
 
+const REPLAYED_HELP: &str =
+    "What represents the lines: the plain reference with one owner, or rings or lists that nodes share";
+
+const SHARED_HELP: &str = "What represents the lines: rings or lists";
+
 const ABOUT: &str =
     "Queued line locks: nodes queue at a line of 64 bytes, and a release hands lock and\nline to the next";
 
@@ -237,7 +242,7 @@ fn replay<'a>(alloc: Global, kinds: &'a [&'a str]) -> Result<Command<'a>, AllocE
     Command::new(alloc, "replay")
         .about("Replays the schedule script on standard input, and prints what each call answers")
         .after_help(REPLAY)
-        .arg(kind_argument(alloc, kinds, "What represents the lines: the plain reference with one owner, or rings or lists that nodes share").required(true))
+        .arg(kind_argument(alloc, kinds, REPLAYED_HELP).required(true))
 }
 
 /// To run a step script.
@@ -265,7 +270,7 @@ fn work<'a>(
             "Does the jobs of the work script on standard input, a thread for each worker, and prints\na report",
         )
         .after_help(script)
-        .arg(kind_argument(alloc, kinds, "What represents the lines: rings or lists").default_value("link"))?
+        .arg(kind_argument(alloc, kinds, SHARED_HELP).default_value("link"))?
         .arg(flag(
             alloc,
             "progress",
