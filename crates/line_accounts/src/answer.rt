@@ -21,6 +21,15 @@ pub enum Reply {
     SameAccount,
 }
 
+/// Why there are no desks.
+#[derive(Clone, Copy, Debug, PartialEq, Eq)]
+pub enum DesksError {
+    /// Memory was refused.
+    Memory,
+    /// This line has fewer ports than there were to be desks. It is the least such line.
+    Few { line: u64 },
+}
+
 /// Why nothing could be settled.
 #[derive(Clone, Copy, Debug, PartialEq, Eq)]
 pub enum SettleError {

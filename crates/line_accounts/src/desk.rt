@@ -28,10 +28,13 @@ impl<L: LineSync<AccountLaw>> Model for Desk<L> {
 }
 
 impl<L: LineSync<AccountLaw>> Desk<L> {
-    /// A desk with these ports, one of each line, none of which has made a request.
+    /// A desk with these ports, one of each line, none of which has made a request. Nothing was paid at it.
     pub fn new(ports: Vec<L::Port>) -> Desk<L>
         requires { All (λ port. ((L.view port).state ≡ PortState.Idle) × ((L.view port).count ≡ 0)) ports.items }
-        ensures { (lines : List L) → AreOver L.belongs lines ports.items → IsDeskOver L.belongs L.view lines result }
+        ensures over { (lines : List L) → AreOver L.belongs lines ports.items → IsDeskOver L.belongs L.view lines result }
+        ensures ports { result.ports ≡ ports.items }
+        ensures paid_in { result.paid_in ≡ 0 }
+        ensures paid_out { result.paid_out ≡ 0 }
     {
         Desk {
             ports,

@@ -5,12 +5,14 @@ mod across;
 mod answer;
 mod ask;
 mod desk;
+mod desks;
 mod law;
 mod money;
 mod settling;
 mod turn;
 
-pub use answer::{Reply, SettleError};
+pub use answer::{DesksError, Reply, SettleError};
 pub use desk::{Desk, deposit, take_out, transfer};
+pub use desks::desks_over;
 pub use law::{AccountLaw, MOST_BALANCE};
 pub use settling::{Unsettled, settle};

@@ -8,7 +8,7 @@ use Rattle.qolb_model.specs.declared.view.View.{View}
 use Rattle.qolb_model.specs.Opening.{Opens, new_view}
 use Rattle.line_lanes.specs.Line.{zeros}
 use Rattle.line_accounts.specs.Accounts.{AreBalances}
-use Rattle.line_rows.specs.Opened.{IsNewPort}
+use Rattle.line_accounts.specs.NewDesks.{IsNewPort}
 
 -- the ports of an opened line are new
 pub all_new : {Line Port : Type 0} (belongs : Line → Port → Type 0) (view : Port → View) (line : Line) (label_of : ℕ) (terms_of : Terms) (label : ℕ) (terms : Terms) (ports : List Port) → Opens view (belongs line) label_of terms_of label terms ports → All (IsNewPort belongs view line) ports

@@ -1,4 +1,3 @@
-pub mod Columns
-pub mod Opened
+pub mod Ports
 pub mod Rows
 pub mod HandingOver

@@ -1,6 +1,7 @@
 //! Counts in a line's first lane, which nodes raise: each by a thread of its own, and in a race of a release with a withdrawal.
 ghost use Rattle.std.specs.Prelude.{◌≡◌, All, IfSome};
-ghost use Rattle.line_rows.specs.Opened.{HoldsOrWaits, IsNewPort, MayAskFor};
+ghost use Rattle.line_accounts.specs.NewDesks.{IsNewPort};
+ghost use Rattle.line_rows.specs.Ports.{HoldsOrWaits, MayAskFor};
 
 use line_lanes::{Line64, changed, lane, with_lane};
 use qolb_model::{Enq, Free, LineSync, Out, PortState};

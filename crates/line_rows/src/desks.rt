@@ -3,7 +3,7 @@ ghost use Rattle.std.specs.Prelude.{◌≡◌, ◌+◌, ◌∷◌, [], IsTrue, I
 ghost use Rattle.qolb_model.specs.PortStates.{may_ask};
 ghost use Rattle.line_accounts.specs.Desks.{IsDeskOver};
 ghost use Rattle.line_accounts.specs.Settled.{all_opened};
-ghost use Rattle.line_rows.specs.Opened.{IsNewPort};
+ghost use Rattle.line_accounts.specs.NewDesks.{IsNewPort};
 
 use line_accounts::{
     AccountLaw, Desk, MOST_BALANCE, Reply, Unsettled, deposit, settle, take_out, transfer,

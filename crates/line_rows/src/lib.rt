@@ -1,7 +1,6 @@
 //! Boards and desks at work, over any line: worked rows, and programs of threads. The tests of a line need only to open it.
 #![tactic(auto)]
 
-pub mod bank;
 pub mod boards;
 pub mod counts;
 pub mod desks;

@@ -1,7 +1,7 @@
 //! Lines that were just opened, with their ports.
 ghost use Rattle.std.specs.Prelude.{All, IfSome};
 ghost use Rattle.line_lanes.specs.Line.{zeros};
-ghost use Rattle.line_rows.specs.Opened.{IsNewPort};
+ghost use Rattle.line_accounts.specs.NewDesks.{IsNewPort};
 
 use line_lanes::Line64;
 use qolb_model::{Keep, LineSync, OpenLine, Terms};

@@ -1,7 +1,8 @@
 //! A board between threads: two producers put numbered tasks, and two consumers take them until all are taken.
 ghost use Rattle.std.specs.Prelude.{◌*◌, ◌<◌, ◌^◌, All, IfSome, IsTrue};
 ghost use Rattle.qolb_model.specs.PortStates.{may_ask};
-ghost use Rattle.line_rows.specs.Opened.{IsNewPort, MayAskFor};
+ghost use Rattle.line_accounts.specs.NewDesks.{IsNewPort};
+ghost use Rattle.line_rows.specs.Ports.{MayAskFor};
 
 use line_board::{BoardLaw, Put, Take, Tasks, decode, put, take};
 use qolb_model::LineSync;

@@ -1,10 +1,9 @@
 //! Desks in threads: each pays in, and then transfers at random between all accounts. What is settled is what was paid in.
 ghost use Rattle.std.specs.Prelude.{All, IfSome};
 ghost use Rattle.line_accounts.specs.Desks.{IsDeskOver};
-ghost use Rattle.line_rows.specs.Opened.{IsNewPort};
+ghost use Rattle.line_accounts.specs.NewDesks.{IsNewPort};
 
-use crate::bank::desks_over;
-use line_accounts::{AccountLaw, Desk, Reply, deposit, settle, transfer};
+use line_accounts::{AccountLaw, Desk, Reply, deposit, desks_over, settle, transfer};
 use qolb_model::LineSync;
 use qolb_run::together::{Work, together};
 use rand::{RngExt, SeedableRng};
@@ -188,7 +187,7 @@ pub struct Settled {
 }
 
 /// A customer for each node of eight new lines does so many transfers in a thread of its own, and then all is settled. `None` where memory or
-/// a thread was refused.
+/// a thread was refused, or a line has fewer nodes.
 pub fn transfer_at_random<R: Threads + Wait + Sync, L: LineSync<AccountLaw> + Sync + Drop>(
     rt: &R,
     alloc: Global,
@@ -200,7 +199,9 @@ where
     L::Port: Send + Drop,
     requires { All (λ line. All (IsNewPort L.belongs L.view line.0) line.1.items) opened.items }
 {
-    let (lines, desks) = desks_over(alloc, opened, nodes)?;
+    let Ok((lines, desks)) = desks_over(alloc, opened, nodes) else {
+        return None;
+    };
     let customers = seat(alloc, &lines, desks)?;
     let back = together(rt, alloc, &Transfers { rounds }, &lines, customers)?;
     let (desks, counts) = unseat(alloc, &lines, back)?;

@@ -1,27 +1,26 @@
 -- Desks of workers, and what all of them paid.
-use Rattle.std.proofs.Common.{◌≡◌, ℕ, zero, suc, ◌+◌, ◌*◌, ◌^◌, ◌<◌, ◌≤◌, ◌==◌, List, [], ◌∷◌, ◌++◌, length, take, lit≤, All, Some, None, slice_get, get_or, refl, ap, sym, ◌∙◌, subst, arith, length-append}
+use Rattle.std.proofs.Common.{◌≡◌, ℕ, zero, suc, ◌+◌, ◌*◌, ◌^◌, ◌<◌, ◌≤◌, ◌==◌, List, [], ◌∷◌, length, take, lit≤, All, get_or, refl, ap, subst, arith}
 use Rattle.std.specs.List.{sum_by}
 use Rattle.std.proofs.lemmas.List.{length-take-le}
 use Rattle.std.proofs.lemmas.List.Sums.{sum_by-le, sum_by-cons, count_by-le-length, length-filter}
-use Rattle.std.proofs.lemmas.List.Elements.{All-nil, All-take, All-head, All-tail, All-push}
+use Rattle.std.proofs.lemmas.List.Elements.{All-take, All-head, All-tail, All-weaker}
 use Rattle.std.proofs.lemmas.Option.{slice_get-get_or}
 use Rattle.line_lanes.specs.Line.{zeros}
 use Rattle.line_lanes.specs.Lane.{lanes_total}
-use Rattle.qolb_model.specs.declared.answer.PortState.TheVariants.{Idle}
-use Rattle.qolb_model.proofs.Lists.{same_some}
 use Rattle.line_accounts.specs.Accounts.{AreBalances}
-use Rattle.qolb_run.specs.JustOpened.{IsJustOpened}
+use Rattle.qolb_run.specs.JustOpened.{IsJustOpened, IsNewLine}
 use Rattle.qolb_model.specs.declared.terms.Terms.{Terms}
 use Rattle.qolb_model.specs.declared.terms.TheConstants.{MOST_NODES}
 use Rattle.qolb_model.specs.declared.view.View.{View}
 use Rattle.line_accounts.specs.Desks.{DeskOf, IsDeskOver}
+use Rattle.line_accounts.specs.NewDesks.{IsNewPort, IsUnpaid}
 use Rattle.line_accounts.specs.Settled.{all_opened}
 use Rattle.qolb_script.specs.declared.job.Job.{Job}
 use Rattle.qolb_script.specs.Jobs.{worker_of}
 use Rattle.qolb_script.specs.declared.schedule.TheConstants.{MOST_COMMANDS}
 use Rattle.qolb_run.specs.Jobs.{jobs_of}
 use Rattle.qolb_run.specs.Workers.{AreDone}
-use Rattle.qolb_run.specs.BankWork.{ArePaid, HasBanked, IsColumn}
+use Rattle.qolb_run.specs.BankWork.{ArePaid, HasBanked}
 
 -- sums over desks
 module _ {Port : Type 0} (desks : List (DeskOf Port)) (i : ℕ) (few : length desks ≤ MOST_NODES) (small : All (λ desk. ArePaid MOST_COMMANDS desk) desks) (le : i ≤ length desks) where
@@ -66,40 +65,23 @@ opened_empty {Line} terms_of (line ∷ lines) all =
     let whole = sum_by-cons (λ (l : Line). lanes_total (terms_of l).opening.bytes) line lines in
     omega (arith, here, rest, whole)
 
--- one more line, and one more port of a worker's
-over_more : {Line Port : Type 0} (belongs : Line → Port → Type 0) (lines : List Line) (ports : List Port) (line : Line) (port : Port) → length ports ≡ length lines
-    → ((i : ℕ) (l : Line) (p : Port) → slice_get lines i ≡ Some l → slice_get ports i ≡ Some p → belongs l p) → belongs line port
-    → (i : ℕ) (l : Line) (p : Port) → slice_get (lines ++ line ∷ []) i ≡ Some l → slice_get (ports ++ port ∷ []) i ≡ Some p → belongs l p
-over_more belongs [] [] line port same all own zero l p at_l at_p = subst (λ x. belongs x p) (same_some at_l) (subst (belongs line) (same_some at_p) own)
-over_more belongs [] [] line port same all own (suc i) l p at_l at_p = absurd (let no : None ≡ Some l = at_l in cc no)
-over_more belongs [] (q ∷ ports) line port same all own i l p at_l at_p = absurd (let no : suc (length ports) ≡ 0 = same in omega arith)
-over_more belongs (m ∷ lines) [] line port same all own i l p at_l at_p = absurd (let no : 0 ≡ suc (length lines) = same in omega arith)
-over_more belongs (m ∷ lines) (q ∷ ports) line port same all own zero l p at_l at_p = all 0 l p at_l at_p
-over_more belongs (m ∷ lines) (q ∷ ports) line port same all own (suc i) l p at_l at_p =
-    over_more belongs lines ports line port (less same) (λ j x y. all (suc j) x y) own i l p at_l at_p
+-- the ports of a line that was just opened are new
+pub new_ports : {Line Port : Type 0} (belongs : Line → Port → Type 0) (view : Port → View) (terms_of : Line → Terms) (line : Line) (ports : List Port) → IsNewLine belongs view terms_of line ports → All (IsNewPort belongs view line) ports
+new_ports {Line} {Port} belongs view terms_of line ports new = All-weaker (λ (port : Port). belongs line port × IsJustOpened (view port)) (IsNewPort belongs view line) unused ports new.own
   where
-    less : {m n : ℕ} → suc m ≡ suc n → m ≡ n
-    less e = omega (arith, e)
+    unused : (port : Port) → belongs line port × IsJustOpened (view port) → IsNewPort belongs view line port
+    unused port (own, (label, terms, node, is)) = record { of_line = own; idle = ap (λ (v : View). v.state) is; never = ap (λ (v : View). v.count) is }
 
-pub column_more : {Line Port : Type 0} (belongs : Line → Port → Type 0) (view : Port → View) (lines : List Line) (line : Line) (ports : List Port) (port : Port)
-    → IsColumn belongs view lines ports → belongs line port → IsJustOpened (view port) → IsColumn belongs view (lines ++ line ∷ []) (ports ++ port ∷ [])
-column_more {Line} {Port} belongs view lines line ports port c own unused = record {
-  over = record {
-    count = let a = length-append lines (line ∷ []) in let b = length-append ports (port ∷ []) in let e = c.over.count in omega (arith, a, b, e);
-    belong = over_more belongs lines ports line port c.over.count c.over.belong own;
+-- a new desk has done no job
+pub banked_nothing : {Line Port : Type 0} (belongs : Line → Port → Type 0) (view : Port → View) (lines : List Line) (desks : List (DeskOf Port))
+    → All (IsDeskOver belongs view lines) desks → All IsUnpaid desks → All (λ desk. HasBanked belongs view lines desk []) desks
+banked_nothing belongs view lines desks over unpaid = λ k d below. record {
+  over = over k d below;
+  paid = record {
+    paid_in = let none = (unpaid k d below).paid_in in omega (arith, none);
+    paid_out = let none = (unpaid k d below).paid_out in omega (arith, none);
   };
-  unused = All-push (λ (p : Port). IsJustOpened (view p)) ports port c.unused unused;
 }
-
-pub column_none : {Line Port : Type 0} (belongs : Line → Port → Type 0) (view : Port → View) (lines : List Line) (ports : List Port) → lines ≡ [] → ports ≡ [] → IsColumn belongs view lines ports
-column_none {Line} {Port} belongs view lines ports none empty = record {
-  over = record { count = ap length empty ∙ sym (ap length none); belong = λ i l p at_l at_p. absurd (let no : None ≡ Some l = ap (λ ls. slice_get ls i) (sym none) ∙ at_l in cc no) };
-  unused = subst (λ (ps : List Port). All (λ port. IsJustOpened (view port)) ps) (sym empty) (All-nil (λ (p : Port). IsJustOpened (view p)));
-}
-
--- a port that was just opened is idle, and has made no request
-pub unused_idle : (v : View) → IsJustOpened v → (v.state ≡ Idle) × (v.count ≡ 0)
-unused_idle v (label, terms, node, is) = (ap (λ (w : View). w.state) is, ap (λ (w : View). w.count) is)
 
 -- the line of zeros has balances
 pub no_money : AreBalances zeros

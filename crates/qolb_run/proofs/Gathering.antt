@@ -2,15 +2,9 @@
 use Rattle.std.proofs.Common.{◌≡◌, ℕ, zero, suc, ◌+◌, ◌<◌, ◌≤◌, ◌==◌, List, [], ◌∷◌, ◌++◌, length, map, take, All, Option, Some, None, slice_get, get_or, refl, ap, sym, ◌∙◌, subst, arith}
 use Rattle.std.proofs.lemmas.List.{length-take-le}
 use Rattle.std.proofs.lemmas.List.Sums.{length-filter, count_by-le-length}
-use Rattle.std.proofs.lemmas.Option.{slice_get_within, slice_get-get_or, get_or_from_slice_get}
-use Rattle.std.specs.Prelude.{IfOk, IfSome, Vec}
+use Rattle.std.proofs.lemmas.Option.{slice_get_within, slice_get-get_or}
+use Rattle.std.specs.Prelude.{IfSome, Vec}
 use Rattle.std.specs.Global.{Global}
-use Rattle.std.specs.Result.{result_ok}
-use Rattle.std.specs.declared.result.Result.{Result}
-use Rattle.std.specs.declared.result.Result.TheVariants.{Ok, Err}
-use Rattle.std.specs.declared.thread.PromisedHandle.{PromisedHandle}
-use Rattle.std.specs.declared.thread.Promise as Promise
-use Rattle.std.specs.PromisedHandle.{KeepsEach}
 use Rattle.qolb_model.proofs.Lists.{same_some}
 use Rattle.qolb_script.specs.declared.job.Job.{Job}
 use Rattle.qolb_script.specs.Jobs.{worker_of}
@@ -66,23 +60,11 @@ each_pushed P [] x all own (suc k) y at = absurd (let no : None ≡ Some y = at 
 each_pushed P (z ∷ xs) x all own zero y at = all 0 y at
 each_pushed P (z ∷ xs) x all own (suc k) y at = each_pushed (λ n. P (suc n)) xs x (λ j i. all (suc j) i) own k y at
 
--- threads that were joined: as many results as handles, and what each promised
-module _ {Site Hand P E : Type 0} (g : Promise.Ghosts P (Option Hand)) (has_done : Site → Hand → List Job → Type 0) (site : Site) (jobs : List Job) (hs : Vec (PromisedHandle (Option Hand) P) Global) where
-  pub as_many_back : (r : Result (Vec (Option Hand) Global) E) (o : Option (Vec (Option Hand) Global)) (n : ℕ) → o ≡ result_ok r → IfOk r (λ (v : Vec (Option Hand) Global). v.len ≡ hs.len) → hs.len ≡ n → IfSome o (λ (v : Vec (Option Hand) Global). v.len ≡ n)
-  as_many_back (Ok v) o n e len is = subst (λ (o : Option (Vec (Option Hand) Global)). IfSome o (λ (v : Vec (Option Hand) Global). v.len ≡ n)) (sym e) (len ∙ is)
-  as_many_back (Err x) o n e len is = subst (λ (o : Option (Vec (Option Hand) Global)). IfSome o (λ (v : Vec (Option Hand) Global). v.len ≡ n)) (sym e) tt
-
-  pub back_done : (r : Result (Vec (Option Hand) Global) E) (o : Option (Vec (Option Hand) Global)) → o ≡ result_ok r → IfOk r (λ (v : Vec (Option Hand) Global). v.len ≡ hs.len) → IfOk r (λ (v : Vec (Option Hand) Global). KeepsEach g hs.len hs.items v.items)
-      → ((k : ℕ) (h : PromisedHandle (Option Hand) P) → slice_get hs.items k ≡ Some h → (back : Option Hand) → g.kept_by h.promise back → IfSome back (λ hand. has_done site hand (jobs_of (k + 1) jobs)))
-      → IfSome o (λ (v : Vec (Option Hand) Global). AreBack has_done site jobs v.items)
-  back_done (Ok v) o e len each all = subst (λ (o : Option (Vec (Option Hand) Global)). IfSome o (λ (v : Vec (Option Hand) Global). AreBack has_done site jobs v.items)) (sym e) (λ k hand at.
-      let within = slice_get_within v.items k (Some hand) at in
-      let low : k < hs.len = omega (arith, within, v.ok.0, len) in
-      let below : k < length hs.items = omega (arith, low, hs.ok.0) in
-      let kept = (each k (Some hand) low).1 in
-      let at_handle = slice_get-get_or hs.items k kept.handle below ∙ ap Some (sym kept.handle_is) in
-      all k kept.handle at_handle (Some hand) (subst (λ back. g.kept_by kept.handle.promise back) (get_or_from_slice_get v.items k (Some hand) (Some hand) at) kept.kept))
-  back_done (Err x) o e len each all = subst (λ (o : Option (Vec (Option Hand) Global)). IfSome o (λ (v : Vec (Option Hand) Global). AreBack has_done site jobs v.items)) (sym e) tt
+-- what threads gave back, each by its place
+pub back_at : {Site Hand : Type 0} (has_done : Site → Hand → List Job → Type 0) (site : Site) (jobs : List Job) (o : Option (Vec (Option Hand) Global))
+    → IfSome o (λ all. (k : ℕ) (back : Option Hand) → slice_get all.items k ≡ Some back → IfSome back (λ hand. has_done site hand (jobs_of (k + 1) jobs))) → IfSome o (λ all. AreBack has_done site jobs all.items)
+back_at has_done site jobs None each = tt
+back_at has_done site jobs (Some all) each = λ k hand at. each k (Some hand) at
 
 -- ports as they were opened
 get_map : {P V : Type 0} (view : P → V) (ports : List P) (k : ℕ) (port : P) → slice_get ports k ≡ Some port → slice_get (map view ports) k ≡ Some (view port)

@@ -1,15 +1,13 @@
 -- How far a replay has come: its lines and its text after some of the commands.
-use Rattle.std.proofs.Common.{◌≡◌, ℕ, zero, suc, ◌+◌, ◌<◌, ◌≤◌, List, [], ◌∷◌, ◌++◌, length, map, take, get_or, set, refl, sym, ap, ◌∙◌, subst, arith, inl, inr, ◌⊎◌, replicate, Bool, Some, slice_get, ◌==◌, ◌&&◌, append-nil, append_assoc}
-use Rattle.std.specs.List.{All, range_with_len, fold}
+use Rattle.std.proofs.Common.{◌≡◌, ℕ, zero, suc, ◌+◌, ◌<◌, ◌≤◌, List, [], ◌∷◌, ◌++◌, length, map, take, get_or, set, refl, sym, ap, ◌∙◌, subst, arith, inl, inr, ◌⊎◌, replicate, Bool, ◌==◌, ◌&&◌, append-nil, append_assoc}
+use Rattle.std.specs.List.{range_with_len, fold}
 use Rattle.std.proofs.lemmas.List.{length-replicate, get_or_append_left, get_or_push, length-append, length-set, take_all, map-append, get_or_default}
 use Rattle.std.proofs.lemmas.List.Sums.{fold_more, count_by-le-length}
 use Rattle.std.proofs.lemmas.Grind.{flat_map-append}
-use Rattle.std.proofs.lemmas.Option.{get_or_from_slice_get}
 use Rattle.std.proofs.lemmas.Bool.{cases_lt}
 use Rattle.std.proofs.lemmas.List.FromFn.{map-range_with_len_more}
 use Rattle.qolb_model.specs.declared.terms.Terms.{Terms}
 use Rattle.qolb_model.specs.OneOwner.{LineState, opened}
-use Rattle.qolb_model.proofs.Lists.{element_at}
 use Rattle.qolb_script.specs.declared.command.Command.{Command}
 use Rattle.qolb_script.specs.declared.reply_text.Said.{Said}
 use Rattle.qolb_script.specs.Commands.{line_of}
@@ -19,10 +17,6 @@ use Rattle.qolb_script.specs.Reply.{Replay, terms_of, line_at, replay_start, rep
 use Rattle.qolb_run.specs.declared.tally.TalliedLine.{TalliedLine}
 use Rattle.qolb_run.specs.Tallies.{AreWithin, no_counts, Does, IsLineOf, AreLinesOf}
 use Rattle.qolb_run.proofs.Tallying.{lines_step, said_is}
-
--- what holds of the member at each place holds of all
-pub all_from_each : {A : Type 0} (P : A → Type 0) (xs : List A) → ((i : ℕ) (x : A) → slice_get xs i ≡ Some x → P x) → All P xs
-all_from_each P xs h = λ k d l. let at = element_at xs k l in subst P (sym (get_or_from_slice_get xs k at.0 d at.1)) (h k at.0 at.1)
 
 opened_at : (terms : Terms) (n k : ℕ) → k < n → opened terms ≡ line_at (replicate n (opened terms)) k
 opened_at terms zero k lt = absurd (omega arith)

@@ -1,11 +1,10 @@
 -- Workers at a bank: what a call of a desk pays, and what a worker has done. (Of this project.)
-use Rattle.std.specs.Prelude.{◌≡◌, ◌⊎◌, ℕ, ◌+◌, ◌*◌, ◌^◌, ◌≤◌, List, length, All}
+use Rattle.std.specs.Prelude.{◌≡◌, ◌⊎◌, ℕ, ◌+◌, ◌*◌, ◌^◌, ◌≤◌, List, length}
 use Rattle.qolb_model.specs.declared.view.View.{View}
-use Rattle.line_accounts.specs.Desks.{DeskOf, AreOver, IsDeskOver}
+use Rattle.line_accounts.specs.Desks.{DeskOf, IsDeskOver}
 use Rattle.line_accounts.specs.declared.answer.Reply.{Reply}
 use Rattle.line_accounts.specs.declared.answer.Reply.TheVariants.{Late, Busy}
 use Rattle.qolb_script.specs.declared.job.Job.{Job}
-use Rattle.qolb_run.specs.JustOpened.{IsJustOpened}
 
 -- in so many jobs no more was paid in, or out, than as many of the largest amounts
 pub record ArePaid {Port : Type 0} (jobs : ℕ) (desk : DeskOf Port) : Type 0 where
@@ -22,8 +21,3 @@ pub record Paid {Port : Type 0} (old new : DeskOf Port) (reply : Reply) : Type 0
 pub record HasBanked {Line Port : Type 0} (belongs : Line → Port → Type 0) (view : Port → View) (lines : List Line) (desk : DeskOf Port) (jobs : List Job) : Type 0 where
   pub over : IsDeskOver belongs view lines desk
   pub paid : ArePaid (length jobs) desk
-
--- a worker's ports: one of each line, none of which was used
-pub record IsColumn {Line Port : Type 0} (belongs : Line → Port → Type 0) (view : Port → View) (lines : List Line) (ports : List Port) : Type 0 where
-  pub over : AreOver belongs lines ports
-  pub unused : All (λ port. IsJustOpened (view port)) ports

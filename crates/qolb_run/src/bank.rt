@@ -1,12 +1,13 @@
 //! Workers at a bank.
-ghost use Rattle.std.specs.Prelude.{◌≡◌, ◌≢◌, ◌+◌, ◌*◌, ◌^◌, ◌≤◌, ◌∷◌, ◌++◌, [], All, IfOk, IfErr, IfSome, length, vec_len};
+ghost use Rattle.std.specs.Prelude.{◌≡◌, ◌≤◌, [], All, IfOk, IfErr, length, vec_len};
 ghost use Rattle.line_lanes.specs.Line.{zeros};
 ghost use Rattle.qolb_script.specs.declared.schedule.TheConstants.{MOST_COMMANDS};
 ghost use Rattle.qolb_model.specs.declared.terms.TheConstants.{MOST_NODES};
+ghost use Rattle.qolb_model.specs.Opening.{AreNodes};
 ghost use Rattle.line_accounts.specs.Desks.{IsDeskOver};
 ghost use Rattle.line_accounts.specs.Settled.{all_paid_in, all_paid_out};
 ghost use Rattle.qolb_run.specs.Workers.{AreDone, MayStop, IsWithinLimits};
-ghost use Rattle.qolb_run.specs.BankWork.{HasBanked, Paid, ArePaid, IsColumn};
+ghost use Rattle.qolb_run.specs.BankWork.{HasBanked, Paid, ArePaid};
 ghost use Rattle.qolb_run.specs.JustOpened.{IsNewLine};
 ghost use Rattle.qolb_run.specs.Reports.{IsReportOf};
 
@@ -14,10 +15,12 @@ use crate::gate::Gate;
 use crate::opening::open_line;
 use crate::work::RunError;
 use crate::workers::{PATIENCE, Site, all_done, work_all};
-use line_accounts::{AccountLaw, Desk, Reply, deposit, settle, take_out, transfer};
+use line_accounts::{
+    AccountLaw, Desk, DesksError, Reply, deposit, desks_over, settle, take_out, transfer,
+};
 use qolb_model::{LineSync, OpenLine, PortState};
 use qolb_script::{Job, Report, Work, WorkKind};
-use std::alloc::{AllocError, Global};
+use std::alloc::Global;
 use std::sync::Wait;
 use std::thread::{Threads, yield_now};
 
@@ -116,114 +119,50 @@ where
     })
 }
 
-/// So many lists without a port.
-fn no_ports<P: Drop>(alloc: Global, workers: u64) -> Result<Vec<Vec<P>>, AllocError>
-    ensures as_many { IfOk result (λ columns. length columns.items ≡ workers) }
-    ensures empty { IfOk result (λ columns. All (λ ports. ports.items ≡ []) columns.items) }
-{
-    let mut columns = Vec::with_capacity(alloc, workers as usize)?;
-    for worker in 0..workers {
-        columns.push(Vec::new(alloc))?;
-    }
-    Ok(columns)
-}
-
-/// The lists with one more port each: those of the line, which comes behind the others.
-fn with_ports<L: LineSync<AccountLaw>>(
+/// So many lines of a bank, and their ports, one for each worker.
+fn open_lines<L: OpenLine<AccountLaw> + Drop>(
     alloc: Global,
-    lines: &Vec<L>,
-    line: &L,
-    columns: Vec<Vec<L::Port>>,
-    ports: Vec<L::Port>,
-) -> Result<Vec<Vec<L::Port>>, AllocError>
-where
-    L::Port: Drop,
-    requires columns { All (λ ports. IsColumn L.belongs L.view lines.now.items ports.items) columns.items }
-    requires ports { IsNewLine L.belongs L.view L.terms_of line.now ports.items }
-    ensures as_many { IfOk result (λ wider. vec_len wider ≡ vec_len columns) }
-    ensures columns { IfOk result (λ wider. All (λ ports. IsColumn L.belongs L.view (lines.now.items ++ line.now ∷ []) ports.items) wider.items) }
-{
-    let mut wider = Vec::with_capacity(alloc, columns.len())?;
-    let mut ports = ports.into_iter();
-    for column in columns {
-        let Some(port) = ports.next() else {
-            return Err(AllocError);
-        };
-        let mut column = column;
-        column.push(port)?;
-        wider.push(column)?;
-    }
-    Ok(wider)
-}
-
-/// A desk with these ports, at which nothing was paid.
-fn new_desk<L: LineSync<AccountLaw>>(lines: &Vec<L>, ports: Vec<L::Port>) -> Option<Desk<L>>
-where
-    L::Port: Drop,
-    requires { IsColumn L.belongs L.view lines.now.items ports.items }
-    ensures { IfSome result (λ desk. HasBanked L.belongs L.view lines.now.items desk []) }
-{
-    let desk = Desk::new(ports);
-    // A new desk has paid nothing, of which its own contract does not speak.
-    if desk.paid_in() > 0 || desk.paid_out() > 0 {
-        return None;
-    }
-    Some(desk)
-}
-
-/// The lines, and a desk over them for each worker.
-fn desks_over<L: LineSync<AccountLaw> + Drop>(
-    alloc: Global,
-    opened: Vec<(L, Vec<L::Port>)>,
+    lines: u64,
     workers: u64,
-) -> Result<(Vec<L>, Vec<Desk<L>>), RunError>
-where
-    L::Port: Drop,
-    requires { All (λ line. IsNewLine L.belongs L.view L.terms_of line.0 line.1.items) opened.items }
-    ensures memory { IfErr result (λ error. error ≡ RunError.Memory) }
-    ensures empty { IfOk result (λ made. All (λ line. (L.terms_of line).opening.bytes ≡ zeros) made.0.items) }
-    ensures as_many { IfOk result (λ made. vec_len made.1 ≡ workers) }
-    ensures new { IfOk result (λ made. All (λ desk. HasBanked L.belongs L.view made.0.items desk []) made.1.items) }
-{
-    let mut columns = no_ports(alloc, workers)?;
-    let mut lines = Vec::with_capacity(alloc, opened.len())?;
-    for (line, ports) in opened {
-        columns = with_ports(alloc, &lines, &line, columns, ports)?;
-        if lines.push(line).is_err() {
-            return Err(RunError::Memory);
-        }
-    }
-    let mut desks = Vec::with_capacity(alloc, columns.len())?;
-    for ports in columns {
-        let Some(desk) = new_desk(&lines, ports) else {
-            return Err(RunError::Memory);
-        };
-        if desks.push(desk).is_err() {
-            return Err(RunError::Memory);
-        }
-    }
-    Ok((lines, desks))
-}
-
-/// The lines of a bank, and their ports, one for each worker.
-fn open_bank<L: OpenLine<AccountLaw> + Drop>(
-    alloc: Global,
-    work: &Work,
 ) -> Result<Vec<(L, Vec<L::Port>)>, RunError>
 where
     L::Port: Drop,
+    requires { AreNodes workers }
     ensures memory { IfErr result (λ error. error ≡ RunError.Memory) }
+    ensures as_many { IfOk result (λ opened. All (λ line. vec_len line.1 ≡ workers) opened.items) }
     ensures new { IfOk result (λ opened. All (λ line. IsNewLine L.belongs L.view L.terms_of line.0 line.1.items) opened.items) }
 {
-    let workers = work.workers();
-    let mut all = Vec::with_capacity(alloc, work.lines() as usize)?;
-    for label in 0..work.lines() {
+    let mut all = Vec::with_capacity(alloc, lines as usize)?;
+    for label in 0..lines {
         let opened = open_line::<AccountLaw, L>(alloc, label, workers)?;
         if all.push(opened).is_err() {
             return Err(RunError::Memory);
         }
     }
     Ok(all)
+}
+
+/// So many lines of a bank, and a desk over them for each worker.
+fn open_bank<L: OpenLine<AccountLaw> + Drop>(
+    alloc: Global,
+    lines: u64,
+    workers: u64,
+) -> Result<(Vec<L>, Vec<Desk<L>>), RunError>
+where
+    L::Port: Drop,
+    requires { AreNodes workers }
+    ensures memory { IfErr result (λ error. error ≡ RunError.Memory) }
+    ensures empty { IfOk result (λ made. All (λ line. (L.terms_of line).opening.bytes ≡ zeros) made.0.items) }
+    ensures as_many { IfOk result (λ made. vec_len made.1 ≡ workers) }
+    ensures new { IfOk result (λ made. All (λ desk. HasBanked L.belongs L.view made.0.items desk []) made.1.items) }
+{
+    let opened = open_lines::<L>(alloc, lines, workers)?;
+    match desks_over(alloc, opened, workers as usize) {
+        Ok(made) => Ok(made),
+        Err(DesksError::Memory) => Err(RunError::Memory),
+        // Each line was opened with a port for each worker.
+        Err(DesksError::Few { .. }) => unreachable!(),
+    }
 }
 
 /// Workers do their jobs at a bank over lines of this kind, each at a desk of its own.
@@ -238,10 +177,9 @@ where
     ensures report { IfOk result (IsReportOf work.now) }
     ensures stalled { IfErr result (MayStop work.now) }
 {
-    let opened = open_bank::<L>(alloc, work)?;
+    let (lines, desks) = open_bank::<L>(alloc, work.lines(), work.workers())?;
     // That a script has no more jobs than it may is a fact of its reader.
     let _ = work.jobs();
-    let (lines, desks) = desks_over(alloc, opened, work.workers())?;
     let room = Vec::with_capacity(alloc, desks.len())?;
     let bank = Bank { lines };
     let Some(back) = work_all(rt, alloc, gate, &bank, work, desks) else {

@@ -1,5 +1,5 @@
 //! Threads that share something, each with a part of its own.
-ghost use Rattle.std.specs.Prelude.{◌≡◌, ℕ, All, IfSome, Some, slice_get, vec_len};
+ghost use Rattle.std.specs.Prelude.{◌≡◌, ◌+◌, ◌^◌, ◌<◌, ℕ, All, IfSome, Some, slice_get, vec_len};
 ghost use Rattle.std.specs.Thread.{IsSync, IsSend};
 
 use std::alloc::Global;
@@ -20,9 +20,10 @@ pub trait Work<R: Wait, S, P> {
     /// This may come back from the part at this place.
     ghost done: { Self → S → ℕ → Self.Back → Type 0 };
 
-    /// The work of one thread, on the part at this place.
+    /// The work of one thread, on the part at this place. Places are counted from 0, and there are fewer than 2^64.
     fn work(&self, rt: &R, shared: &S, place: usize, part: P) -> Self::Back
-        requires { fits shared.now part }
+        requires fits { fits shared.now part }
+        requires place { place + 1 < 2 ^ 64 }
         ensures { done self.now shared.now place result };
 }
 

@@ -1,6 +1,5 @@
 //! Workers: each does its jobs at one site, in a thread of its own.
-ghost use Rattle.std.specs.Prelude.{◌≡◌, ◌++◌, ◌∷◌, [], ◌<◌, ◌≤◌, List, All, IsTrue, IfSome, IfOk, IfErr, Some, length, map, vec_len};
-ghost use Rattle.std.specs.Thread.{IsSync, IsSend};
+ghost use Rattle.std.specs.Prelude.{◌≡◌, ◌+◌, ◌++◌, ◌∷◌, [], ◌<◌, ◌≤◌, List, All, IsTrue, IfSome, IfOk, IfErr, Some, length, map, vec_len};
 ghost use Rattle.qolb_script.specs.declared.job.Job.{Job};
 ghost use Rattle.qolb_script.specs.declared.schedule.TheConstants.{MOST_COMMANDS};
 ghost use Rattle.qolb_model.specs.declared.terms.TheConstants.{MOST_NODES};
@@ -8,13 +7,12 @@ ghost use Rattle.qolb_run.specs.Jobs.{jobs_of};
 ghost use Rattle.qolb_run.specs.Workers.{AreBack, MayBeGone};
 
 use crate::gate::{Gate, passes};
+use crate::together;
 use crate::work::RunError;
 use qolb_script::{Job, Work};
 use std::alloc::Global;
-use std::snapshot::Snapshot;
 use std::sync::Wait;
-use std::thread;
-use std::thread::{Promise, PromisedHandle, Threads, join_promised};
+use std::thread::Threads;
 
 /// How often a worker looks for its turn at a line, before it withdraws and tries again.
 pub(crate) const PATIENCE: u64 = 64;
@@ -33,25 +31,27 @@ pub(crate) trait Site {
         ensures { IsTrue result → (done : List Job) → has_done self.now hand.old done → has_done self.now hand.new (done ++ job.now ∷ []) };
 }
 
-/// A thread gives back what its worker has in hand once all its jobs are done, or nothing where it gave up.
-struct DoneAt<S> {
-    site: Snapshot<S>,
-    work: Snapshot<Work>,
-    number: u64,
+/// The jobs of a script, which a gate lets workers do.
+#[derive(Drop)]
+struct Jobs<'a, G> {
+    gate: &'a G,
+    work: &'a Work,
 }
 
-impl<S> Drop for DoneAt<S> {
-    fn drop(self) {
-        let Self {
-            site: _,
-            work: _,
-            number: _,
-        } = self;
+impl<R: Wait, G: Gate, S: Site> together::Work<R, S, S::Hand> for Jobs<'_, G>
+where
+    S::Hand: Drop,
+{
+    type Back = Option<S::Hand>;
+
+    ghost fits = { λ site hand. S.has_done site hand [] };
+
+    ghost done = { λ jobs site place back. IfSome back (λ hand. S.has_done site hand (jobs_of (place + 1) jobs.work.now.jobs)) };
+
+    fn work(&self, rt: &R, site: &S, place: usize, hand: S::Hand) -> Option<S::Hand> {
+        let number = place as u64 + 1;
+        work_through(rt, self.gate, site, self.work, number, hand)
     }
-}
-
-impl<S: Site> Promise<Option<S::Hand>> for DoneAt<S> {
-    ghost kept_by = { λ p back. IfSome back (λ hand. S.has_done p.site.value hand (jobs_of p.number p.work.value.jobs)) };
 }
 
 /// A thread for each hand, whose worker does its jobs. `None` where memory or a thread was refused; those that were started have ended then.
@@ -65,47 +65,12 @@ pub(crate) fn work_all<R: Threads + Wait + Sync, G: Gate + Sync, S: Site + Sync>
 ) -> Option<Vec<Option<S::Hand>>>
 where
     S::Hand: Send + Drop,
-    requires fresh { All (λ hand. S.has_done site.now hand []) hands.items }
-    requires few { vec_len hands ≤ MOST_NODES }
+    requires { All (λ hand. S.has_done site.now hand []) hands.items }
     ensures as_many { IfSome result (λ back. vec_len back ≡ vec_len hands) }
     ensures back { IfSome result (λ back. AreBack S.has_done site.now work.now.jobs back.items) }
 {
-    thread::scope(
-        thread::scope_env(),
-        rt,
-        |scope| -> Option<Vec<Option<S::Hand>>>
-            requires gate { IsSync G.row }
-            requires site { IsSync S.row }
-            requires hand { IsSend S.Hand.row }
-            requires fresh { All (λ hand. S.has_done site.now hand []) hands.items }
-            requires few { vec_len hands ≤ MOST_NODES }
-            ensures as_many { IfSome result (λ back. vec_len back ≡ vec_len hands) }
-            ensures back { IfSome result (λ back. AreBack S.has_done site.entry.now work.entry.now.jobs back.items) }
-        {
-            let mut handles: Vec<PromisedHandle<Option<S::Hand>, DoneAt<S>>> = Vec::with_capacity(
-                alloc,
-                hands.len(),
-            ).ok()?;
-            for hand in hands {
-                let number = handles.len() as u64 + 1;
-                let promise = DoneAt {
-                    site: Snapshot::of(site),
-                    work: Snapshot::of(work),
-                    number,
-                };
-                let Ok(handle) = scope.spawn_with(
-                    promise,
-                    move || work_through(rt, gate, site, work, number, hand),
-                ) else {
-                    return None;
-                };
-                if handles.push(handle).is_err() {
-                    return None;
-                }
-            }
-            join_promised(rt, handles).ok()
-        },
-    )
+    let jobs = Jobs { gate, work };
+    together::together(rt, alloc, &jobs, site, hands)
 }
 
 /// A worker does its jobs one after another, each once the gate lets it. `None` where it gives up.

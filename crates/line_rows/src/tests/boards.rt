@@ -1,6 +1,6 @@
 //! The answers of the board's rows. The line is one of zeros.
 ghost use Rattle.std.specs.Prelude.{IfSome};
-ghost use Rattle.line_rows.specs.Opened.{IsNewPort};
+ghost use Rattle.line_accounts.specs.NewDesks.{IsNewPort};
 
 use crate::boards::{eight_tasks, late_node, three_turns, two_tasks};
 use crate::opened::{open_zeros, with_last, with_two};

@@ -1,6 +1,6 @@
 //! The answers of the desks' rows, and what is settled. The lines are of zeros.
 ghost use Rattle.std.specs.Prelude.{All, IfSome};
-ghost use Rattle.line_rows.specs.Opened.{IsNewPort};
+ghost use Rattle.line_accounts.specs.NewDesks.{IsNewPort};
 
 use crate::desks::{
     a_day, across, late, leased, limits, lower_line_first, over, over_one, over_two, settle_with,

@@ -1,4 +1,4 @@
-use Rattle.line_rows.specs.Opened.{MayAskFor}
+use Rattle.line_rows.specs.Ports.{MayAskFor}
 use Rattle.line_rows.proofs.counts.race.Given as goal
 
 abbrev pub invariant-loop : goal.invariant-loop

@@ -2,7 +2,7 @@ use Rattle.std.proofs.Common.{ap, ◌∙◌}
 use Rattle.qolb_model.specs.PortStates.{may_ask}
 use Rattle.qolb_run.proofs.Joined.{all_at}
 use Rattle.line_rows.specs.declared.counts.Racer.{Racer}
-use Rattle.line_rows.specs.Opened.{MayAskFor}
+use Rattle.line_rows.specs.Ports.{MayAskFor}
 use Rattle.line_rows.proofs.NewPorts.{of_last, of_front}
 use Rattle.line_rows.proofs.counts.race_once.Goals as goal
 

@@ -1,4 +1,4 @@
-use Rattle.line_rows.specs.Opened.{IsNewPort}
+use Rattle.line_accounts.specs.NewDesks.{IsNewPort}
 use Rattle.line_rows.proofs.NewPorts.{of_last}
 use Rattle.line_rows.proofs.opened.with_last.Goals as goal
 

@@ -1,4 +1,4 @@
-use Rattle.line_rows.specs.Opened.{IsNewPort}
+use Rattle.line_accounts.specs.NewDesks.{IsNewPort}
 use Rattle.line_rows.proofs.NewPorts.{of_last, of_front}
 use Rattle.line_rows.proofs.opened.with_two.Goals as goal
 

@@ -2,8 +2,9 @@ use Rattle.std.proofs.Common.{is_ok}
 use Rattle.std.specs.Vec.Iter.{into_iter_items}
 use Rattle.std.proofs.lemmas.List.Elements.{All-rest}
 use Rattle.line_rows.specs.declared.producers.Worker.{Worker}
-use Rattle.line_rows.specs.Opened.{MayAskFor}
-use Rattle.line_rows.proofs.Each.{all_first, all_pushed}
+use Rattle.line_rows.specs.Ports.{MayAskFor}
+use Rattle.line_accounts.proofs.Columns.{all_first}
+use Rattle.line_rows.proofs.Each.{all_pushed}
 use Rattle.line_rows.proofs.producers.dismiss.Goals as goal
 
 pub loop-worker-preserved : goal.loop-worker-preserved

@@ -1,6 +1,6 @@
 use Rattle.std.proofs.Common.{All}
 use Rattle.std.specs.Vec.Iter.{into_iter_items}
-use Rattle.line_rows.specs.Opened.{MayAskFor}
+use Rattle.line_rows.specs.Ports.{MayAskFor}
 use Rattle.line_rows.proofs.producers.dismiss.Given as goal
 
 abbrev pub invariant-loop-worker : goal.invariant-loop-worker

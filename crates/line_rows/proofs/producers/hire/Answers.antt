@@ -3,8 +3,10 @@ use Rattle.std.specs.Vec.Iter.{into_iter_items}
 use Rattle.std.proofs.lemmas.List.Elements.{All-rest}
 use Rattle.qolb_model.specs.PortStates.{may_ask}
 use Rattle.line_rows.specs.declared.producers.Worker.{Worker}
-use Rattle.line_rows.specs.Opened.{IsNewPort, MayAskFor}
-use Rattle.line_rows.proofs.Each.{all_first, all_pushed}
+use Rattle.line_accounts.specs.NewDesks.{IsNewPort}
+use Rattle.line_rows.specs.Ports.{MayAskFor}
+use Rattle.line_accounts.proofs.Columns.{all_first}
+use Rattle.line_rows.proofs.Each.{all_pushed}
 use Rattle.line_rows.proofs.producers.hire.Goals as goal
 
 pub loop-port-preserved : goal.loop-port-preserved

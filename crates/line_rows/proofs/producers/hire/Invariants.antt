@@ -1,6 +1,7 @@
 use Rattle.std.proofs.Common.{All}
 use Rattle.std.specs.Vec.Iter.{into_iter_items}
-use Rattle.line_rows.specs.Opened.{IsNewPort, MayAskFor}
+use Rattle.line_accounts.specs.NewDesks.{IsNewPort}
+use Rattle.line_rows.specs.Ports.{MayAskFor}
 use Rattle.line_rows.proofs.producers.hire.Given as goal
 
 abbrev pub invariant-loop-port : goal.invariant-loop-port

@@ -3,7 +3,8 @@ use Rattle.std.specs.Vec.Iter.{into_iter_items}
 use Rattle.std.proofs.lemmas.List.Elements.{All-rest}
 use Rattle.line_accounts.specs.Desks.{DeskOf, IsDeskOver}
 use Rattle.line_rows.specs.declared.transfers.Customer.{Customer}
-use Rattle.line_rows.proofs.Each.{all_first, all_pushed}
+use Rattle.line_accounts.proofs.Columns.{all_first}
+use Rattle.line_rows.proofs.Each.{all_pushed}
 use Rattle.line_rows.proofs.transfers.unseat.Goals as goal
 
 pub loop-customer-preserved : goal.loop-customer-preserved

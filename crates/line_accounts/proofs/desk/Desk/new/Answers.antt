@@ -4,8 +4,8 @@ use Rattle.qolb_model.specs.PortStates.{may_ask}
 use Rattle.line_accounts.proofs.Accounted.{new_desk}
 use Rattle.line_accounts.proofs.desk.Desk.new.Goals as goal
 
-pub returns : goal.returns
-returns g c = λ lines over.
+pub returns-clause-over : goal.returns-clause-over
+returns-clause-over g c = λ lines over.
     new_desk g.L.LineSync.belongs g.L.LineSync.view lines c.args.ports.items over
     (λ i port at.
     let h = c.requires i port (slice_get_within _ _ _ at) in

@@ -1,5 +1,5 @@
 use Rattle.std.proofs.Common.{All, Vec, Global, is_ok}
-use Rattle.line_rows.specs.Opened.{IsNewPort}
+use Rattle.line_accounts.specs.NewDesks.{IsNewPort}
 use Rattle.line_rows.proofs.NewPorts.{no_money}
 use Rattle.line_rows.proofs.Each.{all_pushed}
 use Rattle.line_rows.proofs.tests.desks.eight_lines.Goals as goal

@@ -1,5 +1,5 @@
 use Rattle.std.proofs.Common.{All}
-use Rattle.line_rows.specs.Opened.{IsNewPort}
+use Rattle.line_accounts.specs.NewDesks.{IsNewPort}
 use Rattle.line_rows.proofs.tests.desks.eight_lines.Given as goal
 
 abbrev pub invariant-loop : goal.invariant-loop

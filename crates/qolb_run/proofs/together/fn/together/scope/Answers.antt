@@ -1,4 +1,4 @@
-use Rattle.std.proofs.Common.{rules, ◌≡◌, ◌++◌, ◌∷◌, ◌+◌, ℕ, List, [], length, Some, slice_get, ap, sym, subst, ◌∙◌, arith, length-append}
+use Rattle.std.proofs.Common.{rules, ◌≡◌, ◌++◌, ◌∷◌, ℕ, List, [], length, Some, slice_get, ap, sym, subst, ◌∙◌, arith, length-append}
 use Rattle.std.specs.Vec.Iter.{into_iter_items}
 use Rattle.std.specs.declared.thread.PromisedHandle.{PromisedHandle}
 use Rattle.std.proofs.lemmas.List.Elements.{All-rest}

@@ -1,7 +1,7 @@
 -- Ports of several lines, one line more at a time.
 use Rattle.std.proofs.Common.{◌≡◌, ◌+◌, ◌<◌, ◌≤◌, inl, inr, ℕ, List, [], ◌∷◌, ◌++◌, length, All, Some, Vec, Global, slice_get, slice_index_or, refl, sym, ap, subst, ◌∙◌, arith, length-append}
 use Rattle.std.proofs.Math.ListN.{set}
-use Rattle.std.proofs.lemmas.List.Elements.{All-push}
+use Rattle.std.proofs.lemmas.List.Elements.{All-head, All-push}
 use Rattle.std.proofs.lemmas.Bool.{cases_eq}
 use Rattle.std.proofs.lemmas.Option.{slice_get_within, slice_get-get_or, get_or_from_slice_get}
 use Rattle.qolb_model.specs.declared.answer.PortState.TheVariants.{Idle}
@@ -9,8 +9,11 @@ use Rattle.qolb_model.specs.declared.view.View.{View}
 use Rattle.qolb_model.proofs.Lists.{same_some, slice_get-append_left, slice_get-push}
 use Rattle.line_accounts.specs.Desks.{AreOver}
 use Rattle.line_accounts.proofs.Accounted.{slice_get-set_same, slice_get-set_other}
-use Rattle.line_rows.specs.Opened.{IsNewPort}
-use Rattle.line_rows.specs.Columns.{IsColumn}
+use Rattle.line_accounts.specs.NewDesks.{IsNewPort, IsColumn}
+
+-- what holds of all holds of the first
+pub all_first : {X : Type 0} (P : X → Type 0) (x : X) (xs ys : List X) → ys ≡ x ∷ xs → All P ys → P x
+all_first P x xs ys e all = All-head P x xs (subst (All P) e all)
 
 -- no line, and no port
 pub column_none : {Line Port : Type 0} (belongs : Line → Port → Type 0) (view : Port → View) → IsColumn belongs view [] []

@@ -1,0 +1,72 @@
+use Rattle.std.proofs.Common.{◌≤◌, ◌++◌, ◌∷◌, [], List, All, Vec, Global, length, map, vec_len, ap, sym, ◌∙◌, arith, length-append, append_assoc}
+use Rattle.std.specs.Vec.Iter.{into_iter_items}
+use Rattle.std.proofs.lemmas.List.Elements.{All-nil, All-same, All-rest, All-push}
+use Rattle.line_accounts.specs.Desks.{DeskOf, IsDeskOver}
+use Rattle.line_accounts.specs.NewDesks.{IsNewPort, IsColumn, IsUnpaid}
+use Rattle.line_accounts.proofs.Columns.{all_first, columns_none}
+use Rattle.line_accounts.proofs.desks.deal.Goals as goal
+
+pub loop-line-init : goal.loop-line-init
+loop-line-init g c =
+    let all = c.into_iter-line-iterator.ensures.into_iter_gives.0 in
+    let none = c.in_ok-lines.ensures.items in record {
+      left = All-same (λ (line : g.row.L.Denot × Vec g.row.L-Port.Denot Global). All (IsNewPort g.L.LineSync.belongs g.L.LineSync.view line.0) line.1.items) _ _ all c.requires.new;
+      enough = All-same (λ (line : g.row.L.Denot × Vec g.row.L-Port.Denot Global). c.args.count ≤ vec_len line.1) _ _ all c.requires.enough;
+      given = ap (λ (ls : List g.row.L.Denot). ls ++ map (λ (line : g.row.L.Denot × Vec g.row.L-Port.Denot Global). line.0) (into_iter_items c.into_iter-line-iterator.result)) none
+          ∙ ap (λ (ls : List (g.row.L.Denot × Vec g.row.L-Port.Denot Global)). map (λ line. line.0) ls) all;
+      columns = columns_none g.L.LineSync.belongs g.L.LineSync.view c.in_ok-lines.lines.items c.in_ok-columns.columns.items none c.in_ok-columns.ensures.empty;
+      many = omega (arith, c.in_ok-columns.ensures.as_many, c.in_ok-columns.columns.ok.0);
+    }
+
+pub add_line-requires-clause-ports : goal.add_line-requires-clause-ports
+add_line-requires-clause-ports g c =
+    all_first (λ (line : g.row.L.Denot × Vec g.row.L-Port.Denot Global). All (IsNewPort g.L.LineSync.belongs g.L.LineSync.view line.0) line.1.items) (c.in-Some.line, c.in-Some.ports) (into_iter_items c.next.new.self) _ c.in-Some.ensures.steps.0 c.loop-line.invariant.left
+
+pub add_line-requires-clause-enough : goal.add_line-requires-clause-enough
+add_line-requires-clause-enough g c =
+    let one = all_first (λ (line : g.row.L.Denot × Vec g.row.L-Port.Denot Global). c.args.count ≤ vec_len line.1) (c.in-Some.line, c.in-Some.ports) (into_iter_items c.next.new.self) _ c.in-Some.ensures.steps.0 c.loop-line.invariant.enough in
+    omega (arith, one, c.loop-line.invariant.many, c.loop-line.columns.ok.0)
+
+pub loop-line-preserved : goal.loop-line-preserved
+loop-line-preserved g c =
+    let step = c.in-Some.ensures.steps.0 in record {
+      left = All-rest (λ (line : g.row.L.Denot × Vec g.row.L-Port.Denot Global). All (IsNewPort g.L.LineSync.belongs g.L.LineSync.view line.0) line.1.items) (c.in-Some.line, c.in-Some.ports) (into_iter_items c.next.new.self) (into_iter_items c.loop-line.line-iterator) step c.loop-line.invariant.left;
+      enough = All-rest (λ (line : g.row.L.Denot × Vec g.row.L-Port.Denot Global). c.args.count ≤ vec_len line.1) (c.in-Some.line, c.in-Some.ports) (into_iter_items c.next.new.self) (into_iter_items c.loop-line.line-iterator) step c.loop-line.invariant.enough;
+      given = ap (λ (ls : List g.row.L.Denot). ls ++ map (λ (line : g.row.L.Denot × Vec g.row.L-Port.Denot Global). line.0) (into_iter_items c.next.new.self)) c.in_ok-add_line.ensures.lines
+          ∙ append_assoc c.loop-line.lines.items (c.in-Some.line ∷ []) (map (λ (line : g.row.L.Denot × Vec g.row.L-Port.Denot Global). line.0) (into_iter_items c.next.new.self))
+          ∙ ap (λ (ls : List (g.row.L.Denot × Vec g.row.L-Port.Denot Global)). c.loop-line.lines.items ++ map (λ line. line.0) ls) (sym step)
+          ∙ c.loop-line.invariant.given;
+      columns = c.in_ok-add_line.ensures.columns;
+      many = omega (arith, c.add_line.ensures.as_many, c.loop-line.invariant.many, c.loop-line.columns.ok.0, c.add_line.new.columns.ok.0);
+    }
+
+pub loop-ports-init : goal.loop-ports-init
+loop-ports-init g c =
+    let all = c.into_iter-ports-iterator.ensures.into_iter_gives.0 in
+    let none = c.in_ok-desks.ensures.items in record {
+      left = All-same (λ (ports : Vec g.row.L-Port.Denot Global). IsColumn g.L.LineSync.belongs g.L.LineSync.view c.loop-line.lines.items ports.items) _ _ all c.loop-line.invariant.columns;
+      over = All-same (λ (desk : DeskOf g.row.L-Port.Denot). IsDeskOver g.L.LineSync.belongs g.L.LineSync.view c.loop-line.lines.items desk) _ _ none (All-nil _);
+      unpaid = All-same (λ (desk : DeskOf g.row.L-Port.Denot). IsUnpaid desk) _ _ none (All-nil _);
+      many = let long = ap length all in let zero = ap length none in omega (arith, long, zero, c.loop-line.invariant.many);
+    }
+
+pub new-requires : goal.new-requires
+new-requires g c =
+    (all_first (λ (ports : Vec g.row.L-Port.Denot Global). IsColumn g.L.LineSync.belongs g.L.LineSync.view c.loop-line.lines.items ports.items) c.in-Some-ports.ports (into_iter_items c.next-in-loop-ports.new.self) _ c.in-Some-ports.ensures.steps.0 c.loop-ports.invariant.left).unused
+
+pub loop-ports-preserved : goal.loop-ports-preserved
+loop-ports-preserved g c =
+    let step = c.in-Some-ports.ensures.steps.0 in
+    let pushed = c.in_ok-push.ensures.items in
+    let own = all_first (λ (ports : Vec g.row.L-Port.Denot Global). IsColumn g.L.LineSync.belongs g.L.LineSync.view c.loop-line.lines.items ports.items) c.in-Some-ports.ports (into_iter_items c.next-in-loop-ports.new.self) _ step c.loop-ports.invariant.left in record {
+      left = All-rest (λ (ports : Vec g.row.L-Port.Denot Global). IsColumn g.L.LineSync.belongs g.L.LineSync.view c.loop-line.lines.items ports.items) c.in-Some-ports.ports (into_iter_items c.next-in-loop-ports.new.self) (into_iter_items c.loop-ports.ports-iterator) step c.loop-ports.invariant.left;
+      over = All-same (λ (desk : DeskOf g.row.L-Port.Denot). IsDeskOver g.L.LineSync.belongs g.L.LineSync.view c.loop-line.lines.items desk) _ _ pushed
+          (All-push (λ (desk : DeskOf g.row.L-Port.Denot). IsDeskOver g.L.LineSync.belongs g.L.LineSync.view c.loop-line.lines.items desk) c.loop-ports.desks.items c.new.result c.loop-ports.invariant.over (c.new.ensures.over c.loop-line.lines.items own.over));
+      unpaid = All-same (λ (desk : DeskOf g.row.L-Port.Denot). IsUnpaid desk) _ _ pushed
+          (All-push (λ (desk : DeskOf g.row.L-Port.Denot). IsUnpaid desk) c.loop-ports.desks.items c.new.result c.loop-ports.invariant.unpaid (record { paid_in = c.new.ensures.paid_in; paid_out = c.new.ensures.paid_out }));
+      many =
+          let one = ap length pushed in
+          let more = length-append c.loop-ports.desks.items (c.new.result ∷ []) in
+          let rest = ap length step in
+          omega (arith, one, more, rest, c.loop-ports.invariant.many);
+    }

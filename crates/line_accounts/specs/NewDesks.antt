@@ -1,0 +1,41 @@
+-- New desks, over lines that were just opened. (Of this project.)
+use Rattle.std.specs.Prelude.{◌≡◌, ℕ, ◌<◌, ◌≤◌, List, All, Vec, vec_len, slice_get, Some}
+use Rattle.std.specs.Global.{Global}
+use Rattle.qolb_model.specs.declared.answer.PortState.TheVariants.{Idle}
+use Rattle.qolb_model.specs.declared.view.View.{View}
+use Rattle.line_accounts.specs.declared.answer.DesksError.{DesksError}
+use Rattle.line_accounts.specs.declared.answer.DesksError.TheVariants.{Memory, Few}
+use Rattle.line_accounts.specs.Desks.{DeskOf, AreOver}
+
+-- a port of the line that has made no request
+pub record IsNewPort {Line Port : Type 0} (belongs : Line → Port → Type 0) (view : Port → View) (line : Line) (port : Port) : Type 0 where
+  pub of_line : belongs line port
+  pub idle : (view port).state ≡ Idle
+  pub never : (view port).count ≡ 0
+
+-- port i is of line i, and none has made a request
+pub record IsColumn {Line Port : Type 0} (belongs : Line → Port → Type 0) (view : Port → View) (lines : List Line) (ports : List Port) : Type 0 where
+  pub over : AreOver belongs lines ports
+  pub unused : All (λ port. ((view port).state ≡ Idle) × ((view port).count ≡ 0)) ports
+
+-- nothing was paid at the desk
+pub record IsUnpaid {Port : Type 0} (desk : DeskOf Port) : Type 0 where
+  pub paid_in : desk.paid_in ≡ 0
+  pub paid_out : desk.paid_out ≡ 0
+
+module _ {Line Port : Type 0} (count : ℕ) (opened : List (Line × Vec Port Global)) where
+  -- each line has a port for each of so many desks
+  abbrev pub AreEnough : Type 0
+  AreEnough = All (λ line. count ≤ vec_len line.1) opened
+
+  -- line i is the least that has fewer
+  pub record IsFirstShort (i : ℕ) : Type 0 where
+    pub line : Line × Vec Port Global
+    pub at : slice_get opened i ≡ Some line
+    pub short : vec_len line.1 < count
+    pub before : (j : ℕ) (other : Line × Vec Port Global) → j < i → slice_get opened j ≡ Some other → count ≤ vec_len other.1
+
+  -- why there are no desks: a line has too few ports; and only else, want of memory
+  abbrev pub MayHaveNoDesks : DesksError → Type 0
+  MayHaveNoDesks (Few i) = IsFirstShort i
+  MayHaveNoDesks Memory = AreEnough
