@@ -1,15 +1,19 @@
 //! A node of a line of either kind.
-ghost use Rattle.std.specs.Prelude.{◌≡◌, ◌≢◌, ℕ, true, false, MatchOption, MatchResult};
+ghost use Rattle.std.specs.Prelude.{◌≡◌, ◌≢◌, ℕ, ◌*◌, ◌/◌, ◌%◌, ◌^◌, ◌<◌, slice_index, true, false, MatchOption, MatchResult};
+ghost use Rattle.line_lanes.specs.Lane.{with_lane_of};
+ghost use Rattle.line_lanes.specs.Line.{merged};
+ghost use Rattle.line_lanes.specs.Mask.{placed_mask};
 ghost use Rattle.qolb_model.specs.PortStates.{may_ask};
 ghost use Rattle.qolb_c.specs.Calls.{view_of, turn_of, state_of, Enqolbs, Polls, Waits, Prepends, LinksUp, Withdraws, Reads, ReadsLane, Writes, WritesLane, Releases};
 ghost use Rattle.qolb_c.specs.declared.any_node.AnyNode.{AnyNode};
 
 use crate::answer::Answer;
 use crate::node::Node;
-use line_lanes::{Line64, Mask, lane, placed, with_lane};
+use line_lanes::{Line64, Mask, lane, placed};
 use link_line::LinkLine;
 use qolb_model::{Free, PortState};
 use ring_line::RingLine;
+use std::simd::u64x8;
 
 /// How many lanes a line has.
 const LANES: u64 = 8;
@@ -50,7 +54,7 @@ impl AnyNode {
     {
         match self {
             AnyNode::Ring(node) => Answer::of_enq(node.enqolb()),
-            AnyNode::List(node) => Answer::of_enq(node.enqolb()),
+            AnyNode::List(node) => ask_list(node),
         }
     }
 
@@ -155,7 +159,7 @@ impl AnyNode {
         };
         match self.bytes() {
             Some(line) => {
-                let line = with_lane(line, k as usize, value);
+                let line = for_lane(*line, k, value);
                 self.write(mask, &line)
             }
             None => Answer::Misuse,
@@ -192,6 +196,36 @@ impl AnyNode {
             AnyNode::List(node) => Answer::of_done(node.shut()),
         }
     }
+}
+
+/// A line whose write to lane `k` of the held one puts the value there.
+///
+/// It is the line that has the value in each lane: to make it takes fewer instructions than to replace lane `k`, and the held line is not
+/// even read. That one is passed for the contract alone.
+fn for_lane(held: Line64, k: u64, value: u64) -> Line64
+    requires { k < 8 }
+    ensures { merged held.bytes result.bytes (placed_mask (8 * k) 8) ≡ merged held.bytes (with_lane_of held.bytes k value) (placed_mask (8 * k) 8) }
+{
+    in_each_lane(value)
+}
+
+/// The line that has the value in each of its lanes.
+fn in_each_lane(value: u64) -> Line64
+    ensures { (i : ℕ) → i < 64 → slice_index result.bytes i ≡ value / 256 ^ (i % 8) % 256 }
+{
+    Line64 {
+        bytes: u64x8::splat(value).to_le_bytes().to_array(),
+    }
+}
+
+/// Asks for a list.
+///
+/// It is apart, so that a ring's call saves no registers for it.
+#[inline(never)]
+fn ask_list(node: &mut Node<LinkLine<Free>>) -> Answer
+    ensures { Enqolbs (AnyNode.List node.old) (AnyNode.List node.new) result }
+{
+    Answer::of_enq(node.enqolb())
 }
 
 /// A node of some kind of line.
