@@ -1,19 +1,16 @@
 //! A node of a line of either kind.
-ghost use Rattle.std.specs.Prelude.{◌≡◌, ◌≢◌, ℕ, ◌*◌, ◌/◌, ◌%◌, ◌^◌, ◌<◌, slice_index, true, false, MatchOption, MatchResult};
-ghost use Rattle.line_lanes.specs.Lane.{with_lane_of};
-ghost use Rattle.line_lanes.specs.Line.{merged};
-ghost use Rattle.line_lanes.specs.Mask.{placed_mask};
+ghost use Rattle.std.specs.Prelude.{◌≡◌, ◌≢◌, ℕ, true, false, MatchOption, MatchResult};
 ghost use Rattle.qolb_model.specs.PortStates.{may_ask};
 ghost use Rattle.qolb_c.specs.Calls.{view_of, turn_of, state_of, Enqolbs, Polls, Waits, Prepends, LinksUp, Withdraws, Reads, ReadsLane, Writes, WritesLane, Releases};
 ghost use Rattle.qolb_c.specs.declared.any_node.AnyNode.{AnyNode};
 
 use crate::answer::Answer;
+use crate::lanes::for_lane;
 use crate::node::Node;
 use line_lanes::{Line64, Mask, lane, placed};
 use link_line::LinkLine;
 use qolb_model::{Free, PortState};
 use ring_line::RingLine;
-use std::simd::u64x8;
 
 /// How many lanes a line has.
 const LANES: u64 = 8;
@@ -195,26 +192,6 @@ impl AnyNode {
             AnyNode::Ring(node) => Answer::of_done(node.shut()),
             AnyNode::List(node) => Answer::of_done(node.shut()),
         }
-    }
-}
-
-/// A line whose write to lane `k` of the held one puts the value there.
-///
-/// It is the line that has the value in each lane: to make it takes fewer instructions than to replace lane `k`, and the held line is not
-/// even read. That one is passed for the contract alone.
-fn for_lane(held: Line64, k: u64, value: u64) -> Line64
-    requires { k < 8 }
-    ensures { merged held.bytes result.bytes (placed_mask (8 * k) 8) ≡ merged held.bytes (with_lane_of held.bytes k value) (placed_mask (8 * k) 8) }
-{
-    in_each_lane(value)
-}
-
-/// The line that has the value in each of its lanes.
-fn in_each_lane(value: u64) -> Line64
-    ensures { (i : ℕ) → i < 64 → slice_index result.bytes i ≡ value / 256 ^ (i % 8) % 256 }
-{
-    Line64 {
-        bytes: u64x8::splat(value).to_le_bytes().to_array(),
     }
 }
 

@@ -2,7 +2,7 @@ use Rattle.std.proofs.Common.{◌≡◌, ◌*◌, subst, arith}
 use Rattle.line_lanes.specs.Lane.{with_lane_of}
 use Rattle.line_lanes.specs.Line.{merged}
 use Rattle.line_lanes.specs.Mask.{placed_mask}
-use Rattle.qolb_c.proofs.Lanes.{lane_written}
+use Rattle.qolb_c.proofs.LaneWrites.{lane_written}
 use Rattle.qolb_c.proofs.any_node.AnyNode.write_lane.Goals as goal
 
 pub returns-in-Some-bytes : goal.returns-in-Some-bytes

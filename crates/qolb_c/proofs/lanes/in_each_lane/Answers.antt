@@ -1,7 +1,7 @@
 use Rattle.std.proofs.Common.{◌≡◌, ◌<◌, ◌+◌, ◌*◌, ◌/◌, ◌%◌, ◌^◌, ap, ◌∙◌, arith, get_or, replicate, refl}
 use Rattle.std.proofs.lemmas.Simd.{get_or_narrower, get_or-replicate, Each1-replicate}
 use lib.Lanes.{digits_l, number_l}
-use Rattle.qolb_c.proofs.any_node.in_each_lane.Goals as goal
+use Rattle.qolb_c.proofs.lanes.in_each_lane.Goals as goal
 
 pub returns : goal.returns
 returns c i h =
