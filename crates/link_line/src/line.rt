@@ -84,6 +84,7 @@ impl<K: Keep> LinkLine<K> {
     }
 
     /// The holder writes the bytes of the mask.
+    #[inline(always)]
     pub fn write(port: &mut Port, mask: Mask, bytes: &Line64)
         requires { port.old.view.state ≡ PortState.Holding }
         ensures table { port.new.table ≡ port.old.table }

@@ -52,6 +52,7 @@ impl<K: Keep> LineSync<K> for LinkLine<K> {
         LinkLine::<K>::turns_left(self, port)
     }
 
+    #[inline(always)]
     fn write(port: &mut Port, mask: Mask, bytes: &Line64) {
         LinkLine::<K>::write(port, mask, bytes)
     }

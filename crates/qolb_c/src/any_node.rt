@@ -5,8 +5,9 @@ ghost use Rattle.qolb_c.specs.Calls.{view_of, turn_of, state_of, Enqolbs, Polls,
 ghost use Rattle.qolb_c.specs.declared.any_node.AnyNode.{AnyNode};
 
 use crate::answer::Answer;
+use crate::lanes::for_lane;
 use crate::node::Node;
-use line_lanes::{Line64, Mask, lane, placed, with_lane};
+use line_lanes::{Line64, Mask, lane, placed};
 use link_line::LinkLine;
 use qolb_model::{Free, PortState};
 use ring_line::RingLine;
@@ -50,7 +51,7 @@ impl AnyNode {
     {
         match self {
             AnyNode::Ring(node) => Answer::of_enq(node.enqolb()),
-            AnyNode::List(node) => Answer::of_enq(node.enqolb()),
+            AnyNode::List(node) => ask_list(node),
         }
     }
 
@@ -155,7 +156,7 @@ impl AnyNode {
         };
         match self.bytes() {
             Some(line) => {
-                let line = with_lane(line, k as usize, value);
+                let line = for_lane(*line, k, value);
                 self.write(mask, &line)
             }
             None => Answer::Misuse,
@@ -192,6 +193,16 @@ impl AnyNode {
             AnyNode::List(node) => Answer::of_done(node.shut()),
         }
     }
+}
+
+/// Asks for a list.
+///
+/// It is apart, so that a ring's call saves no registers for it.
+#[inline(never)]
+fn ask_list(node: &mut Node<LinkLine<Free>>) -> Answer
+    ensures { Enqolbs (AnyNode.List node.old) (AnyNode.List node.new) result }
+{
+    Answer::of_enq(node.enqolb())
 }
 
 /// A node of some kind of line.

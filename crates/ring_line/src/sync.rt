@@ -52,6 +52,7 @@ impl<K: Keep> LineSync<K> for RingLine<K> {
         RingLine::<K>::turns_left(self, port)
     }
 
+    #[inline(always)]
     fn write(port: &mut Port, mask: Mask, bytes: &Line64) {
         RingLine::<K>::write(port, mask, bytes)
     }
