@@ -1,1 +1,2 @@
+pub mod Mailbox
 pub mod Seats

@@ -1,6 +1,10 @@
 //! Threads share one number. Each takes the line, adds 1 to its first lane, and hands it on.
-ghost use Rattle.std.specs.Prelude.{IsTrue};
+ghost use Rattle.std.specs.Prelude.{◌≡◌, ◌⊎◌, ◌+◌, ◌%◌, ◌^◌, IsTrue};
+ghost use Rattle.line_lanes.specs.Lane.{lane_of};
 ghost use Rattle.qolb_model.specs.PortStates.{may_ask};
+ghost use Rattle.qolb_model.specs.Views.{bytes_of};
+ghost use Rattle.qolb_model.specs.Turns.{IsGranted};
+ghost use Rattle.qolb_model.specs.LettingGo.{IsTold};
 
 use line_lanes::{Line64, Mask, lane, with_lane};
 use qolb_model::{Free, LineSync, OpenLine, Terms};
@@ -13,19 +17,30 @@ use std::thread::Threads;
 /// All bytes of a line.
 const WHOLE: Mask = Mask(0xffff_ffff_ffff_ffff);
 
-/// Adds 1 to the first lane, so many times, each in a turn of its own.
+/// The holder adds 1 to the first lane.
+fn add_one<L: LineSync<Free>>(port: &mut L::Port)
+    requires { IsGranted (L.view port.old) (L.turn port.old) }
+    ensures view { L.view port.new ≡ L.view port.old }
+    ensures added { lane_of (L.turn port.new).bytes.bytes 0 ≡ (lane_of (bytes_of (L.view port.old)) 0 + 1) % 2 ^ 64 }
+    ensures belongs { (line : L) → L.belongs line port.old → L.belongs line port.new }
+{
+    let held = *L::bytes(port);
+    let more = lane(&held, 0).wrapping_add(1);
+    L::write(port, WHOLE, &with_lane(&held, 0, more));
+}
+
+/// Adds 1 to the first lane, so many times, each in a turn of its own. It stops early only where it is told that the line is closed.
 pub fn add<R: Wait, L: LineSync<Free>>(rt: &R, line: &L, port: &mut L::Port, rounds: u64)
     requires belongs { L.belongs line.now port.old }
     requires state { IsTrue (may_ask (L.view port.old).state) }
     ensures belongs { L.belongs line.now port.new }
     ensures state { IsTrue (may_ask (L.view port.new).state) }
+    ensures asks { ((L.view port.new).count ≡ (L.view port.old).count + rounds) ⊎ IsTold (L.view port.new) }
 {
-    for _ in 0..rounds {
+    for _round in 0..rounds {
         match acquire(rt, line, port) {
             Got::Granted => {
-                let held = *L::bytes(port);
-                let more = lane(&held, 0).wrapping_add(1);
-                L::write(port, WHOLE, &with_lane(&held, 0, more));
+                add_one::<L>(port);
                 line.deqolb(port);
             }
             Got::Closed => return,

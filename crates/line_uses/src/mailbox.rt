@@ -1,10 +1,10 @@
 //! A line as a place for one value, which one node puts down and another takes up. Neither waits for ever: with its patience at an
 //! end a node takes its request back.
-ghost use Rattle.std.specs.Prelude.{◌≡◌, ◌≢◌, IsTrue, IfSome};
-ghost use Rattle.line_lanes.specs.Lane.{lane_of};
+ghost use Rattle.std.specs.Prelude.{◌≡◌, ◌≢◌, ◌⊎◌, IsTrue, IfSome, IfNone, false};
 ghost use Rattle.qolb_model.specs.PortStates.{may_ask};
-ghost use Rattle.qolb_model.specs.Views.{bytes_of};
 ghost use Rattle.qolb_model.specs.Turns.{IsGranted};
+ghost use Rattle.qolb_model.specs.LettingGo.{IsTold};
+ghost use Rattle.line_uses.specs.Mailbox.{IsLate, HadNoTurn, HadTurn, WasFull};
 
 use line_lanes::{Line64, Mask, lane, with_lane};
 use qolb_model::{Enq, Free, LineSync, OpenLine, Out, Poll, Terms};
@@ -37,6 +37,8 @@ pub fn ask<L: LineSync<Free>>(line: &L, port: &mut L::Port, patience: u64) -> As
     requires state { IsTrue (may_ask (L.view port.old).state) }
     ensures belongs { L.belongs line.now port.new }
     ensures granted { result ≡ Asked.Granted → IsGranted (L.view port.new) (L.turn port.new) }
+    ensures late { result ≡ Asked.Late → IsLate (L.view port.old) (L.view port.new) }
+    ensures told { result ≡ Asked.Closed → IsTold (L.view port.new) }
     ensures ended { result ≢ Asked.Granted → IsTrue (may_ask (L.view port.new).state) }
 {
     match line.enqolb(port) {
@@ -66,7 +68,8 @@ pub fn put_down<L: LineSync<Free>>(line: &L, port: &mut L::Port, value: u64) -> 
     requires state { IsTrue (may_ask (L.view port.old).state) }
     ensures belongs { L.belongs line.now port.new }
     ensures state { IsTrue (may_ask (L.view port.new).state) }
-    ensures lies { IsTrue result → lane_of (bytes_of (L.view port.new)) 0 ≡ value }
+    ensures put { IsTrue result → HadTurn 0 value (L.view port.new) }
+    ensures full { result ≡ false → HadNoTurn (L.view port.old) (L.view port.new) ⊎ WasFull (L.view port.new) }
 {
     if ask(line, port, PATIENCE) != Asked::Granted {
         return false;
@@ -87,7 +90,8 @@ pub fn take_up<L: LineSync<Free>>(line: &L, port: &mut L::Port) -> Option<u64>
     ensures belongs { L.belongs line.now port.new }
     ensures state { IsTrue (may_ask (L.view port.new).state) }
     ensures value { IfSome result (λ value. value ≢ 0) }
-    ensures free { IfSome result (λ _. lane_of (bytes_of (L.view port.new)) 0 ≡ 0) }
+    ensures taken { IfSome result (λ value. HadTurn value 0 (L.view port.new)) }
+    ensures empty { IfNone result (HadNoTurn (L.view port.old) (L.view port.new) ⊎ HadTurn 0 0 (L.view port.new)) }
 {
     if ask(line, port, PATIENCE) != Asked::Granted {
         return None;

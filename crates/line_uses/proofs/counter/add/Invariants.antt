@@ -1,6 +1,10 @@
-use Rattle.std.proofs.Common.{IsTrue}
+use Rattle.std.proofs.Common.{◌≡◌, ◌+◌, IsTrue}
 use Rattle.qolb_model.specs.PortStates.{may_ask}
 use Rattle.line_uses.proofs.counter.add.Given as goal
 
-abbrev pub invariant-loop : goal.invariant-loop
-invariant-loop g l = g.L.LineSync.belongs l.line l.port × IsTrue (may_ask (g.L.LineSync.view l.port).state)
+abbrev pub invariant-loop-round : goal.invariant-loop-round
+invariant-loop-round g l = record {
+  belongs : g.L.LineSync.belongs l.line l.port;
+  state : IsTrue (may_ask (g.L.LineSync.view l.port).state);
+  count : (g.L.LineSync.view l.port).count ≡ (g.L.LineSync.view l.fn.port).count + l._round;
+}
