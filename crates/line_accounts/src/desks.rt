@@ -10,7 +10,7 @@ use qolb_model::LineSync;
 use std::alloc::{AllocError, Global};
 
 /// The lines in their order, and so many desks over all of them. Each desk has one port of each line; ports beyond the number of desks are
-/// dropped.
+/// dropped. Refused, lines and ports are dropped.
 pub fn desks_over<L: LineSync<AccountLaw> + Drop>(
     alloc: Global,
     opened: Vec<(L, Vec<L::Port>)>,
