@@ -1,11 +1,16 @@
 -- What the outcomes of a run say of its task.
-use Rattle.std.proofs.Common.{◌≡◌, ℕ, List, Option, Some, None, IfSome, IfErr, IsErrAnd, Result, Ok, Err, inl, inr, sym, subst, arith}
+use Rattle.std.proofs.Common.{◌≡◌, ◌↔◌, ℕ, List, Option, Some, None, IfSome, IfErr, IsErrAnd, Result, Ok, Err, inl, inr, sym, subst, arith}
+use Rattle.qolb_run.specs.declared.replay.Kind.TheVariants.{Plain}
 use Rattle.qolb_run.specs.declared.replay.ReplayError.{ReplayError}
 use Rattle.qolb_run.specs.declared.replay.ReplayError.TheVariants as error
 use Rattle.qolb_run.specs.declared.report.TaskError.{TaskError}
-use Rattle.qolb_run.specs.declared.report.TaskError.TheVariants.{Replay, Stalled}
+use Rattle.qolb_run.specs.declared.report.TaskError.TheVariants as ending
 use Rattle.qolb_run.specs.declared.task.Task.{Task}
+use Rattle.qolb_run.specs.declared.task.Task.TheVariants.{Replay}
 use Rattle.qolb_run.specs.Outcome.{MayFail, MayEnd, IsRefused}
+use Rattle.qolb.specs.declared.command_line.Wish.{Wish}
+use Rattle.qolb.specs.declared.command_line.Wish.TheVariants.{Answer, Draw}
+use Rattle.qolb.specs.Wishes.{IsDenied, MayDeny}
 use Rattle.qolb.specs.Status.{replay_status, status_of}
 
 replay_fault : (task : Task) (e : ReplayError) (input : List ℕ) → MayFail task input e → replay_status e ≡ 1 → IsRefused task input
@@ -16,20 +21,27 @@ replay_fault task (error.Script why) input h one = inr (why, h.1)
 replay_fault task error.Write input h one = absurd (omega arith)
 
 fault : (task : Task) (e : TaskError) (input : List ℕ) → MayEnd task input e → status_of e ≡ 1 → IsRefused task input
-fault task (Replay why) input h one = replay_fault task why input h one
-fault task (Stalled worker) input h one = absurd (omega arith)
+fault task (ending.Replay why) input h one = replay_fault task why input h one
+fault task (ending.Stalled worker) input h one = absurd (omega arith)
 
-known_refused : (task : Task) (e : TaskError) (known : Option (List ℕ)) → IfSome known (λ input. MayEnd task input e) → status_of e ≡ 1 → IfSome known (IsRefused task)
-known_refused task e None h one = tt
-known_refused task e (Some input) h one = fault task e input h one
+denied : (wish : Wish) (e : TaskError) (input : List ℕ) → MayDeny wish input e → status_of e ≡ 1 → IsDenied wish input
+denied (Answer task) e input h one = fault task e input h one
+denied (Draw form) e input h one = fault (Replay Plain) e input h one
 
 -- a status of 1 tells of a script that is refused
-pub refused : {T : Type 0} (task : Task) (r : Result T TaskError) (known : Option (List ℕ)) → IfErr r (λ e. IfSome known (λ input. MayEnd task input e)) → IfErr r (λ e. status_of e ≡ 1 → IfSome known (IsRefused task))
-refused task (Ok x) known h = tt
-refused task (Err e) known h = known_refused task e known h
+pub known_denied : (wish : Wish) (e : TaskError) (known : Option (List ℕ)) → IfSome known (λ input. MayDeny wish input e) → status_of e ≡ 1 → IfSome known (IsDenied wish)
+known_denied wish e None h one = tt
+known_denied wish e (Some input) h one = denied wish e input h one
 
--- so does one of an error of a replay
-pub replay_refused : {T : Type 0} (task : Task) (why : ReplayError) (known : Option (List ℕ)) → IfSome known (λ input. MayFail task input why) → (r : Result T TaskError) → IsErrAnd r (λ e. e ≡ Replay why)
-    → IfErr r (λ e. status_of e ≡ 1 → IfSome known (IsRefused task))
-replay_refused task why known h (Ok x) is = tt
-replay_refused task why known h (Err e) is = known_refused task e known (subst (λ e. IfSome known (λ input. MayEnd task input e)) (sym is) h)
+-- an error of a replay may come where the replay may have it
+pub replay_ends : {T : Type 0} (task : Task) (why : ReplayError) (known : Option (List ℕ)) → IfSome known (λ input. MayFail task input why) → (r : Result T TaskError) → IsErrAnd r (λ e. e ≡ ending.Replay why)
+    → IfErr r (λ e. IfSome known (λ input. MayEnd task input e))
+replay_ends task why known h (Ok x) is = tt
+replay_ends task why known h (Err e) is = subst (λ e. IfSome known (λ input. MayEnd task input e)) (sym is) h
+
+-- it is a read fault just where the replay's is
+pub replay_read : {T U : Type 0} (why : ReplayError) (Failed : Type 0) → (let r : Result T ReplayError = Err why in r ≡ Err error.Read) ↔ Failed → (r : Result U TaskError) → IsErrAnd r (λ e. e ≡ ending.Replay why)
+    → (r ≡ Err (ending.Replay error.Read)) ↔ Failed
+replay_read {T} why Failed h (Ok x) is = absurd is
+replay_read {T} why Failed h (Err e) is =
+    (λ read. h.0 (let same : ending.Replay why ≡ ending.Replay error.Read = cc in cc same), λ failed. let same : why ≡ error.Read = (let was = h.1 failed in cc was) in cc same)

@@ -2,7 +2,8 @@
 use Rattle.std.specs.Prelude.{ℕ, List}
 use Rattle.qolb_run.specs.declared.replay.Kind.TheVariants.{Plain}
 use Rattle.qolb_run.specs.declared.task.Task.TheVariants.{Replay}
-use Rattle.qolb_run.specs.Outcome.{Answers, IsRefused}
+use Rattle.qolb_run.specs.declared.report.TaskError.{TaskError}
+use Rattle.qolb_run.specs.Outcome.{Answers, IsRefused, MayEnd}
 use Rattle.qolb_draw.specs.Pictures.{IsPicture}
 use Rattle.qolb.specs.declared.command_line.Wish.{Wish}
 use Rattle.qolb.specs.declared.command_line.Wish.TheVariants.{Answer, Draw}
@@ -20,3 +21,8 @@ IsGranted wish input = (text : List ℕ) × Grants wish input text
 abbrev pub IsDenied : Wish → List ℕ → Type 0
 IsDenied (Answer task) input = IsRefused task input
 IsDenied (Draw form) input = IsRefused (Replay Plain) input
+
+-- when each error may come with a wish: as with its task, and with a picture as with a replay
+abbrev pub MayDeny : Wish → List ℕ → TaskError → Type 0
+MayDeny (Answer task) input error = MayEnd task input error
+MayDeny (Draw form) input error = MayEnd (Replay Plain) input error

@@ -1,13 +1,13 @@
 //! The program behind its words: it does what they ask for, and says how that ended.
-ghost use Rattle.std.specs.Prelude.{◌≡◌, ◌≢◌, ◌≤◌, ℕ, List, map, string_bytes, IfSome, IfErr, OnOk};
+ghost use Rattle.std.specs.Prelude.{◌≡◌, ◌≢◌, ◌≤◌, ◌↔◌, ℕ, List, true, Err, map, string_bytes, IfSome, IfErr, OnOk};
 ghost use Rattle.std.specs.Io.KnownBytes.{Appends};
-ghost use Rattle.qolb_script.specs.Watched.{inner_of};
+ghost use Rattle.qolb_script.specs.Watched.{inner_of, has_failed};
 ghost use Rattle.qolb.specs.CommandLine.{NamesWish, IsNotTaken};
-ghost use Rattle.qolb_run.specs.Outcome.{Answers, IsRefused, IsWorkReply, MayEnd};
+ghost use Rattle.qolb_run.specs.Outcome.{Answers, IsWorkReply, MayEnd};
 ghost use Rattle.qolb_draw.specs.Pictures.{IsPicture};
 ghost use Rattle.qolb_run.specs.declared.task.Task.TheVariants as task;
 ghost use Rattle.qolb_run.specs.declared.replay.Kind.TheVariants as kind;
-ghost use Rattle.qolb.specs.Wishes.{Grants, IsGranted, IsDenied};
+ghost use Rattle.qolb.specs.Wishes.{Grants, IsGranted, IsDenied, MayDeny};
 ghost use Rattle.qolb.specs.Status.{status_of};
 ghost use Rattle.qolb.specs.declared.command_line.Wish.{Wish};
 
@@ -17,7 +17,7 @@ use qolb_draw::{Form, draw_schedule};
 use qolb_run::{
     AlwaysOpen, Lines, Progress, ReplayError, Task, TaskError, report_work, run_schedule, run_steps,
 };
-use qolb_script::{Watched, WorkKind};
+use qolb_script::{ScriptError, Watched, WorkKind};
 use std::alloc::Global;
 use std::io::{self, Read, Write};
 use std::rt::Clock;
@@ -38,6 +38,7 @@ pub fn serve<T: Threads + Wait + Clock + Eprint + Sync, R: Read, W: Write, E: Wr
     ensures done { result ≡ 0 → (wish : Wish) × NamesWish (map string_bytes words.now) wish × IfSome (R.remaining reader.old) (IsGranted wish) }
     ensures refused { result ≡ 1 → (wish : Wish) × NamesWish (map string_bytes words.now) wish × IfSome (R.remaining reader.old) (IsDenied wish) }
     ensures usage { result ≡ 2 → IsNotTaken (map string_bytes words.now) }
+    ensures fault { result ≡ 4 → (wish : Wish) × NamesWish (map string_bytes words.now) wish }
     ensures unwritten { 1 ≤ result → result ≤ 3 → out.new ≡ out.old }
 {
     let request = match parse_args(alloc, words) {
@@ -67,8 +68,11 @@ fn grant<T: Threads + Wait + Clock + Eprint + Sync, R: Read, W: Write>(
     output: &mut Watched<W>,
 ) -> Result<(), TaskError>
     ensures granted { OnOk result (IfSome (R.remaining (inner_of input.old)) (λ script. (text : List ℕ) × Grants request.wish script text × Appends (W.contents (inner_of output.old)) (W.contents (inner_of output.new)) text)) }
-    ensures denied { IfErr result (λ error. status_of error ≡ 1 → IfSome (R.remaining (inner_of input.old)) (IsDenied request.wish)) }
+    ensures denied { IfErr result (λ error. IfSome (R.remaining (inner_of input.old)) (λ script. MayDeny request.wish script error)) }
     ensures unwritten { IfErr result (λ error. error ≢ TaskError.Replay ReplayError.Write → output.new ≡ output.old) }
+    ensures read_fault { (result ≡ Err (TaskError.Replay ReplayError.Read)) ↔ (has_failed input.new ≡ true) }
+    ensures write_fault { result ≡ Err (TaskError.Replay ReplayError.Write) → has_failed output.new ≡ true }
+    ensures memory { result ≢ Err (TaskError.Replay (ReplayError.Script ScriptError.Memory)) }
 {
     match request.wish {
         Wish::Answer(task) => run(rt, alloc, task, request.progress, input, output),
@@ -84,8 +88,11 @@ fn draw<R: Read, W: Write>(
     output: &mut Watched<W>,
 ) -> Result<(), TaskError>
     ensures drawn { OnOk result (IfSome (R.remaining (inner_of input.old)) (λ script. (text : List ℕ) × IsPicture form script text × Appends (W.contents (inner_of output.old)) (W.contents (inner_of output.new)) text)) }
-    ensures refused { IfErr result (λ error. status_of error ≡ 1 → IfSome (R.remaining (inner_of input.old)) (IsRefused (task.Replay kind.Plain))) }
+    ensures refused { IfErr result (λ error. IfSome (R.remaining (inner_of input.old)) (λ script. MayEnd (task.Replay kind.Plain) script error)) }
     ensures unwritten { IfErr result (λ error. error ≢ TaskError.Replay ReplayError.Write → output.new ≡ output.old) }
+    ensures read_fault { (result ≡ Err (TaskError.Replay ReplayError.Read)) ↔ (has_failed input.new ≡ true) }
+    ensures write_fault { result ≡ Err (TaskError.Replay ReplayError.Write) → has_failed output.new ≡ true }
+    ensures memory { result ≢ Err (TaskError.Replay (ReplayError.Script ScriptError.Memory)) }
 {
     Ok(draw_schedule(alloc, input, output, form)?)
 }
@@ -100,8 +107,11 @@ fn run<T: Threads + Wait + Clock + Eprint + Sync, R: Read, W: Write>(
     output: &mut Watched<W>,
 ) -> Result<(), TaskError>
     ensures answered { OnOk result (IfSome (R.remaining (inner_of input.old)) (λ script. (text : List ℕ) × Answers task script text × Appends (W.contents (inner_of output.old)) (W.contents (inner_of output.new)) text)) }
-    ensures refused { IfErr result (λ error. status_of error ≡ 1 → IfSome (R.remaining (inner_of input.old)) (IsRefused task)) }
+    ensures refused { IfErr result (λ error. IfSome (R.remaining (inner_of input.old)) (λ script. MayEnd task script error)) }
     ensures unwritten { IfErr result (λ error. error ≢ TaskError.Replay ReplayError.Write → output.new ≡ output.old) }
+    ensures read_fault { (result ≡ Err (TaskError.Replay ReplayError.Read)) ↔ (has_failed input.new ≡ true) }
+    ensures write_fault { result ≡ Err (TaskError.Replay ReplayError.Write) → has_failed output.new ≡ true }
+    ensures memory { result ≢ Err (TaskError.Replay (ReplayError.Script ScriptError.Memory)) }
 {
     match task {
         Task::Replay(kind) => Ok(run_schedule(alloc, input, output, kind)?),
@@ -123,6 +133,9 @@ fn work<T: Threads + Wait + Clock + Eprint + Sync, R: Read, W: Write>(
     ensures ok { OnOk result (IfSome (R.remaining (inner_of input.old)) (λ script. (text : List ℕ) × IsWorkReply kind script text × Appends (W.contents (inner_of output.old)) (W.contents (inner_of output.new)) text)) }
     ensures refused { IfErr result (λ error. IfSome (R.remaining (inner_of input.old)) (λ script. MayEnd (task.Work kind lines) script error)) }
     ensures unwritten { IfErr result (λ error. error ≢ TaskError.Replay ReplayError.Write → output.new ≡ output.old) }
+    ensures read_fault { (result ≡ Err (TaskError.Replay ReplayError.Read)) ↔ (has_failed input.new ≡ true) }
+    ensures write_fault { result ≡ Err (TaskError.Replay ReplayError.Write) → has_failed output.new ≡ true }
+    ensures memory { result ≢ Err (TaskError.Replay (ReplayError.Script ScriptError.Memory)) }
 {
     if progress {
         if let Ok(gate) = Progress::new(rt) {

@@ -1,19 +1,28 @@
 use Rattle.std.proofs.Common.{◌≡◌, sym, subst, IfErr, IfSome}
 use Rattle.qolb_run.specs.declared.task.Task.TheVariants.{Replay, Steps, Work}
 use Rattle.qolb_script.specs.Watched.{inner_of}
-use Rattle.qolb_run.specs.Outcome.{IsRefused}
-use Rattle.qolb.specs.Status.{status_of}
-use Rattle.qolb.proofs.Answered.{refused, replay_refused}
+use Rattle.qolb_run.specs.Outcome.{MayEnd}
+use Rattle.qolb.proofs.Answered.{replay_ends, replay_read}
 use Rattle.qolb.proofs.serve.run.Goals as goal
 
 pub returns-in_err-run_schedule-in-Replay-clause-refused : goal.returns-in_err-run_schedule-in-Replay-clause-refused
-returns-in_err-run_schedule-in-Replay-clause-refused g c = subst (λ t. IfErr c.from_residual.result (λ e. status_of e ≡ 1 → IfSome (g.R.Read.remaining (inner_of c.args.input.now)) (IsRefused t))) (sym c.in-Replay.is)
-    (replay_refused (Replay c.in-Replay.kind) c.in_err-run_schedule-in-Replay.field-0.0 (g.R.Read.remaining (inner_of c.args.input.now)) c.in_err-run_schedule-in-Replay.ensures.refused c.from_residual.result c.from_residual.ensures.1)
+returns-in_err-run_schedule-in-Replay-clause-refused g c =
+    subst (λ t. IfErr c.from_residual.result (λ e. IfSome (g.R.Read.remaining (inner_of c.args.input.now)) (λ input. MayEnd t input e))) (sym c.in-Replay.is)
+    (replay_ends (Replay c.in-Replay.kind) c.in_err-run_schedule-in-Replay.field-0.0 (g.R.Read.remaining (inner_of c.args.input.now)) c.in_err-run_schedule-in-Replay.ensures.refused c.from_residual.result c.from_residual.ensures.1)
+
+pub returns-in_err-run_schedule-in-Replay-clause-read_fault : goal.returns-in_err-run_schedule-in-Replay-clause-read_fault
+returns-in_err-run_schedule-in-Replay-clause-read_fault g c =
+    replay_read c.in_err-run_schedule-in-Replay.field-0.0 _ c.in_err-run_schedule-in-Replay.ensures.read_fault c.from_residual.result c.from_residual.ensures.1
 
 pub returns-in_err-run_steps-in-Steps-clause-refused : goal.returns-in_err-run_steps-in-Steps-clause-refused
-returns-in_err-run_steps-in-Steps-clause-refused g c = subst (λ t. IfErr c.from_residual-in_err-run_steps-in-Steps.result (λ e. status_of e ≡ 1 → IfSome (g.R.Read.remaining (inner_of c.args.input.now)) (IsRefused t))) (sym c.in-Steps.is)
-    (replay_refused Steps c.in_err-run_steps-in-Steps.field-0.0 (g.R.Read.remaining (inner_of c.args.input.now)) c.in_err-run_steps-in-Steps.ensures.refused c.from_residual-in_err-run_steps-in-Steps.result c.from_residual-in_err-run_steps-in-Steps.ensures.1)
+returns-in_err-run_steps-in-Steps-clause-refused g c =
+    subst (λ t. IfErr c.from_residual-in_err-run_steps-in-Steps.result (λ e. IfSome (g.R.Read.remaining (inner_of c.args.input.now)) (λ input. MayEnd t input e))) (sym c.in-Steps.is)
+    (replay_ends Steps c.in_err-run_steps-in-Steps.field-0.0 (g.R.Read.remaining (inner_of c.args.input.now)) c.in_err-run_steps-in-Steps.ensures.refused c.from_residual-in_err-run_steps-in-Steps.result c.from_residual-in_err-run_steps-in-Steps.ensures.1)
+
+pub returns-in_err-run_steps-in-Steps-clause-read_fault : goal.returns-in_err-run_steps-in-Steps-clause-read_fault
+returns-in_err-run_steps-in-Steps-clause-read_fault g c =
+    replay_read c.in_err-run_steps-in-Steps.field-0.0 _ c.in_err-run_steps-in-Steps.ensures.read_fault c.from_residual-in_err-run_steps-in-Steps.result c.from_residual-in_err-run_steps-in-Steps.ensures.1
 
 pub returns-in-Work-clause-refused : goal.returns-in-Work-clause-refused
-returns-in-Work-clause-refused g c = subst (λ t. IfErr c.work.result (λ e. status_of e ≡ 1 → IfSome (g.R.Read.remaining (inner_of c.args.input.now)) (IsRefused t))) (sym c.in-Work.is)
-    (refused (Work c.in-Work.kind c.in-Work.lines) c.work.result (g.R.Read.remaining (inner_of c.args.input.now)) c.work.ensures.refused)
+returns-in-Work-clause-refused g c =
+    subst (λ t. IfErr c.work.result (λ e. IfSome (g.R.Read.remaining (inner_of c.args.input.now)) (λ input. MayEnd t input e))) (sym c.in-Work.is) c.work.ensures.refused
