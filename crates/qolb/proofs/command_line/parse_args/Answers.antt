@@ -1,5 +1,5 @@
-use Rattle.std.proofs.Common.{◌≡◌, map, option_map, string_bytes, true, Some, sym, ap, rules, ◌∙◌}
-use Rattle.clap.specs.Words.{App, Text, app_of, is_simple, subcommand_of, subcommand_rows_of}
+use Rattle.std.proofs.Common.{◌≡◌, map, option_map, string_bytes, true, sym, ap, rules, ◌∙◌}
+use Rattle.clap.specs.Words.{App, app_of, is_simple, subcommand_of, subcommand_rows_of}
 use Rattle.qolb.specs.CommandLine.{wish_at, the_command}
 use Rattle.qolb.proofs.CommandLines.{refused_words}
 use Rattle.qolb.proofs.command_line.parse_args.Goals as goal

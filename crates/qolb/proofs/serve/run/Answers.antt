@@ -1,5 +1,5 @@
-use Rattle.std.proofs.Common.{◌≡◌, sym, subst, IfErr, IfSome}
-use Rattle.qolb_run.specs.declared.task.Task.TheVariants.{Replay, Steps, Work}
+use Rattle.std.proofs.Common.{sym, subst, IfErr, IfSome}
+use Rattle.qolb_run.specs.declared.task.Task.TheVariants.{Replay, Steps}
 use Rattle.qolb_script.specs.Watched.{inner_of}
 use Rattle.qolb_run.specs.Outcome.{MayEnd}
 use Rattle.qolb.proofs.Answered.{replay_ends, replay_read}
