@@ -1,6 +1,6 @@
 -- How far the drawing of a line has come.
-use Rattle.std.proofs.Common.{◌≡◌, ◌≢◌, ℕ, ◌+◌, ◌<◌, ◌==◌, Bool, true, false, cond, List, [], ◌∷◌, ◌++◌, length, map, take, get_or, refl, sym, ap, ◌∙◌, subst, arith, append-nil, length-append, Option, ◌≤◌, ◌*◌}
-use Rattle.std.specs.List.{fold, flat_map, range_with_len}
+use Rattle.std.proofs.Common.{◌≡◌, ◌≢◌, ℕ, ◌+◌, ◌<◌, ◌==◌, true, false, cond, List, [], ◌∷◌, ◌++◌, length, map, take, get_or, refl, sym, ap, ◌∙◌, subst, arith, append-nil, length-append, Option, ◌≤◌, ◌*◌}
+use Rattle.std.specs.List.{fold, range_with_len}
 use Rattle.std.proofs.lemmas.List.{length-map, take_all, map-append}
 use Rattle.std.proofs.lemmas.List.Sums.{fold_more}
 use Rattle.std.proofs.lemmas.Grind.{flat_map-append}
@@ -18,10 +18,10 @@ use Rattle.qolb_script.specs.Reply.{terms_of, after_command}
 use Rattle.qolb_draw.specs.declared.mark.Change.{Change}
 use Rattle.qolb_draw.specs.declared.mark.Mark.{Mark}
 use Rattle.qolb_draw.specs.Marks.{change_of, mark_of}
-use Rattle.qolb_draw.specs.LineRuns.{Step, LineRun, run_start, run_step, run_of, steps_on, mark_at}
+use Rattle.qolb_draw.specs.LineRuns.{Step, LineRun, run_start, run_step, steps_on, mark_at}
 use Rattle.qolb_draw.specs.Following.{Follows}
 use Rattle.qolb_draw.proofs.Outs.{length-marks_of}
-use Rattle.qolb_draw.specs.Grids.{IsGrid, numbers_of, nodes_of, marks_of, column_out_of}
+use Rattle.qolb_draw.specs.Grids.{IsGrid, marks_of, column_out_of}
 
 -- the run of a line after the first i commands of the script
 abbrev pub run_after : Script → ℕ → ℕ → LineRun

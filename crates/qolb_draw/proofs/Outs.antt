@@ -1,5 +1,5 @@
 -- What comes out of the marks of a line is its picture.
-use Rattle.std.proofs.Common.{◌≡◌, ℕ, zero, suc, ◌+◌, ◌-◌, ◌*◌, ◌<◌, ◌≤◌, ◌==◌, ◌||◌, min, Bool, cond, List, [], ◌∷◌, ◌++◌, length, map, take, drop, get_or, refl, sym, ap, ◌∙◌, subst, arith, add_comm, inl, inr, ◌⊎◌, length-append, length-drop}
+use Rattle.std.proofs.Common.{◌≡◌, ℕ, zero, suc, ◌+◌, ◌-◌, ◌*◌, ◌<◌, ◌≤◌, ◌==◌, ◌||◌, min, Bool, cond, List, [], ◌∷◌, ◌++◌, length, map, take, drop, get_or, refl, sym, ap, ◌∙◌, subst, arith, inl, inr, ◌⊎◌, length-append, length-drop}
 use Rattle.std.specs.Prelude.{codes}
 use Rattle.std.specs.List.{All, filter, flat_map, list_any, range_with_len}
 use Rattle.std.proofs.lemmas.List.{length-map, take_more, take_all, take-map, drop-map, map-append, get_or-drop, length-take-le}
@@ -10,8 +10,6 @@ use Rattle.std.proofs.lemmas.Bool.{cases_lt}
 use Rattle.qolb_script.specs.declared.command.Command.TheVariants.{Enq}
 use Rattle.qolb_script.specs.Commands.{node_of}
 use Rattle.qolb_script.specs.Script.{Script}
-use Rattle.qolb_model.specs.declared.terms.Terms.{Terms}
-use Rattle.qolb_model.specs.OneOwner.{opened}
 use Rattle.qolb_script.specs.Reply.{no_line}
 use Rattle.qolb_draw.specs.declared.mark.Mark.{Mark}
 use Rattle.qolb_draw.specs.declared.mark.Mark.TheVariants as mark

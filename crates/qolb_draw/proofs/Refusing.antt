@@ -7,7 +7,6 @@ use Rattle.qolb_run.specs.declared.replay.ReplayError.TheVariants as error
 use Rattle.qolb_run.specs.declared.replay.Kind.TheVariants as kind
 use Rattle.qolb_run.specs.declared.task.Task.TheVariants as task
 use Rattle.qolb_run.specs.Outcome.{MayFail}
-use Rattle.qolb_script.specs.declared.error.ScriptError.{ScriptError}
 use Rattle.qolb_script.specs.Script.{Script, script_of}
 use Rattle.qolb_script.specs.Reply.{replied, reply_of}
 

@@ -1,15 +1,14 @@
 -- A line that is drawn, and the same line in the replay of the script.
-use Rattle.std.proofs.Common.{◌≡◌, ℕ, zero, suc, ◌+◌, ◌<◌, ◌==◌, Bool, true, false, cond, List, [], ◌∷◌, ◌++◌, length, replicate, get_or, refl, sym, ap, ◌∙◌, subst, arith}
+use Rattle.std.proofs.Common.{◌≡◌, ℕ, zero, suc, ◌+◌, ◌<◌, ◌==◌, Bool, true, false, cond, List, [], ◌∷◌, ◌++◌, length, replicate, refl, sym, ap, ◌∙◌, subst, arith}
 use Rattle.std.specs.List.{fold}
 use Rattle.std.proofs.lemmas.Bool.Decides.{nat_tests}
 use Rattle.std.proofs.lemmas.List.{length-replicate, length-set, get_or-set_same, get_or-set_other}
-use Rattle.qolb_model.specs.OneOwner.{LineState, opened}
+use Rattle.qolb_model.specs.OneOwner.{opened}
 use Rattle.qolb_model.specs.declared.terms.Terms.{Terms}
 use Rattle.qolb_script.specs.declared.command.Command.{Command}
 use Rattle.qolb_script.specs.Commands.{line_of}
-use Rattle.qolb_script.specs.Script.{Script}
 use Rattle.qolb_script.specs.Reply.{Replay, terms_of, no_line, line_at, after_command, replay_start, replay_step}
-use Rattle.qolb_draw.specs.LineRuns.{Step, LineRun, run_start, run_step}
+use Rattle.qolb_draw.specs.LineRuns.{LineRun, run_start, run_step}
 use Rattle.qolb_draw.specs.Laws.{DrawnAsReplayed}
 
 opened_at : (terms : Terms) (n k : ℕ) → k < n → opened terms ≡ line_at (replicate n (opened terms)) k

@@ -1,11 +1,10 @@
 -- Whose turn it is: how a command changes the nodes whose requests are open, and how they are found by their states.
-use Rattle.std.proofs.Common.{◌≡◌, ℕ, zero, suc, ◌+◌, ◌≤◌, ◌==◌, ◌&&◌, ◌||◌, Bool, true, false, cond, is_some, take_while, List, [], ◌∷◌, ◌++◌, length, map, take, drop, Option, Some, None, slice_get, refl, sym, ap, ◌∙◌, subst, arith, append-nil, append_assoc, length-append}
+use Rattle.std.proofs.Common.{◌≡◌, ℕ, zero, suc, ◌+◌, ◌≤◌, ◌==◌, ◌&&◌, ◌||◌, Bool, true, false, cond, is_some, take_while, List, [], ◌∷◌, ◌++◌, length, map, drop, Option, Some, None, slice_get, refl, sym, ap, ◌∙◌, subst, arith, append-nil, length-append}
 use Rattle.std.specs.List.{list_any, find}
 use Rattle.std.proofs.lemmas.List.{drop-append-le, drop-drop, drop-map, map-append}
 use Rattle.std.proofs.lemmas.Simd.{map-map}
 use Rattle.std.proofs.lemmas.List.Folds.{list_any-append}
 use Rattle.std.proofs.lemmas.Bool.Decides.{nat_tests}
-use Rattle.qolb_model.specs.declared.answer.PortState.{PortState}
 use Rattle.qolb_model.specs.declared.answer.PortState.TheVariants as port
 use Rattle.qolb_model.specs.declared.answer.Enq.{Enq}
 use Rattle.qolb_model.specs.declared.answer.Enq.TheVariants as enq
@@ -17,7 +16,7 @@ use Rattle.qolb_model.specs.declared.request.Request.{Request}
 use Rattle.qolb_model.specs.declared.waiter.Waiter.{Waiter}
 use Rattle.qolb_model.specs.Requests.{has, last_of, next_of}
 use Rattle.qolb_model.specs.Histories.{open_of}
-use Rattle.qolb_model.specs.Queue.{Queue, Move, ask, mark, finish, moved}
+use Rattle.qolb_model.specs.Queue.{Queue, finish, moved}
 use Rattle.qolb_model.specs.Leases.{closes}
 use Rattle.qolb_model.specs.PortStates.{may_ask}
 use Rattle.qolb_model.specs.OneOwner.{LineState, state_of, is_open, is_rolled, is_first, moved_by, ends_with, shown, after_ask, after_poll, after_moves, after_release, after_write, mark_last, poll_answer, out_answer, as_enq}

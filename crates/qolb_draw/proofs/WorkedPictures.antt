@@ -1,7 +1,7 @@
 -- Worked pictures: what the definition of a picture says of small scripts, by computation.
 use Rattle.std.specs.Prelude.{◌≡◌, ◌++◌, codes, refl, Ok, Err}
 use Rattle.qolb_script.specs.declared.error.ScriptError.TheVariants.{BadLine}
-use Rattle.qolb_draw.specs.declared.draw.Form.TheVariants.{Text, Svg}
+use Rattle.qolb_draw.specs.declared.draw.Form.TheVariants.{Text}
 use Rattle.qolb_draw.specs.Pictures.{picture_to, legend}
 
 -- three nodes, each handing the line on to the next

@@ -1,4 +1,4 @@
-use Rattle.std.proofs.Common.{ap, ◌∙◌, sym, subst, List, ℕ, ◌≤◌}
+use Rattle.std.proofs.Common.{◌∙◌, sym, subst, List, ℕ, ◌≤◌}
 use Rattle.std.specs.List.{All}
 use Rattle.qolb_draw.proofs.Outs.{shown_within}
 use Rattle.qolb_draw.proofs.text.push_line.Goals as goal

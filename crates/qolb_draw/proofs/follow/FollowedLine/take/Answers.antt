@@ -1,11 +1,10 @@
-use Rattle.std.proofs.Common.{◌≡◌, ℕ, List, slice_get, ap, ◌∙◌, sym, subst}
-use Rattle.qolb_model.specs.OneOwner.{LineState}
+use Rattle.std.proofs.Common.{ℕ, List, slice_get, ap, ◌∙◌, sym, subst}
 use Rattle.qolb_model.specs.Plain.{PlainView, Agrees}
 use Rattle.qolb_script.specs.Commands.{node_of}
 use Rattle.qolb_script.specs.Reply as reply
 use Rattle.qolb_script.specs.Reply.{said_of, after_command}
 use Rattle.qolb_draw.specs.declared.follow.FollowedLine.{FollowedLine}
-use Rattle.qolb_draw.specs.Following.{Follows, has_asked}
+use Rattle.qolb_draw.specs.Following.{has_asked}
 use Rattle.qolb_draw.proofs.Turns.{command_followed, asked_behind, none_behind, same_change}
 use Rattle.qolb_draw.proofs.follow.FollowedLine.take.Goals as goal
 use Rattle.qolb_draw.proofs.follow.FollowedLine.take.Goals.{then-has_asked+in_ok-push, else-has_asked}
