@@ -32,6 +32,7 @@ impl<K: Keep> LinkLine<K> {
         ensures belongs { IsPortOf K.good K.allows self.now port.new }
         ensures enqueues { Enqueues K.allows port.old.view port.new.view port.new.turn result }
         ensures taken { port.new.taken ≡ port.old.taken + port.new.steps }
+        ensures looks { port.new.looks ≡ port.old.looks }
         ensures counted_busy { result ≡ Enq.Busy → port.new.steps ≡ 1 }
         ensures counted_queued { result ≡ Enq.Queued → port.new.steps ≡ steps_to_ask port.old.view.state + 1 }
         ensures counted_granted { result ≡ Enq.Granted → port.new.steps ≤ steps_to_ask port.old.view.state + 1 }
@@ -57,6 +58,7 @@ impl<K: Keep> LinkLine<K> {
         ensures belongs { IsPortOf K.good K.allows self.now port.new }
         ensures prepends { Prepends K.allows port.old.view port.new.view port.new.turn result }
         ensures taken { port.new.taken ≡ port.old.taken + port.new.steps }
+        ensures looks { port.new.looks ≡ port.old.looks }
         ensures counted_busy { result ≡ Prep.Busy → port.new.steps ≡ 1 }
         ensures counted { (result ≡ Prep.Granted) ⊎ (result ≡ Prep.Linking) → port.new.steps ≡ steps_to_ask port.old.view.state }
         ensures bound { port.new.steps ≤ 4 * self.now.table.shared.key.terms.nodes }
@@ -93,6 +95,7 @@ impl<K: Keep> LinkLine<K> {
         ensures belongs { IsPortOf K.good K.allows self.now port.new }
         ensures links_up { LinksUp K.allows port.old.view port.new.view port.new.turn result }
         ensures taken { port.new.taken ≡ port.old.taken + port.new.steps }
+        ensures looks { port.new.looks ≡ port.old.looks }
         ensures counted { result ≢ Enq.Closed → port.new.steps ≡ 1 }
         ensures bound { port.new.steps + 2 ≤ 4 * self.now.table.shared.key.terms.nodes }
     {
@@ -123,10 +126,12 @@ impl<K: Keep> LinkLine<K> {
         ensures belongs { IsPortOf K.good K.allows self.now port.new }
         ensures polls { Polls K.allows port.old.view port.new.view port.new.turn result }
         ensures taken { port.new.taken ≡ port.old.taken + port.new.steps }
+        ensures looks { port.new.looks ≡ port.old.looks + 1 }
         ensures counted { result ≢ Poll.Closed → port.new.steps ≡ 1 }
         ensures bound { port.new.steps + 2 ≤ 4 * self.now.table.shared.key.terms.nodes }
     {
         let ground = &self.table.shared;
+        port.looks = port.looks.and_one();
         port.steps = 1;
         if !load(ground, &mut port.seat, port.node) {
             return Poll::Waiting;
@@ -152,6 +157,7 @@ impl<K: Keep> LinkLine<K> {
         ensures belongs { IsPortOf K.good K.allows self.now port.new }
         ensures withdraws { Withdraws K.allows port.old.view port.new.view port.new.turn result }
         ensures taken { port.new.taken ≡ port.old.taken + port.new.steps }
+        ensures looks { port.new.looks ≡ port.old.looks }
         ensures counted { result ≢ Out.Closed → port.new.steps ≡ 1 }
         ensures bound { port.new.steps + 2 ≤ 4 * self.now.table.shared.key.terms.nodes }
     {
@@ -184,6 +190,7 @@ impl<K: Keep> LinkLine<K> {
         ensures belongs { IsPortOf K.good K.allows self.now port.new }
         ensures releases { Releases K.allows false port.old.view port.new.view port.old.turn }
         ensures taken { port.new.taken ≡ port.old.taken + port.new.steps }
+        ensures looks { port.new.looks ≡ port.old.looks }
         ensures bound { port.new.steps + 3 ≤ 4 * self.now.table.shared.key.terms.nodes }
     {
         self.let_go(port, false);
@@ -197,6 +204,7 @@ impl<K: Keep> LinkLine<K> {
         ensures belongs { IsPortOf K.good K.allows self.now port.new }
         ensures releases { Releases K.allows true port.old.view port.new.view port.old.turn }
         ensures taken { port.new.taken ≡ port.old.taken + port.new.steps }
+        ensures looks { port.new.looks ≡ port.old.looks }
         ensures bound { port.new.steps + 3 ≤ 4 * self.now.table.shared.key.terms.nodes }
     {
         self.let_go(port, true);
@@ -211,6 +219,7 @@ impl<K: Keep> LinkLine<K> {
         ensures belongs { IsPortOf K.good K.allows self.now port.new }
         ensures releases { Releases K.allows shut port.old.view port.new.view port.old.turn }
         ensures taken { port.new.taken ≡ port.old.taken + port.new.steps }
+        ensures looks { port.new.looks ≡ port.old.looks }
         ensures bound { port.new.steps + 3 ≤ 4 * self.now.table.shared.key.terms.nodes }
     {
         let ground = &self.table.shared;
