@@ -1,10 +1,10 @@
 //! The calls of a line by which nodes queue at it.
-ghost use Rattle.std.specs.Prelude.{◌≡◌, ◌≢◌, ◌⊎◌, ◌+◌, ◌*◌, ◌≤◌, IsTrue, Some, true, false};
+ghost use Rattle.std.specs.Prelude.{◌≡◌, ◌≢◌, ◌⊎◌, ◌+◌, ◌*◌, ◌≤◌, length, IsTrue, Some, true, false};
 ghost use Rattle.qolb_model.specs.PortStates as states;
 ghost use Rattle.qolb_model.specs.Leases.{turns_left};
 ghost use Rattle.qolb_model.specs.Kept.{MayRelease};
 ghost use Rattle.qolb_model.specs.Calls.{Enqueues, Prepends, LinksUp, Polls, Withdraws, Releases};
-ghost use Rattle.link_line.specs.Releases.{steps_to_ask};
+ghost use Rattle.link_line.specs.Releases.{steps_to_ask, TakesFourEach};
 ghost use Rattle.link_line.specs.Line.{IsPortOf};
 
 use crate::line::LinkLine;
@@ -191,6 +191,7 @@ impl<K: Keep> LinkLine<K> {
         ensures releases { Releases K.allows false port.old.view port.new.view port.old.turn }
         ensures taken { port.new.taken ≡ port.old.taken + port.new.steps }
         ensures looks { port.new.looks ≡ port.old.looks }
+        ensures counted { TakesFourEach (length port.old.view.ends) (length port.new.view.ends) port.new.steps }
         ensures bound { port.new.steps + 3 ≤ 4 * self.now.table.shared.key.terms.nodes }
     {
         self.let_go(port, false);
@@ -205,6 +206,7 @@ impl<K: Keep> LinkLine<K> {
         ensures releases { Releases K.allows true port.old.view port.new.view port.old.turn }
         ensures taken { port.new.taken ≡ port.old.taken + port.new.steps }
         ensures looks { port.new.looks ≡ port.old.looks }
+        ensures counted { TakesFourEach (length port.old.view.ends) (length port.new.view.ends) port.new.steps }
         ensures bound { port.new.steps + 3 ≤ 4 * self.now.table.shared.key.terms.nodes }
     {
         self.let_go(port, true);
@@ -220,6 +222,7 @@ impl<K: Keep> LinkLine<K> {
         ensures releases { Releases K.allows shut port.old.view port.new.view port.old.turn }
         ensures taken { port.new.taken ≡ port.old.taken + port.new.steps }
         ensures looks { port.new.looks ≡ port.old.looks }
+        ensures counted { TakesFourEach (length port.old.view.ends) (length port.new.view.ends) port.new.steps }
         ensures bound { port.new.steps + 3 ≤ 4 * self.now.table.shared.key.terms.nodes }
     {
         let ground = &self.table.shared;
