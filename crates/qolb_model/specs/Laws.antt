@@ -6,12 +6,13 @@ use Rattle.qolb_model.specs.declared.request.Request.{Request}
 use Rattle.qolb_model.specs.declared.end.End.{End}
 use Rattle.qolb_model.specs.declared.terms.Terms.{Terms}
 use Rattle.qolb_model.specs.declared.view.View.{View}
+use Rattle.qolb_model.specs.declared.write.Write.{Write}
 use Rattle.qolb_model.specs.Ends.{is_closed, bytes_after}
 use Rattle.qolb_model.specs.EndKinds.{is_served}
 use Rattle.qolb_model.specs.Leases.{served, IsLease, turns_left}
 use Rattle.qolb_model.specs.Histories.{IsLegal}
 use Rattle.qolb_model.specs.Views.{own, bytes_of, Extends}
-use Rattle.qolb_model.specs.Turns.{IsNear}
+use Rattle.qolb_model.specs.Turns.{IsNear, IsQueued, IsGranted}
 use Rattle.qolb_model.specs.OneHistory.{IsAmong, OneHistory}
 use Rattle.qolb_model.specs.Kept.{AreAllowed}
 use Rattle.qolb_model.specs.Opening.{AreNew}
@@ -72,6 +73,11 @@ OneNodeHolds = (views : List View) (v w : View) → OneHistory views → IsAmong
 -- line has nodes, whatever anybody does: so many may have ended, as the port knows, and its own has not.
 abbrev pub FewEndBefore : Type 0
 FewEndBefore = (asked later : View) (p : ℕ) → IsNear asked → slice_get asked.order p ≡ Some (own asked) → Extends asked later → length later.ends ≤ p
+    → length later.ends < length asked.ends + asked.terms.nodes
+
+-- So when its turn has come, fewer requests have ended since the answer that it waits than the line has nodes.
+abbrev pub FewTurnsBefore : Type 0
+FewTurnsBefore = (asked later : View) (turn : Write) → IsQueued asked → Extends asked later → later.count ≡ asked.count → OneHistory (later ∷ []) → IsGranted later turn
     → length later.ends < length asked.ends + asked.terms.nodes
 
 -- the ports that a line is opened with are of one history

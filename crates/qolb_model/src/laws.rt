@@ -1,7 +1,9 @@
 //! Laws of the definitions that a line's contracts speak of. Each is the contract of a function that does nothing.
-ghost use Rattle.qolb_model.specs.Laws.{NoRequestStandsTwice, NoneIsServedAfterClosing, LeaseBounds, OpenLineHasTurns, OnlyServedEndsWrite, GoodStaysGood, ExtendsThrough, PartIsOfOneHistory, EachTwoAreOfOneHistory, FewerEndsBegin, SameEndsSameBytes, OneNodeHolds, FewEndBefore, NewPortsAreOfOneHistory, PortsThatMetKnowTheSame};
+ghost use Rattle.std.specs.Prelude.{◌≡◌};
+ghost use Rattle.qolb_model.specs.Laws.{NoRequestStandsTwice, NoneIsServedAfterClosing, LeaseBounds, OpenLineHasTurns, OnlyServedEndsWrite, GoodStaysGood, ExtendsThrough, PartIsOfOneHistory, EachTwoAreOfOneHistory, FewerEndsBegin, SameEndsSameBytes, OneNodeHolds, FewEndBefore, FewTurnsBefore, NewPortsAreOfOneHistory, PortsThatMetKnowTheSame};
 
 use crate::keep::Keep;
+use crate::terms::MOST_NODES;
 
 /// No request stands twice in a legal order.
 pub fn no_request_stands_twice()
@@ -66,6 +68,16 @@ pub fn one_node_holds()
 /// Between an ask that waits and its turn, fewer requests end than the line has nodes.
 pub fn few_end_before()
     ensures { FewEndBefore }
+{}
+
+/// When a turn has come, fewer requests have ended since the answer that it waits than the line has nodes.
+pub fn few_turns_before()
+    ensures { FewTurnsBefore }
+{}
+
+/// A line has at most 200 nodes.
+pub fn most_nodes()
+    ensures { MOST_NODES ≡ 200 }
 {}
 
 /// The ports that a line is opened with are of one history.

@@ -1,0 +1,133 @@
+#!/usr/bin/env python3
+"""Tries each must-fail edit of the crates that are named (all, if none is) and says by what it was refused.
+
+An edit shows something only where the prover refuses it by a goal: what the changed function promises, what a call in it requires, or what a
+caller of it relies on. An edit that only renames goals is refused because answers name goals that are gone, which a harmless rewrite of the
+same place would be too; such an edit shows nothing.
+
+Each edit is tried in a copy of the repository, over the work that earlier checks kept in out/, so prove the crates first (`rt all check`).
+For each one a line:
+
+  answer  CRATE/EDIT  FUNCTION: GOAL    an answer that is written in proofs/ no longer proves the goal of that name
+  search  CRATE/EDIT  FUNCTION: GOAL    a goal of that name, which the tactics proved, they no longer prove
+  false   CRATE/EDIT  FUNCTION: GOAL    the goal is false: the prover found values
+  new     CRATE/EDIT  FUNCTION: GOAL    only goals are open that have a new name: look whether a harmless rewrite is refused alike
+  names   CRATE/EDIT  FUNCTION          only names of the proof are gone: it shows nothing, rewrite it
+  PROVED  CRATE/EDIT                    the contracts let it through
+
+It ends with 1 where an edit is `new`, `names` or proved, or can't be applied.
+
+  tools/edits.py [--jobs N] [--only WORD] [--keep FOLDER] [CRATE ..]
+"""
+
+import argparse
+import pathlib
+import re
+import shutil
+import subprocess
+import sys
+import tempfile
+
+ROOT = pathlib.Path(__file__).resolve().parent.parent
+
+
+def edits_of(crate):
+    return sorted((crate / "must-fail").glob("*.edit"))
+
+
+def apply_edit(crate, edit):
+    """Makes the edit's changes; each old text stands once in its file."""
+    path = old = None
+    for line in edit.read_text().splitlines():
+        key, _, text = line.partition(":")
+        text = text[1:] if text.startswith(" ") else text
+        if key == "file":
+            path = crate / text.strip()
+        elif key == "old":
+            old = text
+        elif key == "new":
+            body = path.read_text()
+            if body.count(old) != 1:
+                raise SystemExit(f"{edit}: {old!r} stands {body.count(old)} times in {path}")
+            path.write_text(body.replace(old, text))
+
+
+def check(crate, jobs, *more):
+    run = subprocess.run(["rt", "check", "--jobs", str(jobs), *more], cwd=crate, capture_output=True, text=True)
+    return run.stdout + run.stderr
+
+
+def goals_of(generated):
+    """The goals of each function of a check, by the path of its folder of proofs."""
+    goals = {}
+    for path in pathlib.Path(generated).glob("*-proofs/**/Goals.antt"):
+        folder = str(path.parent.relative_to(next(p for p in path.parents if p.name.endswith("-proofs"))))
+        goals[folder] = set(re.findall(r"abbrev pub the-asks-(\S+) :", path.read_text()))
+    return goals
+
+
+def verdict(log, goals):
+    """What refused an edit: the kind, and the function with its goal."""
+    if re.search(r"^logic=proved", log, re.M):
+        return "PROVED", ""
+    log = re.sub(r"^so far: ", "", log, flags=re.M)
+    answers = set(re.findall(r"^\./proofs/(\S+)/(?:Answers|Invariants)\.antt:\d+:\d+: error: `([^`]+)`", log, re.M))
+    gone = "no longer" in log or re.search(r"Answers\.antt:\d+:\d+: error: .*(is not in scope|has no `)", log)
+    held = [(folder, goal) for folder, goal in answers if goal in goals.get(folder, set())]
+    if held:
+        return "answer", "; ".join(f"{folder}: {goal}" for folder, goal in sorted(held)[:2])
+    missing = re.findall(r"^fn (\S+): no proof: expected answers in \./proofs/(\S+)/Answers\.antt; `search` did not prove (.*)$", log, re.M)
+    open_goals = [(folder, goal) for _, folder, names in missing for goal in re.findall(r"`([^`]+)`", names)]
+    if "may be false:" in log or "the facts known there allow values" in log:
+        return "false", "; ".join(f"{folder}: {goal}" for folder, goal in open_goals[:2])
+    same = [(folder, goal) for folder, goal in open_goals if goal in goals.get(folder, set())]
+    if same:
+        return "search", "; ".join(f"{folder}: {goal}" for folder, goal in same[:2])
+    if open_goals:
+        return "new", "; ".join(f"{folder}: {goal}" for folder, goal in open_goals[:2])
+    first = next((line for line in log.splitlines() if "error" in line or ": no proof" in line or ": not proved" in line), "")
+    return "names", ("gone: " if gone else "") + first[:160]
+
+
+def main():
+    parser = argparse.ArgumentParser(description=__doc__, formatter_class=argparse.RawDescriptionHelpFormatter)
+    parser.add_argument("--jobs", type=int, default=2)
+    parser.add_argument("--only", default="", help="only edits whose names contain this")
+    parser.add_argument("--keep", help="where to keep the check's words, a file an edit")
+    parser.add_argument("crates", nargs="*")
+    args = parser.parse_args()
+    names = args.crates or [line.split(":")[0].split()[0] for line in (ROOT / "crates.txt").read_text().splitlines() if line[:1].isalpha()]
+    bad = 0
+    with tempfile.TemporaryDirectory() as room:
+        copy = pathlib.Path(room) / "repository"
+        shutil.copytree(ROOT, copy, symlinks=True, ignore=shutil.ignore_patterns(".git", "scratch"))
+        for name in names:
+            crate = copy / "crates" / name
+            edits = [edit for edit in edits_of(crate) if args.only in edit.name]
+            if not edits:
+                continue
+            generated = pathlib.Path(room) / "generated" / name
+            generated.mkdir(parents=True)
+            if not re.search(r"^logic=proved", check(crate, args.jobs), re.M):
+                raise SystemExit(f"{name} is not proved as it is")
+            check(crate, args.jobs, "--generated", str(generated))
+            goals = goals_of(generated)
+            for edit in edits:
+                kept = {path: path.read_bytes() for folder in ("src", "specs", "proofs") for path in (crate / folder).rglob("*") if path.is_file()}
+                apply_edit(crate, edit)
+                log = check(crate, args.jobs)
+                for path, body in kept.items():
+                    if path.read_bytes() != body:
+                        path.write_bytes(body)
+                if args.keep:
+                    folder = pathlib.Path(args.keep) / name
+                    folder.mkdir(parents=True, exist_ok=True)
+                    (folder / f"{edit.stem}.log").write_text(log)
+                kind, where = verdict(log, goals)
+                bad += kind in ("new", "names", "PROVED")
+                print(f"{kind:7} {name}/{edit.stem}  {where}", flush=True)
+    return 1 if bad else 0
+
+
+if __name__ == "__main__":
+    sys.exit(main())
