@@ -12,10 +12,11 @@ For each one a line:
   search  CRATE/EDIT  FUNCTION: GOAL    a goal of that name, which the tactics proved, they no longer prove
   false   CRATE/EDIT  FUNCTION: GOAL    the goal is false: the prover found values
   new     CRATE/EDIT  FUNCTION: GOAL    only goals are open that have a new name: look whether a harmless rewrite is refused alike
+  shape   CRATE/EDIT  FUNCTION: GOAL    the same edit made harmless is refused alike: it shows nothing, rewrite it
   names   CRATE/EDIT  FUNCTION          only names of the proof are gone: it shows nothing, rewrite it
   PROVED  CRATE/EDIT                    the contracts let it through
 
-It ends with 1 where an edit is `new`, `names` or proved, or can't be applied.
+It ends with 1 where an edit is `new`, `shape`, `names` or proved, or can't be applied.
 
   tools/edits.py [--jobs N] [--only WORD] [--keep FOLDER] [CRATE ..]
 """
@@ -58,12 +59,39 @@ def check(crate, jobs, *more):
 
 
 def goals_of(generated):
-    """The goals of each function of a check, by the path of its folder of proofs."""
+    """The goals of each function of a check, answered or found by the tactics, by the path of its folder of proofs."""
     goals = {}
-    for path in pathlib.Path(generated).glob("*-proofs/**/Goals.antt"):
+    for path in pathlib.Path(generated).glob("*-proofs/**/*.antt"):
         folder = str(path.parent.relative_to(next(p for p in path.parents if p.name.endswith("-proofs"))))
-        goals[folder] = set(re.findall(r"abbrev pub the-asks-(\S+) :", path.read_text()))
+        if path.name in ("Goals.antt", "Proof.antt"):
+            names = re.findall(r"^\s*(?:abbrev )?(?:pub )?(?:the-asks-)?(\S+) :", path.read_text(), re.M)
+            goals.setdefault(folder, set()).update(names)
     return goals
+
+
+def harmless(edit):
+    """The same edit made harmless, where it adds a condition: one that never holds, or always."""
+    lines = edit.read_text().splitlines()
+    for place, line in enumerate(lines):
+        found = re.match(r"(new: .*?) (\|\||&&) (.+?)( \{|;|)$", line)
+        if found and place > 0 and lines[place - 1].startswith("old: ") and found[1][5:].strip() in lines[place - 1]:
+            head, joint, added, tail = found.groups()
+            if any(added.count(a) != added.count(b) for a, b in ("()", "{}", "[]")) or added.endswith("=>"):
+                continue
+            never = f"({added}) && !({added})" if joint == "||" else f"({added}) || !({added})"
+            return "\n".join(lines[:place] + [f"{head} {joint} ({never}){tail}"] + lines[place + 1 :]) + "\n"
+    return None
+
+
+def tried(crate, edit, jobs):
+    """What a check says of the crate with the edit; the crate is then as it was."""
+    kept = {path: path.read_bytes() for folder in ("src", "specs", "proofs") for path in (crate / folder).rglob("*") if path.is_file()}
+    apply_edit(crate, edit)
+    log = check(crate, jobs)
+    for path, body in kept.items():
+        if path.read_bytes() != body:
+            path.write_bytes(body)
+    return log
 
 
 def verdict(log, goals):
@@ -113,18 +141,21 @@ def main():
             check(crate, args.jobs, "--generated", str(generated))
             goals = goals_of(generated)
             for edit in edits:
-                kept = {path: path.read_bytes() for folder in ("src", "specs", "proofs") for path in (crate / folder).rglob("*") if path.is_file()}
-                apply_edit(crate, edit)
-                log = check(crate, args.jobs)
-                for path, body in kept.items():
-                    if path.read_bytes() != body:
-                        path.write_bytes(body)
+                log = tried(crate, edit, args.jobs)
                 if args.keep:
                     folder = pathlib.Path(args.keep) / name
                     folder.mkdir(parents=True, exist_ok=True)
                     (folder / f"{edit.stem}.log").write_text(log)
                 kind, where = verdict(log, goals)
-                bad += kind in ("new", "names", "PROVED")
+                control = harmless(edit) if kind in ("search", "new") else None
+                if control is not None:
+                    path = crate / "must-fail" / "control"
+                    path.write_text(control)
+                    log = tried(crate, path, args.jobs)
+                    if re.search(r"^logic=", log, re.M) and verdict(log, goals)[0] != "PROVED":
+                        kind = "shape"
+                    path.unlink()
+                bad += kind in ("new", "shape", "names", "PROVED")
                 print(f"{kind:7} {name}/{edit.stem}  {where}", flush=True)
     return 1 if bad else 0
 

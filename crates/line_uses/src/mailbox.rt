@@ -1,7 +1,8 @@
 //! A line as a place for one value, which one node puts down and another takes up. Neither waits for ever: with its patience at an
 //! end a node takes its request back.
-ghost use Rattle.std.specs.Prelude.{◌≡◌, ◌≢◌, ◌⊎◌, IsTrue, IfSome, IfNone, false};
+ghost use Rattle.std.specs.Prelude.{◌≡◌, ◌≢◌, ◌⊎◌, ◌+◌, ◌≤◌, IsTrue, IfSome, IfNone, false};
 ghost use Rattle.qolb_model.specs.PortStates.{may_ask};
+ghost use Rattle.qolb_model.specs.Asking.{IsBusy};
 ghost use Rattle.qolb_model.specs.Turns.{IsGranted};
 ghost use Rattle.qolb_model.specs.LettingGo.{IsTold};
 ghost use Rattle.line_uses.specs.Mailbox.{IsLate, HadNoTurn, HadTurn, WasFull};
@@ -40,6 +41,9 @@ pub fn ask<L: LineSync<Free>>(line: &L, port: &mut L::Port, patience: u64) -> As
     ensures late { result ≡ Asked.Late → IsLate (L.view port.old) (L.view port.new) }
     ensures told { result ≡ Asked.Closed → IsTold (L.view port.new) }
     ensures ended { result ≢ Asked.Granted → IsTrue (may_ask (L.view port.new).state) }
+    ensures once { IsBusy (L.view port.old) (L.view port.new) ⊎ ((L.view port.new).count ≡ (L.view port.old).count + 1) }
+    ensures patient { L.looks port.new ≤ L.looks port.old + patience }
+    ensures in_time { result ≡ Asked.Late → IsBusy (L.view port.old) (L.view port.new) ⊎ (L.looks port.new ≡ L.looks port.old + patience) }
 {
     match line.enqolb(port) {
         Enq::Granted => return Asked::Granted,
@@ -69,6 +73,7 @@ pub fn put_down<L: LineSync<Free>>(line: &L, port: &mut L::Port, value: u64) -> 
     ensures belongs { L.belongs line.now port.new }
     ensures state { IsTrue (may_ask (L.view port.new).state) }
     ensures put { IsTrue result → HadTurn 0 value (L.view port.new) }
+    ensures once { (L.view port.new).count ≤ (L.view port.old).count + 1 }
     ensures full { result ≡ false → HadNoTurn (L.view port.old) (L.view port.new) ⊎ WasFull (L.view port.new) }
 {
     if ask(line, port, PATIENCE) != Asked::Granted {
@@ -91,6 +96,7 @@ pub fn take_up<L: LineSync<Free>>(line: &L, port: &mut L::Port) -> Option<u64>
     ensures state { IsTrue (may_ask (L.view port.new).state) }
     ensures value { IfSome result (λ value. value ≢ 0) }
     ensures taken { IfSome result (λ value. HadTurn value 0 (L.view port.new)) }
+    ensures once { (L.view port.new).count ≤ (L.view port.old).count + 1 }
     ensures empty { IfNone result (HadNoTurn (L.view port.old) (L.view port.new) ⊎ HadTurn 0 0 (L.view port.new)) }
 {
     if ask(line, port, PATIENCE) != Asked::Granted {

@@ -4,7 +4,7 @@ ghost use Rattle.qolb_model.specs.PortStates.{may_ask};
 ghost use Rattle.qolb_model.specs.Sound.{Continues};
 ghost use Rattle.qolb_model.specs.Turns.{IsGranted};
 ghost use Rattle.qolb_model.specs.LettingGo.{IsTold};
-ghost use Rattle.qolb_run.specs.Acquiring.{Acquires};
+ghost use Rattle.qolb_run.specs.Acquiring.{Acquires, ComesSoon};
 
 use crossbeam_utils::Backoff;
 use qolb_model::{Enq, Keep, LineSync, Poll, PortState};
@@ -52,6 +52,7 @@ pub fn acquire<R: Wait, K: Keep, L: LineSync<K>>(rt: &R, line: &L, port: &mut L:
     requires state { IsTrue (may_ask (L.view port.old).state) }
     ensures belongs { L.belongs line.now port.new }
     ensures acquires { Acquires K.allows (L.view port.old) (L.view port.new) (L.turn port.new) result }
+    ensures soon { result ≡ Got.Granted → ComesSoon L.view L.looks port.old port.new }
 {
     let mut pauses = Pauses::new();
     for _ in rt.forever() {

@@ -9,4 +9,5 @@ invariant-loop g l = record {
   state : IsTrue (may_ask (g.L.LineSync.view l.port).state);
   extends : Extends (g.L.LineSync.view l.initial.port) (g.L.LineSync.view l.port);
   count : (g.L.LineSync.view l.port).count ≡ (g.L.LineSync.view l.initial.port).count;
+  looks : g.L.LineSync.looks l.port ≡ g.L.LineSync.looks l.initial.port;
 }
