@@ -15,7 +15,7 @@ pub enum Form {
     Schedule,
     /// A step script.
     Steps,
-    /// A work script of one worker, whose report is the same over lines of each kind.
+    /// A work script whose report is the same in every schedule, over lines of each kind.
     Work(WorkKind),
 }
 

@@ -20,7 +20,7 @@ struct Example {
 }
 
 /// All examples.
-static EXAMPLES: [Example; 9] = [
+static EXAMPLES: [Example; 14] = [
     Example {
         name: "hand_over",
         form: Form::Schedule,
@@ -55,6 +55,26 @@ static EXAMPLES: [Example; 9] = [
     },
     Example {
         name: "bank_of_one",
+        form: Form::Work(WorkKind::Bank),
+    },
+    Example {
+        name: "whole_line",
+        form: Form::Schedule,
+    },
+    Example {
+        name: "letting_go",
+        form: Form::Steps,
+    },
+    Example {
+        name: "yet_to_free",
+        form: Form::Steps,
+    },
+    Example {
+        name: "move_to_itself",
+        form: Form::Work(WorkKind::Bank),
+    },
+    Example {
+        name: "workers_pay_in",
         form: Form::Work(WorkKind::Bank),
     },
 ];

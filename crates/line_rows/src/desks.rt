@@ -8,6 +8,7 @@ ghost use Rattle.line_accounts.specs.NewDesks.{IsNewPort};
 use line_accounts::{
     AccountLaw, Desk, MOST_BALANCE, Reply, Unsettled, deposit, settle, take_out, transfer,
 };
+use line_lanes::Line64;
 use qolb_model::{Enq, LineSync};
 use std::alloc::Global;
 
@@ -20,7 +21,8 @@ pub fn over_one<L: LineSync<AccountLaw> + Drop>(
 where
     L::Port: Drop,
     requires { IsNewPort L.belongs L.view line port }
-    ensures { IfSome result (λ made. IsDeskOver L.belongs L.view made.0.items made.1) }
+    ensures over { IfSome result (λ made. IsDeskOver L.belongs L.view made.0.items made.1) }
+    ensures lines { IfSome result (λ made. made.0.items ≡ line ∷ []) }
 {
     let mut lines = Vec::new(alloc);
     lines.push(line).ok()?;
@@ -99,6 +101,17 @@ pub fn limits<L: LineSync<AccountLaw>>(lines: &[L], desk: &mut Desk<L>) -> [Repl
     let same = transfer(lines, desk, 0, 0, 5, 0);
     let beyond = deposit(lines, desk, 8, 1, 0);
     [most, more, short, same, beyond]
+}
+
+/// The balances of a line, as a node finds them that asks for it and is granted it at once. It keeps the line.
+pub fn found_by<L: LineSync<AccountLaw>>(line: &L, other: &mut L::Port) -> Option<Line64>
+    requires other { L.belongs line.now other.old }
+    requires quiet { IsTrue (may_ask (L.view other.old).state) }
+{
+    match line.enqolb(other) {
+        Enq::Granted => Some(*L::bytes(other)),
+        Enq::Queued | Enq::Closed | Enq::Busy => None,
+    }
 }
 
 /// A deposit of 10, and a transfer of 4 of them to the other line.

@@ -5,6 +5,7 @@ mod counts;
 mod desks;
 mod late;
 mod lines;
+mod named;
 mod row;
 
 use line_accounts::AccountLaw;
@@ -54,6 +55,18 @@ fn a_day_is_settled(rt: HostRuntime) -> Result<(), Fail> {
 fn a_balance_has_a_limit(rt: HostRuntime) -> Result<(), Fail> {
     desks::a_balance_has_a_limit::<_, RingLine<AccountLaw>>(&rt, rt.alloc())?;
     desks::a_balance_has_a_limit::<_, LinkLine<AccountLaw>>(&rt, rt.alloc())
+}
+
+#[test]
+fn a_full_balance_lies_in_its_lane(rt: HostRuntime) -> Result<(), Fail> {
+    desks::a_full_balance_lies_in_its_lane::<_, RingLine<AccountLaw>>(&rt, rt.alloc())?;
+    desks::a_full_balance_lies_in_its_lane::<_, LinkLine<AccountLaw>>(&rt, rt.alloc())
+}
+
+#[test]
+fn a_transfer_leaves_six_and_brings_four(rt: HostRuntime) -> Result<(), Fail> {
+    desks::a_transfer_leaves_six_and_brings_four::<_, RingLine<AccountLaw>>(&rt, rt.alloc())?;
+    desks::a_transfer_leaves_six_and_brings_four::<_, LinkLine<AccountLaw>>(&rt, rt.alloc())
 }
 
 #[test]

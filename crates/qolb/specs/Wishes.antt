@@ -13,10 +13,6 @@ abbrev pub Grants : Wish → List ℕ → List ℕ → Type 0
 Grants (Answer task) input text = Answers task input text
 Grants (Draw form) input text = IsPicture form input text
 
--- there is such a text
-abbrev pub IsGranted : Wish → List ℕ → Type 0
-IsGranted wish input = (text : List ℕ) × Grants wish input text
-
 -- the bytes are too many, or have a first fault; a schedule that is to be drawn has those that a replay finds
 abbrev pub IsDenied : Wish → List ℕ → Type 0
 IsDenied (Answer task) input = IsRefused task input

@@ -1,5 +1,5 @@
 //! The program behind its words: it does what they ask for, and says how that ended.
-ghost use Rattle.std.specs.Prelude.{◌≡◌, ◌≢◌, ◌≤◌, ◌↔◌, ℕ, List, true, Err, map, string_bytes, IfSome, IfErr, OnOk};
+ghost use Rattle.std.specs.Prelude.{◌≡◌, ◌≢◌, ◌≤◌, ◌↔◌, ℕ, List, true, Err, map, string_bytes, IfSome, IfErr, IfOk, OnOk};
 ghost use Rattle.std.specs.Io.KnownBytes.{Appends};
 ghost use Rattle.qolb_script.specs.Watched.{inner_of, has_failed};
 ghost use Rattle.qolb.specs.CommandLine.{NamesWish, IsNotTaken};
@@ -7,7 +7,7 @@ ghost use Rattle.qolb_run.specs.Outcome.{Answers, IsWorkReply, MayEnd};
 ghost use Rattle.qolb_draw.specs.Pictures.{IsPicture};
 ghost use Rattle.qolb_run.specs.declared.task.Task.TheVariants as task;
 ghost use Rattle.qolb_run.specs.declared.replay.Kind.TheVariants as kind;
-ghost use Rattle.qolb.specs.Wishes.{Grants, IsGranted, IsDenied, MayDeny};
+ghost use Rattle.qolb.specs.Wishes.{Grants, IsDenied, MayDeny};
 ghost use Rattle.qolb.specs.Status.{status_of};
 ghost use Rattle.qolb.specs.declared.command_line.Wish.{Wish};
 
@@ -35,7 +35,7 @@ pub fn serve<T: Threads + Wait + Clock + Eprint + Sync, R: Read, W: Write, E: Wr
     err: &mut E,
 ) -> u8
     ensures statuses { result ≤ 4 }
-    ensures done { result ≡ 0 → (wish : Wish) × NamesWish (map string_bytes words.now) wish × IfSome (R.remaining reader.old) (IsGranted wish) }
+    ensures done { result ≡ 0 → (wish : Wish) × NamesWish (map string_bytes words.now) wish × IfSome (R.remaining reader.old) (λ script. (text : List ℕ) × Grants wish script text × Appends (W.contents out.old) (W.contents out.new) text) }
     ensures refused { result ≡ 1 → (wish : Wish) × NamesWish (map string_bytes words.now) wish × IfSome (R.remaining reader.old) (IsDenied wish) }
     ensures usage { result ≡ 2 → IsNotTaken (map string_bytes words.now) }
     ensures fault { result ≡ 4 → (wish : Wish) × NamesWish (map string_bytes words.now) wish }
@@ -51,11 +51,36 @@ pub fn serve<T: Threads + Wait + Clock + Eprint + Sync, R: Read, W: Write, E: Wr
             return 2;
         }
     };
+    let text = match answer(rt, alloc, request, reader) {
+        Ok(text) => text,
+        Err(error) => return fail(err, error),
+    };
+    if out.write_all(&text).is_err() {
+        return fail(err, TaskError::Replay(ReplayError::Write));
+    }
+    0
+}
+
+/// What is wished, as a text in memory.
+///
+/// Only then is it written out: a writer that is lent to a watched one ends as nothing that a contract can name.
+fn answer<T: Threads + Wait + Clock + Eprint + Sync, R: Read>(
+    rt: &T,
+    alloc: Global,
+    request: Request,
+    reader: &mut R,
+) -> Result<Vec<u8>, TaskError>
+    ensures granted { IfOk result (λ text. IfSome (R.remaining reader.old) (λ script. Grants request.wish script text.items)) }
+    ensures denied { IfErr result (λ error. IfSome (R.remaining reader.old) (λ script. MayDeny request.wish script error)) }
+    ensures no_writer { result ≢ Err (TaskError.Replay ReplayError.Write) }
+{
     let mut input = Watched::new(&mut *reader);
-    let mut output = Watched::new(&mut *out);
-    match grant(rt, alloc, request, &mut input, &mut output) {
-        Ok(()) => 0,
-        Err(error) => fail(err, error),
+    let mut text = Watched::new(Vec::new(alloc));
+    match grant(rt, alloc, request, &mut input, &mut text) {
+        Ok(()) => Ok(text.into_inner()),
+        // Nothing but want of memory keeps a vector from growing.
+        Err(TaskError::Replay(ReplayError::Write)) => Err(TaskError::Replay(ReplayError::Memory)),
+        Err(error) => Err(error),
     }
 }
 

@@ -27,6 +27,14 @@ impl<T> Watched<T> {
         }
     }
 
+    /// The reader or writer that was watched.
+    pub fn into_inner(self) -> T
+        ensures { result ≡ inner_of self }
+    {
+        let Watched { inner, failed: _ } = self;
+        inner
+    }
+
     /// Whether a read or a write has failed.
     pub fn failed(&self) -> bool
         ensures { result ≡ has_failed self.now }

@@ -10,7 +10,7 @@ use std::sync::Wait;
 use std::test::Fail;
 use std::thread::Threads;
 
-/// Four threads raise a count 1,000 times each: none of their additions is lost.
+/// Four threads raise a count 1,000 times each: none of their additions is lost, and nothing else is written.
 pub(super) fn four_threads_raise_one_count<
     R: Threads + Wait + Sync + Abort,
     L: OpenLine<Free> + Sync + Drop,
@@ -20,7 +20,11 @@ where
 {
     let (line, ports) = open_zeros::<Free, L>(alloc, 4, None).ok_or("opened")?;
     let last = raise_all(rt, alloc, line, ports, 1_000).ok_or("raised")?;
-    assert_eq!(rt; lane(&last, 0), 4_000);
+    // 4,000 is 15 * 256 + 160.
+    let mut count = [0; 64];
+    count[0] = 160;
+    count[1] = 15;
+    assert_eq!(rt; last.bytes, count);
     Ok(())
 }
 

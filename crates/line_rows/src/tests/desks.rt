@@ -3,7 +3,8 @@ ghost use Rattle.std.specs.Prelude.{All, IfSome};
 ghost use Rattle.line_accounts.specs.NewDesks.{IsNewPort};
 
 use crate::desks::{
-    a_day, across, late, leased, limits, lower_line_first, over, over_one, over_two, settle_with,
+    a_day, across, found_by, late, leased, limits, lower_line_first, over, over_one, over_two,
+    settle_with,
 };
 use crate::opened::{open_zeros, with_last, with_two};
 use crate::transfers::{ACCOUNTS, PAID_IN, transfer_at_random};
@@ -94,6 +95,50 @@ where
     );
     let total = settle_with(alloc, lines, desk).and_then(|settled| settled.ok());
     assert_eq!(rt; total, Some(281_474_976_710_656));
+    Ok(())
+}
+
+/// A line for two nodes, of which the second looks: 2^48 is 1 in the seventh byte of account 0.
+pub(super) fn a_full_balance_lies_in_its_lane<R: Abort, L: OpenLine<AccountLaw> + Drop>(
+    rt: &R,
+    alloc: Global,
+) -> Result<(), Fail>
+where
+    L::Port: Drop,
+{
+    let (line, port, mut other) = shared_accounts::<L>(alloc, None).ok_or("opened")?;
+    let (lines, mut desk) = over_one(alloc, line, port).ok_or("a desk")?;
+    limits(&lines, &mut desk);
+    let mut full = [0; 64];
+    full[6] = 1;
+    let found = found_by(&lines[0], &mut other).ok_or("granted")?;
+    assert_eq!(rt; found.bytes, full);
+    Ok(())
+}
+
+/// Two lines for two nodes, of which the second looks: account 0, the first of the first line, holds 6, and account 9, the second of the
+/// second line, holds 4.
+pub(super) fn a_transfer_leaves_six_and_brings_four<R: Abort, L: OpenLine<AccountLaw> + Drop>(
+    rt: &R,
+    alloc: Global,
+) -> Result<(), Fail>
+where
+    L::Port: Drop,
+{
+    let (first, first_port, mut looks) = shared_accounts::<L>(alloc, None).ok_or("opened")?;
+    let (second, second_port, mut looks_too) = shared_accounts::<L>(alloc, None).ok_or("opened")?;
+    let (lines, mut desk) = over_two(alloc, first, first_port, second, second_port).ok_or(
+        "a desk",
+    )?;
+    assert_eq!(rt; across(&lines, &mut desk), [Reply::Done, Reply::Done]);
+    let mut six = [0; 64];
+    six[0] = 6;
+    let found = found_by(&lines[0], &mut looks).ok_or("granted")?;
+    assert_eq!(rt; found.bytes, six);
+    let mut four = [0; 64];
+    four[8] = 4;
+    let found = found_by(&lines[1], &mut looks_too).ok_or("granted")?;
+    assert_eq!(rt; found.bytes, four);
     Ok(())
 }
 

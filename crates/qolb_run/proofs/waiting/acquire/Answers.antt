@@ -1,8 +1,14 @@
-use Rattle.std.proofs.Common.{refl, ◌∙◌, arith}
-use Rattle.qolb_model.proofs.Going.{asks_from}
+use Rattle.std.proofs.Common.{◌≡◌, ◌+◌, ◌<◌, ◌≤◌, length, ap, refl, ◌∙◌, arith}
+use Rattle.qolb_model.specs.declared.terms.Terms.{Terms}
+use Rattle.qolb_model.specs.declared.view.View.{View}
+use Rattle.qolb_model.proofs.Going.{asks_from, extends_self}
 use Rattle.qolb_model.proofs.Nearness.{few_turns}
 use Rattle.qolb_run.proofs.Acquiring.{acquired_once, acquired_waiting}
 use Rattle.qolb_run.proofs.waiting.acquire.Goals as goal
+
+-- a line has a node
+some_node : (v : View) (terms : Terms) → v.terms ≡ terms → 1 ≤ v.node → v.node ≤ terms.nodes → length v.ends < length v.ends + v.terms.nodes
+some_node v terms is low high = let e = ap (λ (t : Terms). t.nodes) is in omega arith
 
 pub returns-in-Closed-clause-acquires : goal.returns-in-Closed-clause-acquires
 returns-in-Closed-clause-acquires g c =
@@ -15,8 +21,15 @@ returns-in-Queued-clause-acquires g c =
 -- granted at once: nothing ended in between
 pub returns-in-Granted-clause-soon : goal.returns-in-Granted-clause-soon
 returns-in-Granted-clause-soon g c _ =
-    let sound = g.L.laws.sound c.args.line.now c.enqolb.new.port c.enqolb.ensures.belongs in
-    ?
+    let sound = g.met.L.LineSync.sound c.args.line.now c.enqolb.new.port c.in-Granted.ensures.belongs in
+    let asks = c.in-Granted.ensures.enqueues.asks (λ e. cc e) in
+    record {
+      asked = c.enqolb.new.port;
+      unlooked = c.in-Granted.ensures.looks ∙ c.loop.invariant.looks;
+      asks = asks_from _ _ _ c.loop.invariant.extends c.loop.invariant.count asks;
+      goes_on = extends_self _;
+      few = some_node (g.L.LineSync.view c.enqolb.new.port) _ sound.terms_are sound.first_node sound.last_node;
+    }
 
 -- granted after a wait
 pub returns-in-Queued-clause-soon : goal.returns-in-Queued-clause-soon
