@@ -51,7 +51,7 @@ pub fn ask<L: LineSync<Free>>(line: &L, port: &mut L::Port, patience: u64) -> As
         Enq::Busy => return Asked::Late,
         Enq::Queued => (),
     }
-    for _ in 0..patience {
+    for _look in 0..patience {
         match line.poll(port) {
             Poll::Granted => return Asked::Granted,
             Poll::Closed => return Asked::Closed,
