@@ -1,9 +1,17 @@
-use Rattle.std.proofs.Common.{rules, ◌≢◌}
+use Rattle.std.proofs.Common.{rules, sym, ◌∙◌, ◌≢◌}
 use Rattle.clap.specs.Words.{kind_of}
 use Rattle.clap.specs.declared.error.kind.ErrorKind.TheVariants.{OutOfMemory}
+use Rattle.qolb.proofs.Answered.{known_denied}
 use Rattle.qolb.proofs.serve.serve.Goals as goal
 
 pub returns-in-Err-2-clause-usage : goal.returns-in-Err-2-clause-usage
 returns-in-Err-2-clause-usage g c = λ _.
     let other : kind_of c.in-Err-2.error ≢ OutOfMemory = search rules in
     c.in-Err-2.ensures.usage other
+
+pub returns-in-Err-answer-clause-refused : goal.returns-in-Err-answer-clause-refused
+returns-in-Err-answer-clause-refused g c one = (
+  c.in-Ok.request.wish,
+  c.in-Ok.ensures.wish,
+  known_denied c.in-Ok.request.wish c.in-Err-answer.error (g.R.Read.remaining c.args.reader.now) c.in-Err-answer.ensures.denied (sym c.fail-in-Err-answer.ensures ∙ one),
+)
