@@ -8,7 +8,9 @@ pub mod Forcing
 pub mod Acquiring
 pub mod Shares
 pub mod BoardTurns
-pub mod BoardFinished
+pub mod Turns
+pub mod Merging
+pub mod Refusing
 pub mod Gathering
 pub mod Joined
 pub mod Summing
