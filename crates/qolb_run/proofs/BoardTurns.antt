@@ -72,6 +72,7 @@ module _ (old new : View) (rest : IsAtRest old) (past : KnowsOwnPast old) (c : C
   -- a call in which none of its requests was served
   pub works_not : may_ask new.state ≡ true → KnowsOwnPlaces new → IsUnserved old new → HasTurns old new []
   works_not quiet places unserved = record {
+    node = c.extends.node;
     at_rest = record { quiet = quiet; places = places };
     turns = turns_kept old new c.extends c.history rest past (λ p r e le at_r at_e same. unserved p r e at_r same (later p r le at_r same) at_e) ∙ sym (append-nil (turns_of old));
   }
@@ -155,6 +156,7 @@ module _ (old new : View) (rest : IsAtRest old) (past : KnowsOwnPast old) (c : C
   -- a turn that found these tasks and left those
   works_turn : {found left puts takes : List ℕ} → Asks old new → may_ask new.state ≡ true → HadTurn found left puts takes new → HasTurns old new (record { found = found; left = left } ∷ [])
   works_turn {found} {left} asks quiet t = record {
+    node = c.extends.node;
     at_rest = record { quiet = quiet; places = places_asked old new c.extends c.history asks rest.places };
     turns = one_turn asks t.before t.write (closes new.terms.lease t.before false) t.passed t.ends t.at_turn
         ∙ ap (λ (turn : Turn). turns_of old ++ turn ∷ []) (λ i. record { found = standing-stand (bytes_after new.terms.opening.bytes t.before) found t.found_there i; left = standing-stand (bytes_of new) left t.left_there i });
@@ -228,11 +230,11 @@ module _ (old new : View) (answer : Take) (rest : IsAtRest old) (past : KnowsOwn
 
 -- one call after another that had no turn
 pub turns_on : (old mid new : View) (more : List Turn) → HasTurns old mid [] → HasTurns mid new more → HasTurns old new more
-turns_on old mid new more w v = record { at_rest = v.at_rest; turns = v.turns ∙ ap (λ ts. ts ++ more) (w.turns ∙ append-nil (turns_of old)) }
+turns_on old mid new more w v = record { node = v.node ∙ w.node; at_rest = v.at_rest; turns = v.turns ∙ ap (λ ts. ts ++ more) (w.turns ∙ append-nil (turns_of old)) }
 
 -- no call
 pub turns_none : (v : View) → IsAtRest v → HasTurns v v []
-turns_none v rest = record { at_rest = rest; turns = sym (append-nil (turns_of v)) }
+turns_none v rest = record { node = refl; at_rest = rest; turns = sym (append-nil (turns_of v)) }
 
 -- a put after tries that came to nothing
 module _ (u v w : View) (task : ℕ) (so : HasTurns u v []) (past : KnowsOwnPast v) (answer : Put) (p : Puts task v w answer) where

@@ -10,6 +10,7 @@ pub mod Shares
 pub mod BoardTurns
 pub mod Turns
 pub mod Merging
+pub mod Working
 pub mod Refusing
 pub mod Gathering
 pub mod Joined

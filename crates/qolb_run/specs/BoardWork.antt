@@ -35,8 +35,9 @@ node_turns node bytes (r ∷ order) (Told ∷ ends) = node_turns node bytes orde
 abbrev pub turns_of : View → List Turn
 turns_of v = node_turns v.node v.terms.opening.bytes v.order v.ends
 
--- the port had these turns besides, and is at rest
+-- the node's port had these turns besides, and is at rest
 pub record HasTurns (old new : View) (more : List Turn) : Type 0 where
+  pub node : new.node ≡ old.node
   pub at_rest : IsAtRest new
   pub turns : turns_of new ≡ turns_of old ++ more
 

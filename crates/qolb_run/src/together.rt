@@ -97,7 +97,12 @@ where
                 };
                 let Ok(handle) = scope.spawn_with(
                     promise,
-                    move || work.work(rt, shared, place, part),
+                    move || -> W::Back
+                        requires fits { W.fits shared.now part }
+                        requires fits_place { W.fits_place work.now shared.now place part }
+                        requires place { place + 1 < 2 ^ 64 }
+                        ensures { W.done work.entry.now shared.entry.now place result }
+                    { work.work(rt, shared, place, part) },
                 ) else {
                     return None;
                 };
