@@ -1,13 +1,20 @@
 -- Workers at a bank: how a job is tried until it has an outcome, and what a worker has done. (Of this project.)
-use Rattle.std.specs.Prelude.{◌≡◌, ℕ, ◌+◌, ◌*◌, ◌^◌, ◌≤◌, Bool, true, false, List, [], ◌∷◌, ◌++◌, length, Some, slice_get}
+use Rattle.std.specs.Prelude.{◌≡◌, ℕ, ◌+◌, ◌*◌, ◌^◌, ◌≤◌, Bool, true, false, List, [], ◌∷◌, ◌++◌, length, All, Some, slice_get}
+use Rattle.qolb_model.specs.declared.terms.Terms.{Terms}
 use Rattle.qolb_model.specs.declared.view.View.{View}
 use Rattle.line_accounts.specs.Desks.{DeskOf, IsDeskOver}
 use Rattle.line_accounts.specs.NewDesks.{IsUnpaid}
+use Rattle.line_accounts.specs.Settled.{all_paid_in, all_paid_out}
 use Rattle.line_accounts.specs.Calls.{Deposits, TakesOut, Transfers}
 use Rattle.line_accounts.specs.declared.answer.Reply.{Reply}
 use Rattle.line_accounts.specs.declared.answer.Reply.TheVariants.{Done, Short, Over, Late, Closed, Busy, NoAccount, SameAccount}
 use Rattle.qolb_script.specs.declared.job.Job.{Job}
 use Rattle.qolb_script.specs.declared.job.Job.TheVariants.{Put, Take, PayIn, PayOut, Move}
+use Rattle.qolb_script.specs.declared.report.Report.{Report}
+use Rattle.qolb_script.specs.declared.report.Report.TheVariants.{Board, Bank}
+use Rattle.qolb_script.specs.WorkScript.{WorkScript}
+use Rattle.qolb_run.specs.JustOpened.{work_terms}
+use Rattle.qolb_run.specs.Workers.{AreDone}
 use Rattle.qolb_run.specs.BankRuns.{paid_in_by, paid_out_by}
 
 -- in so many jobs no more was paid in, or out, than as many of the largest amounts
@@ -68,7 +75,23 @@ pub record HasBanked {Line Port : Type 0} (belongs : Line → Port → Type 0) (
   pub fresh : DeskOf Port
   pub unpaid : IsUnpaid fresh
   pub replies : List Reply
+  pub as_many : length replies ≡ length jobs
   pub made : Makes view (length lines) fresh jobs replies desk
   pub paid_in : desk.paid_in ≡ paid_in_by jobs replies
   pub paid_out : desk.paid_out ≡ paid_out_by jobs replies
   pub small : ArePaid (length jobs) desk
+
+-- there are lines that were opened for the work, and a desk over them for each worker, at which its jobs were made; and this much was paid in
+-- and out at all desks
+pub record AreBanked {Line Port : Type 0} (belongs : Line → Port → Type 0) (view : Port → View) (terms_of : Line → Terms) (work : WorkScript) (paid_in paid_out : ℕ) : Type 0 where
+  pub lines : List Line
+  pub desks : List (DeskOf Port)
+  pub opened : All (λ line. terms_of line ≡ work_terms work.workers) lines
+  pub each : length desks ≡ work.workers
+  pub done : AreDone (HasBanked belongs view) lines work.jobs desks
+  pub in_is : paid_in ≡ all_paid_in desks
+  pub out_is : paid_out ≡ all_paid_out desks
+
+abbrev pub IsBankedOver : {Line Port : Type 0} → (Line → Port → Type 0) → (Port → View) → (Line → Terms) → WorkScript → Report → Type 0
+IsBankedOver belongs view terms_of work (Bank paid_in paid_out total) = AreBanked belongs view terms_of work paid_in paid_out
+IsBankedOver belongs view terms_of work (Board stored full taken empty left) = Unit {0}

@@ -7,7 +7,7 @@ ghost use Rattle.line_accounts.specs.Desks.{IsDeskOver};
 ghost use Rattle.line_accounts.specs.Settled.{all_paid_in, all_paid_out};
 ghost use Rattle.qolb_run.specs.Workers.{AreDone, AreFresh, MayStop, IsWithinLimits};
 ghost use Rattle.qolb_run.specs.Jobs.{IsBankJob};
-ghost use Rattle.qolb_run.specs.BankWork.{HasBanked, Asks, PaysOneAmount, ArePaid};
+ghost use Rattle.qolb_run.specs.BankWork.{HasBanked, Asks, PaysOneAmount, ArePaid, IsBankedOver};
 ghost use Rattle.qolb_run.specs.JustOpened.{IsNewLine, work_terms};
 ghost use Rattle.qolb_run.specs.Reports.{IsReportOf};
 
@@ -111,6 +111,7 @@ where
     requires as_many { vec_len desks ≡ work.now.workers }
     requires done { AreDone (HasBanked L.belongs L.view) bank.lines.items work.now.jobs desks.items }
     ensures report { IfOk result (IsReportOf work.now) }
+    ensures banked { IfOk result (IsBankedOver L.belongs L.view L.terms_of work.now) }
     ensures stalled { IfErr result (MayStop work.now) }
 {
     let (paid_in, paid_out) = sum_up(desks.as_slice());
@@ -187,6 +188,7 @@ where
     L::Port: Send + Drop,
     requires { work.now.kind ≡ WorkKind.Bank }
     ensures report { IfOk result (IsReportOf work.now) }
+    ensures banked { IfOk result (IsBankedOver L.belongs L.view L.terms_of work.now) }
     ensures stalled { IfErr result (MayStop work.now) }
 {
     let (lines, desks) = open_bank::<L>(alloc, work.lines(), work.workers())?;
