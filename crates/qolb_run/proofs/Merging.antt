@@ -66,14 +66,14 @@ module _ (bytes now : List ℕ) (node : ℕ) (jobs : ℕ → List Job) (own : Ar
   with_first (job ∷ later) are (does, others) =
       let is_own : worker_of job ≡ node = own node 0 job (ap (λ l. slice_get l 0) are) in
       let m = rest (jobs_then later)
-          (λ worker k x at. elim (cases_eq node worker) [
-            | inl e ↦ own worker (suc k) x (ap (λ l. slice_get l (suc k)) (ap jobs (sym e) ∙ are) ∙ (ap (λ l. slice_get l k) (sym (then_own later) ∙ ap (jobs_then later) e) ∙ at))
-            | inr ne ↦ own worker k x (ap (λ l. slice_get l k) (sym (then_other later worker ne)) ∙ at)
-          ])
-          (λ worker. elim (cases_eq node worker) [
-            | inl e ↦ subst (λ w. Did (turns w) (jobs_then later w)) e (subst (Did (turns node)) (sym (then_own later)) others)
-            | inr ne ↦ subst (Did (turns worker)) (sym (then_other later worker ne)) (did_other worker ne)
-          ]) in (
+      (λ worker k x at. elim (cases_eq node worker) [
+        | inl e ↦ own worker (suc k) x (ap (λ l. slice_get l (suc k)) (ap jobs (sym e) ∙ are) ∙ (ap (λ l. slice_get l k) (sym (then_own later) ∙ ap (jobs_then later) e) ∙ at))
+        | inr ne ↦ own worker k x (ap (λ l. slice_get l k) (sym (then_other later worker ne)) ∙ at)
+      ])
+      (λ worker. elim (cases_eq node worker) [
+        | inl e ↦ subst (λ w. Did (turns w) (jobs_then later w)) e (subst (Did (turns node)) (sym (then_own later)) others)
+        | inr ne ↦ subst (Did (turns worker)) (sym (then_other later worker ne)) (did_other worker ne)
+      ]) in (
         job ∷ m.sequence,
         λ worker. elim (cases_eq node worker) [
           | inl e ↦ jobs_own worker job m.sequence (is_own ∙ e) ∙ (ap (λ l. job ∷ l) (m.each worker ∙ (ap (jobs_then later) (sym e) ∙ then_own later)) ∙ (sym are ∙ ap jobs e))

@@ -16,7 +16,8 @@ use crate::opening::open_line;
 use crate::work::RunError;
 use crate::workers::{PATIENCE, Site, all_done, work_all};
 use line_accounts::{
-    AccountLaw, Desk, DesksError, Reply, SettleError, deposit, desks_over, settle, take_out, transfer,
+    AccountLaw, Desk, DesksError, Reply, SettleError, deposit, desks_over, settle, take_out,
+    transfer,
 };
 use qolb_model::{LineSync, OpenLine, PortState};
 use qolb_script::{Job, Report, Work, WorkKind};

@@ -45,4 +45,3 @@ pub returns-in-Some-false-take_at_last : goal.returns-in-Some-false-take_at_last
 returns-in-Some-false-take_at_last g c = λ _ worker done worked.
     let (turn, had, has) = c.take_at_last.ensures.empty (c.in-Some-false-take_at_last.is ∙ ap Some c.in-Some-false-take_at_last.field-0-test) in
     then_none g.L.LineSync.belongs g.L.LineSync.view c.args.self.now.line worker c.args.hand.now done worked c.take_at_last.new.port c.take_at_last.ensures.belongs c.in-Take.worker c.args.job.now c.in-Take.is turn had has
-
