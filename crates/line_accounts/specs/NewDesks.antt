@@ -1,5 +1,5 @@
 -- New desks, over lines that were just opened. (Of this project.)
-use Rattle.std.specs.Prelude.{◌≡◌, ℕ, ◌<◌, ◌≤◌, List, All, Vec, vec_len, slice_get, Some}
+use Rattle.std.specs.Prelude.{◌≡◌, ℕ, ◌<◌, ◌≤◌, List, [], ◌∷◌, ◌++◌, All, Vec, vec_len, slice_get, Some}
 use Rattle.std.specs.Global.{Global}
 use Rattle.qolb_model.specs.declared.answer.PortState.TheVariants.{Idle}
 use Rattle.qolb_model.specs.declared.view.View.{View}
@@ -22,6 +22,16 @@ pub record IsColumn {Line Port : Type 0} (belongs : Line → Port → Type 0) (v
 pub record IsUnpaid {Port : Type 0} (desk : DeskOf Port) : Type 0 where
   pub paid_in : desk.paid_in ≡ 0
   pub paid_out : desk.paid_out ≡ 0
+
+-- desk k has the ports of one node: its port of each line is the line's port at place k, which is that of node k + 1 where the line was just
+-- opened
+abbrev pub AreDealt : {Line Port : Type 0} → List (Line × Vec Port Global) → List (DeskOf Port) → Type 0
+AreDealt {Line} {Port} opened desks = (k i : ℕ) (desk : DeskOf Port) (line : Line × Vec Port Global) → slice_get desks k ≡ Some desk → slice_get opened i ≡ Some line → slice_get desk.ports i ≡ slice_get line.1.items k
+
+-- list k has one port more: the one at place k
+abbrev pub GainEach : {Port : Type 0} → List Port → List (Vec Port Global) → List (Vec Port Global) → Type 0
+GainEach {Port} ports old new = (k : ℕ) (column_then : Vec Port Global) → slice_get new k ≡ Some column_then
+    → (column : Vec Port Global) × (port : Port) × (slice_get old k ≡ Some column) × (slice_get ports k ≡ Some port) × (column_then.items ≡ column.items ++ port ∷ [])
 
 module _ {Line Port : Type 0} (count : ℕ) (opened : List (Line × Vec Port Global)) where
   -- each line has a port for each of so many desks

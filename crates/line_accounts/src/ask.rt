@@ -1,5 +1,5 @@
 //! A port that asks for its line, waits a while, and has a turn or gives it up.
-ghost use Rattle.std.specs.Prelude.{◌≡◌, IfOk, IfErr, IsTrue};
+ghost use Rattle.std.specs.Prelude.{◌≡◌, ◌≤◌, ◌+◌, Err, IfOk, IfErr, IsTrue};
 ghost use Rattle.qolb_model.specs.PortStates.{may_ask};
 ghost use Rattle.qolb_model.specs.Sound.{Continues};
 ghost use Rattle.qolb_model.specs.Turns.{IsGranted};
@@ -22,6 +22,8 @@ pub fn ask<L: LineSync<AccountLaw>>(
     ensures belongs { L.belongs line.now port.new }
     ensures holds { IfOk result (λ _. Holds (L.view port.old) (L.view port.new) (L.turn port.new)) }
     ensures refused { IfErr result (IsRefused (L.view port.old) (L.view port.new)) }
+    ensures patient { L.looks port.new ≤ L.looks port.old + patience }
+    ensures late { result ≡ Err Reply.Late → L.looks port.new ≡ L.looks port.old + patience }
 {
     match line.enqolb(port) {
         Enq::Granted => Ok(()),
@@ -40,6 +42,8 @@ fn wait<L: LineSync<AccountLaw>>(line: &L, port: &mut L::Port, patience: u64) ->
     ensures count { (L.view port.new).count ≡ (L.view port.old).count }
     ensures granted { IfOk result (λ _. IsGranted (L.view port.new) (L.turn port.new)) }
     ensures stops { IfErr result (StopsWaiting (L.view port.new)) }
+    ensures patient { L.looks port.new ≤ L.looks port.old + patience }
+    ensures late { result ≡ Err Reply.Late → L.looks port.new ≡ L.looks port.old + patience }
 {
     for _ in 0..patience {
         match line.poll(port) {

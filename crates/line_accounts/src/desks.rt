@@ -1,7 +1,7 @@
 //! Desks over lines that were just opened.
 ghost use Rattle.std.specs.Prelude.{◌≡◌, ◌≤◌, ◌∷◌, ◌++◌, [], All, IfOk, IfErr, OnOk, MatchOption, length, map, vec_len};
 ghost use Rattle.line_accounts.specs.Desks.{IsDeskOver};
-ghost use Rattle.line_accounts.specs.NewDesks.{IsNewPort, IsColumn, IsUnpaid, AreEnough, IsFirstShort, MayHaveNoDesks};
+ghost use Rattle.line_accounts.specs.NewDesks.{IsNewPort, IsColumn, IsUnpaid, AreDealt, AreEnough, GainEach, IsFirstShort, MayHaveNoDesks};
 
 use crate::answer::DesksError;
 use crate::desk::Desk;
@@ -9,8 +9,8 @@ use crate::law::AccountLaw;
 use qolb_model::LineSync;
 use std::alloc::{AllocError, Global};
 
-/// The lines in their order, and so many desks over all of them. Each desk has one port of each line; ports beyond the number of desks are
-/// dropped. Refused, lines and ports are dropped.
+/// The lines in their order, and so many desks over all of them. Each desk has one node's port of each line: the first desk the first port of
+/// each, and so on; ports beyond the number of desks are dropped. Refused, lines and ports are dropped.
 pub fn desks_over<L: LineSync<AccountLaw> + Drop>(
     alloc: Global,
     opened: Vec<(L, Vec<L::Port>)>,
@@ -23,6 +23,7 @@ where
     ensures as_many { IfOk result (λ made. vec_len made.1 ≡ count) }
     ensures over { IfOk result (λ made. All (IsDeskOver L.belongs L.view made.0.items) made.1.items) }
     ensures unpaid { IfOk result (λ made. All IsUnpaid made.1.items) }
+    ensures dealt { IfOk result (λ made. AreDealt opened.items made.1.items) }
     ensures why { IfErr result (MayHaveNoDesks count opened.items) }
 {
     if let Some(line) = first_short(&opened, count) {
@@ -61,6 +62,7 @@ where
     ensures as_many { IfOk result (λ made. vec_len made.1 ≡ count) }
     ensures over { IfOk result (λ made. All (IsDeskOver L.belongs L.view made.0.items) made.1.items) }
     ensures unpaid { IfOk result (λ made. All IsUnpaid made.1.items) }
+    ensures dealt { IfOk result (λ made. AreDealt opened.items made.1.items) }
 {
     let mut columns = no_ports(alloc, count)?;
     let mut lines = Vec::with_capacity(alloc, opened.len())?;
@@ -101,6 +103,7 @@ where
     ensures lines { OnOk result (lines.new.items ≡ lines.old.items ++ line ∷ []) }
     ensures as_many { vec_len columns.new ≡ vec_len columns.old }
     ensures columns { OnOk result (All (λ ports. IsColumn L.belongs L.view lines.new.items ports.items) columns.new.items) }
+    ensures gains { OnOk result (GainEach ports.items columns.old.items columns.new.items) }
 {
     let mut ports = ports.into_iter();
     for column in columns.iter_mut() {

@@ -1,5 +1,5 @@
 //! Asking for a line, with so much patience.
-ghost use Rattle.std.specs.Prelude.{◌≡◌, IsTrue};
+ghost use Rattle.std.specs.Prelude.{◌≡◌, ◌≤◌, ◌+◌, IsTrue};
 ghost use Rattle.qolb_model.specs.PortStates.{may_ask};
 ghost use Rattle.qolb_model.specs.Calls.{Withdraws};
 ghost use Rattle.line_board.specs.Law.{Changes};
@@ -15,6 +15,8 @@ pub(crate) fn acquire<L: LineSync<BoardLaw>>(line: &L, port: &mut L::Port, patie
     requires state { IsTrue (may_ask (L.view port.old).state) }
     ensures belongs { L.belongs line.now port.new }
     ensures acquires { Acquires (L.view port.old) (L.view port.new) (L.turn port.new) result }
+    ensures patient { L.looks port.new ≤ L.looks port.old + patience }
+    ensures late { result ≡ Asked.Late → L.looks port.new ≡ L.looks port.old + patience }
 {
     match line.enqolb(port) {
         Enq::Granted => Asked::Granted,
@@ -34,6 +36,8 @@ fn wait<L: LineSync<BoardLaw>>(line: &L, port: &mut L::Port, patience: u64) -> O
     requires state { (L.view port.old).state ≡ PortState.Queued }
     ensures belongs { L.belongs line.now port.new }
     ensures withdraws { Withdraws Changes (L.view port.old) (L.view port.new) (L.turn port.new) result }
+    ensures patient { L.looks port.new ≤ L.looks port.old + patience }
+    ensures late { result ≡ Out.Withdrawn → L.looks port.new ≡ L.looks port.old + patience }
 {
     for _ in 0..patience {
         match line.poll(port) {

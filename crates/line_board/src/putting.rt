@@ -1,5 +1,5 @@
 //! Putting a task on a board.
-ghost use Rattle.std.specs.Prelude.{◌≡◌, ◌++◌, ◌∷◌, [], ℕ, List, length, true, false, IsTrue, MatchOption};
+ghost use Rattle.std.specs.Prelude.{◌≡◌, ◌≤◌, ◌+◌, ◌++◌, ◌∷◌, [], ℕ, List, length, true, false, IsTrue, MatchOption};
 ghost use Rattle.qolb_model.specs.PortStates.{may_ask};
 ghost use Rattle.qolb_model.specs.Sound.{Continues};
 ghost use Rattle.qolb_model.specs.Turns.{IsGranted};
@@ -22,6 +22,8 @@ pub fn put<L: LineSync<BoardLaw>>(line: &L, port: &mut L::Port, task: u64, patie
     requires state { IsTrue (may_ask (L.view port.old).state) }
     ensures belongs { L.belongs line.now port.new }
     ensures puts { Puts task (L.view port.old) (L.view port.new) result }
+    ensures patient { L.looks port.new ≤ L.looks port.old + patience }
+    ensures late { result ≡ Put.Late → L.looks port.new ≡ L.looks port.old + patience }
 {
     match acquire(line, port, patience) {
         Asked::Granted => {
@@ -44,6 +46,7 @@ fn store<L: LineSync<BoardLaw>>(line: &L, port: &mut L::Port, task: u64) -> bool
     ensures belongs { L.belongs line.now port.new }
     ensures continues { Continues Changes (L.view port.old) (L.view port.new) }
     ensures count { (L.view port.new).count ≡ (L.view port.old).count }
+    ensures looks { L.looks port.new ≡ L.looks port.old }
     ensures state { IsTrue (may_ask (L.view port.new).state) }
     ensures stored { result ≡ true → HasPut task (L.view port.new) }
     ensures full { result ≡ false → HasFound MOST_TASKS (L.view port.new) }

@@ -1,5 +1,5 @@
 //! Taking a task from a board.
-ghost use Rattle.std.specs.Prelude.{◌≡◌, ◌∷◌, [], ℕ, List, IsTrue, MatchOption};
+ghost use Rattle.std.specs.Prelude.{◌≡◌, ◌≤◌, ◌+◌, ◌∷◌, [], ℕ, List, IsTrue, MatchOption};
 ghost use Rattle.qolb_model.specs.PortStates.{may_ask};
 ghost use Rattle.qolb_model.specs.Sound.{Continues};
 ghost use Rattle.qolb_model.specs.Turns.{IsGranted};
@@ -22,6 +22,8 @@ pub fn take<L: LineSync<BoardLaw>>(line: &L, port: &mut L::Port, patience: u64) 
     requires state { IsTrue (may_ask (L.view port.old).state) }
     ensures belongs { L.belongs line.now port.new }
     ensures takes { Takes (L.view port.old) (L.view port.new) result }
+    ensures patient { L.looks port.new ≤ L.looks port.old + patience }
+    ensures late { result ≡ Take.Late → L.looks port.new ≡ L.looks port.old + patience }
 {
     match acquire(line, port, patience) {
         Asked::Granted => match remove(line, port) {
@@ -41,6 +43,7 @@ fn remove<L: LineSync<BoardLaw>>(line: &L, port: &mut L::Port) -> Option<u64>
     ensures belongs { L.belongs line.now port.new }
     ensures continues { Continues Changes (L.view port.old) (L.view port.new) }
     ensures count { (L.view port.new).count ≡ (L.view port.old).count }
+    ensures looks { L.looks port.new ≡ L.looks port.old }
     ensures state { IsTrue (may_ask (L.view port.new).state) }
     ensures taken { MatchOption result (HasFound 0 (L.view port.new)) (λ task. HasTaken task (L.view port.new)) }
 {

@@ -1,26 +1,36 @@
--- Desks of workers, and what all of them paid.
-use Rattle.std.proofs.Common.{◌≡◌, ℕ, zero, suc, ◌+◌, ◌*◌, ◌^◌, ◌<◌, ◌≤◌, ◌==◌, List, [], ◌∷◌, length, take, lit≤, All, get_or, refl, ap, subst, arith}
+-- Desks of workers: what one call did, and what all of them paid.
+use Rattle.std.proofs.Common.{◌≡◌, ◌≢◌, ◌⊎◌, inl, inr, ℕ, zero, suc, ◌+◌, ◌*◌, ◌^◌, ◌<◌, ◌≤◌, ◌==◌, true, false, List, [], ◌∷◌, ◌++◌, length, take, lit≤, All, Vec, Some, None, slice_get, slice_set, get_or, refl, ap, sym, ◌∙◌, subst, arith, length-append}
+use Rattle.std.specs.Global.{Global}
 use Rattle.std.specs.List.{sum_by}
+use Rattle.std.proofs.lemmas.Bool.{cases_eq, cases_lt}
 use Rattle.std.proofs.lemmas.List.{length-take-le}
 use Rattle.std.proofs.lemmas.List.Sums.{sum_by-le, sum_by-cons, count_by-le-length, length-filter}
-use Rattle.std.proofs.lemmas.List.Elements.{All-take, All-head, All-tail, All-weaker}
-use Rattle.std.proofs.lemmas.Option.{slice_get-get_or}
+use Rattle.std.proofs.lemmas.List.Elements.{All-take, All-head, All-tail}
+use Rattle.std.proofs.lemmas.Option.{slice_get-get_or, slice_get_within, get_or_from_slice_get}
 use Rattle.line_lanes.specs.Line.{zeros}
 use Rattle.line_lanes.specs.Lane.{lanes_total}
-use Rattle.line_accounts.specs.Accounts.{AreBalances}
-use Rattle.qolb_run.specs.JustOpened.{IsJustOpened, IsNewLine}
 use Rattle.qolb_model.specs.declared.terms.Terms.{Terms}
 use Rattle.qolb_model.specs.declared.terms.TheConstants.{MOST_NODES}
 use Rattle.qolb_model.specs.declared.view.View.{View}
+use Rattle.qolb_model.proofs.Lists.{same_some, element_at}
+use Rattle.line_accounts.specs.declared.answer.Reply.{Reply}
+use Rattle.line_accounts.specs.declared.answer.Reply.TheVariants.{Done, Short, Over, Late, Closed, Busy, NoAccount, SameAccount}
+use Rattle.line_accounts.specs.Accounts.{AreBalances, line_of, lane_in}
 use Rattle.line_accounts.specs.Desks.{DeskOf, IsDeskOver}
-use Rattle.line_accounts.specs.NewDesks.{IsNewPort, IsUnpaid}
-use Rattle.line_accounts.specs.Settled.{all_opened}
+use Rattle.line_accounts.specs.NewDesks.{IsNewPort, IsUnpaid, AreDealt}
+use Rattle.line_accounts.specs.Moves.{IsRefused, IsRefusedEither, PaysIn, PaysOut, MovesWithin, MovesAcross}
+use Rattle.line_accounts.specs.Calls.{AreTwo}
+use Rattle.line_accounts.specs.Settled.{all_paid_in, all_paid_out, all_opened, LacksPort, IsFirstMissing}
+use Rattle.line_accounts.proofs.Accounted.{slice_get-set_same, slice_get-set_other, refused_in_vain}
 use Rattle.qolb_script.specs.declared.job.Job.{Job}
+use Rattle.qolb_script.specs.declared.job.Job.TheVariants.{Put, Take, PayIn, PayOut, Move}
 use Rattle.qolb_script.specs.Jobs.{worker_of}
 use Rattle.qolb_script.specs.declared.schedule.TheConstants.{MOST_COMMANDS}
 use Rattle.qolb_run.specs.Jobs.{jobs_of}
-use Rattle.qolb_run.specs.Workers.{AreDone}
-use Rattle.qolb_run.specs.BankWork.{ArePaid, HasBanked}
+use Rattle.qolb_run.specs.JustOpened.{IsNewLine, work_terms}
+use Rattle.qolb_run.specs.Workers.{AreDone, AreFresh}
+use Rattle.qolb_run.specs.BankRuns.{paid_in_of, paid_out_of, paid_in_by, paid_out_by, ComesTo}
+use Rattle.qolb_run.specs.BankWork.{ArePaid, PaysOneAmount, is_again, is_outcome, Asks, Tries, not_yet, again, Makes, nothing, another, HasBanked}
 
 -- sums over desks
 module _ {Port : Type 0} (desks : List (DeskOf Port)) (i : ℕ) (few : length desks ≤ MOST_NODES) (small : All (λ desk. ArePaid MOST_COMMANDS desk) desks) (le : i ≤ length desks) where
@@ -42,7 +52,7 @@ module _ {Port : Type 0} (desks : List (DeskOf Port)) (i : ℕ) (few : length de
 
 -- all workers' desks
 module _ {Line Port : Type 0} (belongs : Line → Port → Type 0) (view : Port → View) (lines : List Line) (jobs : List Job) (desks : List (DeskOf Port)) (done : AreDone (HasBanked belongs view) lines jobs desks) where
-  banked_at : (k : ℕ) (d : DeskOf Port) → k < length desks → HasBanked belongs view lines (get_or desks k d) (jobs_of (k + 1) jobs)
+  banked_at : (k : ℕ) (d : DeskOf Port) → k < length desks → HasBanked belongs view lines (k + 1) (get_or desks k d) (jobs_of (k + 1) jobs)
   banked_at k d below = done k (get_or desks k d) (slice_get-get_or desks k d below)
 
   pub all_over : All (IsDeskOver belongs view lines) desks
@@ -52,36 +62,52 @@ module _ {Line Port : Type 0} (belongs : Line → Port → Type 0) (view : Port 
   all_small most = λ k d below.
       let kept = length-filter (λ job. worker_of job == k + 1) jobs in
       let few = count_by-le-length (λ job. worker_of job == k + 1) jobs in
-      let low_in = (banked_at k d below).paid.paid_in in
-      let low_out = (banked_at k d below).paid.paid_out in
+      let low_in = (banked_at k d below).small.paid_in in
+      let low_out = (banked_at k d below).small.paid_out in
       record { paid_in = omega (arith, kept, few, low_in, most); paid_out = omega (arith, kept, few, low_out, most) }
 
 -- lines that are opened with zeros have no balance
-pub opened_empty : {Line : Type 0} (terms_of : Line → Terms) (lines : List Line) → All (λ line. (terms_of line).opening.bytes ≡ zeros) lines → all_opened terms_of lines ≡ 0
-opened_empty terms_of [] all = refl
-opened_empty {Line} terms_of (line ∷ lines) all =
-    let here : lanes_total (terms_of line).opening.bytes ≡ 0 = ap lanes_total (All-head (λ (l : Line). (terms_of l).opening.bytes ≡ zeros) line lines all) in
-    let rest = opened_empty terms_of lines (All-tail (λ (l : Line). (terms_of l).opening.bytes ≡ zeros) line lines all) in
+pub opened_empty : {Line : Type 0} (terms_of : Line → Terms) (workers : ℕ) (lines : List Line) → All (λ line. terms_of line ≡ work_terms workers) lines → all_opened terms_of lines ≡ 0
+opened_empty terms_of workers [] all = refl
+opened_empty {Line} terms_of workers (line ∷ lines) all =
+    let here : lanes_total (terms_of line).opening.bytes ≡ 0 = ap (λ (t : Terms). lanes_total t.opening.bytes) (All-head (λ (l : Line). terms_of l ≡ work_terms workers) line lines all) in
+    let rest = opened_empty terms_of workers lines (All-tail (λ (l : Line). terms_of l ≡ work_terms workers) line lines all) in
     let whole = sum_by-cons (λ (l : Line). lanes_total (terms_of l).opening.bytes) line lines in
     omega (arith, here, rest, whole)
 
 -- the ports of a line that was just opened are new
-pub new_ports : {Line Port : Type 0} (belongs : Line → Port → Type 0) (view : Port → View) (terms_of : Line → Terms) (line : Line) (ports : List Port) → IsNewLine belongs view terms_of line ports → All (IsNewPort belongs view line) ports
-new_ports {Line} {Port} belongs view terms_of line ports new = All-weaker (λ (port : Port). belongs line port × IsJustOpened (view port)) (IsNewPort belongs view line) unused ports new.own
-  where
-    unused : (port : Port) → belongs line port × IsJustOpened (view port) → IsNewPort belongs view line port
-    unused port (own, (label, terms, node, is)) = record { of_line = own; idle = ap (λ (v : View). v.state) is; never = ap (λ (v : View). v.count) is }
+pub new_ports : {Line Port : Type 0} (belongs : Line → Port → Type 0) (view : Port → View) (terms_of : Line → Terms) (workers : ℕ) (line : Line) (ports : List Port) → IsNewLine belongs view terms_of workers line ports → All (IsNewPort belongs view line) ports
+new_ports {Line} {Port} belongs view terms_of workers line ports new = λ k d below.
+    let (own, (label, terms, is)) = new.own k (get_or ports k d) (slice_get-get_or ports k d below) in
+    record { of_line = own; idle = ap (λ (v : View). v.state) is; never = ap (λ (v : View). v.count) is }
 
--- a new desk has done no job
-pub banked_nothing : {Line Port : Type 0} (belongs : Line → Port → Type 0) (view : Port → View) (lines : List Line) (desks : List (DeskOf Port))
-    → All (IsDeskOver belongs view lines) desks → All IsUnpaid desks → All (λ desk. HasBanked belongs view lines desk []) desks
-banked_nothing belongs view lines desks over unpaid = λ k d below. record {
-  over = over k d below;
-  paid = record {
-    paid_in = let none = (unpaid k d below).paid_in in omega (arith, none);
-    paid_out = let none = (unpaid k d below).paid_out in omega (arith, none);
-  };
-}
+-- a new desk has done no job, and has the ports of its worker's node
+pub banked_nothing : {Line Port : Type 0} (belongs : Line → Port → Type 0) (view : Port → View) (terms_of : Line → Terms) (workers : ℕ) (opened : List (Line × Vec Port Global)) (lines : List Line) (desks : List (DeskOf Port)) → length lines ≡ length opened
+    → All (λ (line : Line × Vec Port Global). IsNewLine belongs view terms_of workers line.0 line.1.items) opened → AreDealt opened desks → All (IsDeskOver belongs view lines) desks → All IsUnpaid desks → AreFresh (HasBanked belongs view) lines desks
+banked_nothing {Line} {Port} belongs view terms_of workers opened lines desks long new dealt over unpaid = λ k desk at.
+    let below = slice_get_within desks k desk at in
+    let is_over = subst (IsDeskOver belongs view lines) (get_or_from_slice_get desks k desk desk at) (over k desk below) in
+    let none = subst (λ (d : DeskOf Port). IsUnpaid d) (get_or_from_slice_get desks k desk desk at) (unpaid k desk below) in record {
+      over = is_over;
+      of_worker = λ i port at_port.
+          let there = slice_get_within desk.ports i port at_port in
+          let count = is_over.over.count in
+          let (line, at_line) = element_at opened i (omega (arith, there, count, long)) in
+          let fresh = subst (λ (l : Line × Vec Port Global). IsNewLine belongs view terms_of workers l.0 l.1.items) (get_or_from_slice_get opened i line line at_line) (new i line (slice_get_within opened i line at_line)) in
+          let (own, (label, terms, is)) = fresh.own k port (sym (dealt k i desk line at at_line) ∙ at_port) in
+          ap (λ (v : View). v.node) is;
+      fresh = desk;
+      unpaid = none;
+      replies = [];
+      as_many = refl;
+      made = nothing;
+      paid_in = none.paid_in;
+      paid_out = none.paid_out;
+      small = record {
+        paid_in = let a = none.paid_in in omega (arith, a);
+        paid_out = let b = none.paid_out in omega (arith, b);
+      };
+    }
 
 -- the line of zeros has balances
 pub no_money : AreBalances zeros
@@ -94,3 +120,329 @@ no_money (suc (suc (suc (suc (suc zero))))) lt = lit≤ tt
 no_money (suc (suc (suc (suc (suc (suc zero)))))) lt = lit≤ tt
 no_money (suc (suc (suc (suc (suc (suc (suc zero))))))) lt = lit≤ tt
 no_money (suc (suc (suc (suc (suc (suc (suc (suc k)))))))) lt = absurd (omega arith)
+
+-- what became of the ports of a desk, and of its counters
+abbrev NodesStay : {Port : Type 0} → (Port → View) → List Port → List Port → Type 0
+NodesStay {Port} view old new = (i : ℕ) (port : Port) → slice_get new i ≡ Some port → (was : Port) × (slice_get old i ≡ Some was) × ((view port).node ≡ (view was).node)
+
+nodes_then : {Port : Type 0} (view : Port → View) (a b c : List Port) → NodesStay view a b → NodesStay view b c → NodesStay view a c
+nodes_then view a b c f h i port at =
+    let (mid, at_mid, is) = h i port at in
+    let (was, at_was, before) = f i mid at_mid in
+    (was, at_was, is ∙ before)
+
+nodes_same : {Port : Type 0} (view : Port → View) (old new : List Port) → new ≡ old → NodesStay view old new
+nodes_same view old new e i port at = (port, ap (λ l. slice_get l i) (sym e) ∙ at, refl)
+
+nodes_set : {Port : Type 0} (view : Port → View) (old new : List Port) (place : ℕ) (port port_then : Port) → slice_get old place ≡ Some port → new ≡ slice_set old place port_then → (view port_then).node ≡ (view port).node → NodesStay view old new
+nodes_set {Port} view old new place port port_then was is node i p at = elim (cases_eq i place) [
+  | inl e ↦
+      let here : slice_get (slice_set old place port_then) place ≡ Some port_then = slice_get-set_same old place port_then (slice_get_within old place port was) in
+      let same : port_then ≡ p = same_some (sym here ∙ (ap (slice_get (slice_set old place port_then)) (sym e) ∙ (ap (λ l. slice_get l i) (sym is) ∙ at))) in
+      (port, ap (slice_get old) e ∙ was, ap (λ (x : Port). (view x).node) (sym same) ∙ node)
+  | inr ne ↦ (p, sym (slice_get-set_other old place i port_then ne) ∙ (ap (λ l. slice_get l i) (sym is) ∙ at), refl)
+]
+
+-- one call of a port changes nothing of whose it is
+vain_node : (v w : View) (reply : Reply) → IsRefused v w reply → w.node ≡ v.node
+vain_node v w reply refused = (refused_in_vain v w reply refused).continues.extends.node
+
+either_node : (a b c d : View) (reply : Reply) → IsRefusedEither a b c d reply → (b.node ≡ a.node) × (d.node ≡ c.node)
+either_node a b c d reply (inl (refused, same)) = (vain_node a b reply refused, ap (λ (v : View). v.node) same)
+either_node a b c d reply (inr (found, turn, refused)) = (turn.continues.extends.node, vain_node c d reply refused)
+
+pays_in_node : (v w : View) (lane amount sum sum_then : ℕ) (reply : Reply) → PaysIn v w lane amount sum sum_then reply → w.node ≡ v.node
+pays_in_node v w lane amount sum sum_then Done (found, turn, room, pays, e) = turn.continues.extends.node
+pays_in_node v w lane amount sum sum_then Over (found, turn, why, e) = turn.continues.extends.node
+pays_in_node v w lane amount sum sum_then Short h = absurd h
+pays_in_node v w lane amount sum sum_then Late (r, e) = vain_node v w Late r
+pays_in_node v w lane amount sum sum_then Closed (r, e) = vain_node v w Closed r
+pays_in_node v w lane amount sum sum_then Busy (r, e) = vain_node v w Busy r
+pays_in_node v w lane amount sum sum_then NoAccount h = absurd h
+pays_in_node v w lane amount sum sum_then SameAccount h = absurd h
+
+pays_out_node : (v w : View) (lane amount sum sum_then : ℕ) (reply : Reply) → PaysOut v w lane amount sum sum_then reply → w.node ≡ v.node
+pays_out_node v w lane amount sum sum_then Done (found, turn, enough, pays, e) = turn.continues.extends.node
+pays_out_node v w lane amount sum sum_then Short (found, turn, less, e) = turn.continues.extends.node
+pays_out_node v w lane amount sum sum_then Over (found, turn, enough, most, e) = turn.continues.extends.node
+pays_out_node v w lane amount sum sum_then Late (r, e) = vain_node v w Late r
+pays_out_node v w lane amount sum sum_then Closed (r, e) = vain_node v w Closed r
+pays_out_node v w lane amount sum sum_then Busy (r, e) = vain_node v w Busy r
+pays_out_node v w lane amount sum sum_then NoAccount h = absurd h
+pays_out_node v w lane amount sum sum_then SameAccount h = absurd h
+
+moves_node : (v w : View) (source target amount : ℕ) (reply : Reply) → MovesWithin v w source target amount reply → w.node ≡ v.node
+moves_node v w source target amount Done (found, turn, enough, room, pays) = turn.continues.extends.node
+moves_node v w source target amount Short (found, turn, less) = turn.continues.extends.node
+moves_node v w source target amount Over (found, turn, enough, no_room) = turn.continues.extends.node
+moves_node v w source target amount Late r = vain_node v w Late r
+moves_node v w source target amount Closed r = vain_node v w Closed r
+moves_node v w source target amount Busy r = vain_node v w Busy r
+moves_node v w source target amount NoAccount h = absurd h
+moves_node v w source target amount SameAccount h = absurd h
+
+across_node : (refused : Reply → Type 0) (a b c d : View) (from to amount : ℕ) (reply : Reply) → ((reply : Reply) → refused reply → (b.node ≡ a.node) × (d.node ≡ c.node)) → MovesAcross refused a b c d from to amount reply → (b.node ≡ a.node) × (d.node ≡ c.node)
+across_node refused a b c d from to amount Done by (found, turn, enough, pays, there, turn_there, room, pays_there) = (turn.continues.extends.node, turn_there.continues.extends.node)
+across_node refused a b c d from to amount Short by (found, turn, less, there, turn_there) = (turn.continues.extends.node, turn_there.continues.extends.node)
+across_node refused a b c d from to amount Over by (found, turn, enough, there, turn_there, no_room) = (turn.continues.extends.node, turn_there.continues.extends.node)
+across_node refused a b c d from to amount Late by r = by Late r
+across_node refused a b c d from to amount Closed by r = by Closed r
+across_node refused a b c d from to amount Busy by r = by Busy r
+across_node refused a b c d from to amount NoAccount by h = absurd h
+across_node refused a b c d from to amount SameAccount by h = absurd h
+
+pays_in_sum : (v w : View) (lane amount sum sum_then worker account : ℕ) (reply : Reply) → PaysIn v w lane amount sum sum_then reply → sum_then ≡ sum + paid_in_of (PayIn worker account amount) reply
+pays_in_sum v w lane amount sum sum_then worker account Done (found, turn, room, pays, e) = e
+pays_in_sum v w lane amount sum sum_then worker account Over (found, turn, why, e) = omega (arith, e)
+pays_in_sum v w lane amount sum sum_then worker account Short h = absurd h
+pays_in_sum v w lane amount sum sum_then worker account Late (r, e) = omega (arith, e)
+pays_in_sum v w lane amount sum sum_then worker account Closed (r, e) = omega (arith, e)
+pays_in_sum v w lane amount sum sum_then worker account Busy (r, e) = omega (arith, e)
+pays_in_sum v w lane amount sum sum_then worker account NoAccount h = absurd h
+pays_in_sum v w lane amount sum sum_then worker account SameAccount h = absurd h
+
+pays_out_sum : (v w : View) (lane amount sum sum_then worker account : ℕ) (reply : Reply) → PaysOut v w lane amount sum sum_then reply → sum_then ≡ sum + paid_out_of (PayOut worker account amount) reply
+pays_out_sum v w lane amount sum sum_then worker account Done (found, turn, enough, pays, e) = e
+pays_out_sum v w lane amount sum sum_then worker account Short (found, turn, less, e) = omega (arith, e)
+pays_out_sum v w lane amount sum sum_then worker account Over (found, turn, enough, most, e) = omega (arith, e)
+pays_out_sum v w lane amount sum sum_then worker account Late (r, e) = omega (arith, e)
+pays_out_sum v w lane amount sum sum_then worker account Closed (r, e) = omega (arith, e)
+pays_out_sum v w lane amount sum sum_then worker account Busy (r, e) = omega (arith, e)
+pays_out_sum v w lane amount sum sum_then worker account NoAccount h = absurd h
+pays_out_sum v w lane amount sum sum_then worker account SameAccount h = absurd h
+
+-- an answer is that there is no account, or it is not
+is_no_account : (reply : Reply) → (reply ≡ NoAccount) ⊎ (reply ≢ NoAccount)
+is_no_account Done = inr (λ e. let no : Done ≡ NoAccount = e in cc no)
+is_no_account Short = inr (λ e. let no : Short ≡ NoAccount = e in cc no)
+is_no_account Over = inr (λ e. let no : Over ≡ NoAccount = e in cc no)
+is_no_account Late = inr (λ e. let no : Late ≡ NoAccount = e in cc no)
+is_no_account Closed = inr (λ e. let no : Closed ≡ NoAccount = e in cc no)
+is_no_account Busy = inr (λ e. let no : Busy ≡ NoAccount = e in cc no)
+is_no_account NoAccount = inl refl
+is_no_account SameAccount = inr (λ e. let no : SameAccount ≡ NoAccount = e in cc no)
+
+is_same_account : (reply : Reply) → (reply ≡ SameAccount) ⊎ (reply ≢ SameAccount)
+is_same_account Done = inr (λ e. let no : Done ≡ SameAccount = e in cc no)
+is_same_account Short = inr (λ e. let no : Short ≡ SameAccount = e in cc no)
+is_same_account Over = inr (λ e. let no : Over ≡ SameAccount = e in cc no)
+is_same_account Late = inr (λ e. let no : Late ≡ SameAccount = e in cc no)
+is_same_account Closed = inr (λ e. let no : Closed ≡ SameAccount = e in cc no)
+is_same_account Busy = inr (λ e. let no : Busy ≡ SameAccount = e in cc no)
+is_same_account SameAccount = inl refl
+is_same_account NoAccount = inr (λ e. let no : NoAccount ≡ SameAccount = e in cc no)
+
+plus_none : (n : ℕ) → n ≡ n + 0
+plus_none n = omega arith
+
+-- what one call at the desk did: it paid the job's amount where it was done, and the ports are of the same nodes
+pub record Effect {Port : Type 0} (view : Port → View) (job : Job) (old new : DeskOf Port) (reply : Reply) : Type 0 where
+  pub paid_in : new.paid_in ≡ old.paid_in + paid_in_of job reply
+  pub paid_out : new.paid_out ≡ old.paid_out + paid_out_of job reply
+  pub nodes : (i : ℕ) (port : Port) → slice_get new.ports i ≡ Some port → (was : Port) × (slice_get old.ports i ≡ Some was) × ((view port).node ≡ (view was).node)
+
+module _ {Port : Type 0} (view : Port → View) (lines : ℕ) where
+  pub effect : (job : Job) (old new : DeskOf Port) (reply : Reply) → Asks view lines job old new reply → Effect view job old new reply
+  effect (Put worker task) old new reply asks = absurd asks
+  effect (Take worker) old new reply asks = absurd asks
+  effect (PayIn worker account amount) old new reply asks = elim (is_no_account reply) [
+    | inl e ↦
+        let same = (asks.unknown e).1 in record {
+          paid_in = ap (λ (d : DeskOf Port). d.paid_in) same ∙ (plus_none old.paid_in ∙ ap (λ r. old.paid_in + paid_in_of (PayIn worker account amount) r) (sym e));
+          paid_out = ap (λ (d : DeskOf Port). d.paid_out) same ∙ plus_none old.paid_out;
+          nodes = nodes_same view old.ports new.ports (ap (λ (d : DeskOf Port). d.ports) same);
+        }
+    | inr ne ↦
+        let p = asks.pays ne in record {
+          paid_in = pays_in_sum (view p.port) (view p.port_then) (lane_in account) amount old.paid_in new.paid_in worker account reply p.does;
+          paid_out = asks.paid_out ∙ plus_none old.paid_out;
+          nodes = nodes_set view old.ports new.ports (line_of account) p.port p.port_then p.was p.is (pays_in_node (view p.port) (view p.port_then) (lane_in account) amount old.paid_in new.paid_in reply p.does);
+        }
+  ]
+  effect (PayOut worker account amount) old new reply asks = elim (is_no_account reply) [
+    | inl e ↦
+        let same = (asks.unknown e).1 in record {
+          paid_in = ap (λ (d : DeskOf Port). d.paid_in) same ∙ plus_none old.paid_in;
+          paid_out = ap (λ (d : DeskOf Port). d.paid_out) same ∙ (plus_none old.paid_out ∙ ap (λ r. old.paid_out + paid_out_of (PayOut worker account amount) r) (sym e));
+          nodes = nodes_same view old.ports new.ports (ap (λ (d : DeskOf Port). d.ports) same);
+        }
+    | inr ne ↦
+        let p = asks.pays ne in record {
+          paid_in = asks.paid_in ∙ plus_none old.paid_in;
+          paid_out = pays_out_sum (view p.port) (view p.port_then) (lane_in account) amount old.paid_out new.paid_out worker account reply p.does;
+          nodes = nodes_set view old.ports new.ports (line_of account) p.port p.port_then p.was p.is (pays_out_node (view p.port) (view p.port_then) (lane_in account) amount old.paid_out new.paid_out reply p.does);
+        }
+  ]
+  effect (Move worker source target amount) old new reply asks = record {
+    paid_in = asks.paid_in ∙ plus_none old.paid_in;
+    paid_out = asks.paid_out ∙ plus_none old.paid_out;
+    nodes = by (is_no_account reply) (is_same_account reply);
+  }
+    where
+      two : AreTwo lines source target → NodesStay view old.ports new.ports
+      two t = elim (cases_eq (line_of source) (line_of target)) [
+        | inl e ↦
+            let p = asks.within t e in
+            nodes_set view old.ports new.ports (line_of source) p.port p.port_then p.was p.is (moves_node (view p.port) (view p.port_then) (lane_in source) (lane_in target) amount reply p.does)
+        | inr ne ↦ elim (cases_lt (line_of source) (line_of target)) [
+          | inl lt ↦
+              let p = asks.up t lt in
+              let n = across_node (IsRefusedEither (view p.one) (view p.one_then) (view p.other) (view p.other_then)) (view p.one) (view p.one_then) (view p.other) (view p.other_then) (lane_in source) (lane_in target) amount reply
+              (λ r refused. either_node (view p.one) (view p.one_then) (view p.other) (view p.other_then) r refused) p.does in
+              both p.one p.one_then p.other p.other_then p.one_was p.other_was ne p.is n
+          | inr ge ↦
+              let p = asks.down t (omega (arith, ge, ne)) in
+              let n = across_node (IsRefusedEither (view p.other) (view p.other_then) (view p.one) (view p.one_then)) (view p.one) (view p.one_then) (view p.other) (view p.other_then) (lane_in source) (lane_in target) amount reply
+              (λ r refused. let e = either_node (view p.other) (view p.other_then) (view p.one) (view p.one_then) r refused in (e.1, e.0)) p.does in
+              both p.one p.one_then p.other p.other_then p.one_was p.other_was ne p.is n
+        ]
+      ]
+        where
+          both : (one one_then other other_then : Port) → slice_get old.ports (line_of source) ≡ Some one → slice_get old.ports (line_of target) ≡ Some other → (line_of source ≡ line_of target → ⊥)
+              → new.ports ≡ slice_set (slice_set old.ports (line_of source) one_then) (line_of target) other_then → ((view one_then).node ≡ (view one).node) × ((view other_then).node ≡ (view other).node) → NodesStay view old.ports new.ports
+          both one one_then other other_then one_was other_was ne is n =
+              nodes_then view old.ports (slice_set old.ports (line_of source) one_then) new.ports
+              (nodes_set view old.ports (slice_set old.ports (line_of source) one_then) (line_of source) one one_then one_was refl n.0)
+              (nodes_set view (slice_set old.ports (line_of source) one_then) new.ports (line_of target) other other_then (slice_get-set_other old.ports (line_of source) (line_of target) one_then (λ e. ne (sym e)) ∙ other_was) is n.1)
+
+      by : (reply ≡ NoAccount) ⊎ (reply ≢ NoAccount) → (reply ≡ SameAccount) ⊎ (reply ≢ SameAccount) → NodesStay view old.ports new.ports
+      by (inl e) same = nodes_same view old.ports new.ports (ap (λ (d : DeskOf Port). d.ports) (asks.unknown e).1)
+      by (inr ne) (inl e) = nodes_same view old.ports new.ports (ap (λ (d : DeskOf Port). d.ports) (asks.same e).2)
+      by (inr ne) (inr other) = two (asks.two ne other)
+
+  -- tries in vain paid nothing
+  not_paid : (job : Job) (reply : Reply) → is_again reply ≡ true → (paid_in_of job reply ≡ 0) × (paid_out_of job reply ≡ 0)
+  not_paid job Late is = by job
+    where
+      by : (job : Job) → (paid_in_of job Late ≡ 0) × (paid_out_of job Late ≡ 0)
+      by (Put worker task) = (refl, refl)
+      by (Take worker) = (refl, refl)
+      by (PayIn worker account amount) = (refl, refl)
+      by (PayOut worker account amount) = (refl, refl)
+      by (Move worker source target amount) = (refl, refl)
+  not_paid job Busy is = by job
+    where
+      by : (job : Job) → (paid_in_of job Busy ≡ 0) × (paid_out_of job Busy ≡ 0)
+      by (Put worker task) = (refl, refl)
+      by (Take worker) = (refl, refl)
+      by (PayIn worker account amount) = (refl, refl)
+      by (PayOut worker account amount) = (refl, refl)
+      by (Move worker source target amount) = (refl, refl)
+  not_paid job Done is = absurd (let no : false ≡ true = is in cc no)
+  not_paid job Short is = absurd (let no : false ≡ true = is in cc no)
+  not_paid job Over is = absurd (let no : false ≡ true = is in cc no)
+  not_paid job Closed is = absurd (let no : false ≡ true = is in cc no)
+  not_paid job NoAccount is = absurd (let no : false ≡ true = is in cc no)
+  not_paid job SameAccount is = absurd (let no : false ≡ true = is in cc no)
+
+  pub record InVain (from to : DeskOf Port) : Type 0 where
+    pub paid_in : to.paid_in ≡ from.paid_in
+    pub paid_out : to.paid_out ≡ from.paid_out
+    pub nodes : (i : ℕ) (port : Port) → slice_get to.ports i ≡ Some port → (was : Port) × (slice_get from.ports i ≡ Some was) × ((view port).node ≡ (view was).node)
+
+  pub in_vain : (job : Job) (from to : DeskOf Port) → Tries view lines job from to → InVain from to
+  in_vain job from to not_yet = record { paid_in = refl; paid_out = refl; nodes = nodes_same view from.ports from.ports refl }
+  in_vain job from to (again {mid = mid} reply tries asks is) =
+      let before = in_vain job from mid tries in
+      let e = effect job mid to reply asks in
+      let none = not_paid job reply is in
+      let a = before.paid_in in
+      let b = before.paid_out in
+      record {
+        paid_in = e.paid_in ∙ (ap (λ n. mid.paid_in + n) none.0 ∙ (sym (plus_none mid.paid_in) ∙ a));
+        paid_out = e.paid_out ∙ (ap (λ n. mid.paid_out + n) none.1 ∙ (sym (plus_none mid.paid_out) ∙ b));
+        nodes = nodes_then view from.ports mid.ports to.ports before.nodes e.nodes;
+      }
+
+-- one job more, each of which has one outcome
+by_more : (f : Job → Reply → ℕ) (jobs : List Job) (replies : List Reply) (job : Job) (reply : Reply) (by : List Job → List Reply → ℕ) → ((r : List Reply) → by [] r ≡ 0) → ((j : Job) (js : List Job) (r : Reply) (rs : List Reply) → by (j ∷ js) (r ∷ rs) ≡ f j r + by js rs)
+    → length replies ≡ length jobs → by (jobs ++ job ∷ []) (replies ++ reply ∷ []) ≡ by jobs replies + f job reply
+by_more f [] [] job reply by none one long = let a = one job [] reply [] in let b = none [] in omega (arith, a, b)
+by_more f [] (r ∷ replies) job reply by none one long = absurd (omega (arith, long))
+by_more f (j ∷ jobs) [] job reply by none one long = absurd (omega (arith, long))
+by_more f (j ∷ jobs) (r ∷ replies) job reply by none one long =
+    let a = one j (jobs ++ job ∷ []) r (replies ++ reply ∷ []) in
+    let b = one j jobs r replies in
+    let c = by_more f jobs replies job reply by none one (omega (arith, long)) in
+    omega (arith, a, b, c)
+
+-- a worker does one job more
+module _ {Line Port : Type 0} (belongs : Line → Port → Type 0) (view : Port → View) (lines : List Line) (worker : ℕ) (desk late new : DeskOf Port) (jobs : List Job) (h : HasBanked belongs view lines worker desk jobs) where
+  pub banked_more : (job : Job) (reply : Reply) → Tries view (length lines) job desk late → Asks view (length lines) job late new reply → is_outcome reply ≡ true → IsDeskOver belongs view lines new → PaysOneAmount late new → HasBanked belongs view lines worker new (jobs ++ job ∷ [])
+  banked_more job reply tries asks outcome over pays =
+      let vain = in_vain view (length lines) job desk late tries in
+      let e = effect view (length lines) job late new reply asks in
+      record {
+        over = over;
+        of_worker = λ i port at.
+            let (mid, at_mid, is) = e.nodes i port at in
+            let (was, at_was, before) = vain.nodes i mid at_mid in
+            is ∙ (before ∙ h.of_worker i was at_was);
+        fresh = h.fresh;
+        unpaid = h.unpaid;
+        replies = h.replies ++ reply ∷ [];
+        as_many = length-append h.replies (reply ∷ []) ∙ (ap (λ n. n + 1) h.as_many ∙ sym (length-append jobs (job ∷ [])));
+        made = another job reply h.made tries asks outcome;
+        paid_in = e.paid_in ∙ (ap (λ n. n + paid_in_of job reply) (vain.paid_in ∙ h.paid_in) ∙ sym (by_more paid_in_of jobs h.replies job reply paid_in_by (λ r. refl) (λ j js r rs. refl) h.as_many));
+        paid_out = e.paid_out ∙ (ap (λ n. n + paid_out_of job reply) (vain.paid_out ∙ h.paid_out) ∙ sym (by_more paid_out_of jobs h.replies job reply paid_out_by (λ r. refl) (λ j js r rs. refl) h.as_many));
+        small =
+            let more = length-append jobs (job ∷ []) in
+            let a = h.small.paid_in in
+            let b = h.small.paid_out in
+            let x = pays.paid_in in
+            let y = pays.paid_out in
+            let u = vain.paid_in in
+            let v = vain.paid_out in
+            record {
+              paid_in = subst (λ n. new.paid_in ≤ n * 2 ^ 64) (sym more) (omega (arith, a, x, u));
+              paid_out = subst (λ n. new.paid_out ≤ n * 2 ^ 64) (sym more) (omega (arith, b, y, v));
+            };
+      }
+
+-- each node of each line has its port at the desk of its worker
+pub none_missing : {Line Port : Type 0} (belongs : Line → Port → Type 0) (view : Port → View) (terms_of : Line → Terms) (lines : List Line) (workers : ℕ) (jobs : List Job) (desks : List (DeskOf Port)) → AreDone (HasBanked belongs view) lines jobs desks → length desks ≡ workers
+    → All (λ line. terms_of line ≡ work_terms workers) lines → (i node : ℕ) → IsFirstMissing view terms_of lines desks i node → ⊥
+none_missing {Line} {Port} belongs view terms_of lines workers jobs desks done many terms i node missing = by node missing.least.first missing.least.last missing.least.fails
+  where
+    of_line : (terms_of missing.line).nodes ≡ workers
+    of_line = ap (λ (t : Terms). t.nodes) (subst (λ (line : Line). terms_of line ≡ work_terms workers) (get_or_from_slice_get lines i missing.line missing.line missing.at) (terms i missing.line (slice_get_within lines i missing.line missing.at)))
+
+    by : (n : ℕ) → 1 ≤ n → n ≤ (terms_of missing.line).nodes → LacksPort view desks i n → ⊥
+    by zero first last lacks = omega (arith, first)
+    by (suc k) first last lacks =
+        let (desk, at) = element_at desks k (omega (arith, last, of_line, many)) in
+        let h = done k desk at in
+        let there = slice_get_within lines i missing.line missing.at in
+        let count = h.over.over.count in
+        let (port, at_port) = element_at desk.ports i (omega (arith, there, count)) in
+        let name : k + 1 ≡ suc k = omega arith in
+        lacks k desk port at at_port (h.of_worker i port at_port ∙ name)
+
+-- what all workers' jobs came to
+pub comes_to : {Line Port : Type 0} (belongs : Line → Port → Type 0) (view : Port → View) (lines : List Line) (jobs : List Job) (first : ℕ) (desks : List (DeskOf Port))
+    → ((k : ℕ) (desk : DeskOf Port) → slice_get desks k ≡ Some desk → HasBanked belongs view lines (first + k) desk (jobs_of (first + k) jobs)) → ComesTo first (length desks) jobs (all_paid_in desks) (all_paid_out desks)
+comes_to belongs view lines jobs first [] done = record { replies = []; workers_are = refl; as_many = λ k own at. absurd (let no : None ≡ Some own = at in cc no); in_is = refl; out_is = refl }
+comes_to {Line} {Port} belongs view lines jobs first (desk ∷ desks) done =
+    let same : first + 0 ≡ first = omega arith in
+    let here = subst (λ n. HasBanked belongs view lines n desk (jobs_of n jobs)) same (done 0 desk refl) in
+    let rest = comes_to belongs view lines jobs (first + 1) desks (λ k d at. subst (λ n. HasBanked belongs view lines n d (jobs_of n jobs)) (shift first k) (done (suc k) d at)) in
+    let a = sum_by-cons (λ (d : DeskOf Port). d.paid_in) desk desks in
+    let b = sum_by-cons (λ (d : DeskOf Port). d.paid_out) desk desks in
+    record {
+      replies = here.replies ∷ rest.replies;
+      workers_are = ap suc rest.workers_are;
+      as_many = own_many here.replies rest.replies here.as_many rest.as_many;
+      in_is = a ∙ (ap (λ n. n + all_paid_in desks) here.paid_in ∙ ap (λ n. paid_in_by (jobs_of first jobs) here.replies + n) rest.in_is);
+      out_is = b ∙ (ap (λ n. n + all_paid_out desks) here.paid_out ∙ ap (λ n. paid_out_by (jobs_of first jobs) here.replies + n) rest.out_is);
+    }
+  where
+    shift : (first k : ℕ) → first + suc k ≡ first + 1 + k
+    shift first k = omega arith
+
+    own_many : (replies : List Reply) (others : List (List Reply)) → length replies ≡ length (jobs_of first jobs) → ((k : ℕ) (own : List Reply) → slice_get others k ≡ Some own → length own ≡ length (jobs_of (first + 1 + k) jobs))
+        → (k : ℕ) (own : List Reply) → slice_get (replies ∷ others) k ≡ Some own → length own ≡ length (jobs_of (first + k) jobs)
+    own_many replies others mine rest zero own at = ap length (sym (same_some at)) ∙ (mine ∙ ap (λ n. length (jobs_of n jobs)) (start first))
+      where
+        start : (first : ℕ) → first ≡ first + 0
+        start first = omega arith
+    own_many replies others mine rest (suc k) own at = rest k own at ∙ ap (λ n. length (jobs_of n jobs)) (sym (shift first k))

@@ -1,5 +1,5 @@
--- A board's call, and what its port's own turns have put and taken.
-use Rattle.std.proofs.Common.{◌≡◌, ℕ, zero, suc, ◌+◌, ◌<◌, ◌≤◌, ◌⊎◌, inl, inr, Bool, true, false, if◌then◌else◌, List, [], ◌∷◌, ◌++◌, length, take, drop, replicate, Some, slice_get, refl, ap, sym, ◌∙◌, arith}
+-- A board's call, and the turn that its port had in it.
+use Rattle.std.proofs.Common.{◌≡◌, ℕ, zero, suc, ◌+◌, ◌<◌, ◌≤◌, ◌⊎◌, inl, inr, Bool, true, false, if◌then◌else◌, List, [], ◌∷◌, ◌++◌, length, take, drop, replicate, Some, slice_get, refl, ap, sym, ◌∙◌, arith, append-nil, append_assoc, length-append}
 use Rattle.std.proofs.lemmas.Bool.{eq-eqb, cases_lt}
 use Rattle.std.proofs.lemmas.List.{length-take-le, take-append-drop}
 use Rattle.std.proofs.lemmas.Option.{slice_get_within}
@@ -23,31 +23,26 @@ use Rattle.qolb_model.proofs.Prefixes.{prefix_get, prefix_self, prefix_trans, pr
 use Rattle.qolb_model.proofs.Histories.{same_place_legal, bytes_after-append}
 use Rattle.qolb_model.proofs.Requests.{count_of-append}
 use Rattle.qolb_model.proofs.Agreeing.{among_first}
-use Rattle.line_accounts.specs.Paid.{sum_of_turns, KnowsOwnPlaces}
+use Rattle.line_accounts.specs.Paid.{KnowsOwnPlaces}
 use Rattle.line_accounts.specs.Desks.{IsAtRest}
-use Rattle.line_accounts.proofs.Turns.{turns-append, turns-same}
-use Rattle.line_accounts.proofs.Visits.{places_same, places_asked, beyond_own, sums_kept}
+use Rattle.line_accounts.proofs.Visits.{places_same, places_asked, beyond_own}
 use Rattle.line_board.specs.declared.answer.Put.{Put}
 use Rattle.line_board.specs.declared.answer.Put.TheVariants as put
 use Rattle.line_board.specs.declared.answer.Take.{Take}
 use Rattle.line_board.specs.declared.answer.Take.TheVariants as take
 use Rattle.line_board.specs.Law.{Changes}
-use Rattle.line_board.specs.PutsAndTakes.{put_between, taken_between, standing}
+use Rattle.line_board.specs.declared.board.TheConstants.{MOST_TASKS}
+use Rattle.line_board.specs.Board.{Stand}
+use Rattle.line_board.specs.PutsAndTakes.{standing}
 use Rattle.line_board.specs.Calls.{HadTurn, HasFound, IsUnserved, Puts, Takes}
-use Rattle.line_board.proofs.Steps.{standing-stand, put_same, taken_same, put_last, taken_last, put_first, taken_first}
-use Rattle.qolb_run.specs.BoardWork.{put_count, taken_count, stored_by, taken_by, Works}
-
-turns-gone : (does : List ℕ → List ℕ → ℕ) (node : ℕ) (bytes : List ℕ) (order : List Request) (n : ℕ) → sum_of_turns does node bytes order (replicate n Gone) ≡ 0
-turns-gone does node bytes [] n = refl
-turns-gone does node bytes (r ∷ order) zero = refl
-turns-gone does node bytes (r ∷ order) (suc n) = turns-gone does node bytes order n
+use Rattle.line_board.proofs.Boards.{laid-stand}
+use Rattle.line_board.proofs.Steps.{standing-stand}
+use Rattle.qolb_run.specs.BoardWork.{Turn, turn_between, node_turns, turns_of, HasTurns, HasStored, FoundFull, HasTakenOne, FoundNone}
+use Rattle.qolb_run.proofs.Turns.{node_turns-append, node_turns-same, node_turns-gone, turns_kept}
 
 bytes-gone : (bytes : List ℕ) (n : ℕ) → bytes_after bytes (replicate n Gone) ≡ bytes
 bytes-gone bytes zero = refl
 bytes-gone bytes (suc n) = bytes-gone bytes n
-
-plus-zero : (n : ℕ) → n + 0 ≡ n
-plus-zero n = omega arith
 
 served_stays : (e : End) → is_served e ≡ true → is_gone e ≡ true → ⊥
 served_stays (Served write shut) a b = let no : false ≡ true = b in cc no
@@ -75,15 +70,12 @@ module _ (old new : View) (rest : IsAtRest old) (past : KnowsOwnPast old) (c : C
       omega (arith, least, first, number)
 
   -- a call in which none of its requests was served
-  pub works_not : may_ask new.state ≡ true → KnowsOwnPlaces new → IsUnserved old new → Works old new 0 0
+  pub works_not : may_ask new.state ≡ true → KnowsOwnPlaces new → IsUnserved old new → HasTurns old new []
   works_not quiet places unserved = record {
+    node = c.extends.node;
     at_rest = record { quiet = quiet; places = places };
-    put = kept put_count ∙ sym (plus-zero (stored_by old));
-    took = kept taken_count ∙ sym (plus-zero (taken_by old));
+    turns = turns_kept old new c.extends c.history rest past (λ p r e le at_r at_e same. unserved p r e at_r same (later p r le at_r same) at_e) ∙ sym (append-nil (turns_of old));
   }
-    where
-      kept : (does : List ℕ → List ℕ → ℕ) → sum_of_turns does new.node new.terms.opening.bytes new.order new.ends ≡ sum_of_turns does old.node old.terms.opening.bytes old.order old.ends
-      kept does = sums_kept old new c.extends c.history does rest past (λ p r e le at_r at_e same. unserved p r e at_r same (later p r le at_r same) at_e)
 
   -- a call in which it had a turn
   module _ (asks : Asks old new) (before : List End) (write : Write) (shut : Bool) (passed : ℕ) (ends : new.ends ≡ before ++ Served write shut ∷ replicate passed Gone) (at_turn : slice_get new.order (length before) ≡ Some (own new)) where
@@ -98,165 +90,170 @@ module _ (old new : View) (rest : IsAtRest old) (past : KnowsOwnPast old) (c : C
     far : length old.order ≤ length before
     far = let same = one_place asks.behind.0 (length before) asks.behind.2 at_turn in let le = asks.behind.1 in omega (arith, same, le)
 
-    module _ (does : List ℕ → List ℕ → ℕ) where
-      abbrev turns : List Request → List End → ℕ
-      turns order all = sum_of_turns does new.node new.terms.opening.bytes order all
+    abbrev turns : List Request → List End → List Turn
+    turns order all = node_turns new.node new.terms.opening.bytes order all
 
-      -- its turns among the requests that it knew
-      known_turns : turns old.order new.ends ≡ turns old.order old.ends
-      known_turns = turns-same does new.node new.terms.opening.bytes old.order old.order old.ends new.ends (prefix_self old.order) c.extends.ends (λ p r e at_r at_e same served. (
-        slice_get_within old.order p r at_r,
-        elim (past p r at_r (same ∙ c.extends.node)) [
-          | inl lt ↦ lt
-          | inr (inl marked) ↦
-              let gone = knows.own_marks p r e (prefix_get new.order c.history.order p r knows.order_begins (prefix_get old.order new.order p r c.extends.order at_r)) (prefix_get new.ends c.history.ends p e knows.ends_begin at_e) same in
-              absurd (served_stays e served (sym gone ∙ c.extends.marked r marked))
-          | inr (inr last) ↦ absurd (never rest.quiet last.1)
-        ],
-      ))
+    -- its turns among the requests that it knew
+    known_turns : turns old.order new.ends ≡ turns old.order old.ends
+    known_turns = node_turns-same new.node new.terms.opening.bytes old.order old.order old.ends new.ends (prefix_self old.order) c.extends.ends (λ p r e at_r at_e same served. (
+      slice_get_within old.order p r at_r,
+      elim (past p r at_r (same ∙ c.extends.node)) [
+        | inl lt ↦ lt
+        | inr (inl marked) ↦
+            let gone = knows.own_marks p r e (prefix_get new.order c.history.order p r knows.order_begins (prefix_get old.order new.order p r c.extends.order at_r)) (prefix_get new.ends c.history.ends p e knows.ends_begin at_e) same in
+            absurd (served_stays e served (sym gone ∙ c.extends.marked r marked))
+        | inr (inr last) ↦ absurd (never rest.quiet last.1)
+      ],
+    ))
 
-      first_turns : turns old.order new.ends ≡ turns old.order before
-      first_turns = turns-same does new.node new.terms.opening.bytes old.order old.order before new.ends (prefix_self old.order) (tail, sym ends) (λ p r e at_r at_e same served.
-          let within = slice_get_within old.order p r at_r in (within, omega (arith, within, far)))
+    first_turns : turns old.order new.ends ≡ turns old.order before
+    first_turns = node_turns-same new.node new.terms.opening.bytes old.order old.order before new.ends (prefix_self old.order) (tail, sym ends) (λ p r e at_r at_e same served.
+        let within = slice_get_within old.order p r at_r in (within, omega (arith, within, far)))
 
-      -- and before the turn of this call there were no more
-      earlier_turns : turns new.order before ≡ turns old.order before
-      earlier_turns = turns-same does new.node new.terms.opening.bytes old.order new.order before before c.extends.order (prefix_self before) (λ p r e at_r at_e same served.
-          let within = slice_get_within before p e at_e in (
-            elim (cases_lt p (length old.order)) [
-              | inl lt ↦ lt
-              | inr ge ↦
-                  let is = beyond_own old new c.extends c.history asks rest.places p r ge at_r same in
-                  let place = one_place p (length before) (at_r ∙ ap Some is) at_turn in
-                  absurd (omega (arith, place, within))
-            ],
-            within,
-          ))
+    -- and before the turn of this call there were no more
+    earlier_turns : turns new.order before ≡ turns old.order before
+    earlier_turns = node_turns-same new.node new.terms.opening.bytes old.order new.order before before c.extends.order (prefix_self before) (λ p r e at_r at_e same served.
+        let within = slice_get_within before p e at_e in (
+          elim (cases_lt p (length old.order)) [
+            | inl lt ↦ lt
+            | inr ge ↦
+                let is = beyond_own old new c.extends c.history asks rest.places p r ge at_r same in
+                let place = one_place p (length before) (at_r ∙ ap Some is) at_turn in
+                absurd (omega (arith, place, within))
+          ],
+          within,
+        ))
 
-      abbrev found : List ℕ
-      found = bytes_after new.terms.opening.bytes before
+    abbrev found : List ℕ
+    found = bytes_after new.terms.opening.bytes before
 
-      abbrev behind : List Request
-      behind = drop (length before + 1) new.order
+    abbrev behind : List Request
+    behind = drop (length before + 1) new.order
 
-      left_bytes : written (bytes_after new.terms.opening.bytes before) write ≡ bytes_of new
-      left_bytes =
-          sym (bytes-gone (written (bytes_after new.terms.opening.bytes before) write) passed)
-          ∙ (sym (bytes_after-append new.terms.opening.bytes before tail)
-          ∙ ap (bytes_after new.terms.opening.bytes) (sym ends))
+    left_bytes : written (bytes_after new.terms.opening.bytes before) write ≡ bytes_of new
+    left_bytes =
+        sym (bytes-gone (written (bytes_after new.terms.opening.bytes before) write) passed)
+        ∙ (sym (bytes_after-append new.terms.opening.bytes before tail)
+        ∙ ap (bytes_after new.terms.opening.bytes) (sym ends))
 
-      last_turn : sum_of_turns does new.node (bytes_after new.terms.opening.bytes before) (drop (length before) new.order) tail ≡ does (bytes_after new.terms.opening.bytes before) (bytes_of new)
-      last_turn =
-          ap (λ o. sum_of_turns does new.node found o tail) (drop_with new.order (length before) (own new) at_turn)
-          ∙ (ap (λ b. (if b then does found (written found write) else 0) + sum_of_turns does new.node (written found write) behind (replicate passed Gone)) (eq-eqb new.node new.node refl)
-          ∙ (ap (λ n. does found (written found write) + n) (turns-gone does new.node (written found write) behind passed)
-          ∙ (plus-zero (does found (written found write))
-          ∙ ap (does found) left_bytes)))
+    last_turn : node_turns new.node (bytes_after new.terms.opening.bytes before) (drop (length before) new.order) tail ≡ turn_between (bytes_after new.terms.opening.bytes before) (bytes_of new) ∷ []
+    last_turn =
+        ap (λ o. node_turns new.node found o tail) (drop_with new.order (length before) (own new) at_turn)
+        ∙ (ap (λ b. (if b then turn_between found (written found write) ∷ [] else []) ++ node_turns new.node (written found write) behind (replicate passed Gone)) (eq-eqb new.node new.node refl)
+        ∙ (ap (λ ts. turn_between found (written found write) ∷ ts) (node_turns-gone new.node (written found write) behind passed)
+        ∙ ap (λ bytes. turn_between found bytes ∷ []) left_bytes))
 
-      pub one_turn : turns new.order new.ends ≡ sum_of_turns does old.node old.terms.opening.bytes old.order old.ends + does (bytes_after new.terms.opening.bytes before) (bytes_of new)
-      one_turn =
-          ap (turns new.order) ends
-          ∙ (turns-append does new.node new.terms.opening.bytes new.order before tail
-          ∙ (ap (λ n. n + sum_of_turns does new.node (bytes_after new.terms.opening.bytes before) (drop (length before) new.order) tail) (earlier_turns ∙ (sym first_turns ∙ (known_turns ∙ was)))
-          ∙ ap (λ n. sum_of_turns does old.node old.terms.opening.bytes old.order old.ends + n) last_turn))
-        where
-          was : turns old.order old.ends ≡ sum_of_turns does old.node old.terms.opening.bytes old.order old.ends
-          was = ap (λ n. sum_of_turns does n new.terms.opening.bytes old.order old.ends) c.extends.node ∙ ap (λ t. sum_of_turns does old.node t.opening.bytes old.order old.ends) c.extends.terms
+    pub one_turn : turns_of new ≡ turns_of old ++ turn_between (bytes_after new.terms.opening.bytes before) (bytes_of new) ∷ []
+    one_turn =
+        ap (turns new.order) ends
+        ∙ (node_turns-append new.node new.terms.opening.bytes new.order before tail
+        ∙ (ap (λ ts. ts ++ node_turns new.node (bytes_after new.terms.opening.bytes before) (drop (length before) new.order) tail) (earlier_turns ∙ (sym first_turns ∙ (known_turns ∙ was)))
+        ∙ ap (λ ts. turns_of old ++ ts) last_turn))
+      where
+        was : turns old.order old.ends ≡ turns_of old
+        was = ap (λ n. node_turns n new.terms.opening.bytes old.order old.ends) c.extends.node ∙ ap (λ t. node_turns old.node t.opening.bytes old.order old.ends) c.extends.terms
 
   -- a turn that found these tasks and left those
-  works_turn : {found left puts takes : List ℕ} → Asks old new → may_ask new.state ≡ true → HadTurn found left puts takes new → (stored taken : ℕ) → length (put_between found left) ≡ stored → length (taken_between found left) ≡ taken → Works old new stored taken
-  works_turn {found} {left} asks quiet t stored taken put took = record {
+  works_turn : {found left puts takes : List ℕ} → Asks old new → may_ask new.state ≡ true → HadTurn found left puts takes new → HasTurns old new (record { found = found; left = left } ∷ [])
+  works_turn {found} {left} asks quiet t = record {
+    node = c.extends.node;
     at_rest = record { quiet = quiet; places = places_asked old new c.extends c.history asks rest.places };
-    put = one_turn asks t.before t.write (closes new.terms.lease t.before false) t.passed t.ends t.at_turn put_count ∙ ap (λ n. stored_by old + n) (counts put_between ∙ put);
-    took = one_turn asks t.before t.write (closes new.terms.lease t.before false) t.passed t.ends t.at_turn taken_count ∙ ap (λ n. taken_by old + n) (counts taken_between ∙ took);
+    turns = one_turn asks t.before t.write (closes new.terms.lease t.before false) t.passed t.ends t.at_turn
+        ∙ ap (λ (turn : Turn). turns_of old ++ turn ∷ []) (λ i. record { found = standing-stand (bytes_after new.terms.opening.bytes t.before) found t.found_there i; left = standing-stand (bytes_of new) left t.left_there i });
   }
-    where
-      counts : (between : List ℕ → List ℕ → List ℕ) → length (between (standing (bytes_after new.terms.opening.bytes t.before)) (standing (bytes_of new))) ≡ length (between found left)
-      counts between =
-          ap (λ f. length (between f (standing (bytes_of new)))) (standing-stand (bytes_after new.terms.opening.bytes t.before) found t.found_there)
-          ∙ ap (λ l. length (between found l)) (standing-stand (bytes_of new) left t.left_there)
-
-  works_found : (count : ℕ) → Asks old new → may_ask new.state ≡ true → HasFound count new → Works old new 0 0
-  works_found count asks quiet f = works_turn asks quiet f.turn 0 0 (ap length (put_same f.tasks)) (ap length (taken_same f.tasks))
 
   not_busy : IsBusy old new → KnowsOwnPlaces new
   not_busy b = places_same old new c.extends c.history b.count rest.places
 
+-- a board has no more tasks than may stand
+few_stand : (bytes tasks : List ℕ) → Stand bytes tasks → length tasks ≤ MOST_TASKS
+few_stand bytes tasks stand = (laid-stand bytes tasks stand).few
+
 -- what a put did, answer by answer
 module _ (old new : View) (task : ℕ) (answer : Put) (rest : IsAtRest old) (past : KnowsOwnPast old) (p : Puts task old new answer) where
-  pub put_stored : answer ≡ put.Stored → Works old new 1 0
+  put_stored : answer ≡ put.Stored → (turn : Turn) × HasTurns old new (turn ∷ []) × HasStored task turn
   put_stored is =
-      let has = p.stored is in
-      works_turn old new rest past p.continues (p.asks (λ e. let no : put.Stored ≡ put.Busy = sym is ∙ e in cc no)) p.may_ask has.turn 1 0 (ap length (put_last has.found task)) (ap length (taken_last has.found task))
+      let has = p.stored is in (
+        record { found = has.found; left = has.found ++ task ∷ [] },
+        works_turn old new rest past p.continues (p.asks (λ e. let no : put.Stored ≡ put.Busy = sym is ∙ e in cc no)) p.may_ask has.turn,
+        record {
+          room = let few = few_stand (bytes_of new) (has.found ++ task ∷ []) has.turn.left_there in let more = length-append has.found (task ∷ []) in omega (arith, few, more);
+          left = refl;
+        },
+      )
 
-  pub put_full : answer ≡ put.Full → Works old new 0 0
-  put_full is = works_found old new rest past p.continues _ (p.asks (λ e. let no : put.Full ≡ put.Busy = sym is ∙ e in cc no)) p.may_ask (p.full is)
+  put_full : answer ≡ put.Full → (turn : Turn) × HasTurns old new (turn ∷ []) × FoundFull turn
+  put_full is =
+      let f = p.full is in (
+        record { found = f.tasks; left = f.tasks },
+        works_turn old new rest past p.continues (p.asks (λ e. let no : put.Full ≡ put.Busy = sym is ∙ e in cc no)) p.may_ask f.turn,
+        record { full = f.counted; left = refl },
+      )
 
-  pub put_late : answer ≡ put.Late → Works old new 0 0
-  put_late is =
+  put_again : (answer ≡ put.Late) ⊎ (answer ≡ put.Busy) → HasTurns old new []
+  put_again (inl is) =
       works_not old new rest past p.continues p.may_ask (places_asked old new p.continues.extends p.continues.history (p.asks (λ e. let no : put.Late ≡ put.Busy = sym is ∙ e in cc no)) rest.places)
       (p.unserved (λ e. let no : put.Late ≡ put.Stored = sym is ∙ e in cc no) (λ e. let no : put.Late ≡ put.Full = sym is ∙ e in cc no))
-
-  pub put_busy : answer ≡ put.Busy → Works old new 0 0
-  put_busy is =
+  put_again (inr is) =
       works_not old new rest past p.continues p.may_ask (not_busy old new rest past p.continues (p.busy is))
       (p.unserved (λ e. let no : put.Busy ≡ put.Stored = sym is ∙ e in cc no) (λ e. let no : put.Busy ≡ put.Full = sym is ∙ e in cc no))
 
 -- and a take
 module _ (old new : View) (answer : Take) (rest : IsAtRest old) (past : KnowsOwnPast old) (t : Takes old new answer) where
-  pub took_task : (task : ℕ) → answer ≡ take.Task task → Works old new 0 1
+  took_task : (task : ℕ) → answer ≡ take.Task task → (turn : Turn) × HasTurns old new (turn ∷ []) × HasTakenOne turn
   took_task task is =
-      let has = t.task task is in
-      works_turn old new rest past t.continues (t.asks (λ e. let no : take.Task task ≡ take.Busy = sym is ∙ e in cc no)) t.may_ask has.turn 0 1 (ap length (put_first task has.left)) (ap length (taken_first task has.left))
+      let has = t.task task is in (
+        record { found = task ∷ has.left; left = has.left },
+        works_turn old new rest past t.continues (t.asks (λ e. let no : take.Task task ≡ take.Busy = sym is ∙ e in cc no)) t.may_ask has.turn,
+        record { task = task; found = refl; few = few_stand (bytes_after new.terms.opening.bytes has.turn.before) (task ∷ has.left) has.turn.found_there },
+      )
 
-  pub took_none : answer ≡ take.Empty → Works old new 0 0
-  took_none is = works_found old new rest past t.continues _ (t.asks (λ e. let no : take.Empty ≡ take.Busy = sym is ∙ e in cc no)) t.may_ask (t.empty is)
+  took_none : answer ≡ take.Empty → (turn : Turn) × HasTurns old new (turn ∷ []) × FoundNone turn
+  took_none is =
+      let f = t.empty is in (
+        record { found = f.tasks; left = f.tasks },
+        works_turn old new rest past t.continues (t.asks (λ e. let no : take.Empty ≡ take.Busy = sym is ∙ e in cc no)) t.may_ask f.turn,
+        record { found = nothing f.tasks f.counted; left = nothing f.tasks f.counted },
+      )
+    where
+      nothing : (xs : List ℕ) → length xs ≡ 0 → xs ≡ []
+      nothing [] e = refl
+      nothing (x ∷ xs) e = absurd (omega (arith, e))
 
-  pub took_late : answer ≡ take.Late → Works old new 0 0
-  took_late is =
+  take_again : (answer ≡ take.Late) ⊎ (answer ≡ take.Busy) → HasTurns old new []
+  take_again (inl is) =
       works_not old new rest past t.continues t.may_ask (places_asked old new t.continues.extends t.continues.history (t.asks (λ e. let no : take.Late ≡ take.Busy = sym is ∙ e in cc no)) rest.places)
       (t.unserved (λ task e. let no : take.Late ≡ take.Task task = sym is ∙ e in cc no) (λ e. let no : take.Late ≡ take.Empty = sym is ∙ e in cc no))
-
-  pub took_busy : answer ≡ take.Busy → Works old new 0 0
-  took_busy is =
+  take_again (inr is) =
       works_not old new rest past t.continues t.may_ask (not_busy old new rest past t.continues (t.busy is))
       (t.unserved (λ task e. let no : take.Busy ≡ take.Task task = sym is ∙ e in cc no) (λ e. let no : take.Busy ≡ take.Empty = sym is ∙ e in cc no))
 
--- one call after another
-pub works_on : (old mid new : View) (a b c d : ℕ) → Works old mid a b → Works mid new c d → Works old new (a + c) (b + d)
-works_on old mid new a b c d w v = record {
-  at_rest = v.at_rest;
-  put = v.put ∙ (ap (λ n. n + c) w.put ∙ assoc (stored_by old) a c);
-  took = v.took ∙ (ap (λ n. n + d) w.took ∙ assoc (taken_by old) b d);
-}
-  where
-    assoc : (n x y : ℕ) → n + x + y ≡ n + (x + y)
-    assoc n x y = omega arith
+-- one call after another that had no turn
+pub turns_on : (old mid new : View) (more : List Turn) → HasTurns old mid [] → HasTurns mid new more → HasTurns old new more
+turns_on old mid new more w v = record { node = v.node ∙ w.node; at_rest = v.at_rest; turns = v.turns ∙ ap (λ ts. ts ++ more) (w.turns ∙ append-nil (turns_of old)) }
 
 -- no call
-pub works_none : (v : View) → IsAtRest v → Works v v 0 0
-works_none v rest = record { at_rest = rest; put = sym (plus-zero (stored_by v)); took = sym (plus-zero (taken_by v)) }
+pub turns_none : (v : View) → IsAtRest v → HasTurns v v []
+turns_none v rest = record { node = refl; at_rest = rest; turns = sym (append-nil (turns_of v)) }
 
 -- a put after tries that came to nothing
-module _ (u v w : View) (task : ℕ) (so : Works u v 0 0) (past : KnowsOwnPast v) (answer : Put) (p : Puts task v w answer) where
-  pub then_stored : answer ≡ put.Stored → Works u w 1 0
-  then_stored is = works_on u v w 0 0 1 0 so (put_stored v w task answer so.at_rest past p is)
+module _ (u v w : View) (task : ℕ) (so : HasTurns u v []) (past : KnowsOwnPast v) (answer : Put) (p : Puts task v w answer) where
+  pub then_stored : answer ≡ put.Stored → (turn : Turn) × HasTurns u w (turn ∷ []) × HasStored task turn
+  then_stored is = let (turn, had, has) = put_stored v w task answer so.at_rest past p is in (turn, turns_on u v w (turn ∷ []) so had, has)
 
-  pub then_full : answer ≡ put.Full → Works u w 0 0
-  then_full is = works_on u v w 0 0 0 0 so (put_full v w task answer so.at_rest past p is)
+  pub then_full : answer ≡ put.Full → (turn : Turn) × HasTurns u w (turn ∷ []) × FoundFull turn
+  then_full is = let (turn, had, has) = put_full v w task answer so.at_rest past p is in (turn, turns_on u v w (turn ∷ []) so had, has)
 
-  pub put_again : (answer ≡ put.Late) ⊎ (answer ≡ put.Busy) → Works u w 0 0
-  put_again (inl is) = works_on u v w 0 0 0 0 so (put_late v w task answer so.at_rest past p is)
-  put_again (inr is) = works_on u v w 0 0 0 0 so (put_busy v w task answer so.at_rest past p is)
+  pub then_put_again : (answer ≡ put.Late) ⊎ (answer ≡ put.Busy) → HasTurns u w []
+  then_put_again is = turns_on u v w [] so (put_again v w task answer so.at_rest past p is)
 
 -- and a take
-module _ (u v w : View) (so : Works u v 0 0) (past : KnowsOwnPast v) (answer : Take) (t : Takes v w answer) where
-  pub then_taken : (task : ℕ) → answer ≡ take.Task task → Works u w 0 1
-  then_taken task is = works_on u v w 0 0 0 1 so (took_task v w answer so.at_rest past t task is)
+module _ (u v w : View) (so : HasTurns u v []) (past : KnowsOwnPast v) (answer : Take) (t : Takes v w answer) where
+  pub then_taken : (task : ℕ) → answer ≡ take.Task task → (turn : Turn) × HasTurns u w (turn ∷ []) × HasTakenOne turn
+  then_taken task is = let (turn, had, has) = took_task v w answer so.at_rest past t task is in (turn, turns_on u v w (turn ∷ []) so had, has)
 
-  pub then_none : answer ≡ take.Empty → Works u w 0 0
-  then_none is = works_on u v w 0 0 0 0 so (took_none v w answer so.at_rest past t is)
+  pub then_none : answer ≡ take.Empty → (turn : Turn) × HasTurns u w (turn ∷ []) × FoundNone turn
+  then_none is = let (turn, had, has) = took_none v w answer so.at_rest past t is in (turn, turns_on u v w (turn ∷ []) so had, has)
 
-  pub take_again : (answer ≡ take.Late) ⊎ (answer ≡ take.Busy) → Works u w 0 0
-  take_again (inl is) = works_on u v w 0 0 0 0 so (took_late v w answer so.at_rest past t is)
-  take_again (inr is) = works_on u v w 0 0 0 0 so (took_busy v w answer so.at_rest past t is)
+  pub then_take_again : (answer ≡ take.Late) ⊎ (answer ≡ take.Busy) → HasTurns u w []
+  then_take_again is = turns_on u v w [] so (take_again v w answer so.at_rest past t is)

@@ -2,7 +2,7 @@
 use Rattle.std.proofs.Common.{◌≡◌, ℕ, zero, suc, ◌+◌, ◌<◌, ◌≤◌, ◌==◌, List, [], ◌∷◌, ◌++◌, length, map, take, All, Option, Some, None, slice_get, get_or, refl, ap, sym, ◌∙◌, subst, arith}
 use Rattle.std.proofs.lemmas.List.{length-take-le}
 use Rattle.std.proofs.lemmas.List.Sums.{length-filter, count_by-le-length}
-use Rattle.std.proofs.lemmas.Option.{slice_get_within, slice_get-get_or}
+use Rattle.std.proofs.lemmas.Option.{slice_get_within, slice_get-get_or, get_or_from_slice_get}
 use Rattle.std.specs.Prelude.{IfSome, Vec}
 use Rattle.std.specs.Global.{Global}
 use Rattle.qolb_model.proofs.Lists.{same_some}
@@ -12,9 +12,9 @@ use Rattle.qolb_script.specs.declared.schedule.TheConstants.{MOST_COMMANDS}
 use Rattle.qolb_model.specs.declared.terms.Terms.{Terms}
 use Rattle.qolb_model.specs.declared.view.View.{View}
 use Rattle.qolb_model.specs.Opening.{AreNew}
-use Rattle.qolb_run.specs.JustOpened.{IsJustOpened}
+use Rattle.qolb_run.specs.JustOpened.{AreJustOpened}
 use Rattle.qolb_run.specs.Jobs.{jobs_of}
-use Rattle.qolb_run.specs.Workers.{AreBack, AreDone, MayBeGone}
+use Rattle.qolb_run.specs.Workers.{AreBack, AreDone, AreFresh, MayBeGone}
 use Rattle.qolb_run.specs.declared.work.RunError.TheVariants.{Stalled}
 
 -- a worker has fewer jobs behind it than a script may have
@@ -49,7 +49,7 @@ slice_get-map_some [] k hand at = absurd (let no : None ≡ Some hand = at in cc
 slice_get-map_some (h ∷ hands) zero hand at = ap Some at
 slice_get-map_some (h ∷ hands) (suc k) hand at = slice_get-map_some hands k hand at
 
-pub done_of : {Site Hand : Type 0} (has_done : Site → Hand → List Job → Type 0) (site : Site) (jobs : List Job) (back : List (Option Hand)) (hands : List Hand)
+pub done_of : {Site Hand : Type 0} (has_done : Site → ℕ → Hand → List Job → Type 0) (site : Site) (jobs : List Job) (back : List (Option Hand)) (hands : List Hand)
     → map Some hands ≡ back → AreBack has_done site jobs back → AreDone has_done site jobs hands
 done_of has_done site jobs back hands is all = λ k hand at. all k hand (ap (λ b. slice_get b k) (sym is) ∙ slice_get-map_some hands k hand at)
 
@@ -61,8 +61,8 @@ each_pushed P (z ∷ xs) x all own zero y at = all 0 y at
 each_pushed P (z ∷ xs) x all own (suc k) y at = each_pushed (λ n. P (suc n)) xs x (λ j i. all (suc j) i) own k y at
 
 -- what threads gave back, each by its place
-pub back_at : {Site Hand : Type 0} (has_done : Site → Hand → List Job → Type 0) (site : Site) (jobs : List Job) (o : Option (Vec (Option Hand) Global))
-    → IfSome o (λ all. (k : ℕ) (back : Option Hand) → slice_get all.items k ≡ Some back → IfSome back (λ hand. has_done site hand (jobs_of (k + 1) jobs))) → IfSome o (λ all. AreBack has_done site jobs all.items)
+pub back_at : {Site Hand : Type 0} (has_done : Site → ℕ → Hand → List Job → Type 0) (site : Site) (jobs : List Job) (o : Option (Vec (Option Hand) Global))
+    → IfSome o (λ all. (k : ℕ) (back : Option Hand) → slice_get all.items k ≡ Some back → IfSome back (λ hand. has_done site (k + 1) hand (jobs_of (k + 1) jobs))) → IfSome o (λ all. AreBack has_done site jobs all.items)
 back_at has_done site jobs None each = tt
 back_at has_done site jobs (Some all) each = λ k hand at. each k (Some hand) at
 
@@ -72,8 +72,14 @@ get_map view [] k port at = absurd (let no : None ≡ Some port = at in cc no)
 get_map view (p ∷ ports) zero port at = ap (λ q. Some (view q)) (same_some at)
 get_map view (p ∷ ports) (suc k) port at = get_map view ports k port at
 
-pub just_opened : {P : Type 0} (view : P → View) (label : ℕ) (terms : Terms) (ports : List P) → AreNew label terms (map view ports) → All (λ port. IsJustOpened (view port)) ports
-just_opened view label terms ports new = λ k d below.
-    let at = get_map view ports k (get_or ports k d) (slice_get-get_or ports k d below) in
-    let within : k < terms.nodes = subst (λ n. k < n) new.count (slice_get_within (map view ports) k (view (get_or ports k d)) at) in
-    (label, terms, k + 1, same_some (sym at ∙ new.each k within))
+pub just_opened : {Line Port : Type 0} (belongs : Line → Port → Type 0) (view : Port → View) (line : Line) (label : ℕ) (terms : Terms) (ports : List Port) → All (belongs line) ports → AreNew label terms (map view ports) → AreJustOpened belongs view line ports
+just_opened {Line} {Port} belongs view line label terms ports own new = λ k port at.
+    let at_view = get_map view ports k port at in
+    let within : k < terms.nodes = subst (λ n. k < n) new.count (slice_get_within (map view ports) k (view port) at_view) in (
+      subst (belongs line) (get_or_from_slice_get ports k port port at) (own k port (slice_get_within ports k port at)),
+      (label, terms, same_some (sym at_view ∙ new.each k within)),
+    )
+
+-- of no hands none has begun
+pub nobody : {Site Hand : Type 0} (has_done : Site → ℕ → Hand → List Job → Type 0) (site : Site) → AreFresh has_done site []
+nobody {Site} {Hand} has_done site = λ k hand at. absurd (let no : None ≡ Some hand = at in cc no)

@@ -8,7 +8,10 @@ pub mod Forcing
 pub mod Acquiring
 pub mod Shares
 pub mod BoardTurns
-pub mod BoardFinished
+pub mod Turns
+pub mod Merging
+pub mod Working
+pub mod Refusing
 pub mod Gathering
 pub mod Joined
 pub mod Summing

@@ -1,35 +1,47 @@
 -- The counts of all hands at a board, and the report that they make.
-use Rattle.std.proofs.Common.{◌≡◌, ℕ, zero, suc, ◌+◌, ◌*◌, ◌<◌, ◌≤◌, ◌==◌, List, [], ◌∷◌, length, map, take, All, Some, None, slice_get, get_or, refl, ap, sym, ◌∙◌, subst, arith}
-use Rattle.std.specs.List.{sum_by}
+use Rattle.std.proofs.Common.{◌≡◌, ℕ, zero, suc, ◌+◌, ◌*◌, ◌<◌, ◌≤◌, ◌==◌, inl, inr, Bool, true, false, cond, List, [], ◌∷◌, length, map, take, All, Some, None, option_map, slice_get, get_or, refl, ap, sym, ◌∙◌, subst, arith, zero-add}
+use Rattle.std.specs.List.{sum_by, count_by, filter}
+use Rattle.std.proofs.lemmas.Bool.{cases_lt, eqb-true, eq-eqb, ne_eqb}
 use Rattle.std.proofs.lemmas.List.{length-take-le}
 use Rattle.std.proofs.lemmas.List.Sums.{sum_by-le, sum_by-cons, count_by-le-length, length-filter}
-use Rattle.std.proofs.lemmas.List.Elements.{All-take}
-use Rattle.std.proofs.lemmas.Option.{slice_get-get_or}
+use Rattle.std.proofs.lemmas.List.Elements.{All-take, All-head, All-tail}
+use Rattle.std.proofs.lemmas.Option.{slice_get-get_or, slice_get-map}
 use Rattle.line_lanes.specs.Line.{zeros}
+use Rattle.qolb_model.specs.declared.request.Request.{Request}
+use Rattle.qolb_model.specs.declared.end.End.{End}
 use Rattle.qolb_model.specs.declared.terms.Terms.{Terms}
 use Rattle.qolb_model.specs.declared.terms.TheConstants.{MOST_NODES}
 use Rattle.qolb_model.specs.declared.view.View.{View}
-use Rattle.qolb_model.specs.Finishing.{IsFinished}
-use Rattle.qolb_model.proofs.Lists.{same_some}
-use Rattle.qolb_model.proofs.Agreeing.{among_map_port}
+use Rattle.qolb_model.specs.Ends.{bytes_after}
+use Rattle.qolb_model.specs.PortStates.{may_ask}
+use Rattle.qolb_model.specs.OneHistory.{IsAmong}
+use Rattle.qolb_model.specs.Finishing.{IsFinished, MayFinish}
+use Rattle.qolb_model.proofs.Lists.{never, same_some, element_at}
 use Rattle.line_accounts.specs.Paid.{KnowsOwnPlaces}
 use Rattle.line_accounts.specs.Desks.{IsAtRest}
-use Rattle.line_accounts.proofs.Turns.{sum-plus, sum-each}
+use Rattle.line_accounts.proofs.Turns.{sum-plus, sum-each, once_there}
 use Rattle.line_accounts.proofs.Settlements.{sum-of_map}
 use Rattle.line_board.specs.Board.{IsBoard, Stand}
 use Rattle.line_board.specs.Law.{Changes}
+use Rattle.line_board.specs.PutsAndTakes.{standing}
+use Rattle.line_board.proofs.Steps.{standing-stand}
 use Rattle.qolb_script.specs.declared.job.Job.{Job}
+use Rattle.qolb_script.specs.declared.report.Report.{Report}
+use Rattle.qolb_script.specs.declared.report.Report.TheVariants.{Board}
 use Rattle.qolb_script.specs.declared.schedule.TheConstants.{MOST_COMMANDS}
 use Rattle.qolb_script.specs.Jobs.{worker_of}
 use Rattle.qolb_script.specs.WorkScript.{WorkScript, AreOfIts}
 use Rattle.qolb_run.specs.Jobs.{is_put, is_take, puts_in, takes_in, jobs_of}
+use Rattle.qolb_run.specs.JustOpened.{IsJustOpened, work_terms}
 use Rattle.qolb_run.specs.Workers.{AreDone}
+use Rattle.qolb_run.specs.Reports.{IsDoneInTurn}
 use Rattle.qolb_run.specs.declared.board.BoardCounts.{BoardCounts}
 use Rattle.qolb_run.specs.declared.board.BoardHand.{BoardHand}
-use Rattle.qolb_run.specs.BoardWork.{stored_by, taken_by, HasWorked, AreWithin, AreSums, no_counts}
-use Rattle.qolb_run.specs.JustOpened.{IsJustOpened}
+use Rattle.qolb_run.specs.BoardRuns.{BoardRun, after_jobs, no_counts, empty_board, report_of}
+use Rattle.qolb_run.specs.BoardWork.{Turn, turns_of, node_turns, Did, HasWorked, AreWithin, AreSums, counts_of, stores, finds_full, takes, finds_none}
 use Rattle.qolb_run.proofs.Shares.{counts_of_all}
-use Rattle.qolb_run.proofs.BoardFinished.{stored_is}
+use Rattle.qolb_run.proofs.Turns.{turns_whole, node_turns-unserved}
+use Rattle.qolb_run.proofs.Merging.{AreOwn, Merged, all_turns, plus, merge, did_long, did_puts, did_takes, kept_run, counts_whole, one_owner}
 
 -- the counts of the first so many hands are small
 module _ {Port : Type 0} (hands : List (BoardHand Port)) (i : ℕ) (all : BoardCounts) (few : length hands ≤ MOST_NODES) (small : All (λ hand. AreWithin MOST_COMMANDS hand.counts) hands) (lt : i < length hands) (sums : AreSums (take i hands) all) where
@@ -49,93 +61,219 @@ module _ {Port : Type 0} (hands : List (BoardHand Port)) (i : ℕ) (all : BoardC
   }
 
 -- a port that was just opened has done nothing
-pub worked_nothing : {Line Port : Type 0} (belongs : Line → Port → Type 0) (view : Port → View) (line : Line) (port : Port) → belongs line port → IsJustOpened (view port) → HasWorked belongs view line (record { port = port; counts = no_counts }) []
-worked_nothing belongs view line port of_line (label, terms, node, is) = record {
+pub worked_nothing : {Line Port : Type 0} (belongs : Line → Port → Type 0) (view : Port → View) (line : Line) (worker : ℕ) (port : Port) → belongs line port → IsJustOpened worker (view port) → HasWorked belongs view line worker (record { port = port; counts = no_counts }) []
+worked_nothing belongs view line worker port of_line (label, terms, is) = record {
   of_line = of_line;
+  of_worker = ap (λ (v : View). v.node) is;
   at_rest = subst IsAtRest (sym is) (record { quiet = refl; places = refl });
-  stored_are = ap stored_by is;
-  taken_are = ap taken_by is;
-  puts = refl;
-  takes = refl;
+  did = subst (λ (v : View). Did (turns_of v) []) (sym is) tt;
+  counts_are = ap (λ (v : View). counts_of (turns_of v)) (sym is);
 }
+
+-- of all jobs a worker is given its own
+own_jobs : (worker : ℕ) (jobs : List Job) (k : ℕ) (job : Job) → slice_get (jobs_of worker jobs) k ≡ Some job → worker_of job ≡ worker
+own_jobs worker [] k job at = absurd (let no : None ≡ Some job = at in cc no)
+own_jobs worker (j ∷ jobs) k job at = by (own_jobs worker jobs) (worker_of j == worker) refl k at
+  where
+    by : ((k : ℕ) (job : Job) → slice_get (jobs_of worker jobs) k ≡ Some job → worker_of job ≡ worker) → (b : Bool) → (worker_of j == worker) ≡ b → (k : ℕ) → slice_get (cond b (j ∷ jobs_of worker jobs) (jobs_of worker jobs)) k ≡ Some job → worker_of job ≡ worker
+    by rest true e zero at = ap worker_of (sym (same_some at)) ∙ eqb-true (worker_of j) worker e
+    by rest true e (suc k) at = rest k job at
+    by rest false e k at = rest k job at
+
+-- and a worker that there is not has none
+no_jobs : (worker most : ℕ) (jobs : List Job) → All (λ job. (1 ≤ worker_of job) × (worker_of job ≤ most)) jobs → ((job : Job) → 1 ≤ worker_of job → worker_of job ≤ most → (worker_of job == worker) ≡ false) → jobs_of worker jobs ≡ []
+no_jobs worker most [] all none = refl
+no_jobs worker most (job ∷ jobs) all none =
+    let here = All-head (λ j. (1 ≤ worker_of j) × (worker_of j ≤ most)) job jobs all in
+    ap (λ b. cond b (job ∷ jobs_of worker jobs) (jobs_of worker jobs)) (none job here.0 here.1) ∙ no_jobs worker most jobs (All-tail (λ j. (1 ≤ worker_of j) × (worker_of j ≤ most)) job jobs all) none
 
 -- a worker's counts are no more than its jobs
 module _ {Line Port : Type 0} (belongs : Line → Port → Type 0) (view : Port → View) (line : Line) where
-  pub counts_within : (hand : BoardHand Port) (jobs : List Job) (worker : ℕ) → length jobs ≤ MOST_COMMANDS → HasWorked belongs view line hand (jobs_of worker jobs) → AreWithin MOST_COMMANDS hand.counts
-  counts_within hand jobs worker most h =
-      let kept = few_own worker jobs in
-      let puts = count_by-le-length is_put (jobs_of worker jobs) in
-      let takes = count_by-le-length is_take (jobs_of worker jobs) in
-      let p = h.puts in
-      let t = h.takes in record {
-        stored = omega (arith, kept, puts, p, most);
-        full = omega (arith, kept, puts, p, most);
-        taken = omega (arith, kept, takes, t, most);
-        empty = omega (arith, kept, takes, t, most);
-      }
-    where
-      few_own : (worker : ℕ) (jobs : List Job) → length (jobs_of worker jobs) ≤ length jobs
-      few_own worker jobs = let e = length-filter (λ job. worker_of job == worker) jobs in let le = count_by-le-length (λ job. worker_of job == worker) jobs in omega (arith, e, le)
+  few_turns : (p : Turn → Bool) (turns : List Turn) (worker : ℕ) (jobs : List Job) → length jobs ≤ MOST_COMMANDS → Did turns (jobs_of worker jobs) → count_by p turns ≤ MOST_COMMANDS
+  few_turns p turns worker jobs most did =
+      let a = count_by-le-length p turns in
+      let b = did_long turns (jobs_of worker jobs) did in
+      let c = length-filter (λ job. worker_of job == worker) jobs in
+      let d = count_by-le-length (λ job. worker_of job == worker) jobs in
+      omega (arith, a, b, c, d, most)
+
+  pub counts_within : (hand : BoardHand Port) (jobs : List Job) (worker : ℕ) → length jobs ≤ MOST_COMMANDS → HasWorked belongs view line worker hand (jobs_of worker jobs) → AreWithin MOST_COMMANDS hand.counts
+  counts_within hand jobs worker most h = subst (λ c. AreWithin MOST_COMMANDS c) (sym h.counts_are) (record {
+    stored = few_turns stores (turns_of (view hand.port)) worker jobs most h.did;
+    full = few_turns finds_full (turns_of (view hand.port)) worker jobs most h.did;
+    taken = few_turns takes (turns_of (view hand.port)) worker jobs most h.did;
+    empty = few_turns finds_none (turns_of (view hand.port)) worker jobs most h.did;
+  })
 
   pub all_within : (hands : List (BoardHand Port)) (jobs : List Job) → length jobs ≤ MOST_COMMANDS → AreDone (HasWorked belongs view) line jobs hands → All (λ hand. AreWithin MOST_COMMANDS hand.counts) hands
   all_within hands jobs most done = λ k d below. counts_within (get_or hands k d) jobs (k + 1) most (done k (get_or hands k d) (slice_get-get_or hands k d below))
 
-  hand_of : (hands : List (BoardHand Port)) (port : Port) (j : ℕ) → slice_get (map (λ hand. hand.port) hands) j ≡ Some port → (k : ℕ) × (hand : BoardHand Port) × (slice_get hands k ≡ Some hand) × (port ≡ hand.port)
+  hand_of : (hands : List (BoardHand Port)) (port : Port) (j : ℕ) → slice_get (map (λ hand. hand.port) hands) j ≡ Some port → (hand : BoardHand Port) × (slice_get hands j ≡ Some hand) × (port ≡ hand.port)
   hand_of [] port j at = absurd (let no : None ≡ Some port = at in cc no)
-  hand_of (h ∷ hands) port zero at = (0, h, refl, sym (same_some at))
-  hand_of (h ∷ hands) port (suc j) at = let (k, hand, at_hand, is) = hand_of hands port j at in (suc k, hand, at_hand, is)
+  hand_of (h ∷ hands) port zero at = (h, refl, sym (same_some at))
+  hand_of (h ∷ hands) port (suc j) at = hand_of hands port j at
 
-  pub ports_belong : (hands : List (BoardHand Port)) (jobs : List Job) → AreDone (HasWorked belongs view) line jobs hands → (ports : List Port) → ports ≡ map (λ hand. hand.port) hands → All (belongs line) ports
-  ports_belong hands jobs done ports are = λ i d below.
-      let (k, hand, at_hand, of) = hand_of hands (get_or ports i d) i (ap (λ ps. slice_get ps i) (sym are) ∙ slice_get-get_or ports i d below) in
-      subst (belongs line) (sym of) (done k hand at_hand).of_line
+  port_of : (hands : List (BoardHand Port)) (hand : BoardHand Port) (j : ℕ) → slice_get hands j ≡ Some hand → slice_get (map (λ hand. hand.port) hands) j ≡ Some hand.port
+  port_of [] hand j at = absurd (let no : None ≡ Some hand = at in cc no)
+  port_of (h ∷ hands) hand zero at = ap (λ (x : BoardHand Port). Some x.port) (same_some at)
+  port_of (h ∷ hands) hand (suc j) at = port_of hands hand j at
 
-  -- the ports of all hands are at rest
-  pub places_all : (hands : List (BoardHand Port)) (jobs : List Job) → AreDone (HasWorked belongs view) line jobs hands → (ports : List Port) → ports ≡ map (λ hand. hand.port) hands → (i : ℕ) (v : View) → slice_get (map view ports) i ≡ Some v → KnowsOwnPlaces v
-  places_all hands jobs done ports are i v at =
-      let (j, port, at_port, is) = among_map_port view ports v (i, at) in
-      let (k, hand, at_hand, of) = hand_of hands port j (ap (λ ps. slice_get ps j) (sym are) ∙ at_port) in
-      subst (λ (w : View). KnowsOwnPlaces w) (ap view (sym of) ∙ sym is) (done k hand at_hand).at_rest.places
-
-  -- the counts of a finished board
-  module _ (work : WorkScript) (hands : List (BoardHand Port)) (counts : BoardCounts) (ports : List Port) (label : ℕ) (terms : Terms) (bytes tasks : List ℕ)
-      (done : AreDone (HasWorked belongs view) line work.jobs hands) (sums : AreSums hands counts) (are : ports ≡ map (λ hand. hand.port) hands) (many : length hands ≡ work.workers) (its : AreOfIts work)
-      (f : IsFinished IsBoard Changes label terms (map view ports) bytes) (empty : terms.opening.bytes ≡ zeros) (stand : Stand bytes tasks) where
-    by_ports : (f : View → ℕ) (g : BoardHand Port → ℕ) → ((k : ℕ) (hand : BoardHand Port) → slice_get hands k ≡ Some hand → f (view hand.port) ≡ g hand) → sum_by f (map view ports) ≡ sum_by g hands
-    by_ports f g each =
-        sum-of_map f view ports
-        ∙ (ap (sum_by (λ port. f (view port))) are
-        ∙ (sum-of_map_any (λ port. f (view port)) hands
-        ∙ sum-each (λ hand. f (view hand.port)) g hands each))
+  module _ (work : WorkScript) (hands : List (BoardHand Port)) (ports : List Port) (done : AreDone (HasWorked belongs view) line work.jobs hands) (are : ports ≡ map (λ hand. hand.port) hands) where
+    -- each view is that of the worker at its place
+    pub view_at : (i : ℕ) (v : View) → slice_get (map view ports) i ≡ Some v → (hand : BoardHand Port) × HasWorked belongs view line (i + 1) hand (jobs_of (i + 1) work.jobs) × (v ≡ view hand.port)
+    view_at i v at =
+        let (port, at_port, is) = place ports i v at in
+        let (hand, at_hand, of) = hand_of hands port i (ap (λ ps. slice_get ps i) (sym are) ∙ at_port) in
+        (hand, done i hand at_hand, is ∙ ap view of)
       where
-        sum-of_map_any : (f : Port → ℕ) (hands : List (BoardHand Port)) → sum_by f (map (λ hand. hand.port) hands) ≡ sum_by (λ hand. f hand.port) hands
-        sum-of_map_any f [] = refl
-        sum-of_map_any f (h ∷ hands) = sum_by-cons f h.port (map (λ hand. hand.port) hands) ∙ (ap (λ n. f h.port + n) (sum-of_map_any f hands) ∙ sym (sum_by-cons (λ hand. f hand.port) h hands))
+        place : (ports : List Port) (i : ℕ) (v : View) → slice_get (map view ports) i ≡ Some v → (port : Port) × (slice_get ports i ≡ Some port) × (v ≡ view port)
+        place [] i v at = absurd (let no : None ≡ Some v = at in cc no)
+        place (p ∷ ports) zero v at = (p, refl, sym (same_some at))
+        place (p ∷ ports) (suc i) v at = place ports i v at
 
-    pub kept : counts.stored ≡ counts.taken + length tasks
-    kept =
-        let e = stored_is label terms (map view ports) bytes f (places_all hands work.jobs done ports are) tasks empty stand in
-        let s = by_ports stored_by (λ hand. hand.counts.stored) (λ k hand at. (done k hand at).stored_are) in
-        let t = by_ports taken_by (λ hand. hand.counts.taken) (λ k hand at. (done k hand at).taken_are) in
-        let a = sums.stored in
-        let b = sums.taken in
-        omega (arith, e, s, t, a, b)
+    pub ports_belong : All (belongs line) ports
+    ports_belong = λ i d below.
+        let (hand, at_hand, of) = hand_of hands (get_or ports i d) i (ap (λ ps. slice_get ps i) (sym are) ∙ slice_get-get_or ports i d below) in
+        subst (belongs line) (sym of) (done i hand at_hand).of_line
 
-    workers_are : All (λ job. (1 ≤ worker_of job) × (worker_of job ≤ length hands)) work.jobs
-    workers_are = λ k d below. let h = its k d below in (h.0, subst (λ n. worker_of (get_or work.jobs k d) ≤ n) (sym many) h.1)
+    -- the ports of all hands are at rest
+    pub places_all : (i : ℕ) (v : View) → slice_get (map view ports) i ≡ Some v → KnowsOwnPlaces v
+    places_all i v at = let (hand, worked, is) = view_at i v at in subst (λ (w : View). KnowsOwnPlaces w) (sym is) worked.at_rest.places
 
-    pub puts : counts.stored + counts.full ≡ puts_in work.jobs
-    puts =
-        let e = counts_of_all is_put (λ hand. hand.counts.stored + hand.counts.full) hands work.jobs workers_are (λ k hand at. (done k hand at).puts) in
-        let s = sum-plus (λ hand. hand.counts.stored) (λ hand. hand.counts.full) hands in
-        let a = sums.stored in
-        let b = sums.full in
-        omega (arith, e, s, a, b)
+    -- and each node's is there
+    pub hand_at : (worker : ℕ) → 1 ≤ worker → worker ≤ length hands → (i : ℕ) × (hand : BoardHand Port) × (slice_get (map view ports) i ≡ Some (view hand.port)) × HasWorked belongs view line worker hand (jobs_of worker work.jobs)
+    hand_at zero first last = absurd (omega (arith, first))
+    hand_at (suc k) first last =
+        let (hand, at) = element_at hands k (omega (arith, last)) in
+        let name : k + 1 ≡ suc k = omega arith in (
+          k,
+          hand,
+          ap (λ ps. slice_get (map view ps) k) are ∙ (slice_get-map view (map (λ hand. hand.port) hands) k ∙ ap (option_map view) (port_of hands hand k at)),
+          subst (λ n. HasWorked belongs view line n hand (jobs_of n work.jobs)) name (done k hand at),
+        )
 
-    pub takes : counts.taken + counts.empty ≡ takes_in work.jobs
-    takes =
-        let e = counts_of_all is_take (λ hand. hand.counts.taken + hand.counts.empty) hands work.jobs workers_are (λ k hand at. (done k hand at).takes) in
-        let s = sum-plus (λ hand. hand.counts.taken) (λ hand. hand.counts.empty) hands in
-        let a = sums.taken in
-        let b = sums.empty in
-        omega (arith, e, s, a, b)
+    -- nothing but want of memory is in the way of the line's end
+    pub may_finish : (label nodes : ℕ) → ((port : Port) → belongs line port → (view port).label ≡ label) → length hands ≡ nodes → MayFinish label nodes (map view ports)
+    may_finish label nodes labels many = (
+      λ v (i, at). let (hand, worked, is) = view_at i v at in ap (λ (w : View). w.label) is ∙ labels hand.port worked.of_line,
+      λ node first last. let (i, hand, at, worked) = hand_at node first (omega (arith, last, many)) in (view hand.port, (i, at), worked.of_worker),
+      λ node first last v (i, at) same. let (hand, worked, is) = view_at i v at in ap (λ (w : View). may_ask w.state) is ∙ worked.at_rest.quiet,
+    )
+
+    -- the counts of a finished board
+    module _ (counts : BoardCounts) (label : ℕ) (terms : Terms) (bytes tasks : List ℕ) (sums : AreSums hands counts) (many : length hands ≡ work.workers) (its : AreOfIts work) (terms_are : terms ≡ work_terms work.workers)
+        (f : IsFinished IsBoard Changes label terms (map view ports) bytes) (stand : Stand bytes tasks) where
+      abbrev order : List Request
+      order = f.history.order
+
+      abbrev ends : List End
+      ends = f.history.ends
+
+      abbrev opening : List ℕ
+      opening = terms.opening.bytes
+
+      workers_are : All (λ job. (1 ≤ worker_of job) × (worker_of job ≤ length hands)) work.jobs
+      workers_are = λ k d below. let h = its k d below in (h.0, subst (λ n. worker_of (get_or work.jobs k d) ≤ n) (sym many) h.1)
+
+      nodes_are : terms.nodes ≡ length hands
+      nodes_are = ap (λ (t : Terms). t.nodes) terms_are ∙ sym many
+
+      of_line : (p : ℕ) (r : Request) → slice_get order p ≡ Some r → (1 ≤ r.node) × (r.node ≤ terms.nodes)
+      of_line p r at =
+          let (w, among, is) = f.there 1 (omega arith) f.may_open.nodes.some in
+          subst (λ (t : Terms). (1 ≤ r.node) × (r.node ≤ t.nodes)) f.terms_are ((f.history.known w among).of_line p r at)
+
+      -- what a port knows of its turns is what the line's history says
+      known_turns : (i : ℕ) (v : View) → slice_get (map view ports) i ≡ Some v → turns_of v ≡ node_turns v.node opening order ends
+      known_turns i v at = turns_whole f.history.terms order ends f.history.clear v (f.history.known v (i, at)) (places_all i v at) ∙ ap (λ (t : Terms). node_turns v.node t.opening.bytes order ends) f.terms_are
+
+      none_of : (worker : ℕ) → ((n : ℕ) → 1 ≤ n → n ≤ length hands → (n == worker) ≡ false) → Did (node_turns worker opening order ends) (jobs_of worker work.jobs)
+      none_of worker none =
+          let no_turn : node_turns worker opening order ends ≡ [] = node_turns-unserved worker opening order ends (λ p r e at at_e same.
+          let within = of_line p r at in
+          absurd (let yes : (r.node == worker) ≡ true = eq-eqb r.node worker same in never yes (none r.node within.0 (omega (arith, within.1, nodes_are))))) in
+          let no_job = no_jobs worker (length hands) work.jobs workers_are (λ job first last. none (worker_of job) first last) in
+          subst (λ ts. Did ts (jobs_of worker work.jobs)) (sym no_turn) (subst (Did []) (sym no_job) tt)
+
+      node_did : (worker : ℕ) → Did (node_turns worker opening order ends) (jobs_of worker work.jobs)
+      node_did zero = none_of 0 (λ n first last. ne_eqb n 0 (λ e. omega (arith, e, first)))
+      node_did (suc k) = elim (cases_lt k (length hands)) [
+        | inl lt ↦
+            let (i, hand, at, worked) = hand_at (suc k) (omega arith) (omega (arith, lt)) in
+            let is = known_turns i (view hand.port) at ∙ ap (λ n. node_turns n opening order ends) worked.of_worker in
+            subst (λ ts. Did ts (jobs_of (suc k) work.jobs)) is worked.did
+        | inr ge ↦ none_of (suc k) (λ n first last. ne_eqb n (suc k) (λ e. omega (arith, e, last, ge)))
+      ]
+
+      merged : Merged opening ends (λ worker. jobs_of worker work.jobs)
+      merged = merge opening order ends (λ worker. jobs_of worker work.jobs) (omega (arith, f.all_ended)) (λ worker k job at. own_jobs worker work.jobs k job at) node_did
+
+      once : (p : ℕ) (r : Request) → slice_get order p ≡ Some r → count_by (λ (v : View). r.node == v.node) (map view ports) ≡ 1
+      once p r at = once_there (map view ports) r.node f.once (f.there r.node (of_line p r at).0 (of_line p r at).1)
+
+      by_hands : (f : View → ℕ) (g : BoardHand Port → ℕ) → ((k : ℕ) (hand : BoardHand Port) → slice_get hands k ≡ Some hand → f (view hand.port) ≡ g hand) → sum_by f (map view ports) ≡ sum_by g hands
+      by_hands f g each =
+          sum-of_map f view ports
+          ∙ (ap (sum_by (λ port. f (view port))) are
+          ∙ (of_map (λ port. f (view port)) hands
+          ∙ sum-each (λ hand. f (view hand.port)) g hands each))
+        where
+          of_map : (f : Port → ℕ) (hands : List (BoardHand Port)) → sum_by f (map (λ hand. hand.port) hands) ≡ sum_by (λ hand. f hand.port) hands
+          of_map f [] = refl
+          of_map f (h ∷ hands) = sum_by-cons f h.port (map (λ hand. hand.port) hands) ∙ (ap (λ n. f h.port + n) (of_map f hands) ∙ sym (sum_by-cons (λ hand. f hand.port) h hands))
+
+      counted : (p : Turn → Bool) (g : BoardHand Port → ℕ) → ((k : ℕ) (hand : BoardHand Port) → slice_get hands k ≡ Some hand → count_by p (turns_of (view hand.port)) ≡ g hand) → sum_by g hands ≡ count_by p (all_turns opening ends)
+      counted p g each =
+          sym (by_hands (λ (v : View). count_by p (turns_of v)) g each)
+          ∙ (sum-each (λ (v : View). count_by p (turns_of v)) (λ (v : View). count_by p (node_turns v.node opening order ends)) (map view ports) (λ i v at. ap (count_by p) (known_turns i v at))
+          ∙ counts_whole p (map view ports) opening order ends (omega (arith, f.all_ended)) once)
+
+      counts_all : counts ≡ counts_of (all_turns opening ends)
+      counts_all = λ i. record {
+        stored = (sums.stored ∙ counted stores (λ hand. hand.counts.stored) (λ k hand at. ap (λ (c : BoardCounts). c.stored) (sym (done k hand at).counts_are))) i;
+        full = (sums.full ∙ counted finds_full (λ hand. hand.counts.full) (λ k hand at. ap (λ (c : BoardCounts). c.full) (sym (done k hand at).counts_are))) i;
+        taken = (sums.taken ∙ counted takes (λ hand. hand.counts.taken) (λ k hand at. ap (λ (c : BoardCounts). c.taken) (sym (done k hand at).counts_are))) i;
+        empty = (sums.empty ∙ counted finds_none (λ hand. hand.counts.empty) (λ k hand at. ap (λ (c : BoardCounts). c.empty) (sym (done k hand at).counts_are))) i;
+      }
+
+      opened_empty : standing opening ≡ []
+      opened_empty = ap (λ (t : Terms). standing t.opening.bytes) terms_are ∙ standing-stand zeros [] refl
+
+      left_are : standing (bytes_after opening ends) ≡ tasks
+      left_are = ap standing (sym f.result) ∙ standing-stand bytes tasks stand
+
+      plus_none : (c : BoardCounts) → plus no_counts c ≡ c
+      plus_none c = λ i. record { stored = zero-add c.stored i; full = zero-add c.full i; taken = zero-add c.taken i; empty = zero-add c.empty i }
+
+      -- one owner, with the merged jobs, comes to the same
+      run_is : after_jobs empty_board merged.sequence ≡ record { tasks = tasks; counts = counts }
+      run_is =
+          ap (λ (ts : List ℕ). after_jobs (record { tasks = ts; counts = no_counts }) merged.sequence) (sym opened_empty)
+          ∙ (one_owner opening ends merged.sequence no_counts merged.did
+          ∙ (λ i. record { tasks = left_are i; counts = (plus_none (counts_of (all_turns opening ends)) ∙ sym counts_all) i }))
+
+      pub in_turn : IsDoneInTurn work (Board counts.stored counts.full counts.taken counts.empty (length tasks))
+      in_turn = record { sequence = merged.sequence; interleaves = merged.each; report_is = ap report_of (sym run_is) }
+
+      pub kept : counts.stored ≡ counts.taken + length tasks
+      kept =
+          let e = kept_run empty_board merged.sequence in
+          let a = ap (λ (run : BoardRun). run.counts.stored) run_is in
+          let b = ap (λ (run : BoardRun). run.counts.taken + length run.tasks) run_is in
+          omega (arith, e, a, b)
+
+      pub puts : counts.stored + counts.full ≡ puts_in work.jobs
+      puts =
+          let e = counts_of_all is_put (λ hand. hand.counts.stored + hand.counts.full) hands work.jobs workers_are (λ k hand at. ap (λ (c : BoardCounts). c.stored + c.full) (done k hand at).counts_are ∙ did_puts (turns_of (view hand.port)) (jobs_of (k + 1) work.jobs) (done k hand at).did) in
+          let s = sum-plus (λ hand. hand.counts.stored) (λ hand. hand.counts.full) hands in
+          let a = sums.stored in
+          let b = sums.full in
+          omega (arith, e, s, a, b)
+
+      pub takes_are : counts.taken + counts.empty ≡ takes_in work.jobs
+      takes_are =
+          let e = counts_of_all is_take (λ hand. hand.counts.taken + hand.counts.empty) hands work.jobs workers_are (λ k hand at. ap (λ (c : BoardCounts). c.taken + c.empty) (done k hand at).counts_are ∙ did_takes (turns_of (view hand.port)) (jobs_of (k + 1) work.jobs) (done k hand at).did) in
+          let s = sum-plus (λ hand. hand.counts.taken) (λ hand. hand.counts.empty) hands in
+          let a = sums.taken in
+          let b = sums.empty in
+          omega (arith, e, s, a, b)

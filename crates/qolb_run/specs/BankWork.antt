@@ -1,23 +1,97 @@
--- Workers at a bank: what a call of a desk pays, and what a worker has done. (Of this project.)
-use Rattle.std.specs.Prelude.{◌≡◌, ◌⊎◌, ℕ, ◌+◌, ◌*◌, ◌^◌, ◌≤◌, List, length}
+-- Workers at a bank: how a job is tried until it has an outcome, and what a worker has done. (Of this project.)
+use Rattle.std.specs.Prelude.{◌≡◌, ℕ, ◌+◌, ◌*◌, ◌^◌, ◌≤◌, Bool, true, false, List, [], ◌∷◌, ◌++◌, length, All, Some, slice_get}
+use Rattle.qolb_model.specs.declared.terms.Terms.{Terms}
 use Rattle.qolb_model.specs.declared.view.View.{View}
 use Rattle.line_accounts.specs.Desks.{DeskOf, IsDeskOver}
+use Rattle.line_accounts.specs.NewDesks.{IsUnpaid}
+use Rattle.line_accounts.specs.Settled.{all_paid_in, all_paid_out}
+use Rattle.line_accounts.specs.Calls.{Deposits, TakesOut, Transfers}
 use Rattle.line_accounts.specs.declared.answer.Reply.{Reply}
-use Rattle.line_accounts.specs.declared.answer.Reply.TheVariants.{Late, Busy}
+use Rattle.line_accounts.specs.declared.answer.Reply.TheVariants.{Done, Short, Over, Late, Closed, Busy, NoAccount, SameAccount}
 use Rattle.qolb_script.specs.declared.job.Job.{Job}
+use Rattle.qolb_script.specs.declared.job.Job.TheVariants.{Put, Take, PayIn, PayOut, Move}
+use Rattle.qolb_script.specs.declared.report.Report.{Report}
+use Rattle.qolb_script.specs.declared.report.Report.TheVariants.{Board, Bank}
+use Rattle.qolb_script.specs.WorkScript.{WorkScript}
+use Rattle.qolb_run.specs.JustOpened.{work_terms}
+use Rattle.qolb_run.specs.Workers.{AreDone}
+use Rattle.qolb_run.specs.BankRuns.{paid_in_by, paid_out_by}
 
 -- in so many jobs no more was paid in, or out, than as many of the largest amounts
 pub record ArePaid {Port : Type 0} (jobs : ℕ) (desk : DeskOf Port) : Type 0 where
   pub paid_in : desk.paid_in ≤ jobs * 2 ^ 64
   pub paid_out : desk.paid_out ≤ jobs * 2 ^ 64
 
--- a call pays one amount at most, and none where it is to be tried again
-pub record Paid {Port : Type 0} (old new : DeskOf Port) (reply : Reply) : Type 0 where
+-- an amount that was paid in or out is at most the largest
+pub record PaysOneAmount {Port : Type 0} (old new : DeskOf Port) : Type 0 where
   pub paid_in : new.paid_in ≤ old.paid_in + 2 ^ 64
   pub paid_out : new.paid_out ≤ old.paid_out + 2 ^ 64
-  pub again : (reply ≡ Late) ⊎ (reply ≡ Busy) → (new.paid_in ≡ old.paid_in) × (new.paid_out ≡ old.paid_out)
 
--- a worker of the bank, between its jobs: it has done these, and its desk is one over the lines
-pub record HasBanked {Line Port : Type 0} (belongs : Line → Port → Type 0) (view : Port → View) (lines : List Line) (desk : DeskOf Port) (jobs : List Job) : Type 0 where
+-- the lines of a job were not granted in time, and it is tried again; and it was made, with an outcome
+abbrev pub is_again : Reply → Bool
+is_again Late = true
+is_again Busy = true
+is_again Done = false
+is_again Short = false
+is_again Over = false
+is_again Closed = false
+is_again NoAccount = false
+is_again SameAccount = false
+
+abbrev pub is_outcome : Reply → Bool
+is_outcome Done = true
+is_outcome Short = true
+is_outcome Over = true
+is_outcome SameAccount = true
+is_outcome NoAccount = false
+is_outcome Late = false
+is_outcome Busy = false
+is_outcome Closed = false
+
+module _ {Port : Type 0} (view : Port → View) (lines : ℕ) where
+  -- one call at the desk, over so many lines, asked for the job, and was answered so
+  abbrev pub Asks : Job → DeskOf Port → DeskOf Port → Reply → Type 0
+  Asks (PayIn worker account amount) old new reply = Deposits view lines account amount old new reply
+  Asks (PayOut worker account amount) old new reply = TakesOut view lines account amount old new reply
+  Asks (Move worker source target amount) old new reply = Transfers view lines source target amount old new reply
+  Asks (Put worker task) old new reply = ⊥
+  Asks (Take worker) old new reply = ⊥
+
+  -- the job was asked for so many times in vain
+  pub data Tries (job : Job) (from : DeskOf Port) : DeskOf Port → Type 0 where
+    not_yet : Tries job from from
+    again : {mid new : DeskOf Port} (reply : Reply) → Tries job from mid → Asks job mid new reply → is_again reply ≡ true → Tries job from new
+
+  -- These jobs were made one after another, each once: it was asked for until its lines were granted, and had this outcome. No other call
+  -- was made at the desk.
+  pub data Makes (from : DeskOf Port) : List Job → List Reply → DeskOf Port → Type 0 where
+    nothing : Makes from [] [] from
+    another : {jobs : List Job} {replies : List Reply} {before late new : DeskOf Port} (job : Job) (reply : Reply) → Makes from jobs replies before → Tries job before late → Asks job late new reply → is_outcome reply ≡ true → Makes from (jobs ++ job ∷ []) (replies ++ reply ∷ []) new
+
+-- a worker of the bank, between its jobs: from a new desk on it has made these, and the desk, which has its node's ports, is one over the lines
+pub record HasBanked {Line Port : Type 0} (belongs : Line → Port → Type 0) (view : Port → View) (lines : List Line) (worker : ℕ) (desk : DeskOf Port) (jobs : List Job) : Type 0 where
   pub over : IsDeskOver belongs view lines desk
-  pub paid : ArePaid (length jobs) desk
+  pub of_worker : (i : ℕ) (port : Port) → slice_get desk.ports i ≡ Some port → (view port).node ≡ worker
+  pub fresh : DeskOf Port
+  pub unpaid : IsUnpaid fresh
+  pub replies : List Reply
+  pub as_many : length replies ≡ length jobs
+  pub made : Makes view (length lines) fresh jobs replies desk
+  pub paid_in : desk.paid_in ≡ paid_in_by jobs replies
+  pub paid_out : desk.paid_out ≡ paid_out_by jobs replies
+  pub small : ArePaid (length jobs) desk
+
+-- there are lines that were opened for the work, and a desk over them for each worker, at which its jobs were made; and this much was paid in
+-- and out at all desks
+pub record AreBanked {Line Port : Type 0} (belongs : Line → Port → Type 0) (view : Port → View) (terms_of : Line → Terms) (work : WorkScript) (paid_in paid_out : ℕ) : Type 0 where
+  pub lines : List Line
+  pub desks : List (DeskOf Port)
+  pub opened : All (λ line. terms_of line ≡ work_terms work.workers) lines
+  pub each : length desks ≡ work.workers
+  pub done : AreDone (HasBanked belongs view) lines work.jobs desks
+  pub in_is : paid_in ≡ all_paid_in desks
+  pub out_is : paid_out ≡ all_paid_out desks
+
+abbrev pub IsBankedOver : {Line Port : Type 0} → (Line → Port → Type 0) → (Port → View) → (Line → Terms) → WorkScript → Report → Type 0
+IsBankedOver belongs view terms_of work (Bank paid_in paid_out total) = AreBanked belongs view terms_of work paid_in paid_out
+IsBankedOver belongs view terms_of work (Board stored full taken empty left) = Unit {0}

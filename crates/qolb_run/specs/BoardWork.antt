@@ -1,48 +1,104 @@
--- Workers at a board: what a port's own turns have put and taken, and what a worker has done. (Of this project.)
-use Rattle.std.specs.Prelude.{◌≡◌, ℕ, ◌+◌, ◌≤◌, List, length}
+-- Workers at a board: the turns of a port, and what a worker has done. (Of this project.)
+use Rattle.std.specs.Prelude.{◌≡◌, ℕ, ◌+◌, ◌<◌, ◌≤◌, ◌==◌, ◌&&◌, nat_lt, Bool, if◌then◌else◌, List, [], ◌∷◌, ◌++◌, length, count_by}
 use Rattle.std.specs.List.{sum_by}
+use Rattle.qolb_model.specs.declared.request.Request.{Request}
+use Rattle.qolb_model.specs.declared.end.End.{End}
+use Rattle.qolb_model.specs.declared.end.End.TheVariants.{Served, Gone, Told}
 use Rattle.qolb_model.specs.declared.view.View.{View}
-use Rattle.line_board.specs.PutsAndTakes.{put_between, taken_between, standing}
-use Rattle.line_accounts.specs.Paid.{sum_of_turns}
+use Rattle.qolb_model.specs.Ends.{written}
+use Rattle.line_board.specs.declared.board.TheConstants.{MOST_TASKS}
+use Rattle.line_board.specs.PutsAndTakes.{standing}
 use Rattle.line_accounts.specs.Desks.{IsAtRest}
 use Rattle.qolb_script.specs.declared.job.Job.{Job}
 use Rattle.qolb_run.specs.declared.board.BoardHand.{BoardHand}
 use Rattle.qolb_run.specs.declared.board.BoardCounts.{BoardCounts}
-use Rattle.qolb_run.specs.Jobs.{puts_in, takes_in}
+use Rattle.qolb_run.specs.Jobs.{IsBoardJob}
+use Rattle.qolb_run.specs.BoardRuns.{tasks_after}
 
--- how many tasks a turn put that found the first bytes and left the second, and how many it took
-abbrev pub put_count : List ℕ → List ℕ → ℕ
-put_count found left = length (put_between (standing found) (standing left))
+-- a turn at a board: the tasks that it found, and those that it left
+pub record Turn : Type 0 where
+  pub found : List ℕ
+  pub left : List ℕ
 
-abbrev pub taken_count : List ℕ → List ℕ → ℕ
-taken_count found left = length (taken_between (standing found) (standing left))
+abbrev pub turn_between : List ℕ → List ℕ → Turn
+turn_between found left = record { found = standing found; left = standing left }
 
--- how many tasks the port's own turns have put, and taken
-abbrev pub stored_by : View → ℕ
-stored_by v = sum_of_turns put_count v.node v.terms.opening.bytes v.order v.ends
+-- the turns of a node's requests in their order, read off the ends of a line that was opened with these bytes
+abbrev pub node_turns : ℕ → List ℕ → List Request → List End → List Turn
+node_turns node bytes [] ends = []
+node_turns node bytes (r ∷ order) [] = []
+node_turns node bytes (r ∷ order) (Served write shut ∷ ends) = (if r.node == node then turn_between bytes (written bytes write) ∷ [] else []) ++ node_turns node (written bytes write) order ends
+node_turns node bytes (r ∷ order) (Gone ∷ ends) = node_turns node bytes order ends
+node_turns node bytes (r ∷ order) (Told ∷ ends) = node_turns node bytes order ends
 
-abbrev pub taken_by : View → ℕ
-taken_by v = sum_of_turns taken_count v.node v.terms.opening.bytes v.order v.ends
+-- those of the port's own node
+abbrev pub turns_of : View → List Turn
+turns_of v = node_turns v.node v.terms.opening.bytes v.order v.ends
 
--- the port had turns in which it put so many tasks and took so many, and is at rest
-pub record Works (old new : View) (stored taken : ℕ) : Type 0 where
+-- the node's port had these turns besides, and is at rest
+pub record HasTurns (old new : View) (more : List Turn) : Type 0 where
+  pub node : new.node ≡ old.node
   pub at_rest : IsAtRest new
-  pub put : stored_by new ≡ stored_by old + stored
-  pub took : taken_by new ≡ taken_by old + taken
+  pub turns : turns_of new ≡ turns_of old ++ more
 
--- a worker of the board, between its jobs: it has done these, and its counts are what its port's turns did
-pub record HasWorked {Line Port : Type 0} (belongs : Line → Port → Type 0) (view : Port → View) (line : Line) (hand : BoardHand Port) (jobs : List Job) : Type 0 where
+-- in the turn the task was put behind the others; or as many tasks stood as may stand, and stay; the first task was taken; or none stood
+pub record HasStored (task : ℕ) (turn : Turn) : Type 0 where
+  pub room : length turn.found < MOST_TASKS
+  pub left : turn.left ≡ turn.found ++ task ∷ []
+
+pub record FoundFull (turn : Turn) : Type 0 where
+  pub full : length turn.found ≡ MOST_TASKS
+  pub left : turn.left ≡ turn.found
+
+pub record HasTakenOne (turn : Turn) : Type 0 where
+  pub task : ℕ
+  pub found : turn.found ≡ task ∷ turn.left
+  pub few : length turn.found ≤ MOST_TASKS
+
+pub record FoundNone (turn : Turn) : Type 0 where
+  pub found : turn.found ≡ []
+  pub left : turn.left ≡ []
+
+-- the turn did the job of a board: it left what one owner's job would have left of the tasks that it found
+pub record Does (job : Job) (turn : Turn) : Type 0 where
+  pub of_board : IsBoardJob job
+  pub few : length turn.found ≤ MOST_TASKS
+  pub left : turn.left ≡ tasks_after job turn.found
+
+-- so many turns did so many jobs, one each, in their order
+abbrev pub Did : List Turn → List Job → Type 0
+Did [] [] = Unit {0}
+Did [] (job ∷ jobs) = ⊥
+Did (turn ∷ turns) [] = ⊥
+Did (turn ∷ turns) (job ∷ jobs) = Does job turn × Did turns jobs
+
+-- by what it found and left, a turn stored a task or took one, or found as many as may stand, or none, and left them
+abbrev pub stores : Turn → Bool
+stores turn = nat_lt (length turn.found) (length turn.left)
+
+abbrev pub finds_full : Turn → Bool
+finds_full turn = (length turn.found == MOST_TASKS) && (length turn.left == MOST_TASKS)
+
+abbrev pub takes : Turn → Bool
+takes turn = nat_lt (length turn.left) (length turn.found)
+
+abbrev pub finds_none : Turn → Bool
+finds_none turn = (length turn.found == 0) && (length turn.left == 0)
+
+-- how many turns did so
+abbrev pub counts_of : List Turn → BoardCounts
+counts_of turns = record { stored = count_by stores turns; full = count_by finds_full turns; taken = count_by takes turns; empty = count_by finds_none turns }
+
+-- a worker of the board, between its jobs: each of them was done by one turn of its port, in their order, and there was no other turn;
+-- its counts are of these turns
+pub record HasWorked {Line Port : Type 0} (belongs : Line → Port → Type 0) (view : Port → View) (line : Line) (worker : ℕ) (hand : BoardHand Port) (jobs : List Job) : Type 0 where
   pub of_line : belongs line hand.port
+  pub of_worker : (view hand.port).node ≡ worker
   pub at_rest : IsAtRest (view hand.port)
-  pub stored_are : stored_by (view hand.port) ≡ hand.counts.stored
-  pub taken_are : taken_by (view hand.port) ≡ hand.counts.taken
-  pub puts : hand.counts.stored + hand.counts.full ≡ puts_in jobs
-  pub takes : hand.counts.taken + hand.counts.empty ≡ takes_in jobs
+  pub did : Did (turns_of (view hand.port)) jobs
+  pub counts_are : hand.counts ≡ counts_of (turns_of (view hand.port))
 
--- counts: none; none above a limit; those of two; those of all hands
-abbrev pub no_counts : BoardCounts
-no_counts = record { stored = 0; full = 0; taken = 0; empty = 0 }
-
+-- counts: none above a limit; those of two; those of all hands
 pub record AreWithin (most : ℕ) (counts : BoardCounts) : Type 0 where
   pub stored : counts.stored ≤ most
   pub full : counts.full ≤ most

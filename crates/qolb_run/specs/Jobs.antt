@@ -1,9 +1,17 @@
 -- The jobs of a work script, and of each worker. (Of this project.)
-use Rattle.std.specs.Prelude.{ℕ, ◌==◌, Bool, true, false, List, count_by}
+use Rattle.std.specs.Prelude.{◌≡◌, ℕ, ◌==◌, Bool, true, false, List, count_by}
 use Rattle.std.specs.List.{filter}
 use Rattle.qolb_script.specs.declared.job.Job.{Job}
 use Rattle.qolb_script.specs.declared.job.Job.TheVariants.{Put, Take, PayIn, PayOut, Move}
-use Rattle.qolb_script.specs.Jobs.{worker_of}
+use Rattle.qolb_script.specs.declared.job.WorkKind.TheVariants as kind
+use Rattle.qolb_script.specs.Jobs.{worker_of, IsOfKind}
+
+-- the job is one of a board; and one of a bank with so many lines
+abbrev pub IsBoardJob : Job → Type 0
+IsBoardJob job = IsOfKind kind.Board 1 job
+
+abbrev pub IsBankJob : ℕ → Job → Type 0
+IsBankJob lines job = IsOfKind kind.Bank lines job
 
 -- it puts a task on the board, or takes one
 abbrev pub is_put : Job → Bool
@@ -30,3 +38,7 @@ takes_in jobs = count_by is_take jobs
 -- the jobs of one worker, in their order
 abbrev pub jobs_of : ℕ → List Job → List Job
 jobs_of worker jobs = filter (λ job. worker_of job == worker) jobs
+
+-- all jobs one after another, each worker's in their order: an interleaving of the workers' jobs
+abbrev pub IsInterleaving : List Job → List Job → Type 0
+IsInterleaving jobs sequence = (worker : ℕ) → jobs_of worker sequence ≡ jobs_of worker jobs

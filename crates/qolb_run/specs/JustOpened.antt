@@ -1,15 +1,23 @@
 -- Lines that were just opened for workers. (Of this project.)
-use Rattle.std.specs.Prelude.{◌≡◌, ℕ, List, All}
+use Rattle.std.specs.Prelude.{◌≡◌, ℕ, ◌+◌, List, Some, None, slice_get}
 use Rattle.line_lanes.specs.Line.{zeros}
 use Rattle.qolb_model.specs.declared.terms.Terms.{Terms}
 use Rattle.qolb_model.specs.declared.view.View.{View}
 use Rattle.qolb_model.specs.Opening.{new_view}
 
--- the port was opened with its line, and was not used
-abbrev pub IsJustOpened : View → Type 0
-IsJustOpened v = (label : ℕ) × (terms : Terms) × (node : ℕ) × (v ≡ new_view label terms node)
+-- a line of zeros without a lease, with a node for each worker
+abbrev pub work_terms : ℕ → Terms
+work_terms workers = record { nodes = workers; opening = record { bytes = zeros }; lease = None }
 
--- a line that was just opened with zeros, and its ports
-pub record IsNewLine {Line Port : Type 0} (belongs : Line → Port → Type 0) (view : Port → View) (terms_of : Line → Terms) (line : Line) (ports : List Port) : Type 0 where
-  pub own : All (λ port. belongs line port × IsJustOpened (view port)) ports
-  pub empty : (terms_of line).opening.bytes ≡ zeros
+-- the node's port was opened with its line, and was not used
+abbrev pub IsJustOpened : ℕ → View → Type 0
+IsJustOpened node v = (label : ℕ) × (terms : Terms) × (v ≡ new_view label terms node)
+
+-- these are the line's ports, just opened, in the order of their nodes
+abbrev pub AreJustOpened : {Line Port : Type 0} → (Line → Port → Type 0) → (Port → View) → Line → List Port → Type 0
+AreJustOpened {Line} {Port} belongs view line ports = (k : ℕ) (port : Port) → slice_get ports k ≡ Some port → belongs line port × IsJustOpened (k + 1) (view port)
+
+-- a line that was just opened for so many workers, and its ports
+pub record IsNewLine {Line Port : Type 0} (belongs : Line → Port → Type 0) (view : Port → View) (terms_of : Line → Terms) (workers : ℕ) (line : Line) (ports : List Port) : Type 0 where
+  pub own : AreJustOpened belongs view line ports
+  pub terms : terms_of line ≡ work_terms workers

@@ -1,21 +1,33 @@
 -- What a report says of the work that was done. (Of this project.)
-use Rattle.std.specs.Prelude.{◌≡◌, ℕ, ◌+◌}
+use Rattle.std.specs.Prelude.{◌≡◌, ℕ, ◌+◌, List}
+use Rattle.qolb_script.specs.declared.job.Job.{Job}
 use Rattle.qolb_script.specs.declared.job.WorkKind.TheVariants as kind
 use Rattle.qolb_script.specs.declared.report.Report.{Report}
 use Rattle.qolb_script.specs.declared.report.Report.TheVariants.{Board, Bank}
 use Rattle.qolb_script.specs.WorkScript.{WorkScript}
-use Rattle.qolb_run.specs.Jobs.{puts_in, takes_in}
+use Rattle.qolb_run.specs.Jobs.{puts_in, takes_in, IsInterleaving}
+use Rattle.qolb_run.specs.BankRuns.{ComesTo}
+use Rattle.qolb_run.specs.BoardRuns.{after_jobs, empty_board, report_of}
 
--- of a board: what was stored was taken or is left, each put was stored or found the board full, and each take had a task or found none
+-- the workers' jobs, done one after another in some order that keeps each worker's own, by one owner of an empty board, give this report
+pub record IsDoneInTurn (work : WorkScript) (report : Report) : Type 0 where
+  pub sequence : List Job
+  pub interleaves : IsInterleaving work.jobs sequence
+  pub report_is : report ≡ report_of (after_jobs empty_board sequence)
+
+-- of a board: so it was, as if one owner had done all jobs in turn; and so what was stored was taken or is left, each put was stored or found the board full, and each take had a task or found none
 pub record IsOfBoard (work : WorkScript) (stored full taken empty left : ℕ) : Type 0 where
   pub of_board : work.kind ≡ kind.Board
+  pub in_turn : IsDoneInTurn work (Board stored full taken empty left)
   pub kept : stored ≡ taken + left
   pub puts : stored + full ≡ puts_in work.jobs
   pub takes : taken + empty ≡ takes_in work.jobs
 
--- of a bank: what was paid in was paid out or is there
+-- of a bank: each worker's jobs have one outcome each, and what was paid in and out is the sum of the payments that were done; what was paid
+-- in was paid out or is there
 pub record IsOfBank (work : WorkScript) (paid_in paid_out total : ℕ) : Type 0 where
   pub of_bank : work.kind ≡ kind.Bank
+  pub comes_to : ComesTo 1 work.workers work.jobs paid_in paid_out
   pub kept : paid_in ≡ paid_out + total
 
 abbrev pub IsReportOf : WorkScript → Report → Type 0

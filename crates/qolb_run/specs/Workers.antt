@@ -1,5 +1,5 @@
 -- Workers that come back from their jobs. (Of this project.)
-use Rattle.std.specs.Prelude.{◌≡◌, ℕ, ◌+◌, ◌<◌, ◌≤◌, List, length, Option, Some, None, slice_get}
+use Rattle.std.specs.Prelude.{◌≡◌, ℕ, ◌+◌, ◌<◌, ◌≤◌, List, [], length, Option, Some, None, slice_get}
 use Rattle.qolb_script.specs.declared.job.Job.{Job}
 use Rattle.qolb_script.specs.declared.schedule.TheConstants.{MOST_COMMANDS}
 use Rattle.qolb_script.specs.WorkScript.{WorkScript, AreOfIts}
@@ -9,12 +9,16 @@ use Rattle.qolb_run.specs.declared.work.RunError.{RunError}
 use Rattle.qolb_run.specs.declared.work.RunError.TheVariants.{Memory, Stalled}
 
 -- worker k + 1, at place k, has done all its jobs, unless it gave up
-abbrev pub AreBack : {Site Hand : Type 0} → (Site → Hand → List Job → Type 0) → Site → List Job → List (Option Hand) → Type 0
-AreBack {Site} {Hand} has_done site jobs back = (k : ℕ) (hand : Hand) → slice_get back k ≡ Some (Some hand) → has_done site hand (jobs_of (k + 1) jobs)
+abbrev pub AreBack : {Site Hand : Type 0} → (Site → ℕ → Hand → List Job → Type 0) → Site → List Job → List (Option Hand) → Type 0
+AreBack {Site} {Hand} has_done site jobs back = (k : ℕ) (hand : Hand) → slice_get back k ≡ Some (Some hand) → has_done site (k + 1) hand (jobs_of (k + 1) jobs)
 
 -- all of them have
-abbrev pub AreDone : {Site Hand : Type 0} → (Site → Hand → List Job → Type 0) → Site → List Job → List Hand → Type 0
-AreDone {Site} {Hand} has_done site jobs hands = (k : ℕ) (hand : Hand) → slice_get hands k ≡ Some hand → has_done site hand (jobs_of (k + 1) jobs)
+abbrev pub AreDone : {Site Hand : Type 0} → (Site → ℕ → Hand → List Job → Type 0) → Site → List Job → List Hand → Type 0
+AreDone {Site} {Hand} has_done site jobs hands = (k : ℕ) (hand : Hand) → slice_get hands k ≡ Some hand → has_done site (k + 1) hand (jobs_of (k + 1) jobs)
+
+-- none has begun
+abbrev pub AreFresh : {Site Hand : Type 0} → (Site → ℕ → Hand → List Job → Type 0) → Site → List Hand → Type 0
+AreFresh {Site} {Hand} has_done site hands = (k : ℕ) (hand : Hand) → slice_get hands k ≡ Some hand → has_done site (k + 1) hand []
 
 -- why not all did: want of memory, or the first worker that gave up
 abbrev pub MayBeGone : {Hand : Type 0} → List (Option Hand) → RunError → Type 0

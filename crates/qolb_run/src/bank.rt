@@ -1,14 +1,14 @@
 //! Workers at a bank.
 ghost use Rattle.std.specs.Prelude.{◌≡◌, ◌≤◌, [], All, IfOk, IfErr, length, vec_len};
-ghost use Rattle.line_lanes.specs.Line.{zeros};
 ghost use Rattle.qolb_script.specs.declared.schedule.TheConstants.{MOST_COMMANDS};
 ghost use Rattle.qolb_model.specs.declared.terms.TheConstants.{MOST_NODES};
 ghost use Rattle.qolb_model.specs.Opening.{AreNodes};
 ghost use Rattle.line_accounts.specs.Desks.{IsDeskOver};
 ghost use Rattle.line_accounts.specs.Settled.{all_paid_in, all_paid_out};
-ghost use Rattle.qolb_run.specs.Workers.{AreDone, MayStop, IsWithinLimits};
-ghost use Rattle.qolb_run.specs.BankWork.{HasBanked, Paid, ArePaid};
-ghost use Rattle.qolb_run.specs.JustOpened.{IsNewLine};
+ghost use Rattle.qolb_run.specs.Workers.{AreDone, AreFresh, MayStop, IsWithinLimits};
+ghost use Rattle.qolb_run.specs.Jobs.{IsBankJob};
+ghost use Rattle.qolb_run.specs.BankWork.{HasBanked, Asks, PaysOneAmount, ArePaid, IsBankedOver};
+ghost use Rattle.qolb_run.specs.JustOpened.{IsNewLine, work_terms};
 ghost use Rattle.qolb_run.specs.Reports.{IsReportOf};
 
 use crate::gate::Gate;
@@ -16,7 +16,8 @@ use crate::opening::open_line;
 use crate::work::RunError;
 use crate::workers::{PATIENCE, Site, all_done, work_all};
 use line_accounts::{
-    AccountLaw, Desk, DesksError, Reply, deposit, desks_over, settle, take_out, transfer,
+    AccountLaw, Desk, DesksError, Reply, SettleError, deposit, desks_over, settle, take_out,
+    transfer,
 };
 use qolb_model::{LineSync, OpenLine, PortState};
 use qolb_script::{Job, Report, Work, WorkKind};
@@ -33,25 +34,31 @@ pub(crate) struct Bank<L> {
 impl<L: LineSync<AccountLaw>> Site for Bank<L> {
     type Hand = Desk<L>;
 
-    ghost has_done = { λ bank desk jobs. HasBanked L.belongs L.view bank.lines.items desk jobs };
+    ghost has_done = { λ bank worker desk jobs. HasBanked L.belongs L.view bank.lines.items worker desk jobs };
+
+    ghost takes = { λ bank job. IsBankJob (length bank.lines.items) job };
 
     fn does<R: Wait>(&self, rt: &R, desk: &mut Desk<L>, job: &Job) -> bool {
         for _ in rt.forever() {
             match try_once(&self.lines, desk, job) {
                 Reply::Late | Reply::Busy => yield_now(),
                 Reply::Closed => return false,
-                _ => return true,
+                Reply::Done | Reply::Short | Reply::Over | Reply::SameAccount => return true,
+                // A script has no account beyond its lines.
+                Reply::NoAccount => unreachable!(),
             }
         }
         unreachable!()
     }
 }
 
-/// Does the job at the desk, if its lines are granted in time. What it found short, over or missing counts as done.
+/// Does the job at the desk, if its lines are granted in time. What it found short or over counts as done.
 fn try_once<L: LineSync<AccountLaw>>(lines: &[L], desk: &mut Desk<L>, job: &Job) -> Reply
     requires over { IsDeskOver L.belongs L.view lines.now desk.old }
+    requires kind { IsBankJob (length lines.now) job.now }
     ensures over { IsDeskOver L.belongs L.view lines.now desk.new }
-    ensures paid { Paid desk.old desk.new result }
+    ensures asks { Asks L.view (length lines.now) job.now desk.old desk.new result }
+    ensures pays { PaysOneAmount desk.old desk.new }
 {
     match *job {
         Job::PayIn {
@@ -71,7 +78,7 @@ fn try_once<L: LineSync<AccountLaw>>(lines: &[L], desk: &mut Desk<L>, job: &Job)
             ..
         } => transfer(lines, desk, source, target, amount, PATIENCE),
         // A job of a board is none of a bank's.
-        Job::Put { .. } | Job::Take { .. } => Reply::Done,
+        Job::Put { .. } | Job::Take { .. } => unreachable!(),
     }
 }
 
@@ -100,17 +107,22 @@ fn finish<L: LineSync<AccountLaw> + Drop>(
 where
     L::Port: Drop,
     requires kind { work.now.kind ≡ WorkKind.Bank }
-    requires empty { All (λ line. (L.terms_of line).opening.bytes ≡ zeros) bank.lines.items }
+    requires terms { All (λ line. L.terms_of line ≡ work_terms work.now.workers) bank.lines.items }
     requires limits { IsWithinLimits work.now }
     requires as_many { vec_len desks ≡ work.now.workers }
     requires done { AreDone (HasBanked L.belongs L.view) bank.lines.items work.now.jobs desks.items }
     ensures report { IfOk result (IsReportOf work.now) }
+    ensures banked { IfOk result (IsBankedOver L.belongs L.view L.terms_of work.now) }
     ensures stalled { IfErr result (MayStop work.now) }
 {
     let (paid_in, paid_out) = sum_up(desks.as_slice());
-    // Each worker's desk has a port of each line: nothing but want of memory is in the way.
-    let Ok(total) = settle(alloc, bank.lines, desks) else {
-        return Err(RunError::Memory);
+    let total = match settle(alloc, bank.lines, desks) {
+        Ok(total) => total,
+        Err(unsettled) => match unsettled.why {
+            SettleError::Memory => return Err(RunError::Memory),
+            // Each worker's desk has its node's port of each line.
+            SettleError::Missing { .. } => unreachable!(),
+        },
     };
     Ok(Report::Bank {
         paid_in,
@@ -130,7 +142,8 @@ where
     requires { AreNodes workers }
     ensures memory { IfErr result (λ error. error ≡ RunError.Memory) }
     ensures as_many { IfOk result (λ opened. All (λ line. vec_len line.1 ≡ workers) opened.items) }
-    ensures new { IfOk result (λ opened. All (λ line. IsNewLine L.belongs L.view L.terms_of line.0 line.1.items) opened.items) }
+    ensures lines { IfOk result (λ opened. vec_len opened ≡ lines) }
+    ensures new { IfOk result (λ opened. All (λ line. IsNewLine L.belongs L.view L.terms_of workers line.0 line.1.items) opened.items) }
 {
     let mut all = Vec::with_capacity(alloc, lines as usize)?;
     for label in 0..lines {
@@ -152,9 +165,10 @@ where
     L::Port: Drop,
     requires { AreNodes workers }
     ensures memory { IfErr result (λ error. error ≡ RunError.Memory) }
-    ensures empty { IfOk result (λ made. All (λ line. (L.terms_of line).opening.bytes ≡ zeros) made.0.items) }
+    ensures terms { IfOk result (λ made. All (λ line. L.terms_of line ≡ work_terms workers) made.0.items) }
+    ensures lines { IfOk result (λ made. vec_len made.0 ≡ lines) }
     ensures as_many { IfOk result (λ made. vec_len made.1 ≡ workers) }
-    ensures new { IfOk result (λ made. All (λ desk. HasBanked L.belongs L.view made.0.items desk []) made.1.items) }
+    ensures new { IfOk result (λ made. AreFresh (HasBanked L.belongs L.view) made.0.items made.1.items) }
 {
     let opened = open_lines::<L>(alloc, lines, workers)?;
     match desks_over(alloc, opened, workers as usize) {
@@ -175,6 +189,7 @@ where
     L::Port: Send + Drop,
     requires { work.now.kind ≡ WorkKind.Bank }
     ensures report { IfOk result (IsReportOf work.now) }
+    ensures banked { IfOk result (IsBankedOver L.belongs L.view L.terms_of work.now) }
     ensures stalled { IfErr result (MayStop work.now) }
 {
     let (lines, desks) = open_bank::<L>(alloc, work.lines(), work.workers())?;

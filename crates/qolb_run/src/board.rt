@@ -1,12 +1,13 @@
 //! Workers at a board.
-ghost use Rattle.std.specs.Prelude.{◌≡◌, ◌*◌, [], ◌≤◌, All, IfOk, IfErr, Some, true, false, length, map, vec_len};
-ghost use Rattle.line_lanes.specs.Line.{zeros};
+ghost use Rattle.std.specs.Prelude.{◌≡◌, ◌*◌, [], ◌∷◌, ◌≤◌, All, IfOk, IfErr, Some, true, false, length, map, vec_len};
 ghost use Rattle.qolb_script.specs.declared.schedule.TheConstants.{MOST_COMMANDS};
 ghost use Rattle.qolb_model.specs.declared.terms.TheConstants.{MOST_NODES};
 ghost use Rattle.line_accounts.specs.Desks.{IsAtRest};
-ghost use Rattle.qolb_run.specs.Workers.{AreDone, MayStop, IsWithinLimits};
-ghost use Rattle.qolb_run.specs.BoardWork.{Works, HasWorked, AreWithin, AreAdded, AreSums, no_counts};
-ghost use Rattle.qolb_run.specs.JustOpened.{IsJustOpened};
+ghost use Rattle.qolb_run.specs.Workers.{AreDone, AreFresh, MayStop, IsWithinLimits};
+ghost use Rattle.qolb_run.specs.BoardWork.{Turn, HasTurns, HasStored, FoundFull, HasTakenOne, FoundNone, HasWorked, AreWithin, AreAdded, AreSums};
+ghost use Rattle.qolb_run.specs.JustOpened.{AreJustOpened, work_terms};
+ghost use Rattle.qolb_run.specs.Jobs.{IsBoardJob};
+ghost use Rattle.qolb_run.specs.BoardRuns.{no_counts};
 ghost use Rattle.qolb_run.specs.Reports.{IsReportOf};
 
 use crate::gate::Gate;
@@ -14,7 +15,7 @@ use crate::opening::open_line;
 use crate::work::RunError;
 use crate::workers::{PATIENCE, Site, all_done, work_all};
 use line_board::{BoardLaw, Put, Take, decode, put, take};
-use qolb_model::{LineSync, OpenLine, PortState};
+use qolb_model::{FinishError, LineSync, OpenLine, PortState};
 use qolb_script::{Job, Report, Work, WorkKind};
 use std::alloc::{AllocError, Global};
 use std::sync::Wait;
@@ -47,7 +48,9 @@ pub(crate) struct BoardHand<P> {
 impl<L: LineSync<BoardLaw>> Site for Board<L> {
     type Hand = BoardHand<L::Port>;
 
-    ghost has_done = { λ board hand jobs. HasWorked L.belongs L.view board.line hand jobs };
+    ghost has_done = { λ board worker hand jobs. HasWorked L.belongs L.view board.line worker hand jobs };
+
+    ghost takes = { λ board job. IsBoardJob job };
 
     fn does<R: Wait>(&self, rt: &R, hand: &mut BoardHand<L::Port>, job: &Job) -> bool {
         match *job {
@@ -62,7 +65,7 @@ impl<L: LineSync<BoardLaw>> Site for Board<L> {
                 None => return false,
             },
             // A job of a bank is none of a board's.
-            Job::PayIn { .. } | Job::PayOut { .. } | Job::Move { .. } => {}
+            Job::PayIn { .. } | Job::PayOut { .. } | Job::Move { .. } => unreachable!(),
         }
         true
     }
@@ -78,8 +81,8 @@ fn put_at_last<R: Wait, L: LineSync<BoardLaw>>(
     requires belongs { L.belongs line.now port.old }
     requires at_rest { IsAtRest (L.view port.old) }
     ensures belongs { L.belongs line.now port.new }
-    ensures stored { result ≡ Some true → Works (L.view port.old) (L.view port.new) 1 0 }
-    ensures full { result ≡ Some false → Works (L.view port.old) (L.view port.new) 0 0 }
+    ensures stored { result ≡ Some true → (turn : Turn) × HasTurns (L.view port.old) (L.view port.new) (turn ∷ []) × HasStored task turn }
+    ensures full { result ≡ Some false → (turn : Turn) × HasTurns (L.view port.old) (L.view port.new) (turn ∷ []) × FoundFull turn }
 {
     for _ in rt.forever() {
         match put(line, port, task, PATIENCE) {
@@ -101,8 +104,8 @@ fn take_at_last<R: Wait, L: LineSync<BoardLaw>>(
     requires belongs { L.belongs line.now port.old }
     requires at_rest { IsAtRest (L.view port.old) }
     ensures belongs { L.belongs line.now port.new }
-    ensures taken { result ≡ Some true → Works (L.view port.old) (L.view port.new) 0 1 }
-    ensures empty { result ≡ Some false → Works (L.view port.old) (L.view port.new) 0 0 }
+    ensures taken { result ≡ Some true → (turn : Turn) × HasTurns (L.view port.old) (L.view port.new) (turn ∷ []) × HasTakenOne turn }
+    ensures empty { result ≡ Some false → (turn : Turn) × HasTurns (L.view port.old) (L.view port.new) (turn ∷ []) × FoundNone turn }
 {
     for _ in rt.forever() {
         match take(line, port, PATIENCE) {
@@ -149,9 +152,9 @@ fn fresh_hands<L: LineSync<BoardLaw>>(
 ) -> Result<Vec<BoardHand<L::Port>>, AllocError>
 where
     L::Port: Drop,
-    requires { All (λ port. L.belongs line.now port × IsJustOpened (L.view port)) ports.items }
+    requires { AreJustOpened L.belongs L.view line.now ports.items }
     ensures as_many { IfOk result (λ hands. vec_len hands ≡ vec_len ports) }
-    ensures fresh { IfOk result (λ hands. All (λ hand. HasWorked L.belongs L.view line.now hand []) hands.items) }
+    ensures fresh { IfOk result (λ hands. AreFresh (HasWorked L.belongs L.view) line.now hands.items) }
 {
     let mut hands = Vec::with_capacity(alloc, ports.len())?;
     for port in ports {
@@ -195,7 +198,7 @@ fn finish<L: LineSync<BoardLaw> + Drop>(
 where
     L::Port: Drop,
     requires kind { work.now.kind ≡ WorkKind.Board }
-    requires empty { (L.terms_of board.line).opening.bytes ≡ zeros }
+    requires terms { L.terms_of board.line ≡ work_terms work.now.workers }
     requires limits { IsWithinLimits work.now }
     requires as_many { vec_len hands ≡ work.now.workers }
     requires done { AreDone (HasWorked L.belongs L.view) board.line work.now.jobs hands.items }
@@ -204,9 +207,13 @@ where
 {
     let counts = sum_up(hands.as_slice());
     let ports = ports_of(alloc, hands)?;
-    // Each node's port is here, and at rest: nothing but want of memory is in the way.
-    let Ok(last) = board.line.finish(alloc, ports) else {
-        return Err(RunError::Memory);
+    let last = match board.line.finish(alloc, ports) {
+        Ok(last) => last,
+        Err(back) => match back.why {
+            FinishError::Memory => return Err(RunError::Memory),
+            // Each node's port is here, and at rest.
+            FinishError::Missing(_) | FinishError::Unquiet(_) => unreachable!(),
+        },
     };
     let Some(tasks) = decode(&last) else {
         unreachable!();

@@ -20,7 +20,7 @@ pub(crate) fn open_line<K: Keep, L: OpenLine<K>>(
     requires good { K.good zeros }
     ensures memory { IfErr result (λ error. error ≡ Memory) }
     ensures as_many { IfOk result (λ r. vec_len r.1 ≡ workers) }
-    ensures new { IfOk result (λ r. IsNewLine L.belongs L.view L.terms_of r.0 r.1.items) }
+    ensures new { IfOk result (λ r. IsNewLine L.belongs L.view L.terms_of workers r.0 r.1.items) }
 {
     let terms = Terms {
         nodes: workers,

@@ -113,44 +113,94 @@ pub fn run_schedule<R: Read, W: Write>(
     ensures written { OnOk result (has_failed writer.new ≡ false) }
     ensures memory { result ≢ Err (ReplayError.Script ScriptError.Memory) }
 {
+    match kind {
+        Kind::Plain => run_plain(alloc, reader, writer),
+        Kind::Ring => run_schedule_over::<RingLine<Free>, R, W>(alloc, reader, writer),
+        Kind::Link => run_schedule_over::<LinkLine<Free>, R, W>(alloc, reader, writer),
+    }
+}
+
+/// The same by lines that nodes share, of this type.
+pub fn run_schedule_over<L: OpenLine<Free> + Drop, R: Read, W: Write>(
+    alloc: Global,
+    reader: &mut Watched<R>,
+    writer: &mut Watched<W>,
+) -> Result<(), ReplayError>
+where
+    L::Port: Drop,
+    ensures ok { OnOk result (IfSome (R.remaining (inner_of reader.old)) (λ input. (text : List ℕ) × IsReply input text × Appends (W.contents (inner_of writer.old)) (W.contents (inner_of writer.new)) text)) }
+    ensures refused { IfErr result (λ error. IfSome (R.remaining (inner_of reader.old)) (λ input. (kind : Kind) → MayFail (task.Replay kind) input error)) }
+    ensures unwritten { IfErr result (λ error. error ≢ ReplayError.Write → writer.new ≡ writer.old) }
+    ensures read_fault { (result ≡ Err ReplayError.Read) ↔ (has_failed reader.new ≡ true) }
+    ensures write_fault { result ≡ Err ReplayError.Write → has_failed writer.new ≡ true }
+    ensures written { OnOk result (has_failed writer.new ≡ false) }
+    ensures memory { result ≢ Err (ReplayError.Script ScriptError.Memory) }
+{
     let input = read_all(alloc, reader)?;
-    let text = answered(&alloc, alloc, input.as_slice(), kind)?;
+    let text = answered_over::<Global, L>(&alloc, alloc, input.as_slice())?;
     writer.write_all(text.as_slice())?;
     Ok(())
 }
 
-/// The reply of the schedule that the input is. Lines that nodes share and their ports lie in memory of `shared`, all else in memory of
-/// `alloc`.
-fn answered<'a, A: Allocator>(
+/// The same by plain lines.
+fn run_plain<R: Read, W: Write>(
+    alloc: Global,
+    reader: &mut Watched<R>,
+    writer: &mut Watched<W>,
+) -> Result<(), ReplayError>
+    ensures ok { OnOk result (IfSome (R.remaining (inner_of reader.old)) (λ input. (text : List ℕ) × IsReply input text × Appends (W.contents (inner_of writer.old)) (W.contents (inner_of writer.new)) text)) }
+    ensures refused { IfErr result (λ error. IfSome (R.remaining (inner_of reader.old)) (λ input. (kind : Kind) → MayFail (task.Replay kind) input error)) }
+    ensures unwritten { IfErr result (λ error. error ≢ ReplayError.Write → writer.new ≡ writer.old) }
+    ensures read_fault { (result ≡ Err ReplayError.Read) ↔ (has_failed reader.new ≡ true) }
+    ensures write_fault { result ≡ Err ReplayError.Write → has_failed writer.new ≡ true }
+    ensures written { OnOk result (has_failed writer.new ≡ false) }
+    ensures memory { result ≢ Err (ReplayError.Script ScriptError.Memory) }
+{
+    let input = read_all(alloc, reader)?;
+    let text = answered_plainly(&alloc, input.as_slice())?;
+    writer.write_all(text.as_slice())?;
+    Ok(())
+}
+
+/// What the lines of a schedule are opened with.
+fn terms_for<A: Allocator>(schedule: &Schedule<A>) -> Terms
+    ensures { result ≡ terms_of schedule.now }
+{
+    Terms {
+        nodes: schedule.nodes(),
+        opening: Line64::zero(),
+        lease: schedule.lease(),
+    }
+}
+
+/// The reply of the schedule that the input is, by plain lines.
+fn answered_plainly<'a, A: Allocator>(
     alloc: &'a A,
-    shared: Global,
     input: &[u8],
-    kind: Kind,
 ) -> Result<Vec<u8, &'a A>, ReplayError>
     ensures ok { IfOk result (λ text. reply_to input.now ≡ Ok text.items) }
     ensures refused { IfErr result (λ error. (error ≡ ReplayError.Memory) ⊎ ((fault : ScriptError) × (error ≡ ReplayError.Script fault) × (reply_to input.now ≡ Err fault) × (fault ≢ ScriptError.Memory))) }
 {
     let schedule = read_schedule(alloc, input)?;
-    let terms = Terms {
-        nodes: schedule.nodes(),
-        opening: Line64::zero(),
-        lease: schedule.lease(),
-    };
-    let text = match kind {
-        Kind::Plain => {
-            let lines = open_lines(alloc, &terms, schedule.lines())?;
-            reply(alloc, &schedule, lines)?
-        }
-        Kind::Ring => {
-            let lines = open_ported::<&A, RingLine<Free>>(alloc, shared, &terms, schedule.lines())?;
-            reply(alloc, &schedule, lines)?
-        }
-        Kind::Link => {
-            let lines = open_ported::<&A, LinkLine<Free>>(alloc, shared, &terms, schedule.lines())?;
-            reply(alloc, &schedule, lines)?
-        }
-    };
-    Ok(text)
+    let lines = open_lines(alloc, &terms_for(&schedule), schedule.lines())?;
+    Ok(reply(alloc, &schedule, lines)?)
+}
+
+/// The reply of the schedule that the input is. Lines that nodes share and their ports lie in memory of `shared`, all else in memory of
+/// `alloc`.
+fn answered_over<'a, A: Allocator, L: OpenLine<Free> + Drop>(
+    alloc: &'a A,
+    shared: Global,
+    input: &[u8],
+) -> Result<Vec<u8, &'a A>, ReplayError>
+where
+    L::Port: Drop,
+    ensures ok { IfOk result (λ text. reply_to input.now ≡ Ok text.items) }
+    ensures refused { IfErr result (λ error. (error ≡ ReplayError.Memory) ⊎ ((fault : ScriptError) × (error ≡ ReplayError.Script fault) × (reply_to input.now ≡ Err fault) × (fault ≢ ScriptError.Memory))) }
+{
+    let schedule = read_schedule(alloc, input)?;
+    let lines = open_ported::<&A, L>(alloc, shared, &terms_for(&schedule), schedule.lines())?;
+    Ok(reply(alloc, &schedule, lines)?)
 }
 
 /// The reply of a schedule, by these lines, of which nothing was said yet.

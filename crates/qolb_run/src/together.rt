@@ -17,12 +17,16 @@ pub trait Work<R: Wait, S, P> {
     /// The part fits what is shared.
     ghost fits: { S → P → Type 0 };
 
+    /// The part fits the place at which it stands. A work that does not ask where a part stands leaves this out.
+    ghost fits_place: { Self → S → ℕ → P → Type 0 } = { λ _ _ _ _. Unit {0} };
+
     /// This may come back from the part at this place.
     ghost done: { Self → S → ℕ → Self.Back → Type 0 };
 
     /// The work of one thread, on the part at this place. Places are counted from 0, and there are fewer than 2^64.
     fn work(&self, rt: &R, shared: &S, place: usize, part: P) -> Self::Back
         requires fits { fits shared.now part }
+        requires fits_place { fits_place self.now shared.now place part }
         requires place { place + 1 < 2 ^ 64 }
         ensures { done self.now shared.now place result };
 }
@@ -62,6 +66,7 @@ pub fn together<R: Threads + Wait + Sync, S: Sync, P: Send + Drop, W: Work<R, S,
 where
     W::Back: Send + Drop,
     requires fit { All (λ part. W.fits shared.now part) parts.items }
+    requires fit_places { (place : ℕ) (part : P) → slice_get parts.items place ≡ Some part → W.fits_place work.now shared.now place part }
     ensures as_many { IfSome result (λ back. vec_len back ≡ vec_len parts) }
     ensures done { IfSome result (λ all. (place : ℕ) (back : W.Back) → slice_get all.items place ≡ Some back → W.done work.now shared.now place back) }
 {
@@ -74,6 +79,7 @@ where
             requires part { IsSend P.row }
             requires back { IsSend W.Back.row }
             requires fit { All (λ part. W.fits shared.now part) parts.items }
+            requires fit_places { (place : ℕ) (part : P) → slice_get parts.items place ≡ Some part → W.fits_place work.now shared.now place part }
             ensures as_many { IfSome result (λ back. vec_len back ≡ vec_len parts) }
             ensures done { IfSome result (λ all. (place : ℕ) (back : W.Back) → slice_get all.items place ≡ Some back → W.done work.entry.now shared.entry.now place back) }
         {
@@ -91,7 +97,12 @@ where
                 };
                 let Ok(handle) = scope.spawn_with(
                     promise,
-                    move || work.work(rt, shared, place, part),
+                    move || -> W::Back
+                        requires fits { W.fits shared.now part }
+                        requires fits_place { W.fits_place work.now shared.now place part }
+                        requires place { place + 1 < 2 ^ 64 }
+                        ensures { W.done work.entry.now shared.entry.now place result }
+                    { work.work(rt, shared, place, part) },
                 ) else {
                     return None;
                 };

@@ -3,6 +3,7 @@ ghost use Rattle.std.specs.Prelude.{◌≡◌, IfOk, IfErr};
 ghost use Rattle.qolb_run.specs.declared.work.RunError.TheVariants.{Memory};
 ghost use Rattle.qolb_run.specs.Workers.{MayStop};
 ghost use Rattle.qolb_run.specs.Reports.{IsReportOf};
+ghost use Rattle.qolb_run.specs.BankWork.{IsBankedOver};
 
 use crate::bank::run_bank;
 use crate::board::run_board;
@@ -10,6 +11,7 @@ use crate::gate::Gate;
 use line_accounts::AccountLaw;
 use line_board::BoardLaw;
 use link_line::LinkLine;
+use qolb_model::OpenLine;
 use qolb_script::{Report, Work, WorkKind};
 use ring_line::RingLine;
 use std::alloc::{AllocError, Global};
@@ -57,20 +59,34 @@ pub fn run_work<R: Threads + Wait + Sync, G: Gate + Sync>(
     ensures report { IfOk result (IsReportOf work.now) }
     ensures stalled { IfErr result (MayStop work.now) }
 {
+    match lines {
+        Lines::Ring => run_work_over::<R, G, RingLine<BoardLaw>, RingLine<AccountLaw>>(
+            rt, alloc, gate, work,
+        ),
+        Lines::Link => run_work_over::<R, G, LinkLine<BoardLaw>, LinkLine<AccountLaw>>(
+            rt, alloc, gate, work,
+        ),
+    }
+}
+
+/// The same over lines of these types: a board lies in a line `B`, and the accounts of a bank in lines `A`.
+pub fn run_work_over<
+    R: Threads + Wait + Sync,
+    G: Gate + Sync,
+    B: OpenLine<BoardLaw> + Sync + Drop,
+    A: OpenLine<AccountLaw> + Sync + Drop,
+>(rt: &R, alloc: Global, gate: &G, work: &Work) -> Result<Report, RunError>
+where
+    B::Port: Send + Drop,
+    A::Port: Send + Drop,
+    ensures report { IfOk result (IsReportOf work.now) }
+    ensures banked { IfOk result (IsBankedOver A.belongs A.view A.terms_of work.now) }
+    ensures stalled { IfErr result (MayStop work.now) }
+{
     gate.begins(work.jobs().len());
-    match (work.kind(), lines) {
-        (WorkKind::Board, Lines::Ring) => {
-            run_board::<R, G, RingLine<BoardLaw>>(rt, alloc, gate, work)
-        }
-        (WorkKind::Board, Lines::Link) => {
-            run_board::<R, G, LinkLine<BoardLaw>>(rt, alloc, gate, work)
-        }
-        (WorkKind::Bank, Lines::Ring) => {
-            run_bank::<R, G, RingLine<AccountLaw>>(rt, alloc, gate, work)
-        }
-        (WorkKind::Bank, Lines::Link) => {
-            run_bank::<R, G, LinkLine<AccountLaw>>(rt, alloc, gate, work)
-        }
+    match work.kind() {
+        WorkKind::Board => run_board::<R, G, B>(rt, alloc, gate, work),
+        WorkKind::Bank => run_bank::<R, G, A>(rt, alloc, gate, work),
     }
 }
 

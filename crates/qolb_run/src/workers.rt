@@ -1,10 +1,10 @@
 //! Workers: each does its jobs at one site, in a thread of its own.
-ghost use Rattle.std.specs.Prelude.{◌≡◌, ◌+◌, ◌++◌, ◌∷◌, [], ◌<◌, ◌≤◌, List, All, IsTrue, IfSome, IfOk, IfErr, Some, length, map, vec_len};
+ghost use Rattle.std.specs.Prelude.{◌≡◌, ◌+◌, ◌++◌, ◌∷◌, [], ◌<◌, ◌≤◌, ℕ, List, All, IsTrue, IfSome, IfOk, IfErr, Some, length, map, vec_len};
 ghost use Rattle.qolb_script.specs.declared.job.Job.{Job};
 ghost use Rattle.qolb_script.specs.declared.schedule.TheConstants.{MOST_COMMANDS};
 ghost use Rattle.qolb_model.specs.declared.terms.TheConstants.{MOST_NODES};
 ghost use Rattle.qolb_run.specs.Jobs.{jobs_of};
-ghost use Rattle.qolb_run.specs.Workers.{AreBack, MayBeGone};
+ghost use Rattle.qolb_run.specs.Workers.{AreBack, AreFresh, MayBeGone};
 
 use crate::gate::{Gate, passes};
 use crate::together;
@@ -22,13 +22,17 @@ pub(crate) trait Site {
     /// What each worker has in hand.
     type Hand;
 
-    /// With what it has in hand, a worker has done these jobs here.
-    ghost has_done: { Self → Self.Hand → List Job → Type 0 };
+    /// With what it has in hand, this worker has done these jobs here.
+    ghost has_done: { Self → ℕ → Self.Hand → List Job → Type 0 };
+
+    /// The job is of a kind that is done here.
+    ghost takes: { Self → Job → Type 0 };
 
     /// Does a job, for as long as that takes. `false` where the line is closed.
     fn does<R: Wait>(&self, rt: &R, hand: &mut Self::Hand, job: &Job) -> bool
-        requires { (done : List Job) × has_done self.now hand.old done × (length done < MOST_COMMANDS) }
-        ensures { IsTrue result → (done : List Job) → has_done self.now hand.old done → has_done self.now hand.new (done ++ job.now ∷ []) };
+        requires takes { takes self.now job.now }
+        requires done { (worker : ℕ) × (done : List Job) × has_done self.now worker hand.old done × (length done < MOST_COMMANDS) }
+        ensures { IsTrue result → (worker : ℕ) (done : List Job) → has_done self.now worker hand.old done → has_done self.now worker hand.new (done ++ job.now ∷ []) };
 }
 
 /// The jobs of a script, which a gate lets workers do.
@@ -44,9 +48,11 @@ where
 {
     type Back = Option<S::Hand>;
 
-    ghost fits = { λ site hand. S.has_done site hand [] };
+    ghost fits = { λ site hand. Unit {0} };
 
-    ghost done = { λ jobs site place back. IfSome back (λ hand. S.has_done site hand (jobs_of (place + 1) jobs.work.now.jobs)) };
+    ghost fits_place = { λ jobs site place hand. S.has_done site (place + 1) hand [] × All (S.takes site) jobs.work.now.jobs };
+
+    ghost done = { λ jobs site place back. IfSome back (λ hand. S.has_done site (place + 1) hand (jobs_of (place + 1) jobs.work.now.jobs)) };
 
     fn work(&self, rt: &R, site: &S, place: usize, hand: S::Hand) -> Option<S::Hand> {
         let number = place as u64 + 1;
@@ -65,7 +71,8 @@ pub(crate) fn work_all<R: Threads + Wait + Sync, G: Gate + Sync, S: Site + Sync>
 ) -> Option<Vec<Option<S::Hand>>>
 where
     S::Hand: Send + Drop,
-    requires { All (λ hand. S.has_done site.now hand []) hands.items }
+    requires fresh { AreFresh S.has_done site.now hands.items }
+    requires takes { All (S.takes site.now) work.now.jobs }
     ensures as_many { IfSome result (λ back. vec_len back ≡ vec_len hands) }
     ensures back { IfSome result (λ back. AreBack S.has_done site.now work.now.jobs back.items) }
 {
@@ -84,8 +91,9 @@ fn work_through<R: Wait, G: Gate, S: Site>(
 ) -> Option<S::Hand>
 where
     S::Hand: Drop,
-    requires { S.has_done site.now hand [] }
-    ensures { IfSome result (λ hand. S.has_done site.now hand (jobs_of number work.now.jobs)) }
+    requires fresh { S.has_done site.now number hand [] }
+    requires takes { All (S.takes site.now) work.now.jobs }
+    ensures { IfSome result (λ hand. S.has_done site.now number hand (jobs_of number work.now.jobs)) }
 {
     let mut hand = hand;
     let mut at = 0u64;

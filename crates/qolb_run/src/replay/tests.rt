@@ -325,7 +325,21 @@ fn heaps_refused(shared: Global, kind: Kind) -> Result<Option<u32>, Fail> {
     let mut replayed = false;
     for step in 1..400usize {
         let heap = LocalHeap::new(shared, 32 * step)?;
-        match answered(&&heap, shared, HAND_OVER.as_bytes(), kind) {
+        let lent = &heap;
+        let answer = match kind {
+            Kind::Plain => answered_plainly(&lent, HAND_OVER.as_bytes()),
+            Kind::Ring => answered_over::<&LocalHeap, RingLine<Free>>(
+                &lent,
+                shared,
+                HAND_OVER.as_bytes(),
+            ),
+            Kind::Link => answered_over::<&LocalHeap, LinkLine<Free>>(
+                &lent,
+                shared,
+                HAND_OVER.as_bytes(),
+            ),
+        };
+        match answer {
             Ok(text) => {
                 replayed = true;
                 if text.len() < 128 {

@@ -199,3 +199,136 @@ fn two_hundred_workers_end(rt: HostRuntime) -> Result<(), Fail> {
         Ok(report),
     )
 }
+
+/// A gate that opens at so many asks for a job, each time, and counts the asks for each number.
+#[derive(Drop)]
+struct Counting {
+    opens_at: u64,
+    asked: [AtomicU64; 4],
+    /// The numbers that were asked for, one digit each, 1 more than the number.
+    numbers: AtomicU64,
+}
+
+impl Counting {
+    fn new(opens_at: u64) -> Counting {
+        Counting {
+            opens_at,
+            asked: [
+                AtomicU64::new(0),
+                AtomicU64::new(0),
+                AtomicU64::new(0),
+                AtomicU64::new(0),
+            ],
+            numbers: AtomicU64::new(0),
+        }
+    }
+
+    fn asks_for(&self, at: usize) -> u64 {
+        self.asked[at % 4].load(Ordering::SeqCst)
+    }
+}
+
+impl Gate for Counting {
+    fn may(&self, worker: u64, at: u64) -> bool {
+        if worker != 1 {
+            return true;
+        }
+        let asks = self.asked[(at % 4) as usize]
+            .fetch_add(1, Ordering::SeqCst)
+            .saturating_add(1);
+        if asks == 1 {
+            let before = self.numbers.load(Ordering::SeqCst);
+            let next = before.wrapping_mul(10).wrapping_add(at % 4 + 1);
+            self.numbers.store(next, Ordering::SeqCst);
+        }
+        asks >= self.opens_at
+    }
+}
+
+#[test]
+fn a_worker_asks_before_each_job_and_once_after_the_last(rt: HostRuntime) -> Result<(), Fail> {
+    let script = "board workers 2\n1 put 5\n2 put 6\n1 take\n";
+    let work = read_work(rt.alloc(), script.as_bytes(), WorkKind::Board)?;
+    for lines in [Lines::Ring, Lines::Link] {
+        let gate = Counting::new(1);
+        assert!(rt;
+            run_work(&rt, rt.alloc(), &gate, &work, lines).is_ok(),
+            "by {lines:?}"
+        );
+        assert_eq!(rt; gate.numbers.load(Ordering::SeqCst), 123, "by {lines:?}");
+        for at in 0..3usize {
+            assert_eq!(rt; gate.asks_for(at), 1, "for {at} by {lines:?}");
+        }
+    }
+    Ok(())
+}
+
+#[test]
+fn a_worker_waits_for_the_millionth_ask(rt: HostRuntime) -> Result<(), Fail> {
+    let work = read_work(rt.alloc(), b"board workers 1\n1 put 5\n", WorkKind::Board)?;
+    let report = Report::Board {
+        stored: 1,
+        full: 0,
+        taken: 0,
+        empty: 0,
+        left: 1,
+    };
+    let gate = Counting::new(1_000_000);
+    let found = run_work(&rt, rt.alloc(), &gate, &work, Lines::Ring);
+    assert_eq!(rt; found, Ok(report));
+    assert_eq!(rt; gate.asks_for(0), 1_000_000);
+    assert_eq!(rt; gate.asks_for(1), 1);
+    Ok(())
+}
+
+#[test]
+fn a_worker_gives_up_at_the_millionth_refusal(rt: HostRuntime) -> Result<(), Fail> {
+    let work = read_work(rt.alloc(), b"board workers 1\n1 put 5\n", WorkKind::Board)?;
+    let gate = Counting::new(1_000_001);
+    let found = run_work(&rt, rt.alloc(), &gate, &work, Lines::Ring);
+    assert_eq!(rt; found, Err(RunError::Stalled(1)));
+    assert_eq!(rt; gate.asks_for(0), 1_000_000);
+    assert_eq!(rt; gate.asks_for(1), 0);
+    Ok(())
+}
+
+#[test]
+fn each_job_of_a_bank_comes_to_something(rt: HostRuntime) -> Result<(), Fail> {
+    // 10 into account 0; 4 from there to account 9; 5 from account 0 to itself; 9 out of account 9, which has 4; 1 out of it; 2^48 into
+    // account 0, which has 6; 6 from account 0 to 1.
+    let script =
+        "bank workers 1 lines 2\n1 in 0 10\n1 move 0 9 4\n1 move 0 0 5\n1 out 9 9\n1 out 9 1\n1 in 0 281474976710656\n1 move 0 1 6\n1 out 1 6\n";
+    let report = Report::Bank {
+        paid_in: 10,
+        paid_out: 7,
+        total: 3,
+    };
+    expect(
+        &rt,
+        rt.alloc(),
+        &AlwaysOpen,
+        script,
+        WorkKind::Bank,
+        Ok(report),
+    )
+}
+
+#[test]
+fn a_late_put_is_no_full_board(rt: HostRuntime) -> Result<(), Fail> {
+    let script = "board workers 2\n1 put 1\n1 put 2\n1 put 3\n2 put 4\n2 put 5\n2 put 6\n2 put 7\n";
+    let work = read_work(rt.alloc(), script.as_bytes(), WorkKind::Board)?;
+    let report = Report::Board {
+        stored: 7,
+        full: 0,
+        taken: 0,
+        empty: 0,
+        left: 7,
+    };
+    for lines in [Lines::Ring, Lines::Link] {
+        for _ in 0..100 {
+            let found = run_work(&rt, rt.alloc(), &AlwaysOpen, &work, lines);
+            assert_eq!(rt; found, Ok(report), "by {lines:?}");
+        }
+    }
+    Ok(())
+}

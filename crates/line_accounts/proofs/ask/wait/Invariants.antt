@@ -1,4 +1,4 @@
-use Rattle.std.proofs.Common.{◌≡◌}
+use Rattle.std.proofs.Common.{◌≡◌, ◌+◌}
 use Rattle.qolb_model.specs.declared.answer.PortState.TheVariants.{Queued}
 use Rattle.qolb_model.specs.Views.{Extends}
 use Rattle.line_accounts.proofs.ask.wait.Given as goal
@@ -7,6 +7,7 @@ abbrev pub invariant-loop : goal.invariant-loop
 invariant-loop g l = record {
   belongs : g.L.LineSync.belongs l.line l.port;
   state : (g.L.LineSync.view l.port).state ≡ Queued;
+  looks : g.L.LineSync.looks l.port ≡ g.L.LineSync.looks l.fn.port + l.counter;
   count : (g.L.LineSync.view l.port).count ≡ (g.L.LineSync.view l.fn.port).count;
   extends : Extends (g.L.LineSync.view l.fn.port) (g.L.LineSync.view l.port);
 }

@@ -1,7 +1,8 @@
-use Rattle.std.proofs.Common.{◌≡◌, ◌+◌, ◌++◌, All, length, map}
+use Rattle.std.proofs.Common.{◌≡◌, ◌+◌, ◌++◌, All, length, drop, map, Vec, Global}
 use Rattle.std.specs.Vec.Iter.{into_iter_items}
-use Rattle.line_accounts.specs.Desks.{IsDeskOver}
 use Rattle.line_accounts.specs.NewDesks.{IsNewPort, IsColumn, IsUnpaid, AreEnough}
+use Rattle.line_accounts.specs.Desks.{DeskOf, IsDeskOver}
+use Rattle.line_accounts.proofs.Columns.{HaveDealt}
 use Rattle.line_accounts.proofs.desks.deal.Given as goal
 
 abbrev pub invariant-loop-line : goal.invariant-loop-line
@@ -11,6 +12,8 @@ invariant-loop-line g l = record {
   given : l.lines.items ++ map (λ line. line.0) (into_iter_items l.line-iterator) ≡ map (λ line. line.0) l.fn.opened.items;
   columns : All (λ ports. IsColumn g.L.LineSync.belongs g.L.LineSync.view l.lines.items ports.items) l.columns.items;
   many : length l.columns.items ≡ l.count;
+  rest : into_iter_items l.line-iterator ≡ drop (length l.lines.items) l.fn.opened.items;
+  dealt : HaveDealt l.fn.opened.items (length l.lines.items) l.columns.items;
 }
 
 abbrev pub invariant-loop-ports : goal.invariant-loop-ports
@@ -19,4 +22,5 @@ invariant-loop-ports g l = record {
   over : All (IsDeskOver g.L.LineSync.belongs g.L.LineSync.view l.lines.items) l.desks.items;
   unpaid : All IsUnpaid l.desks.items;
   many : length l.desks.items + length (into_iter_items l.ports-iterator) ≡ l.count;
+  dealt : map (λ (desk : DeskOf g.row.L-Port.Denot). desk.ports) l.desks.items ++ map (λ (ports : Vec g.row.L-Port.Denot Global). ports.items) (into_iter_items l.ports-iterator) ≡ map (λ (ports : Vec g.row.L-Port.Denot Global). ports.items) (into_iter_items l.initial.ports-iterator);
 }

@@ -1,10 +1,16 @@
-use Rattle.std.proofs.Common.{List, All, ap, sym, subst, ◌∙◌, arith}
-use Rattle.line_accounts.specs.Settled.{all_paid_in, all_paid_out}
+use Rattle.std.proofs.Common.{◌≡◌, ℕ, ◌+◌, List, length, All, ap, sym, subst, ◌∙◌, arith}
+use Rattle.line_accounts.specs.Settled.{all_paid_in, all_paid_out, MayNotSettle}
 use Rattle.qolb_script.specs.declared.schedule.TheConstants.{MOST_COMMANDS}
 use Rattle.line_accounts.specs.Desks.{DeskOf}
-use Rattle.qolb_run.specs.BankWork.{ArePaid}
-use Rattle.qolb_run.proofs.Banking.{all_over, all_small, opened_empty}
+use Rattle.qolb_run.specs.BankWork.{ArePaid, HasBanked}
+use Rattle.qolb_run.specs.BankRuns.{ComesTo}
+use Rattle.qolb_run.specs.Jobs.{jobs_of}
+use Rattle.line_accounts.specs.declared.answer.SettleError.{SettleError}
+use Rattle.qolb_run.proofs.Banking.{all_over, all_small, opened_empty, none_missing, comes_to}
 use Rattle.qolb_run.proofs.bank.finish.Goals as goal
+
+plus_one : (k : ℕ) → k + 1 ≡ 1 + k
+plus_one k = omega arith
 
 pub sum_up-paid_in-requires-clause-small : goal.sum_up-paid_in-requires-clause-small
 sum_up-paid_in-requires-clause-small g c =
@@ -16,13 +22,35 @@ settle-requires g c = record {
   over = all_over g.L.LineSync.belongs g.L.LineSync.view c.args.bank.lines.items c.args.work.now.jobs c.args.desks.items c.requires.done;
 }
 
+pub unreachable-requires : goal.unreachable-requires
+unreachable-requires g c =
+    let many : length c.args.desks.items ≡ c.args.work.now.workers = sym c.args.desks.ok.0 ∙ c.requires.as_many in
+    let why = subst (λ (why : SettleError). MayNotSettle g.L.LineSync.view g.L.LineSync.terms_of c.args.bank.lines.items c.args.desks.items why) c.in-Missing.is c.in-Err.ensures.why in
+    none_missing g.L.LineSync.belongs g.L.LineSync.view g.L.LineSync.terms_of c.args.bank.lines.items c.args.work.now.workers c.args.work.now.jobs c.args.desks.items c.requires.done many c.requires.terms c.in-Missing.line c.in-Missing.node why
+
 pub returns-clause-report : goal.returns-clause-report
 returns-clause-report g c =
+    let many : length c.args.desks.items ≡ c.args.work.now.workers = sym c.args.desks.ok.0 ∙ c.requires.as_many in
     let paid_in = c.sum_up-paid_in.ensures.0 ∙ ap (λ (ds : List (DeskOf g.row.L-Port.Denot)). all_paid_in ds) c.as_slice.ensures.value in
     let paid_out = c.sum_up-paid_in.ensures.1 ∙ ap (λ (ds : List (DeskOf g.row.L-Port.Denot)). all_paid_out ds) c.as_slice.ensures.value in
-    let opened = opened_empty g.L.LineSync.terms_of c.args.bank.lines.items c.requires.empty in
+    let opened = opened_empty g.L.LineSync.terms_of c.args.work.now.workers c.args.bank.lines.items c.requires.terms in
     let settled = c.in-Ok.ensures.total in
+    let comes = comes_to g.L.LineSync.belongs g.L.LineSync.view c.args.bank.lines.items c.args.work.now.jobs 1 c.args.desks.items
+    (λ k desk at. subst (λ n. HasBanked g.L.LineSync.belongs g.L.LineSync.view c.args.bank.lines.items n desk (jobs_of n c.args.work.now.jobs)) (plus_one k) (c.requires.done k desk at)) in
     record {
       of_bank = c.requires.kind;
+      comes_to = subst (λ n. ComesTo 1 n c.args.work.now.jobs c.sum_up-paid_in.result.0 c.sum_up-paid_in.result.1) many
+          (subst (λ n. ComesTo 1 (length c.args.desks.items) c.args.work.now.jobs n c.sum_up-paid_in.result.1) (sym paid_in) (subst (λ n. ComesTo 1 (length c.args.desks.items) c.args.work.now.jobs (all_paid_in c.args.desks.items) n) (sym paid_out) comes));
       kept = omega (arith, paid_in, paid_out, opened, settled);
     }
+
+pub returns-clause-banked : goal.returns-clause-banked
+returns-clause-banked g c = record {
+  lines = c.args.bank.lines.items;
+  desks = c.args.desks.items;
+  opened = c.requires.terms;
+  each = sym c.args.desks.ok.0 ∙ c.requires.as_many;
+  done = c.requires.done;
+  in_is = c.sum_up-paid_in.ensures.0 ∙ ap (λ (ds : List (DeskOf g.row.L-Port.Denot)). all_paid_in ds) c.as_slice.ensures.value;
+  out_is = c.sum_up-paid_in.ensures.1 ∙ ap (λ (ds : List (DeskOf g.row.L-Port.Denot)). all_paid_out ds) c.as_slice.ensures.value;
+}

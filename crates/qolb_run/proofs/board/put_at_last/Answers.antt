@@ -1,4 +1,4 @@
-use Rattle.qolb_run.proofs.BoardTurns.{then_stored, then_full, put_again}
+use Rattle.qolb_run.proofs.BoardTurns.{then_stored, then_full, then_put_again}
 use Rattle.qolb_run.proofs.board.put_at_last.Goals as goal
 
 pub returns-in-Stored-clause-stored : goal.returns-in-Stored-clause-stored
@@ -12,5 +12,5 @@ returns-in-Full-clause-full g c =
 pub loop-preserved : goal.loop-preserved
 loop-preserved g c = (
   c.put.ensures.belongs,
-  put_again _ _ _ _ c.loop.invariant.1 (g.met.L.LineSync.sound c.args.line.now c.loop.port c.loop.invariant.0).own_past _ c.put.ensures.puts c.in-Late.is,
+  then_put_again _ _ _ _ c.loop.invariant.1 (g.met.L.LineSync.sound c.args.line.now c.loop.port c.loop.invariant.0).own_past _ c.put.ensures.puts c.in-Late.is,
 )

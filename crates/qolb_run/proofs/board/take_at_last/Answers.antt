@@ -1,4 +1,4 @@
-use Rattle.qolb_run.proofs.BoardTurns.{then_taken, then_none, take_again}
+use Rattle.qolb_run.proofs.BoardTurns.{then_taken, then_none, then_take_again}
 use Rattle.qolb_run.proofs.board.take_at_last.Goals as goal
 
 pub returns-in-Task-clause-taken : goal.returns-in-Task-clause-taken
@@ -12,5 +12,5 @@ returns-in-Empty-clause-empty g c =
 pub loop-preserved : goal.loop-preserved
 loop-preserved g c = (
   c.take.ensures.belongs,
-  take_again _ _ _ c.loop.invariant.1 (g.met.L.LineSync.sound c.args.line.now c.loop.port c.loop.invariant.0).own_past _ c.take.ensures.takes c.in-Late.is,
+  then_take_again _ _ _ c.loop.invariant.1 (g.met.L.LineSync.sound c.args.line.now c.loop.port c.loop.invariant.0).own_past _ c.take.ensures.takes c.in-Late.is,
 )

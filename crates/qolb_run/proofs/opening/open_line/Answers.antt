@@ -1,10 +1,11 @@
-use Rattle.std.proofs.Common.{ap, ◌∙◌}
+use Rattle.std.proofs.Common.{ℕ, None, ap, ◌∙◌}
+use Rattle.line_lanes.specs.declared.line.Line64.{Line64}
 use Rattle.qolb_model.specs.declared.terms.Terms.{Terms}
 use Rattle.qolb_run.proofs.Gathering.{just_opened}
 use Rattle.qolb_run.proofs.opening.open_line.Goals as goal
 
 pub returns-in-Ok-clause-new : goal.returns-in-Ok-clause-new
 returns-in-Ok-clause-new g c = record {
-  own = λ k d below. (c.in-Ok.ensures.opens.belong k d below, just_opened _ _ _ _ c.in-Ok.ensures.opens.new k d below);
-  empty = ap (λ (t : Terms). t.opening.bytes) c.in-Ok.ensures.opens.terms_are ∙ c.zero.ensures;
+  own = just_opened g.L.LineSync.belongs g.L.LineSync.view _ _ _ _ c.in-Ok.ensures.opens.belong c.in-Ok.ensures.opens.new;
+  terms = c.in-Ok.ensures.opens.terms_are ∙ (λ i. record { nodes = c.args.workers; opening = record { bytes = c.zero.ensures i }; lease = None });
 }

@@ -5,9 +5,10 @@ use Rattle.qolb_run.specs.Jobs.{jobs_of}
 use Rattle.qolb_run.proofs.Gathering.{few_done}
 use Rattle.qolb_run.proofs.workers.work_through.Goals as goal
 
-pub does-requires : goal.does-requires
-does-requires g c =
+pub does-requires-clause-done : goal.does-requires-clause-done
+does-requires-clause-done g c =
     let is = c.jobs-job-items.ensures.jobs in (
+      c.args.number,
       jobs_of c.args.number (take c.loop-job.job-index c.args.work.now.jobs),
       c.loop-job.invariant.0,
       few_done c.args.number c.args.work.now.jobs c.loop-job.job-index

@@ -1,15 +1,28 @@
-use Rattle.std.proofs.Common.{rules, ◌≡◌, ◌++◌, ◌∷◌, ℕ, List, [], length, Some, slice_get, ap, sym, subst, ◌∙◌, arith, length-append}
+use Rattle.std.proofs.Common.{rules, ◌≡◌, ◌+◌, ◌^◌, ◌<◌, ◌++◌, ◌∷◌, ℕ, List, [], length, drop, Some, slice_get, ap, sym, subst, ◌∙◌, arith, length-append}
 use Rattle.std.specs.Vec.Iter.{into_iter_items}
 use Rattle.std.specs.declared.thread.PromisedHandle.{PromisedHandle}
 use Rattle.std.proofs.lemmas.List.Elements.{All-rest}
+use Rattle.line_accounts.proofs.Columns.{all_first, first_left, drop-next}
 use Rattle.qolb_run.specs.declared.together.Done.{Done}
 use Rattle.qolb_run.proofs.Gathering.{each_pushed}
 use Rattle.qolb_run.proofs.Joined.{as_many_joined, each_joined}
 use Rattle.qolb_run.proofs.together.fn.together.scope.Goals as goal
 
+pub spawn_with-requires-clause-runs : goal.spawn_with-requires-clause-runs
+spawn_with-requires-clause-runs g c =
+    let all = c.into_iter-part-iterator.ensures.into_iter_gives.0 in
+    let at = ap (λ (ps : List g.row.P.Denot). slice_get ps (length c.loop-part.handles.items)) (sym all) ∙ first_left (into_iter_items c.into_iter-part-iterator.result) (into_iter_items c.next.new.self) c.in-Some.part (length c.loop-part.handles.items) (sym c.loop-part.invariant.rest ∙ c.in-Some.ensures.steps.0) in
+    let there = c.requires.fit_places (length c.loop-part.handles.items) c.in-Some.part at in
+    let place : length c.loop-part.handles.items ≡ c.len-place.result = sym (c.len-place.ensures ∙ c.loop-part.handles.ok.0) in
+    let fits : g.W.Work.fits_place c.captures.work.now c.captures.shared.now c.len-place.result c.in-Some.part = subst (λ n. g.W.Work.fits_place c.captures.work.now c.captures.shared.now n c.in-Some.part) place there in
+    let own : g.W.Work.fits c.captures.shared.now c.in-Some.part = all_first (λ (part : g.row.P.Denot). g.W.Work.fits c.captures.shared.now part) c.in-Some.part (into_iter_items c.next.new.self) (into_iter_items c.loop-part.part-iterator) c.in-Some.ensures.steps.0 c.loop-part.invariant.left in
+    let small : c.len-place.result + 1 < 2 ^ 64 = search rules in
+    λ _ _. (own, (fits, small))
+
 pub loop-part-preserved : goal.loop-part-preserved
 loop-part-preserved g c =
     let pushed : c.push.new.self.items ≡ c.loop-part.handles.items ++ c.in-Ok.handle ∷ [] = search rules in
+    let longer : length c.push.new.self.items ≡ length c.loop-part.handles.items + 1 = ap length pushed ∙ length-append c.loop-part.handles.items (c.in-Ok.handle ∷ []) in
     let one = ap length pushed in
     let more = length-append c.loop-part.handles.items (c.in-Ok.handle ∷ []) in
     let rest = ap length c.in-Some.ensures.steps.0 in
@@ -17,6 +30,7 @@ loop-part-preserved g c =
     record {
       left = All-rest (λ (part : g.row.P.Denot). g.W.Work.fits c.captures.shared.now part) c.in-Some.part (into_iter_items c.next.new.self) (into_iter_items c.loop-part.part-iterator) c.in-Some.ensures.steps.0 c.loop-part.invariant.left;
       many = omega (arith, one, more, rest, before);
+      rest = drop-next (into_iter_items c.into_iter-part-iterator.result) (into_iter_items c.next.new.self) c.in-Some.part (length c.loop-part.handles.items) (sym c.loop-part.invariant.rest ∙ c.in-Some.ensures.steps.0) ∙ ap (λ n. drop n (into_iter_items c.into_iter-part-iterator.result)) (sym longer);
       promised = subst (λ (hs : List (PromisedHandle g.row.W-Back.Denot (Done g.row.R.Denot g.row.S.Denot g.row.P.Denot g.row.W.Denot))). (k : ℕ) (h : _) → slice_get hs k ≡ Some h → (h.promise.work.value ≡ c.captures.work.now) × (h.promise.shared.value ≡ c.captures.shared.now) × (h.promise.place ≡ k)) (sym pushed)
           (each_pushed (λ k (h : PromisedHandle g.row.W-Back.Denot (Done g.row.R.Denot g.row.S.Denot g.row.P.Denot g.row.W.Denot)). (h.promise.work.value ≡ c.captures.work.now) × (h.promise.shared.value ≡ c.captures.shared.now) × (h.promise.place ≡ k)) c.loop-part.handles.items c.in-Ok.handle c.loop-part.invariant.promised (
             ap (λ (p : Done g.row.R.Denot g.row.S.Denot g.row.P.Denot g.row.W.Denot). p.work.value) c.in-Ok.ensures.ok ∙ c.of.ensures,
