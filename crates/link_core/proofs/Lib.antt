@@ -32,6 +32,7 @@ pub mod Steady
 pub mod Marked
 pub mod Chained
 pub mod Sums
+pub mod Costs
 pub mod Found
 pub mod Once
 pub mod Short

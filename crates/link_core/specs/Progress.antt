@@ -79,7 +79,7 @@ rank c = if c.home == 0 then all_to_go c else (all_to_go c - 2)
 
 -- the node asks behind this place
 abbrev pub asks_behind : List Request → ℕ → ℕ → Bool
-asks_behind order p n = list_any (λ r. r.node == n) (drop (p + 1) order)
+asks_behind order p n = list_any (λ r. r.node == n) (drop (suc p) order)
 
 -- The rank for the request at a place: of the nodes that do not ask behind it.
 abbrev pub rank_at : State → List Request → ℕ → ℕ
