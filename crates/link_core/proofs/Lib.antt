@@ -33,6 +33,8 @@ pub mod Marked
 pub mod Chained
 pub mod Sums
 pub mod Costs
+pub mod Ranks
+pub mod Falls
 pub mod Found
 pub mod Once
 pub mod Short
