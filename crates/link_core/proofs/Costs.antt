@@ -82,7 +82,7 @@ pub close_to_go : (c : State) (w : Entry) (ps : List ℕ) (p : Point) (r : Reaso
 close_to_go c w [] p r e = e
 close_to_go c w (m ∷ ms) p r e = refl
 
-brings_arrival : (b : Bool) → brings_line (told_at_arrival b) ≡ true
+pub brings_arrival : (b : Bool) → brings_line (told_at_arrival b) ≡ true
 brings_arrival true = refl
 brings_arrival false = refl
 

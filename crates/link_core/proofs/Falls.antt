@@ -104,10 +104,10 @@ module _ {terms : Terms} {c : State} {q : Queue} (s : Matches terms c q) where
   busy_has_three ne = three_left (open_by_home ne) s.lies
 
 -- the rank, by home
-rank_idle : (c : State) → c.home ≡ 0 → rank c ≡ all_to_go c
+pub rank_idle : (c : State) → c.home ≡ 0 → rank c ≡ all_to_go c
 rank_idle c e = ap (λ (h : ℕ). cond (eqb h 0) (all_to_go c) (all_to_go c - 2)) e
 
-rank_busy : (c : State) → c.home ≢ 0 → rank c ≡ all_to_go c - 2
+pub rank_busy : (c : State) → c.home ≢ 0 → rank c ≡ all_to_go c - 2
 rank_busy c ne = let e : eqb c.home 0 ≡ false = let t = ne in grind (arith, nat_tests) in ap (λ b. cond b (all_to_go c) (all_to_go c - 2)) e
 
 -- the order and the ends after a move

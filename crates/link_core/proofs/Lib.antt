@@ -35,6 +35,7 @@ pub mod Sums
 pub mod Costs
 pub mod Ranks
 pub mod Falls
+pub mod Ways
 pub mod Found
 pub mod Once
 pub mod Short

@@ -1,6 +1,6 @@
 -- How far a line is from its rest: which events are productive, and how many of them can still follow each other. (Of this project. That
 -- a state gets a number which each of its steps lowers is the usual way to show that a program ends, after Floyd, 1967.)
-use Rattle.std.specs.Prelude.{◌≡◌, ◌≢◌, ℕ, zero, suc, ◌+◌, ◌-◌, ◌*◌, ◌<◌, ◌≤◌, ◌==◌, Bool, true, false, if◌then◌else◌, List, [], ◌∷◌, ◌++◌, length, drop}
+use Rattle.std.specs.Prelude.{◌≡◌, ◌≢◌, ℕ, zero, suc, ◌+◌, ◌-◌, ◌*◌, ◌<◌, ◌≤◌, ◌==◌, ◌&&◌, not, Bool, true, false, if◌then◌else◌, List, [], ◌∷◌, ◌++◌, length, drop}
 use Rattle.std.specs.List.{list_any}
 use Rattle.qolb_model.specs.declared.request.Request.{Request}
 use Rattle.qolb_model.specs.declared.terms.Terms.{Terms}
@@ -138,14 +138,45 @@ pub record HasWay (c : State) (q : Queue) : Type 0 where
   pub step : Step c event told next
   pub productive : is_productive event told ≡ true
 
--- how many there are of a run's events that are productive, and of those that ask
+-- How much is left: at most 5 productive events for each pending node, and 3 fewer where a request is open. For the request at a place, at
+-- most 5 for each node, less 1.
+pub record IsNear (c : State) (q : Queue) : Type 0 where
+  pub all : rank c ≤ 5 * pending c
+  pub open' : length q.ends < length q.order → rank c + 3 ≤ 5 * pending c
+  pub at : (p : ℕ) → length q.ends ≤ p → p < length q.order → rank_at c q.order p < 5 * c.nodes
+
+-- events that lead on from one state and queue to another
+pub data Path (terms : Terms) (c : State) (q : Queue) : State → Queue → Type 0 where
+  here : Path terms c q c q
+  then' : {d : State} {r : Queue} → Path terms c q d r → (e : Event) (t : Told) (f : State) (u : Queue) (step : Step d e t f) → Goes terms r (move_of step r.order) u → Shows terms f u → Path terms c q f u
+
+-- how many of them are productive; how many of these are of nodes that do not ask behind a place; and how many ask
 abbrev pub one_if : Bool → ℕ
 one_if b = if b then 1 else 0
 
+abbrev pub productive_on : {terms : Terms} {c : State} {q : Queue} {d : State} {r : Queue} → Path terms c q d r → ℕ
+productive_on here = 0
+productive_on (then' path e t f u step goes shows) = productive_on path + one_if (is_productive e t)
+
+abbrev pub productive_for : {terms : Terms} {c : State} {q : Queue} {d : State} {r : Queue} → ℕ → Path terms c q d r → ℕ
+productive_for p here = 0
+productive_for p (then' {r = r} path e t f u step goes shows) = productive_for p path + one_if (is_productive e t && not (asks_behind r.order p (node_of e)))
+
+abbrev pub asked_on : {terms : Terms} {c : State} {q : Queue} {d : State} {r : Queue} → Path terms c q d r → ℕ
+asked_on here = 0
+asked_on (then' path e t f u step goes shows) = asked_on path + asked_by e
+
+-- The productive events of a path are paid for by the rank, and by 5 for each ask. As long as the request at a place is open, those of nodes
+-- that do not ask behind it are paid for by its rank alone, whatever the others do.
+pub record IsShort {terms : Terms} {c : State} {q : Queue} {d : State} {r : Queue} (path : Path terms c q d r) : Type 0 where
+  pub all : productive_on path + rank d ≤ rank c + 5 * asked_on path
+  pub at : (p : ℕ) → p < length q.order → length r.ends ≤ p → productive_for p path + rank_at d r.order p ≤ rank_at c q.order p
+
+-- the same of a run from the opening
 abbrev pub productive_in : {terms : Terms} {es : List Event} {c : State} {q : Queue} → Run terms es c q → ℕ
 productive_in opened = 0
 productive_in (event r e t d g step goes shows) = productive_in r + one_if (is_productive e t)
 
-abbrev pub asked_in : List Event → ℕ
-asked_in [] = 0
-asked_in (e ∷ es) = asked_by e + asked_in es
+abbrev pub asked_in : {terms : Terms} {es : List Event} {c : State} {q : Queue} → Run terms es c q → ℕ
+asked_in opened = 0
+asked_in (event r e t d g step goes shows) = asked_in r + asked_by e
