@@ -139,7 +139,7 @@ module _ {terms : Terms} {c : State} {q : Queue} (w : IsWide c) (s : Matches ter
   pays : Pays c d n (is_productive e t) (asked_by e) move
   pays = step_pays terms c q w s k
 
-  ends_more : length q.ends ≤ length r.ends
+  pub ends_more : length q.ends ≤ length r.ends
   ends_more = let a = made_ends q move in let b : length r.ends ≡ length (made q move).ends = ap (λ (g : Queue). length g.ends) goes.cleared.2 in omega arith
 
   ends_one : (x : End) → move ≡ Some (finish x) → length r.ends ≡ length q.ends + 1

@@ -36,6 +36,7 @@ pub mod Costs
 pub mod Ranks
 pub mod Falls
 pub mod Ways
+pub mod Paths
 pub mod Found
 pub mod Once
 pub mod Short

@@ -132,4 +132,4 @@ PathsAreShort = (terms : Terms) (c d : State) (q r : Queue) → IsWide c → Sho
 
 -- and no run from the opening has more than 5 for each ask.
 abbrev pub RunsAreShort : Type 0
-RunsAreShort = (terms : Terms) (es : List Event) (c : State) (q : Queue) → terms.nodes ≤ MOST_NODES → (run : Run terms es c q) → productive_in run + rank c ≤ 5 * asked_in run
+RunsAreShort = (terms : Terms) (es : List Event) (c : State) (q : Queue) → terms.nodes ≤ MOST_NODES → length terms.opening.bytes ≡ 64 → (run : Run terms es c q) → productive_in run + rank c ≤ 5 * asked_in run
