@@ -1,8 +1,8 @@
 -- What each event costs: how many productive events the nodes have to go before and after it.
 use Rattle.qolb_model.specs.declared.terms.Terms.{Terms}
-use Rattle.std.proofs.Common.{◌≡◌, ◌≢◌, ℕ, ◌+◌, ◌<◌, ◌≤◌, ◌⊎◌, Bool, true, false, List, [], ◌∷◌, length, Option, Some, refl, sym, ◌∙◌, ap, subst, inl, inr, arith}
+use Rattle.std.proofs.Common.{◌≡◌, ◌≢◌, ℕ, ◌+◌, ◌<◌, ◌≤◌, ◌⊎◌, Bool, true, false, List, [], ◌∷◌, Option, Some, refl, sym, ◌∙◌, ap, subst, inl, inr, arith}
 use Rattle.std.specs.Prelude.{cond}
-use Rattle.std.proofs.lemmas.Bool.{cases_eq, cases_Bool}
+use Rattle.std.proofs.lemmas.Bool.{cases_eq}
 use Rattle.qolb_model.specs.declared.end.End.{End}
 use Rattle.qolb_model.specs.Queue.{Queue, Move, ask, finish}
 use Rattle.link_core.specs.declared.entry.Entry.{Entry}
@@ -13,7 +13,6 @@ use Rattle.link_core.specs.declared.point.Point.TheVariants.{Idle, Ready, Linkin
 use Rattle.link_core.specs.declared.seat.Reason.{Reason}
 use Rattle.link_core.specs.declared.seat.Reason.TheVariants.{Own, Closing, Refused}
 use Rattle.link_core.specs.declared.told.Told.{Told as Answer}
-use Rattle.link_core.specs.Places.{IsLast}
 use Rattle.link_core.specs.State.{State, IsWide, Seat, no_mask, empty, entry, seat, point, IsNode, is_clear}
 use Rattle.link_core.specs.Steps.{Step, Releases, holding, leaving, node_of, closed_by, turns_after, gone_home, seat_at_arrival, seat_at_close, seat_with, point_at_end, told_at_arrival}
 use Rattle.link_core.specs.Steps as row
@@ -271,9 +270,9 @@ module _ (terms : Terms) (c : State) (h : Queue) (w : IsWide c) (s : Matches ter
       let ne : n ≢ m = λ z. let y : Granting m ≡ Rolled = sym at ∙ ap (point c) z ∙ rolled in cc in
       let was : to_go c m ≡ 4 = at_point_c c m Rolled rolled ∙ ap (λ b. cond b 0 (cond (entry c m).granted 1 4)) (fresh_m s a at).freed ∙ ap (λ b. cond b 1 4) (granted_unset s n m a at) in
       let now : to_go d m ≡ 1 =
-          at_point_c d m Rolled (point_other ch m (λ z. ne (sym z)) ∙ rolled)
-          ∙ ap to_go_rolled ch.entry_own
-          ∙ ap (λ b. cond b 0 1) (fresh_m s a at).freed in
+      at_point_c d m Rolled (point_other ch m (λ z. ne (sym z)) ∙ rolled)
+      ∙ ap to_go_rolled ch.entry_own
+      ∙ ap (λ b. cond b 0 1) (fresh_m s a at).freed in
       passes (end_of c n) refl m refl at (node_m s a at) ne (λ k b ne _. others ch (grows_granted (entry c m)) k b ne) (omega arith) (omega arith)
   step_pays {d = d} (row.roll_granted n a at gr) =
       let ch = moved_both c c.home (Hand n) c.closed no_mask c.left n _ n _ w a a in

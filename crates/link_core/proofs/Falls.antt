@@ -1,6 +1,6 @@
 -- What an event does to the rank of the state, and to the ranks for the open requests.
 use Rattle.qolb_model.specs.declared.terms.Terms.{Terms}
-use Rattle.std.proofs.Common.{◌≡◌, ◌≢◌, ℕ, zero, suc, ◌+◌, ◌-◌, ◌*◌, ◌<◌, ◌≤◌, ◌⊎◌, Bool, true, false, ◌||◌, List, [], ◌∷◌, ◌++◌, length, eqb, Option, Some, None, slice_get, refl, sym, ◌∙◌, ap, subst, inl, inr, arith, length-append}
+use Rattle.std.proofs.Common.{◌≡◌, ◌≢◌, ℕ, ◌+◌, ◌-◌, ◌*◌, ◌<◌, ◌≤◌, Bool, true, false, List, [], ◌∷◌, ◌++◌, length, eqb, Option, Some, None, refl, sym, ◌∙◌, ap, subst, inl, inr, arith, length-append}
 use Rattle.std.specs.Prelude.{cond, slice_index_or}
 use Rattle.std.proofs.lemmas.Bool.{cases_eq, cases_Bool, cases_lt}
 use Rattle.std.proofs.lemmas.Bool.Decides.{nat_tests}
@@ -18,14 +18,13 @@ use Rattle.link_core.specs.Places.{asker, IsLast}
 use Rattle.link_core.specs.State.{State, IsWide, entry, seat, point, IsNode}
 use Rattle.link_core.specs.Steps.{Step, node_of}
 use Rattle.link_core.specs.Moves.{move_of, made, Goes}
-use Rattle.link_core.specs.Shown.{has_line, Sits, Lies, at_home, in_hand, granted, left, HasCome, Matches}
+use Rattle.link_core.specs.Shown.{has_line, Sits, Lies, at_home, in_hand, granted, left, Matches}
 use Rattle.link_core.specs.Progress.{sum_over, is_productive, asked_by, to_go, to_go_at, all_to_go, rank, rank_at, asks_behind, GoesDown}
-use Rattle.link_core.proofs.Sums.{sum_le, sum_one, sum_has}
+use Rattle.link_core.proofs.Sums.{sum_le, sum_has}
 use Rattle.link_core.proofs.Costs.{is_asking, Pays, alone, ends, unfastens, passes, asks, step_pays}
 use Rattle.link_core.proofs.Ranks.{last_not_behind, behind_own, behind_other, least_by, over_all, by_own, own_falls, sum_most, sum_falls}
 use Rattle.link_core.proofs.Cases.{step_allowed}
-use Rattle.link_core.proofs.Follows.{sits_at}
-use Rattle.link_core.proofs.Ending.{facts, later_other}
+use Rattle.link_core.proofs.Ending.{later_other}
 use Rattle.link_core.proofs.Grant.{last_m}
 use Rattle.link_core.proofs.Orders.{has_ended}
 use Rattle.link_core.proofs.Sound.{step_sizes}

@@ -1,25 +1,23 @@
 -- Events that follow each other, and what they take from the rank; and what an act leaves of a way on.
 use Rattle.qolb_model.specs.declared.terms.Terms.{Terms}
 use Rattle.qolb_model.specs.declared.terms.TheConstants.{MOST_NODES}
-use Rattle.std.proofs.Common.{◌≡◌, ◌≢◌, ℕ, zero, suc, ◌+◌, ◌*◌, ◌<◌, ◌≤◌, ◌⊎◌, Bool, true, false, ◌&&◌, not, List, [], ◌∷◌, ◌++◌, length, Option, Some, None, refl, sym, ◌∙◌, ap, subst, inl, inr, arith, length-append}
-use Rattle.std.specs.Prelude.{cond}
+use Rattle.std.proofs.Common.{◌≡◌, ◌≢◌, ℕ, zero, suc, ◌+◌, ◌*◌, ◌<◌, ◌≤◌, Bool, true, false, ◌&&◌, not, List, [], ◌∷◌, length, Option, Some, None, refl, sym, ◌∙◌, ap, subst, inl, inr, arith, length-append}
 use Rattle.std.proofs.lemmas.Bool.{cases_Bool}
 use Rattle.qolb_model.specs.Queue.{Queue, Move, ask, mark, finish}
 use Rattle.qolb_model.specs.Requests.{next_of}
 use Rattle.link_core.specs.declared.event.Event.{Event}
-use Rattle.link_core.specs.declared.event.Event.TheVariants as event
-use Rattle.link_core.specs.declared.place.Place.TheVariants.{Mailbox, Hand}
+use Rattle.link_core.specs.declared.place.Place.TheVariants.{Hand}
 use Rattle.link_core.specs.declared.point.Point.{Point}
-use Rattle.link_core.specs.declared.point.Point.TheVariants.{Idle, Linking, Queued, Holding, Leaving, Marking, Granting}
+use Rattle.link_core.specs.declared.point.Point.TheVariants.{Linking, Queued, Holding, Leaving, Marking, Granting}
 use Rattle.link_core.specs.declared.told.Told.{Told as Answer}
 use Rattle.link_core.specs.declared.state.TheConstants.{PLACES}
-use Rattle.link_core.specs.Places.{asker, IsLast}
-use Rattle.link_core.specs.State.{State, IsWide, Seat, entry, seat, point, IsNode, first}
+use Rattle.link_core.specs.Places.{IsLast}
+use Rattle.link_core.specs.State.{State, IsWide, Seat, entry, point, IsNode, first}
 use Rattle.link_core.specs.Steps.{Step, node_of}
 use Rattle.link_core.specs.Moves.{move_of, made, Goes}
-use Rattle.link_core.specs.Shown.{has_line, IsBehind, IsWaiting, Matches, Shows}
+use Rattle.link_core.specs.Shown.{has_line, Shows}
 use Rattle.link_core.specs.Promise.{Run, opened, event as run_event}
-use Rattle.link_core.specs.Progress.{sum_over, is_productive, asked_by, to_go, to_go_at, rank, rank_at, asks_behind, one_if, GoesDown, ActsNext, holds, leaves, marks, grants, loads, links, Path, here, then', productive_on, productive_for, asked_on, IsShort, productive_in, asked_in}
+use Rattle.link_core.specs.Progress.{sum_over, is_productive, to_go, to_go_at, rank, rank_at, asks_behind, one_if, ActsNext, holds, leaves, marks, grants, loads, links, Path, here, then', productive_on, productive_for, asked_on, IsShort, productive_in, asked_in}
 use Rattle.link_core.proofs.Sums.{sum_le}
 use Rattle.link_core.proofs.Falls.{ends_more, goes_down}
 use Rattle.link_core.proofs.Follows.{sits_at, in_its_hand, left_for, granted_for, granted_turn, done_turn}

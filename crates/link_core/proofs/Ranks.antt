@@ -1,35 +1,18 @@
 -- Productive events lower the rank.
-use Rattle.qolb_model.specs.declared.terms.Terms.{Terms}
-use Rattle.std.proofs.Common.{◌≡◌, ◌≢◌, ℕ, zero, suc, ◌+◌, ◌-◌, ◌*◌, ◌<◌, ◌≤◌, ◌⊎◌, Bool, true, false, ◌||◌, List, [], ◌∷◌, ◌++◌, length, drop, eqb, Option, Some, None, slice_get, refl, sym, ◌∙◌, ap, subst, inl, inr, arith}
+use Rattle.std.proofs.Common.{◌≡◌, ◌≢◌, ℕ, zero, suc, ◌+◌, ◌<◌, ◌≤◌, Bool, true, false, ◌||◌, List, [], ◌∷◌, ◌++◌, length, eqb, Option, Some, refl, sym, ◌∙◌, ap, inl, inr, arith}
 use Rattle.std.specs.Prelude.{cond}
 use Rattle.std.specs.List.{list_any}
-use Rattle.std.proofs.lemmas.Bool.{cases_eq, cases_Bool, or_right}
+use Rattle.std.proofs.lemmas.Bool.{cases_Bool, or_right}
 use Rattle.std.proofs.lemmas.Bool.Decides.{nat_tests}
-use Rattle.std.proofs.lemmas.Option.{slice_get_within}
 use Rattle.qolb_model.specs.declared.end.End.{End}
-use Rattle.qolb_model.specs.declared.end.End.TheVariants.{Gone}
 use Rattle.qolb_model.specs.declared.request.Request.{Request}
-use Rattle.qolb_model.specs.Queue.{Queue, Move, ask, mark, finish}
-use Rattle.qolb_model.specs.Requests.{next_of}
-use Rattle.link_core.specs.declared.entry.Entry.{Entry}
-use Rattle.link_core.specs.declared.event.Event.{Event}
-use Rattle.link_core.specs.declared.place.Place.TheVariants.{Home, Mailbox, Hand}
-use Rattle.link_core.specs.declared.point.Point.{Point}
-use Rattle.link_core.specs.declared.point.Point.TheVariants.{Idle, Ready, Linking, Queued, Holding, Leaving, Marking, Granting, Freeing, Left, Rolled, Shut}
-use Rattle.link_core.specs.declared.told.Told.{Told as Answer}
-use Rattle.link_core.specs.Places.{request, asker, IsLast}
-use Rattle.link_core.specs.State.{State, IsWide, entry, seat, point, IsNode}
-use Rattle.link_core.specs.Steps.{Step, node_of}
-use Rattle.link_core.specs.Moves.{move_of, made, Goes}
-use Rattle.link_core.specs.Shown.{has_line, Sits, Lies, at_home, in_hand, granted, left, IsPassed, Matches}
-use Rattle.link_core.specs.Progress.{sum_over, is_productive, asked_by, to_go, to_go_at, to_go_linking, to_go_rolled, all_to_go, rank, rank_at, asks_behind, one_if, is_pending_at, pending, GoesDown}
-use Rattle.link_core.proofs.Sums.{sum_le, sum_one, sum_two, sum_has, sum_times}
-use Rattle.link_core.proofs.Costs.{is_asking, Pays, alone, ends, unfastens, passes, asks, step_pays}
-use Rattle.link_core.proofs.Follows.{sits_at}
-use Rattle.link_core.proofs.Ending.{later_other}
-use Rattle.link_core.proofs.Grant.{last_m}
-use Rattle.link_core.proofs.Orders.{has_ended, last_once}
-use Rattle.link_core.proofs.Sound.{step_sizes}
+use Rattle.qolb_model.specs.Queue.{Move, finish}
+use Rattle.link_core.specs.declared.point.Point.TheVariants.{Granting, Freeing}
+use Rattle.link_core.specs.Places.{asker, IsLast}
+use Rattle.link_core.specs.State.{State, seat, point, IsNode}
+use Rattle.link_core.specs.Progress.{sum_over, to_go, asks_behind, one_if}
+use Rattle.link_core.proofs.Sums.{sum_le, sum_one, sum_two}
+use Rattle.link_core.proofs.Costs.{is_asking, Pays, alone, ends, unfastens, passes, asks}
 
 -- who asks behind a place
 none_asks : (o : List Request) (m : ℕ) → ((i : ℕ) → i < length o → asker o i ≢ m) → list_any (λ (r : Request). eqb r.node m) o ≡ false

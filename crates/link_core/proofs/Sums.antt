@@ -1,5 +1,5 @@
 -- Sums over nodes, where the terms of few nodes change.
-use Rattle.std.proofs.Common.{◌≡◌, ◌≢◌, ℕ, zero, suc, ◌+◌, ◌*◌, ◌<◌, ◌≤◌, sym, ap, subst, inl, inr, arith}
+use Rattle.std.proofs.Common.{◌≡◌, ◌≢◌, ℕ, zero, suc, ◌+◌, ◌*◌, ◌<◌, ◌≤◌, refl, sym, subst, inl, inr, arith}
 use Rattle.std.proofs.lemmas.Bool.{cases_eq}
 use Rattle.link_core.specs.Progress.{sum_over}
 
@@ -52,3 +52,7 @@ sum_has (suc n) i f l b = elim (cases_eq i (suc n)) [
 pub sum_times : (n a : ℕ) (f : ℕ → ℕ) → sum_over n (λ k. a * f k) ≡ a * sum_over n f
 sum_times zero a f = omega arith
 sum_times (suc n) a f = let e = sum_times n a f in grind arith
+
+-- one node more
+pub sum_more : (n : ℕ) (f : ℕ → ℕ) → sum_over (n + 1) f ≡ sum_over n f + f (n + 1)
+sum_more n f = subst (λ (m : ℕ). sum_over m f ≡ sum_over n f + f m) (let e : suc n ≡ n + 1 = omega arith in e) refl

@@ -1,6 +1,6 @@
 -- Where a request is open there is a way on, and it is short.
 use Rattle.qolb_model.specs.declared.terms.Terms.{Terms}
-use Rattle.std.proofs.Common.{◌≡◌, ◌≢◌, ℕ, zero, suc, ◌+◌, ◌-◌, ◌*◌, ◌<◌, ◌≤◌, ◌⊎◌, Bool, true, false, List, length, eqb, refl, sym, ◌∙◌, ap, subst, inl, inr, arith}
+use Rattle.std.proofs.Common.{◌≡◌, ℕ, zero, suc, ◌+◌, ◌*◌, ◌<◌, ◌≤◌, Bool, true, false, length, refl, sym, ◌∙◌, ap, subst, inl, inr, arith}
 use Rattle.std.specs.Prelude.{cond}
 use Rattle.std.proofs.lemmas.Bool.{cases_eq, cases_Bool}
 use Rattle.qolb_model.specs.Queue.{Queue}
@@ -8,7 +8,7 @@ use Rattle.qolb_model.specs.Steps.{is_one}
 use Rattle.link_core.specs.declared.entry.Entry.{Entry}
 use Rattle.link_core.specs.declared.event.Event.{Event}
 use Rattle.link_core.specs.declared.event.Event.TheVariants as event
-use Rattle.link_core.specs.declared.place.Place.TheVariants.{Mailbox, Hand}
+use Rattle.link_core.specs.declared.place.Place.TheVariants.{Hand}
 use Rattle.link_core.specs.declared.point.Point.{Point}
 use Rattle.link_core.specs.declared.point.Point.TheVariants.{Idle, Ready, Linking, Queued, Holding, Leaving, Marking, Granting, Freeing, Left, Rolled, Shut}
 use Rattle.link_core.specs.declared.told.Told.{Told as Answer}
@@ -17,11 +17,11 @@ use Rattle.link_core.specs.State.{State, entry, point, IsNode}
 use Rattle.link_core.specs.Steps.{Step, holding, leaving, node_of}
 use Rattle.link_core.specs.Steps as row
 use Rattle.link_core.specs.Shown.{has_line, Lies, at_home, in_hand, granted, left, Matches}
-use Rattle.link_core.specs.Progress.{sum_over, is_productive, to_go, to_go_at, all_to_go, rank, rank_at, asks_behind, is_pending_at, pending, ActsNext, holds, leaves, marks, grants, loads, links, HasWay, IsNear}
-use Rattle.link_core.proofs.Sums.{sum_le, sum_one, sum_has, sum_times}
+use Rattle.link_core.specs.Progress.{sum_over, is_productive, to_go, to_go_at, all_to_go, rank_at, asks_behind, is_pending_at, pending, ActsNext, holds, leaves, marks, grants, loads, links, HasWay, IsNear}
+use Rattle.link_core.proofs.Sums.{sum_le, sum_one, sum_times}
 use Rattle.link_core.proofs.Costs.{brings_arrival}
 use Rattle.link_core.proofs.Ranks.{not_behind, last_not_behind}
-use Rattle.link_core.proofs.Falls.{rank_idle, rank_busy, open_by_home, home_by_open, busy_has_three}
+use Rattle.link_core.proofs.Falls.{rank_idle, rank_busy, home_by_open, busy_has_three}
 use Rattle.link_core.proofs.Ending.{later_other}
 
 -- an event of n that is enabled, and productive

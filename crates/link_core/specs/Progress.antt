@@ -1,6 +1,6 @@
 -- How far a line is from its rest: which events are productive, and how many of them can still follow each other. (Of this project. That
 -- a state gets a number which each of its steps lowers is the usual way to show that a program ends, after Floyd, 1967.)
-use Rattle.std.specs.Prelude.{◌≡◌, ◌≢◌, ℕ, zero, suc, ◌+◌, ◌-◌, ◌*◌, ◌<◌, ◌≤◌, ◌==◌, ◌&&◌, not, Bool, true, false, if◌then◌else◌, List, [], ◌∷◌, ◌++◌, length, drop}
+use Rattle.std.specs.Prelude.{◌≡◌, ℕ, zero, suc, ◌+◌, ◌-◌, ◌*◌, ◌<◌, ◌≤◌, ◌==◌, ◌&&◌, not, Bool, true, false, if◌then◌else◌, List, length, drop}
 use Rattle.std.specs.List.{list_any}
 use Rattle.qolb_model.specs.declared.request.Request.{Request}
 use Rattle.qolb_model.specs.declared.terms.Terms.{Terms}
@@ -13,7 +13,6 @@ use Rattle.link_core.specs.declared.told.Told.{Told}
 use Rattle.link_core.specs.declared.told.Told.TheVariants as told
 use Rattle.link_core.specs.declared.event.Event.{Event}
 use Rattle.link_core.specs.declared.event.Event.TheVariants as event
-use Rattle.link_core.specs.Places.{IsLast}
 use Rattle.link_core.specs.State.{State, entry, point, IsNode}
 use Rattle.link_core.specs.Steps.{Step, node_of}
 use Rattle.link_core.specs.Moves.{move_of, Goes}
