@@ -31,6 +31,7 @@ pub mod Came
 pub mod Steady
 pub mod Marked
 pub mod Chained
+pub mod Behind
 pub mod Sums
 pub mod Costs
 pub mod Ranks

@@ -2,7 +2,7 @@
 use Rattle.qolb_model.specs.declared.terms.Terms.{Terms}
 use Rattle.std.proofs.Common.{◌≡◌, ℕ, zero, suc, ◌+◌, ◌*◌, ◌<◌, ◌≤◌, Bool, true, false, length, refl, sym, ◌∙◌, ap, subst, inl, inr, arith}
 use Rattle.std.specs.Prelude.{cond}
-use Rattle.std.proofs.lemmas.Bool.{cases_eq, cases_Bool}
+use Rattle.std.proofs.lemmas.Bool.{cases_eq, cases_lt, cases_Bool}
 use Rattle.qolb_model.specs.Queue.{Queue}
 use Rattle.qolb_model.specs.Steps.{is_one}
 use Rattle.link_core.specs.declared.entry.Entry.{Entry}
@@ -16,13 +16,13 @@ use Rattle.link_core.specs.Places.{asker, IsLast}
 use Rattle.link_core.specs.State.{State, entry, point, IsNode}
 use Rattle.link_core.specs.Steps.{Step, holding, leaving, node_of}
 use Rattle.link_core.specs.Steps as row
-use Rattle.link_core.specs.Shown.{has_line, Lies, at_home, in_hand, granted, left, Matches}
+use Rattle.link_core.specs.Shown.{has_line, AreBehind, Sits, Lies, at_home, in_hand, granted, left, Matches}
 use Rattle.link_core.specs.Progress.{sum_over, is_productive, to_go, to_go_at, all_to_go, rank_at, asks_behind, is_pending_at, pending, ActsNext, holds, leaves, marks, grants, loads, links, HasWay, IsNear}
 use Rattle.link_core.proofs.Sums.{sum_le, sum_one, sum_times}
 use Rattle.link_core.proofs.Costs.{brings_arrival}
 use Rattle.link_core.proofs.Ranks.{not_behind, last_not_behind}
-use Rattle.link_core.proofs.Falls.{rank_idle, rank_busy, home_by_open, busy_has_three}
-use Rattle.link_core.proofs.Ending.{later_other}
+use Rattle.link_core.proofs.Falls.{rank_idle, rank_busy, open_by_home, home_by_open, busy_has_three}
+use Rattle.link_core.proofs.Ending.{facts, later_other}
 
 -- an event of n that is enabled, and productive
 pub record Enabled (c : State) (e : Event) : Type 0 where
@@ -183,12 +183,48 @@ module _ {terms : Terms} {c : State} {q : Queue} (s : Matches terms c q) where
   rank_at_most : (p : ℕ) → rank_at c q.order p ≤ all_to_go c
   rank_at_most p = sum_le c.nodes (λ k. cond (asks_behind q.order p k) 0 (to_go c k)) (to_go c) (λ k _ _. left_out_most (asks_behind q.order p k) (to_go c k))
 
-  pub is_near : IsNear c q
-  is_near = record {
-    all = let m = all_most in elim (cases_eq c.home 0) [
+  -- with no request open only freeings are left
+  module _ (behind : AreBehind c q.order q.ends) (over : length q.ends ≡ length q.order) where
+    held_over : (n : ℕ) → IsNode c n → (x : Point) → point c n ≡ x → has_line x ≡ true → ⊥
+    held_over n a x e f = let k = (facts s a (ap has_line e ∙ f)).0 in omega arith
+
+    rolled_over : (n : ℕ) → IsNode c n → point c n ≡ Rolled → (b g : Bool) → (entry c n).granted ≡ g → cond b 0 (cond g 1 4) ≤ cond (cond b false true) 1 0
+    rolled_over n a e true g f = omega arith
+    rolled_over n a e false true f = omega arith
+    rolled_over n a e false false f = let k = behind n a e f in let l = k.1.known in let m = k.2 in absurd (omega arith)
+
+    over_most : (n : ℕ) → IsNode c n → (x : Point) → point c n ≡ x → Sits c q.order q.ends n x → to_go_at c (entry c n) x ≤ cond (is_pending_at (entry c n) x) 1 0
+    over_most n a Idle e y = omega arith
+    over_most n a Ready e y = omega arith
+    over_most n a Shut e y = omega arith
+    over_most n a Left e y = omega arith
+    over_most n a Freeing e y = omega arith
+    over_most n a (Linking x) e y = let k = y.own.known in let l = y.waits in absurd (omega arith)
+    over_most n a Queued e y = let k = y.own.known in let l = y.waits in absurd (omega arith)
+    over_most n a Rolled e y = rolled_over n a e (entry c n).freed (entry c n).granted refl
+    over_most n a Holding e y = absurd (held_over n a Holding e refl)
+    over_most n a (Leaving x) e y = absurd (held_over n a (Leaving x) e refl)
+    over_most n a (Marking x) e y = absurd (held_over n a (Marking x) e refl)
+    over_most n a (Granting x) e y = absurd (held_over n a (Granting x) e refl)
+
+    all_over : all_to_go c ≤ pending c
+    all_over = sum_le c.nodes (to_go c) one (λ k a b. over_most k (a, b) (point c k) refl (s.sits k (a, b)))
+
+  over_at_home : c.home ≡ 0 → length q.ends ≡ length q.order
+  over_at_home e = elim (cases_lt (length q.ends) (length q.order)) [
+    | inl l ↦ absurd (home_by_open s l e)
+    | inr l ↦ let k = s.known in omega arith
+  ]
+
+  pub is_near : AreBehind c q.order q.ends → IsNear c q
+  is_near behind = record {
+    most = λ some. elim (cases_eq c.home 0) [
+      | inl z ↦ let a = rank_idle c z in let b = all_over behind (over_at_home z) in omega arith
+      | inr z ↦ let a = rank_busy c z in let b = open_fewer (open_by_home s z) s.lies in let m = busy_has_three s z in omega arith
+    ];
+    none = λ e. let m = all_most in elim (cases_eq c.home 0) [
       | inl z ↦ let a = rank_idle c z in omega arith
       | inr z ↦ let a = rank_busy c z in omega arith
     ];
-    open' = λ l. let a = rank_busy c (home_by_open s l) in let b = open_fewer l s.lies in let m = busy_has_three s (home_by_open s l) in omega arith;
     at = λ p l k. let a = rank_at_most p in let b = open_fewer (omega arith) s.lies in let m = pending_most in omega arith;
   }
