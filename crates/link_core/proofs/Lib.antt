@@ -41,3 +41,4 @@ pub mod Paths
 pub mod Found
 pub mod Once
 pub mod Short
+pub mod Few

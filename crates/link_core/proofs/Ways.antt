@@ -18,7 +18,7 @@ use Rattle.link_core.specs.Steps.{Step, holding, leaving, node_of}
 use Rattle.link_core.specs.Steps as row
 use Rattle.link_core.specs.Shown.{has_line, AreBehind, Sits, Lies, at_home, in_hand, granted, left, Matches}
 use Rattle.link_core.specs.Progress.{sum_over, is_productive, to_go, to_go_at, all_to_go, rank_at, asks_behind, is_pending_at, pending, ActsNext, holds, leaves, marks, grants, loads, links, HasWay, IsNear}
-use Rattle.link_core.proofs.Sums.{sum_le, sum_one, sum_times}
+use Rattle.link_core.proofs.Sums.{sum_le, sum_one, sum_has, sum_times}
 use Rattle.link_core.proofs.Costs.{brings_arrival}
 use Rattle.link_core.proofs.Ranks.{not_behind, last_not_behind}
 use Rattle.link_core.proofs.Falls.{rank_idle, rank_busy, open_by_home, home_by_open, busy_has_three}
@@ -183,6 +183,33 @@ module _ {terms : Terms} {c : State} {q : Queue} (s : Matches terms c q) where
   rank_at_most : (p : ℕ) → rank_at c q.order p ≤ all_to_go c
   rank_at_most p = sum_le c.nodes (λ k. cond (asks_behind q.order p k) 0 (to_go c k)) (to_go c) (λ k _ _. left_out_most (asks_behind q.order p k) (to_go c k))
 
+  -- with a request open the node that is next to act has something to go
+  some_at : (n : ℕ) → IsNode c n → ((p : ℕ) → length q.ends ≤ p → asks_behind q.order p n ≡ false) → 0 < to_go c n → (p : ℕ) → length q.ends ≤ p → 0 < rank_at c q.order p
+  some_at n a f l p b =
+      let k = sum_has c.nodes n (λ k. cond (asks_behind q.order p k) 0 (to_go c k)) a.0 a.1 in
+      let e : cond (asks_behind q.order p n) 0 (to_go c n) ≡ to_go c n = ap (λ b. cond b 0 (to_go c n)) (f p b) in
+      omega arith
+
+  held_some : (n : ℕ) → (x : Point) → point c n ≡ x → has_line x ≡ true → 0 < to_go c n
+  held_some n Holding e f = let k : to_go c n ≡ 3 = ap (to_go_at c (entry c n)) e in omega arith
+  held_some n (Leaving x) e f = let k : to_go c n ≡ 3 = ap (to_go_at c (entry c n)) e in omega arith
+  held_some n (Marking x) e f = let k : to_go c n ≡ 2 = ap (to_go_at c (entry c n)) e in omega arith
+  held_some n (Granting x) e f = let k : to_go c n ≡ 1 = ap (to_go_at c (entry c n)) e in omega arith
+  held_some n Idle e f = cc
+  held_some n Ready e f = cc
+  held_some n Shut e f = cc
+  held_some n Left e f = cc
+  held_some n Freeing e f = cc
+  held_some n (Linking x) e f = cc
+  held_some n Queued e f = cc
+  held_some n Rolled e f = cc
+
+  open_some : length q.ends < length q.order → Lies terms c q.order q.ends → (p : ℕ) → length q.ends ≤ p → 0 < rank_at c q.order p
+  open_some l (at_home e b w) = absurd (omega arith)
+  open_some l (in_hand n _ a b f g h) = some_at n a (held_before s n a f) (held_some n (point c n) refl f)
+  open_some l (granted t _ b h f g w) = some_at t (turn_node s t l b) (turn_before s t l b) (let k : to_go c t ≡ 4 = ap (to_go_at c (entry c t)) g in omega arith)
+  open_some l (left t x _ b h f g y i w) = some_at t (turn_node s t l b) (turn_before s t l b) (let k : to_go c t ≡ 4 = ap (to_go_at c (entry c t)) i ∙ ap (λ b. cond b 4 5) f in omega arith)
+
   -- with no request open only freeings are left
   module _ (behind : AreBehind c q.order q.ends) (over : length q.ends ≡ length q.order) where
     held_over : (n : ℕ) → IsNode c n → (x : Point) → point c n ≡ x → has_line x ≡ true → ⊥
@@ -226,5 +253,6 @@ module _ {terms : Terms} {c : State} {q : Queue} (s : Matches terms c q) where
       | inl z ↦ let a = rank_idle c z in omega arith
       | inr z ↦ let a = rank_busy c z in omega arith
     ];
+    some = λ p l k. open_some (omega arith) s.lies p l;
     at = λ p l k. let a = rank_at_most p in let b = open_fewer (omega arith) s.lies in let m = pending_most in omega arith;
   }

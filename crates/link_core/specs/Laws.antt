@@ -133,3 +133,12 @@ PathsAreShort = (terms : Terms) (c d : State) (q r : Queue) → IsWide c → Sho
 -- and no run from the opening has more than 5 for each ask.
 abbrev pub RunsAreShort : Type 0
 RunsAreShort = (terms : Terms) (es : List Event) (c : State) (q : Queue) → terms.nodes ≤ MOST_NODES → length terms.opening.bytes ≡ 64 → (run : Run terms es c q) → productive_in run + rank c ≤ 5 * asked_in run
+
+-- The open requests are of different nodes. So of an open request at most N - 1 others end before its own, as its place stays and what
+-- is asked later stands behind it.
+pub record AreFew (c : State) (q : Queue) : Type 0 where
+  pub apart : (p i : ℕ) → length q.ends ≤ p → p < length q.order → length q.ends ≤ i → i < length q.order → asker q.order p ≡ asker q.order i → p ≡ i
+  pub near : (p : ℕ) → length q.ends ≤ p → p < length q.order → p < length q.ends + c.nodes
+
+abbrev pub FewAreOpen : Type 0
+FewAreOpen = (terms : Terms) (c : State) (q : Queue) → Shows terms c q → AreFew c q

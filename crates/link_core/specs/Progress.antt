@@ -137,11 +137,12 @@ pub record HasWay (c : State) (q : Queue) : Type 0 where
   pub step : Step c event told next
   pub productive : is_productive event told ≡ true
 
--- How much is left: with so many pending nodes, at most 5 productive events for each, less 3; with none pending, none. For the request at
--- a place, at most 5 for each node, less 1.
+-- How much is left: with so many pending nodes, at most 5 productive events for each, less 3; with none pending, none. For an open request,
+-- at least 1, and at most 5 for each node, less 1.
 pub record IsNear (c : State) (q : Queue) : Type 0 where
   pub most : 0 < pending c → rank c + 3 ≤ 5 * pending c
   pub none : pending c ≡ 0 → rank c ≡ 0
+  pub some : (p : ℕ) → length q.ends ≤ p → p < length q.order → 0 < rank_at c q.order p
   pub at : (p : ℕ) → length q.ends ≤ p → p < length q.order → rank_at c q.order p < 5 * c.nodes
 
 -- events that lead on from one state and queue to another

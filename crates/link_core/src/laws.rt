@@ -1,6 +1,6 @@
 //! What a lock whose words are those of a core may rest on, as laws of its events. Each law is the contract of a function that does nothing.
 
-ghost use Rattle.link_core.specs.Laws.{OpenedShows, EachEventKeeps, MovesAreMade, EventsAreEnabled, EventsHaveOneEffect, AddsFindUnset, NodesFind, SizesStay, LastsHavePlaces, WalksAreShort, EndsClose, RunsMove, EventsGoDown, OpenHaveWays, WaysStay, FewAreLeft, PathsAreShort, RunsAreShort};
+ghost use Rattle.link_core.specs.Laws.{OpenedShows, EachEventKeeps, MovesAreMade, EventsAreEnabled, EventsHaveOneEffect, AddsFindUnset, NodesFind, SizesStay, LastsHavePlaces, WalksAreShort, EndsClose, RunsMove, FewAreOpen, EventsGoDown, OpenHaveWays, WaysStay, FewAreLeft, PathsAreShort, RunsAreShort};
 
 /// A line that is opened shows the empty queue.
 pub fn opened_shows()
@@ -60,6 +60,11 @@ pub fn ends_close()
 /// A run of events is a run of the queue.
 pub fn runs_move()
     ensures { RunsMove }
+{}
+
+/// Open requests are of different nodes, so at most N - 1 of them end before one's own.
+pub fn few_are_open()
+    ensures { FewAreOpen }
 {}
 
 /// Each productive event lowers the rank, and none but an ask raises it; and so for each open request, whatever comes behind it.

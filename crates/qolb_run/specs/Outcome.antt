@@ -71,7 +71,7 @@ MayFail task input error.Write = IsAnswered task input
 abbrev pub MayEnd : Task → List ℕ → TaskError → Type 0
 MayEnd task input (ending.Replay why) = MayFail task input why
 MayEnd (Replay kind) input (ending.Stalled worker) = ⊥
-MayEnd Steps input (ending.Stalled worker) = ⊥
+MayEnd (Steps detail) input (ending.Stalled worker) = ⊥
 MayEnd (Work kind lines) input (ending.Stalled worker) = (work : WorkScript) × IsWork kind input work × MayStop work (run.Stalled worker)
 
 -- the error of a task whose work has no report
