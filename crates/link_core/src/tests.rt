@@ -368,3 +368,44 @@ fn a_replay_reaches_the_core_after_its_events(rt: HostRuntime) -> Result<(), Fai
     assert_eq!(rt; core.place(), Place::Hand(2));
     Ok(())
 }
+
+#[test]
+fn each_productive_event_takes_one_off_the_rank(rt: HostRuntime) -> Result<(), Fail> {
+    let first = [
+        (Event::Reset(1), Ok(Told::Went)),
+        (Event::Prepend(1), Ok(Told::Granted)),
+        (Event::Reset(2), Ok(Told::Went)),
+        (Event::Prepend(2), Ok(Told::Went)),
+        (Event::Link(2), Ok(Told::Queued)),
+        (Event::Home(1), Ok(Told::Went)),
+        (Event::Done(1), Ok(Told::Went)),
+        (Event::Grant(1), Ok(Told::Released)),
+        (Event::Reset(1), Ok(Told::Went)),
+        (Event::Prepend(1), Ok(Told::Went)),
+        (Event::Reset(3), Ok(Told::Went)),
+        (Event::Prepend(3), Ok(Told::Went)),
+    ];
+    let mut core = expect_run(&rt, 3, first.as_slice())?;
+    let rest = [
+        Event::Load(2),
+        Event::Link(1),
+        Event::Link(3),
+        Event::Home(2),
+        Event::Done(2),
+        Event::Grant(2),
+        Event::Load(1),
+        Event::Home(1),
+        Event::Done(1),
+        Event::Grant(1),
+        Event::Load(3),
+        Event::Home(3),
+    ];
+    let mut left = 12;
+    for event in rest {
+        assert_eq!(rt; core.rank(), left, "before {event:?}");
+        assert!(rt; core.step(event).is_ok(), "at {event:?}");
+        left -= 1;
+    }
+    assert_eq!(rt; core.rank(), 0);
+    Ok(())
+}
