@@ -60,10 +60,10 @@ module _ {c d : State} {n : ℕ} {s : Seat} {k : ℕ} {w : Entry} (ch : Changed 
       → ((m : ℕ) → IsNode c m → point c m ≡ Rolled → (entry d m).granted ≡ false → IsLast o m (length es + 1) → ⊥) → AreBehind c o es → AreBehind d o (es ++ x ∷ [])
   behind_ended o es x ne f = behind_by o o es (es ++ x ∷ []) (λ e. absurd (ne e)) (λ m p _ l. l)
       (λ m p a at un l b. let long : length (es ++ x ∷ []) ≡ length es + 1 = length-append es (x ∷ []) in
-        elim (cases_eq p (length es + 1)) [
-          | inl z ↦ absurd (f m a at un (subst (λ (y : ℕ). IsLast o m y) z l))
-          | inr z ↦ omega arith
-        ])
+      elim (cases_eq p (length es + 1)) [
+        | inl z ↦ absurd (f m a at un (subst (λ (y : ℕ). IsLast o m y) z l))
+        | inr z ↦ omega arith
+      ])
 
 arrival_other : (n : ℕ) (b : Bool) → (seat_at_arrival n b).point ≢ Rolled
 arrival_other n true e = let z : Leaving n ≡ Rolled = e in cc

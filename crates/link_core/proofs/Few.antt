@@ -37,9 +37,9 @@ module _ {terms : Terms} {c : State} {q : Queue} (s : Matches terms c q) where
       let turn = s.nodes (length q.ends) l in
       few later (asker q.order (length q.ends)) c.nodes turn.1 turn.0
       (λ i b.
-        let at = later_at i in
-        let node = s.nodes (suc (length q.ends) + i) (omega arith) in
-        (omega arith, omega arith, λ e. let k = apart (suc (length q.ends) + i) (length q.ends) (omega arith) (omega arith) (omega arith) l (sym at ∙ e) in omega arith))
+      let at = later_at i in
+      let node = s.nodes (suc (length q.ends) + i) (omega arith) in
+      (omega arith, omega arith, λ e. let k = apart (suc (length q.ends) + i) (length q.ends) (omega arith) (omega arith) (omega arith) l (sym at ∙ e) in omega arith))
       (λ i j b d e. let k = apart (suc (length q.ends) + i) (suc (length q.ends) + j) (omega arith) (omega arith) (omega arith) (omega arith) (sym (later_at i) ∙ e ∙ later_at j) in omega arith)
 
   pub are_few : AreFew c q

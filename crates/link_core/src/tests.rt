@@ -387,24 +387,22 @@ fn each_productive_event_takes_one_off_the_rank(rt: HostRuntime) -> Result<(), F
     ];
     let mut core = expect_run(&rt, 3, first.as_slice())?;
     let rest = [
-        Event::Load(2),
-        Event::Link(1),
-        Event::Link(3),
-        Event::Home(2),
-        Event::Done(2),
-        Event::Grant(2),
-        Event::Load(1),
-        Event::Home(1),
-        Event::Done(1),
-        Event::Grant(1),
-        Event::Load(3),
-        Event::Home(3),
+        (12, Event::Load(2)),
+        (11, Event::Link(1)),
+        (10, Event::Link(3)),
+        (9, Event::Home(2)),
+        (8, Event::Done(2)),
+        (7, Event::Grant(2)),
+        (6, Event::Load(1)),
+        (5, Event::Home(1)),
+        (4, Event::Done(1)),
+        (3, Event::Grant(1)),
+        (2, Event::Load(3)),
+        (1, Event::Home(3)),
     ];
-    let mut left = 12;
-    for event in rest {
+    for (left, event) in rest {
         assert_eq!(rt; core.rank(), left, "before {event:?}");
         assert!(rt; core.step(event).is_ok(), "at {event:?}");
-        left -= 1;
     }
     assert_eq!(rt; core.rank(), 0);
     Ok(())

@@ -384,7 +384,8 @@ fn runs_step_scripts(rt: HostRuntime) -> Result<(), Fail> {
     }
     let script = "nodes 1\nreset 1\nprepend 1\nhome 1\nhome 1\n";
     let (status, out, err) = run(&rt, rt.alloc(), &["steps", "--rank"], script)?;
-    let ranked = "went 0\ngranted 1\nreleased 0\nrefused 0\nline 0 served 1 withdrawn 0 told 0 left 0\n";
+    let ranked =
+        "went 0\ngranted 1\nreleased 0\nrefused 0\nline 0 served 1 withdrawn 0 told 0 left 0\n";
     assert_eq!(rt; (status, out.as_str(), err.as_str()), (0, ranked, ""));
     let (status, out, err) = run(&rt, rt.alloc(), &["steps"], "nodes 2\nreset 3\n")?;
     assert_eq!(rt;

@@ -35,7 +35,12 @@ fn each_allocation_is_refused(rt: HostRuntime) -> Result<(), Fail> {
         let heap = LocalHeap::new(rt.alloc(), 32 * step)?;
         let mut reader = Watched::new(SCRIPT.as_bytes());
         let mut text: Vec<u8> = Vec::new(rt.alloc());
-        match run_steps(&heap, &mut reader, &mut Watched::new(&mut text), Detail::Words) {
+        match run_steps(
+            &heap,
+            &mut reader,
+            &mut Watched::new(&mut text),
+            Detail::Words,
+        ) {
             Ok(()) => {
                 ran = true;
                 assert_eq!(rt; text.as_slice(), REPLY.as_bytes(), "at {step}");
