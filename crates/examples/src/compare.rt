@@ -2,7 +2,7 @@
 ghost use Rattle.std.specs.Prelude.{◌≡◌, ◌↔◌, IsOk};
 
 use anyhow::{bail, ensure};
-use qolb_run::{AlwaysOpen, Kind, Lines, report_work, run_schedule, run_steps};
+use qolb_run::{AlwaysOpen, Detail, Kind, Lines, report_work, run_schedule, run_steps};
 use qolb_script::{Watched, WorkKind};
 use std::alloc::Global;
 use std::sync::Wait;
@@ -88,6 +88,7 @@ fn steps(alloc: Global, script: &[u8]) -> anyhow::Result<Vec<u8>> {
         alloc,
         &mut Watched::new(script),
         &mut Watched::new(&mut said),
+        Detail::Words,
     );
     match done {
         Ok(()) => Ok(said),

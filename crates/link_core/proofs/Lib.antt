@@ -31,6 +31,14 @@ pub mod Came
 pub mod Steady
 pub mod Marked
 pub mod Chained
+pub mod Behind
+pub mod Sums
+pub mod Costs
+pub mod Ranks
+pub mod Falls
+pub mod Ways
+pub mod Paths
 pub mod Found
 pub mod Once
 pub mod Short
+pub mod Few

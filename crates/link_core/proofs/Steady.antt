@@ -6,17 +6,17 @@ use Rattle.qolb_model.specs.declared.terms.Terms.{Terms}
 use Rattle.qolb_model.specs.declared.terms.TheConstants.{MOST_NODES}
 use Rattle.link_core.specs.declared.state.TheConstants.{PLACES}
 use Rattle.qolb_model.specs.Histories.{IsLegal}
-use Rattle.qolb_model.specs.Queue.{Queue, Move, ask, mark, finish, empty_queue}
+use Rattle.qolb_model.specs.Queue.{Queue, Move, ask, mark, finish, empty_queue, HasCleared}
 use Rattle.qolb_model.specs.declared.request.Request.{Request}
 use Rattle.qolb_model.proofs.Histories.{legal_moved}
 use Rattle.link_core.specs.declared.told.NotEnabled.{NotEnabled}
 use Rattle.link_core.specs.declared.told.Told.{Told as Answer}
 use Rattle.link_core.specs.declared.event.Event.{Event}
 use Rattle.link_core.specs.State.{State, IsWide, Seat, empty, unused, seat, point, first}
-use Rattle.link_core.specs.declared.point.Point.TheVariants.{Idle, Granting}
+use Rattle.link_core.specs.declared.point.Point.TheVariants.{Idle, Granting, Rolled}
 use Rattle.link_core.specs.Steps.{Step, IsRefused}
 use Rattle.link_core.specs.Moves.{move_of, may_clear, MayMake, made, Goes}
-use Rattle.link_core.specs.Shown.{Shows}
+use Rattle.link_core.specs.Shown.{AreBehind, Shows}
 use Rattle.link_core.specs.Promise.{Keeps, IsSound, Run, Stops, opened, event}
 use Rattle.link_core.proofs.Open.{seat_first, first_matches}
 use Rattle.link_core.proofs.Sound.{sound_wide, step_sizes}
@@ -26,6 +26,7 @@ use Rattle.link_core.proofs.Came.{step_comes}
 use Rattle.link_core.proofs.Others.{spared}
 use Rattle.link_core.proofs.Marked.{marked_goes, earlier_goes}
 use Rattle.link_core.proofs.Chained.{step_chained}
+use Rattle.link_core.proofs.Behind.{step_behind}
 
 -- a legal queue stays so
 legal_made : (terms : Terms) (h : Queue) (m : Option Move) → MayMake terms h m → IsLegal terms.lease h.order h.ends → IsLegal terms.lease (made h m).order (made h m).ends
@@ -34,6 +35,9 @@ legal_made terms h (Some x) a l = legal_moved terms h x a l
 
 legal_goes : (terms : Terms) (h : Queue) (m : Option Move) (g : Queue) → Goes terms h m g → IsLegal terms.lease h.order h.ends → IsLegal terms.lease g.order g.ends
 legal_goes terms h m g k l = subst (λ (y : Queue). IsLegal terms.lease y.order y.ends) (sym k.cleared.2) (legal_made terms h m k.may l)
+
+behind_goes : (d : State) (q r : Queue) → HasCleared q r → AreBehind d q.order q.ends → AreBehind d r.order r.ends
+behind_goes d q r k b = subst (λ (y : Queue). AreBehind d y.order y.ends) (sym k.2) b
 
 -- each step keeps what is shown, by its move
 pub step_shows : (terms : Terms) (c : State) (q : Queue) → IsWide c → Shows terms c q → {e : Event} {t : Answer} {d : State} (k : Step c e t d) → Keeps terms c e t d k q
@@ -49,6 +53,7 @@ step_shows terms c q w s {e} {t} {d} k =
         earlier = earlier_goes terms q (move_of k q.order) on.after goes s.legal s.earlier;
         matches = on.shows;
         chained = step_chained terms c q w s.matches s.chained k;
+        behind = behind_goes d (made q (move_of k q.order)) on.after goes.cleared (step_behind terms c q w s.matches s.behind k);
       };
       says = on.says;
       comes = step_comes w s.matches k _ on;
@@ -77,6 +82,7 @@ first_shows terms long = record {
   matches = first_matches terms long;
   earlier = λ r h. let z : false ≡ true = h in cc;
   gone = record { gone = λ p r at e. let z : None ≡ Some r = at in cc z; marked = λ p r at l h. let z : None ≡ Some r = at in cc z };
+  behind = λ n b e f. let z : Idle ≡ Rolled = sym (first_idle n) ∙ e in cc;
   chained = record { links = λ n i b l. absurd (none_passed n i l); done = λ n m b e. let z : Idle ≡ Granting m = sym (first_idle n) ∙ e in cc };
   legal = record { numbered = λ p r e. let z : None ≡ Some r = e in cc z; ended = omega arith; closing = λ p r e. let z : None ≡ Some r = e in cc z };
 }

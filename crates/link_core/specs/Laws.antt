@@ -1,5 +1,5 @@
 -- What a lock whose words are those of a core may rest on. (Of this project.)
-use Rattle.std.specs.Prelude.{◌≡◌, ◌≢◌, ◌↔◌, ℕ, ◌+◌, ◌<◌, ◌≤◌, true, false, Option, List, [], ◌∷◌, length}
+use Rattle.std.specs.Prelude.{◌≡◌, ◌≢◌, ◌↔◌, ℕ, ◌+◌, ◌*◌, ◌<◌, ◌≤◌, true, false, Option, List, [], ◌∷◌, length}
 use Rattle.qolb_model.specs.declared.terms.Terms.{Terms}
 use Rattle.qolb_model.specs.declared.terms.TheConstants.{MOST_NODES}
 use Rattle.qolb_model.specs.Ends.{is_closed}
@@ -18,8 +18,9 @@ use Rattle.link_core.specs.Places.{request, asker, IsLast}
 use Rattle.link_core.specs.State.{State, IsWide, entry, seat, point, IsNode, current, first}
 use Rattle.link_core.specs.Steps.{Step, Releases, Names, node_of, allows}
 use Rattle.link_core.specs.Shown.{has_line, is_active, EndedBy, IsWhole, IsCarried, IsBehind, Shows}
-use Rattle.link_core.specs.Moves.{move_of, may_clear, made}
+use Rattle.link_core.specs.Moves.{move_of, may_clear, made, Goes}
 use Rattle.link_core.specs.Promise.{Keeps, Run}
+use Rattle.link_core.specs.Progress.{GoesDown, ActsNext, HasWay, IsNear, Path, IsShort, rank, productive_in, asked_in}
 
 -- A line that is opened shows the empty queue.
 abbrev pub OpenedShows : Type 0
@@ -108,3 +109,36 @@ EndsClose = (terms : Terms) (c : State) (q : Queue) (n : ℕ) (r : Reason) → S
 -- A run of events is a run of the queue.
 abbrev pub RunsMove : Type 0
 RunsMove = (terms : Terms) (es : List Event) (c : State) (q : Queue) → Run terms es c q → (moves : List Move) × Runs terms empty_queue moves q
+
+-- A productive event lowers the rank, and none but an ask raises it; and so for each request that is open.
+abbrev pub EventsGoDown : Type 0
+EventsGoDown = (terms : Terms) (c d : State) (q r : Queue) (e : Event) (t : Told) → IsWide c → Shows terms c q → (step : Step c e t d) → Goes terms q (move_of step q.order) r → GoesDown c d q r e t
+
+-- Where a request is open, some node that asks behind none such has a productive event that is enabled; and the line says which node.
+abbrev pub OpenHaveWays : Type 0
+OpenHaveWays = (terms : Terms) (c : State) (q : Queue) → Shows terms c q → length q.ends < length q.order → HasWay c q
+
+-- And no other node takes it away.
+abbrev pub WaysStay : Type 0
+WaysStay = (terms : Terms) (c d : State) (q : Queue) (e f : Event) (t : Told) → IsWide c → Shows terms c q → IsNode c (node_of f) → Step c e t d → node_of e ≢ node_of f → ActsNext c f → ActsNext d f
+
+-- How much is left.
+abbrev pub FewAreLeft : Type 0
+FewAreLeft = (terms : Terms) (c : State) (q : Queue) → Shows terms c q → IsNear c q
+
+-- So no path has more productive events than its rank and its asks pay for,
+abbrev pub PathsAreShort : Type 0
+PathsAreShort = (terms : Terms) (c d : State) (q r : Queue) → IsWide c → Shows terms c q → (path : Path terms c q d r) → IsShort path
+
+-- and no run from the opening has more than 5 for each ask.
+abbrev pub RunsAreShort : Type 0
+RunsAreShort = (terms : Terms) (es : List Event) (c : State) (q : Queue) → terms.nodes ≤ MOST_NODES → length terms.opening.bytes ≡ 64 → (run : Run terms es c q) → productive_in run + rank c ≤ 5 * asked_in run
+
+-- The open requests are of different nodes. So of an open request at most N - 1 others end before its own, as its place stays and what
+-- is asked later stands behind it.
+pub record AreFew (c : State) (q : Queue) : Type 0 where
+  pub apart : (p i : ℕ) → length q.ends ≤ p → p < length q.order → length q.ends ≤ i → i < length q.order → asker q.order p ≡ asker q.order i → p ≡ i
+  pub near : (p : ℕ) → length q.ends ≤ p → p < length q.order → p < length q.ends + c.nodes
+
+abbrev pub FewAreOpen : Type 0
+FewAreOpen = (terms : Terms) (c : State) (q : Queue) → Shows terms c q → AreFew c q

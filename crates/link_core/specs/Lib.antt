@@ -5,4 +5,5 @@ pub mod Shown
 pub mod Moves
 pub mod Promise
 pub mod Others
+pub mod Progress
 pub mod Laws

@@ -227,6 +227,10 @@ pub record IsChained (c : State) : Type 0 where
   pub links : (n i : ℕ) → IsNode c n → i < length (seat c n).passed → (entry c (slice_index_or (n ∷ (seat c n).passed) i 0)).link ≢ 0
   pub done : (n m : ℕ) → IsNode c n → point c n ≡ Granting m → (entry c (current c n)).done ≡ true
 
+-- A withdrawn node that was not granted waits behind the turn.
+abbrev pub AreBehind : State → List Request → List End → Type 0
+AreBehind c order ends = (n : ℕ) → IsNode c n → point c n ≡ Rolled → (entry c n).granted ≡ false → (p : ℕ) × IsLast order n p × (length ends < p)
+
 -- the requests that are gone are those of the ended ones that were marked
 pub record AreMarked (q : Queue) : Type 0 where
   pub gone : (p : ℕ) (r : Request) → slice_get q.order p ≡ Some r → slice_get q.ends p ≡ Some Gone → Has q.marked r
@@ -243,3 +247,4 @@ pub record Shows (terms : Terms) (c : State) (q : Queue) : Type 0 where
   pub earlier : AreEarlierClear q
   pub matches : Matches terms c q
   pub chained : IsChained c
+  pub behind : AreBehind c q.order q.ends

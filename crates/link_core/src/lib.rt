@@ -9,6 +9,7 @@ pub mod laws;
 mod machine;
 mod place;
 mod point;
+mod rank;
 mod releasing;
 mod replaying;
 mod seat;

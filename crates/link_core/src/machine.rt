@@ -5,6 +5,7 @@ ghost use Rattle.link_core.specs.State.{IsNode, first, entry, point};
 ghost use Rattle.link_core.specs.Steps.{Step, Fits, IsRefused};
 ghost use Rattle.link_core.specs.Shown.{Shows};
 ghost use Rattle.link_core.specs.Promise.{Keeps};
+ghost use Rattle.link_core.specs.Progress.{rank};
 
 use crate::entry::Entry;
 use crate::event::Event;
@@ -100,6 +101,14 @@ impl Core {
         ensures { result ≡ point self.now node }
     {
         self.state.point(node)
+    }
+
+    /// How many productive events can follow each other from here: links, loads that bring the line, releases and freeings. None of
+    /// them waits for another request, and where one is open some node can make one.
+    pub fn rank(&self) -> u64
+        ensures { result ≡ rank self.now }
+    {
+        self.state.rank()
     }
 
     /// Where the line lies.

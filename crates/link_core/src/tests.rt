@@ -368,3 +368,42 @@ fn a_replay_reaches_the_core_after_its_events(rt: HostRuntime) -> Result<(), Fai
     assert_eq!(rt; core.place(), Place::Hand(2));
     Ok(())
 }
+
+#[test]
+fn each_productive_event_takes_one_off_the_rank(rt: HostRuntime) -> Result<(), Fail> {
+    let first = [
+        (Event::Reset(1), Ok(Told::Went)),
+        (Event::Prepend(1), Ok(Told::Granted)),
+        (Event::Reset(2), Ok(Told::Went)),
+        (Event::Prepend(2), Ok(Told::Went)),
+        (Event::Link(2), Ok(Told::Queued)),
+        (Event::Home(1), Ok(Told::Went)),
+        (Event::Done(1), Ok(Told::Went)),
+        (Event::Grant(1), Ok(Told::Released)),
+        (Event::Reset(1), Ok(Told::Went)),
+        (Event::Prepend(1), Ok(Told::Went)),
+        (Event::Reset(3), Ok(Told::Went)),
+        (Event::Prepend(3), Ok(Told::Went)),
+    ];
+    let mut core = expect_run(&rt, 3, first.as_slice())?;
+    let rest = [
+        (12, Event::Load(2)),
+        (11, Event::Link(1)),
+        (10, Event::Link(3)),
+        (9, Event::Home(2)),
+        (8, Event::Done(2)),
+        (7, Event::Grant(2)),
+        (6, Event::Load(1)),
+        (5, Event::Home(1)),
+        (4, Event::Done(1)),
+        (3, Event::Grant(1)),
+        (2, Event::Load(3)),
+        (1, Event::Home(3)),
+    ];
+    for (left, event) in rest {
+        assert_eq!(rt; core.rank(), left, "before {event:?}");
+        assert!(rt; core.step(event).is_ok(), "at {event:?}");
+    }
+    assert_eq!(rt; core.rank(), 0);
+    Ok(())
+}

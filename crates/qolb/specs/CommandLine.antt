@@ -14,6 +14,8 @@ use Rattle.qolb_draw.specs.declared.draw.Form.{Form}
 use Rattle.qolb_draw.specs.declared.draw.Form.TheVariants as form
 use Rattle.qolb.specs.declared.command_line.Wish.{Wish}
 use Rattle.qolb.specs.declared.command_line.Wish.TheVariants.{Answer, Draw}
+use Rattle.qolb_run.specs.declared.task.Detail.{Detail}
+use Rattle.qolb_run.specs.declared.task.Detail.TheVariants as detail
 use Rattle.qolb_run.specs.declared.task.Task.{Task}
 use Rattle.qolb_run.specs.declared.task.Task.TheVariants as task
 
@@ -44,12 +46,13 @@ kind_rule names = record (new_rule (codes "kind")) {
 abbrev pub replay_command : Names → App
 replay_command names = with_rule (new_app (codes "replay")) (record (kind_rule names) { required = true })
 
-abbrev pub steps_command : App
-steps_command = new_app (codes "steps")
-
 -- `--name`, without a value
 abbrev pub flag_rule : Text → Rule
 flag_rule name = record (new_rule name) { long = Some name; action = Some SetTrue }
+
+-- `steps [--rank]`
+abbrev pub steps_command : App
+steps_command = with_rule (new_app (codes "steps")) (flag_rule (codes "rank"))
 
 -- work by this name, over lists where no kind is given
 abbrev pub work_over : Text → Names → App
@@ -65,7 +68,7 @@ draw_command = with_rule (new_app (codes "draw")) (flag_rule (codes "svg"))
 abbrev pub needs_subcommand : App → App
 needs_subcommand app = record app { top = record app.top { subcommand_required = true } }
 
--- the program's command: `replay --kind KIND`, `steps`, `board [--kind KIND] [--progress]`, `bank` with the same, or `draw [--svg]`
+-- the program's command: `replay --kind KIND`, `steps [--rank]`, `board [--kind KIND] [--progress]`, `bank` with the same, or `draw [--svg]`
 abbrev pub replay_or_steps : Names → App
 replay_or_steps replayed = with_subcommand (with_subcommand (needs_subcommand (new_app (codes "qolb"))) (replay_command replayed).top) steps_command.top
 
@@ -84,16 +87,21 @@ abbrev pub lines_of_name : Option Text → Lines
 lines_of_name None = lines.Link
 lines_of_name (Some name) = if bytes_eq name (codes "ring") then lines.Ring else lines.Link
 
+-- what is written of each event, by what `--rank` is set to
+abbrev pub detail_of : Option Text → Detail
+detail_of None = detail.Words
+detail_of (Some value) = if bytes_eq value (codes "true") then detail.Ranks else detail.Words
+
 -- the task of a subcommand with these arguments
-abbrev pub task_of : Text → Option Text → Task
-task_of name kind =
-    if bytes_eq name (codes "steps") then task.Steps
+abbrev pub task_by : Text → Option Text → Detail → Task
+task_by name kind detail =
+    if bytes_eq name (codes "steps") then task.Steps detail
     else if bytes_eq name (codes "board") then task.Work Board (lines_of_name kind)
     else if bytes_eq name (codes "bank") then task.Work Bank (lines_of_name kind)
     else task.Replay (kind_of_name kind)
 
 abbrev pub task_at : Text × List Row → Task
-task_at entered = task_of entered.0 (first_of (codes "kind") entered.1)
+task_at entered = task_by entered.0 (first_of (codes "kind") entered.1) (detail_of (first_of (codes "rank") entered.1))
 
 -- the form of a picture, by what `--svg` is set to
 abbrev pub form_of : Option Text → Form

@@ -7,7 +7,7 @@ ghost use Rattle.qolb.specs.CommandLine.{KindNames, NamesWish, IsNotTaken, draw_
 use clap::error::ErrorKind;
 use clap::{Arg, ArgAction, ArgMatches, Command, Error};
 use qolb_draw::Form;
-use qolb_run::{Kind, Lines, Task};
+use qolb_run::{Detail, Kind, Lines, Task};
 use qolb_script::WorkKind;
 use std::alloc::{AllocError, Global};
 
@@ -58,7 +58,8 @@ Example: with
   reset 1
   prepend 1
   home 1
-it prints went, granted, released, and the counts of the line.";
+it prints went, granted, released, and the counts of the line; with --rank went 0,
+granted 1, released 0, and the counts.";
 
 const BOARD: &str = "The script, on standard input:
   board workers W             its first line: 1 to 200 workers
@@ -172,15 +173,29 @@ fn form_of(svg: Option<&str>) -> Form
 fn task_at(name: &str, arguments: &ArgMatches<'_>) -> Task
     ensures { result ≡ spec.task_at (name.now, rows_of (found_of arguments.now)) }
 {
-    task_of(name, arguments.get_str("kind"))
+    task_of(
+        name,
+        arguments.get_str("kind"),
+        detail_of(arguments.get_str("rank")),
+    )
 }
 
-/// The task of this name, on lines of the kind that is named.
-fn task_of(name: &str, kind: Option<&str>) -> Task
-    ensures { result ≡ spec.task_of name.now (option_map (λ n. n.now) kind.entry) }
+/// What is written of each event, by the value of `--rank`.
+fn detail_of(rank: Option<&str>) -> Detail
+    ensures { result ≡ spec.detail_of (option_map (λ n. n.now) rank.entry) }
+{
+    match rank {
+        Some("true") => Detail::Ranks,
+        _ => Detail::Words,
+    }
+}
+
+/// The task of this name, on lines of the kind that is named, or with this detail.
+fn task_of(name: &str, kind: Option<&str>, detail: Detail) -> Task
+    ensures { result ≡ spec.task_by name.now (option_map (λ n. n.now) kind.entry) detail }
 {
     if name == "steps" {
-        Task::Steps
+        Task::Steps(detail)
     } else if name == "board" {
         Task::Work(WorkKind::Board, lines_named(kind))
     } else if name == "bank" {
@@ -219,7 +234,7 @@ fn command<'a>(alloc: Global) -> Result<Command<'a>, AllocError>
     let shared = SHARED.as_slice();
     program(alloc)
         .subcommand(replay(alloc, replayed)?)?
-        .subcommand(steps(alloc))?
+        .subcommand(steps(alloc)?)?
         .subcommand(work(alloc, "board", BOARD, shared)?)?
         .subcommand(work(alloc, "bank", BANK, shared)?)?
         .subcommand(draw(alloc)?)
@@ -246,14 +261,19 @@ fn replay<'a>(alloc: Global, kinds: &'a [&'a str]) -> Result<Command<'a>, AllocE
 }
 
 /// To run a step script.
-fn steps<'a>(alloc: Global) -> Command<'a>
-    ensures { app_of result ≡ steps_command }
+fn steps<'a>(alloc: Global) -> Result<Command<'a>, AllocError>
+    ensures { IfOk result (λ r. app_of r ≡ steps_command) }
 {
     Command::new(alloc, "steps")
         .about(
             "Runs the step script on standard input on the core of reversed links, and prints what\neach event tells",
         )
         .after_help(STEPS)
+        .arg(flag(
+            alloc,
+            "rank",
+            "Prints after each word how many productive events can follow each other from there",
+        ))
 }
 
 /// Work of workers, by this name, over lines of these kinds.

@@ -140,7 +140,7 @@ fn run<T: Threads + Wait + Clock + Eprint + Sync, R: Read, W: Write>(
 {
     match task {
         Task::Replay(kind) => Ok(run_schedule(alloc, input, output, kind)?),
-        Task::Steps => Ok(run_steps(alloc, input, output)?),
+        Task::Steps(detail) => Ok(run_steps(alloc, input, output, detail)?),
         Task::Work(kind, lines) => work(rt, alloc, kind, lines, progress, input, output),
     }
 }

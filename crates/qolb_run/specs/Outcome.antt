@@ -43,12 +43,12 @@ pub record IsWorkReply (kind : WorkKind) (input text : List ℕ) : Type 0 where
 -- the text is the reply to the bytes, and the first fault in them is this one, as what the task takes
 abbrev pub Answers : Task → List ℕ → List ℕ → Type 0
 Answers (Replay kind) input text = IsReply input text
-Answers Steps input text = IsStepReplyTo input text
+Answers (Steps detail) input text = IsStepReplyTo detail input text
 Answers (Work kind lines) input text = IsWorkReply kind input text
 
 abbrev pub HasFault : Task → List ℕ → ScriptError → Type 0
 HasFault (Replay kind) input fault = reply_to input ≡ Err fault
-HasFault Steps input fault = steps_of input ≡ Err fault
+HasFault (Steps detail) input fault = steps_of input ≡ Err fault
 HasFault (Work kind lines) input fault = work_of kind input ≡ Err fault
 
 -- the bytes have a reply; and they are too many, or have a first fault
@@ -71,7 +71,7 @@ MayFail task input error.Write = IsAnswered task input
 abbrev pub MayEnd : Task → List ℕ → TaskError → Type 0
 MayEnd task input (ending.Replay why) = MayFail task input why
 MayEnd (Replay kind) input (ending.Stalled worker) = ⊥
-MayEnd Steps input (ending.Stalled worker) = ⊥
+MayEnd (Steps detail) input (ending.Stalled worker) = ⊥
 MayEnd (Work kind lines) input (ending.Stalled worker) = (work : WorkScript) × IsWork kind input work × MayStop work (run.Stalled worker)
 
 -- the error of a task whose work has no report

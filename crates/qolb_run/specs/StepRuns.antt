@@ -1,5 +1,5 @@
 -- The run of a step script on the core of reversed links, and its reply. (Of this project.)
-use Rattle.std.specs.Prelude.{◌≡◌, ◌≤◌, ℕ, Bool, true, false, List, [], ◌∷◌, ◌++◌, length, map, count_by, Option, Some, None, Ok}
+use Rattle.std.specs.Prelude.{◌≡◌, ◌≤◌, ℕ, Bool, true, false, List, [], ◌∷◌, ◌++◌, length, map, flat_map, count_by, Option, Some, None, Ok}
 use Rattle.std.specs.List.{range_with_len}
 use Rattle.line_lanes.specs.Line.{zeros}
 use Rattle.qolb_model.specs.declared.terms.Terms.{Terms}
@@ -12,18 +12,29 @@ use Rattle.link_core.specs.declared.state.State.{State}
 use Rattle.link_core.specs.State.{first}
 use Rattle.link_core.specs.State as state
 use Rattle.link_core.specs.Steps.{Step, IsRefused}
+use Rattle.link_core.specs.Progress.{rank}
 use Rattle.qolb_script.specs.Said.{said_text}
-use Rattle.qolb_script.specs.Reply.{text_of}
 use Rattle.qolb_script.specs.StepScript.{StepScript, steps_of}
-use Rattle.qolb_script.specs.StepReply.{step_said, step_summary}
+use Rattle.qolb_script.specs.declared.reply_text.Said.{Said}
+use Rattle.qolb_script.specs.StepReply.{step_said, step_summary, ranked_text}
 use Rattle.qolb_run.specs.declared.input.TheConstants.{MOST_BYTES}
+use Rattle.qolb_run.specs.declared.task.Detail.{Detail}
+use Rattle.qolb_run.specs.declared.task.Detail.TheVariants.{Words, Ranks}
+
+-- what an event told, or that it was refused; and the rank of the state after it
+pub record Heard : Type 0 where
+  pub told : Option Told
+  pub rank : ℕ
+
+abbrev pub said_by : Heard → Said
+said_by heard = step_said heard.told
 
 -- These events were made one after another, from the first core to the last. Each that was enabled told a word; one that was not is
 -- refused, tells none and changes nothing.
-pub data Tells (from : State) : List Event → List (Option Told) → State → Type 0 where
+pub data Tells (from : State) : List Event → List Heard → State → Type 0 where
   nothing : Tells from [] [] from
-  told : {events : List Event} {all : List (Option Told)} {before after : State} (event : Event) (what : Told) → Tells from events all before → Step before event what after → Tells from (events ++ event ∷ []) (all ++ Some what ∷ []) after
-  refused : {events : List Event} {all : List (Option Told)} {before : State} (event : Event) (why : NotEnabled) → Tells from events all before → IsRefused before event why → Tells from (events ++ event ∷ []) (all ++ None ∷ []) before
+  told : {events : List Event} {all : List Heard} {before after : State} (event : Event) (what : Told) → Tells from events all before → Step before event what after → Tells from (events ++ event ∷ []) (all ++ record { told = Some what; rank = rank after } ∷ []) after
+  refused : {events : List Event} {all : List Heard} {before : State} (event : Event) (why : NotEnabled) → Tells from events all before → IsRefused before event why → Tells from (events ++ event ∷ []) (all ++ record { told = None; rank = rank before } ∷ []) before
 
 -- a node at this point is in a call, waits or holds
 abbrev pub is_busy : Point → Bool
@@ -38,24 +49,29 @@ is_busy p = true
 abbrev pub nodes_busy : ℕ → State → ℕ
 nodes_busy nodes c = count_by (λ n. is_busy (state.point c n)) (range_with_len 1 nodes)
 
+-- what is written of an event: a line with its word, and with the rank where that is wished
+abbrev pub heard_text : Detail → Heard → List ℕ
+heard_text Words heard = said_text (said_by heard)
+heard_text Ranks heard = ranked_text heard.told heard.rank
+
 -- the reply: what each event told, and then the summary of the line
-abbrev pub step_text : List (Option Told) → State → List ℕ
-step_text all last = text_of (map step_said all) ++ said_text (step_summary (map step_said all) (nodes_busy last.nodes last))
+abbrev pub step_text : Detail → List Heard → State → List ℕ
+step_text detail all last = flat_map (heard_text detail) all ++ said_text (step_summary (map said_by all) (nodes_busy last.nodes last))
 
 -- a step script has one line, which is opened with zeros, for the script's nodes and with its lease
 abbrev pub line_of : StepScript → Terms
 line_of script = record { nodes = script.nodes; opening = record { bytes = zeros }; lease = script.lease }
 
 -- the text is the reply of a run of the script
-pub record IsStepReply (script : StepScript) (text : List ℕ) : Type 0 where
-  pub all : List (Option Told)
+pub record IsStepReply (detail : Detail) (script : StepScript) (text : List ℕ) : Type 0 where
+  pub all : List Heard
   pub last : State
   pub runs : Tells (first (line_of script)) script.events all last
-  pub text_is : text ≡ step_text all last
+  pub text_is : text ≡ step_text detail all last
 
 -- the bytes are a step script, and this is its reply
-pub record IsStepReplyTo (input text : List ℕ) : Type 0 where
+pub record IsStepReplyTo (detail : Detail) (input text : List ℕ) : Type 0 where
   pub fits : length input ≤ MOST_BYTES
   pub script : StepScript
   pub read : steps_of input ≡ Ok script
-  pub reply : IsStepReply script text
+  pub reply : IsStepReply detail script text

@@ -29,6 +29,6 @@ pub use progress::Progress;
 pub use replay::{Kind, ReplayError, run_schedule, run_schedule_over};
 pub use report::{TaskError, report_work};
 pub use steps::run_steps;
-pub use task::Task;
+pub use task::{Detail, Task};
 pub use waiting::{Got, acquire};
 pub use work::{Lines, RunError, run_work, run_work_over};

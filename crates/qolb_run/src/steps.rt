@@ -1,23 +1,25 @@
 //! Runs of step scripts on the core of reversed links: what each event tells, and then the line's counts.
-ghost use Rattle.std.specs.Prelude.{◌≡◌, ◌≢◌, ◌↔◌, ℕ, List, Option, true, false, Ok, Err, OnOk, IfOk, IfErr, IfSome};
+ghost use Rattle.std.specs.Prelude.{◌≡◌, ◌≢◌, ◌↔◌, ℕ, List, Option, true, false, Ok, Err, OnOk, OnErr, IfOk, IfErr, IfSome, ◌++◌};
 ghost use Rattle.std.specs.Io.KnownBytes.{Appends};
 ghost use Rattle.qolb_script.specs.Watched.{inner_of, has_failed};
 ghost use Rattle.qolb_script.specs.StepReply.{step_said};
+ghost use Rattle.link_core.specs.Progress.{rank};
 ghost use Rattle.qolb_run.specs.Outcome.{MayFail};
 ghost use Rattle.qolb_run.specs.declared.task.Task.TheVariants as task;
-ghost use Rattle.qolb_run.specs.StepRuns.{IsStepReply, IsStepReplyTo, is_busy, nodes_busy};
+ghost use Rattle.qolb_run.specs.StepRuns.{IsStepReply, IsStepReplyTo, Heard, heard_text, is_busy, nodes_busy};
 
 use crate::input::read_all;
 use crate::replay::ReplayError;
 use crate::tally::Counts;
+use crate::task::Detail;
 use line_lanes::Line64;
 use link_core::{Core, Point, Told};
 use qolb_model::Terms;
-use qolb_script::{Said, ScriptError, Steps, Watched, push_said, read_steps};
+use qolb_script::{Said, ScriptError, Steps, Watched, push_ranked, push_said, read_steps};
 use std::alloc::{AllocError, Allocator};
 use std::io::{Read, Write};
 
-/// Runs the step script that the reader gives on a core of reversed links, and writes what each event told.
+/// Runs the step script that the reader gives on a core of reversed links, and writes what each event told; and the rank after it, if that is wished.
 ///
 /// The whole input is read first, and the reply is built whole before its first byte is written: with every error but `Write`
 /// nothing was written.
@@ -25,9 +27,10 @@ pub fn run_steps<A: Allocator, R: Read, W: Write>(
     alloc: A,
     reader: &mut Watched<R>,
     writer: &mut Watched<W>,
+    detail: Detail,
 ) -> Result<(), ReplayError>
-    ensures ok { OnOk result (IfSome (R.remaining (inner_of reader.old)) (λ input. (text : List ℕ) × IsStepReplyTo input text × Appends (W.contents (inner_of writer.old)) (W.contents (inner_of writer.new)) text)) }
-    ensures refused { IfErr result (λ error. IfSome (R.remaining (inner_of reader.old)) (λ input. MayFail task.Steps input error)) }
+    ensures ok { OnOk result (IfSome (R.remaining (inner_of reader.old)) (λ input. (text : List ℕ) × IsStepReplyTo detail input text × Appends (W.contents (inner_of writer.old)) (W.contents (inner_of writer.new)) text)) }
+    ensures refused { IfErr result (λ error. IfSome (R.remaining (inner_of reader.old)) (λ input. MayFail (task.Steps detail) input error)) }
     ensures unwritten { IfErr result (λ error. error ≢ ReplayError.Write → writer.new ≡ writer.old) }
     ensures read_fault { (result ≡ Err ReplayError.Read) ↔ (has_failed reader.new ≡ true) }
     ensures write_fault { result ≡ Err ReplayError.Write → has_failed writer.new ≡ true }
@@ -36,14 +39,18 @@ pub fn run_steps<A: Allocator, R: Read, W: Write>(
 {
     let input = read_all(&alloc, reader)?;
     let steps = read_steps(&alloc, input.as_slice())?;
-    let text = reply(&alloc, &steps)?;
+    let text = reply(&alloc, &steps, detail)?;
     writer.write_all(text.as_slice())?;
     Ok(())
 }
 
 /// The reply of a step script.
-fn reply<A: Allocator + Clone>(alloc: A, steps: &Steps<A>) -> Result<Vec<u8, A>, AllocError>
-    ensures { IfOk result (λ text. IsStepReply steps.now text.items) }
+fn reply<A: Allocator + Clone>(
+    alloc: A,
+    steps: &Steps<A>,
+    detail: Detail,
+) -> Result<Vec<u8, A>, AllocError>
+    ensures { IfOk result (λ text. IsStepReply detail steps.now text.items) }
 {
     let terms = Terms {
         nodes: steps.nodes(),
@@ -56,13 +63,29 @@ fn reply<A: Allocator + Clone>(alloc: A, steps: &Steps<A>) -> Result<Vec<u8, A>,
     let mut counts = Counts::none();
     let mut text = Vec::new(alloc);
     for event in steps.events() {
-        let said = said_of(core.step(*event).ok());
-        counts.add(&said);
-        push_said(&mut text, &said)?;
+        let told = core.step(*event).ok();
+        counts.add(&said_of(told));
+        push_heard(&mut text, told, &core, detail)?;
     }
     let summary = counts.summary(0, nodes_left(&core));
     push_said(&mut text, &summary)?;
     Ok(text)
+}
+
+/// Appends what is written of an event that told this and left the core so. At want of memory the text is unchanged.
+fn push_heard<A: Allocator>(
+    text: &mut Vec<u8, A>,
+    told: Option<Told>,
+    core: &Core,
+    detail: Detail,
+) -> Result<(), AllocError>
+    ensures ok { let heard : Heard = record { told = told; rank = rank core.now } in OnOk result (text.new.items ≡ text.old.items ++ heard_text detail heard) }
+    ensures err { OnErr result (text.new.items ≡ text.old.items) }
+{
+    match detail {
+        Detail::Words => push_said(text, &said_of(told)),
+        Detail::Ranks => push_ranked(text, told, core.rank()),
+    }
 }
 
 /// What is said of an event: the word that it told, or that it was refused.

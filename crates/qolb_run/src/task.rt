@@ -3,13 +3,22 @@ use crate::replay::Kind;
 use crate::work::Lines;
 use qolb_script::WorkKind;
 
+/// What is written of each event of a step script.
+#[derive(Clone, Copy, Debug, PartialEq, Eq)]
+pub enum Detail {
+    /// The word that it told.
+    Words,
+    /// The word, and then the core's rank after the event: how many productive events can follow each other from there.
+    Ranks,
+}
+
 /// A task that takes a script.
 #[derive(Clone, Copy, Debug, PartialEq, Eq)]
 pub enum Task {
     /// To replay a schedule on lines of this kind.
     Replay(Kind),
-    /// To run a step script.
-    Steps,
+    /// To run a step script, and to write so much of each event.
+    Steps(Detail),
     /// To do the work of a work script of this kind, over lines of that kind.
     Work(WorkKind, Lines),
 }

@@ -1,14 +1,19 @@
 -- The reply of a step script: what is said of each event, and then of the line. (Of this project.)
-use Rattle.std.specs.Prelude.{ℕ, List, count_by, Option, Some, None}
+use Rattle.std.specs.Prelude.{ℕ, List, [], ◌∷◌, ◌++◌, count_by, codes, decimal, Option, Some, None}
 use Rattle.link_core.specs.declared.told.Told.{Told}
 use Rattle.qolb_script.specs.declared.reply_text.Said.{Said}
 use Rattle.qolb_script.specs.declared.reply_text.Said.TheVariants as said
+use Rattle.qolb_script.specs.Said.{said_words}
 use Rattle.qolb_script.specs.Reply.{is_served, is_withdrawn, is_told}
 
 -- what an event told, or that it was refused
 abbrev pub step_said : Option Told → Said
 step_said (Some what) = said.Told what
 step_said None = said.Refused
+
+-- the line of text of an event, with the rank after it: `went 4`
+abbrev pub ranked_text : Option Told → ℕ → List ℕ
+ranked_text told rank = said_words (step_said told) ++ codes " " ++ decimal rank ++ 10 ∷ []
 
 -- what was said of the line, which is the only one, and how many nodes are left in a call or at it
 abbrev pub step_summary : List Said → ℕ → Said

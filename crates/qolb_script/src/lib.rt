@@ -22,7 +22,7 @@ mod work;
 pub use command::Command;
 pub use error::ScriptError;
 pub use job::{Job, WorkKind};
-pub use reply_text::{Said, push_said};
+pub use reply_text::{Said, push_ranked, push_said};
 pub use report::{Report, write_report};
 pub use schedule::{Schedule, read_schedule};
 pub use steps::{Steps, read_steps};

@@ -1,5 +1,6 @@
 ghost use Rattle.std.specs.Prelude.{◌≡◌, ℕ, ◌+◌, ◌≤◌, [], ◌∷◌, ◌++◌, length, decimal, vec_len, vec_capacity, OnOk, OnErr};
 ghost use Rattle.qolb_script.specs.Said.{said_words, said_text};
+ghost use Rattle.qolb_script.specs.StepReply.{step_said, ranked_text};
 ghost use Rattle.hex.specs.Hex.{encode_lower};
 
 use hex::encode_to_slice;
@@ -38,6 +39,9 @@ pub enum Said {
 
 /// The most bytes of a summary, with its newline: five numbers of at most 20 digits, and the words before them.
 const MOST_SUMMARY: usize = 137;
+
+/// The most bytes of a rank, with the space before it and the newline.
+const MOST_RANK: usize = 22;
 
 /// Appends the line of text, with its newline. At want of memory the text is unchanged.
 pub fn push_said<A: Allocator>(text: &mut Vec<u8, A>, said: &Said) -> Result<(), AllocError>
@@ -114,6 +118,34 @@ fn told_words(told: Told) -> &'static [u8]
         Told::Withdrawn => b"withdrawn",
         Told::Released => b"released",
         Told::Shut => b"shut",
+    }
+}
+
+/// Appends what an event of a step script told, or that it was refused, and then the rank after it. At want of memory the text is
+/// unchanged.
+pub fn push_ranked<A: Allocator>(
+    text: &mut Vec<u8, A>,
+    told: Option<Told>,
+    rank: u64,
+) -> Result<(), AllocError>
+    ensures ok { OnOk result (text.new.items ≡ text.old.items ++ ranked_text told rank) }
+    ensures err { OnErr result (text.new.items ≡ text.old.items) }
+{
+    let words = step_words(told);
+    text.reserve(words.len() + MOST_RANK)?;
+    text.extend_from_slice(words).unwrap();
+    put_number(text, b" ", rank);
+    text.push_reserved(b'\n');
+    Ok(())
+}
+
+/// The words of what an event told, or that it was refused.
+fn step_words(told: Option<Told>) -> &'static [u8]
+    ensures { result.now ≡ said_words (step_said told) }
+{
+    match told {
+        Some(told) => told_words(told),
+        None => b"refused",
     }
 }
 

@@ -62,7 +62,7 @@ fn replays_and_refuses_scripts(rt: HostRuntime) -> Result<(), Fail> {
 
 #[test]
 fn refuses_command_lines(rt: HostRuntime) -> Result<(), Fail> {
-    let rows: [&[&str]; 16] = [
+    let rows: [&[&str]; 18] = [
         &[],
         &["replay"],
         &["replay", "--kind"],
@@ -72,6 +72,8 @@ fn refuses_command_lines(rt: HostRuntime) -> Result<(), Fail> {
         &["board", "--kind", "plain"],
         &["board", "--progress", "yes"],
         &["steps", "--progress"],
+        &["steps", "--rank", "yes"],
+        &["board", "--rank"],
         &["board", "--kind"],
         &["bank", "--kind", "plain"],
         &["bank", "ring"],
@@ -90,6 +92,7 @@ fn refuses_command_lines(rt: HostRuntime) -> Result<(), Fail> {
     assert!(rt; help.contains("--kind <KIND>") && help.contains("nodes N lines L"));
     let (_, _, help) = run(&rt, rt.alloc(), &["steps", "--help"], "")?;
     assert!(rt; help.contains("prepend 1") && help.contains("nodes N "));
+    assert!(rt; help.contains("--rank"));
     let (_, _, help) = run(&rt, rt.alloc(), &["board", "--help"], "")?;
     assert!(rt; help.contains("[default: link]") && help.contains("1 put 9"));
     let (_, _, help) = run(&rt, rt.alloc(), &["bank", "--help"], "")?;
@@ -379,6 +382,11 @@ fn runs_step_scripts(rt: HostRuntime) -> Result<(), Fail> {
         assert!(rt; out.trim_end().ends_with(summary), "of {script}");
         assert_eq!(rt; out.lines().count(), script.lines().count(), "of {script}");
     }
+    let script = "nodes 1\nreset 1\nprepend 1\nhome 1\nhome 1\n";
+    let (status, out, err) = run(&rt, rt.alloc(), &["steps", "--rank"], script)?;
+    let ranked =
+        "went 0\ngranted 1\nreleased 0\nrefused 0\nline 0 served 1 withdrawn 0 told 0 left 0\n";
+    assert_eq!(rt; (status, out.as_str(), err.as_str()), (0, ranked, ""));
     let (status, out, err) = run(&rt, rt.alloc(), &["steps"], "nodes 2\nreset 3\n")?;
     assert_eq!(rt;
         (status, out.as_str(), err.as_str()),

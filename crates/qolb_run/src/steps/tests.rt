@@ -9,6 +9,24 @@ const SCRIPT: &str =
 const REPLY: &str =
     "went\ngranted\nwent\nwent\nqueued\nwent\nwent\nwithdrawn\nwent\nwent\nbusy\nreleased\nfree\nline 0 served 1 withdrawn 1 told 0 left 0\n";
 
+/// The same, with the ranks: a link, a release that finds another behind, a grant that passes, and a freeing take one off each.
+const RANKED: &str =
+    "went 0\ngranted 1\nwent 1\nwent 6\nqueued 5\nwent 4\nwent 3\nwithdrawn 3\nwent 2\nwent 1\nbusy 1\nreleased 0\nfree 0\nline 0 served 1 withdrawn 1 told 0 left 0\n";
+
+#[test]
+fn ranks_are_written(rt: HostRuntime) -> Result<(), Fail> {
+    let mut text: Vec<u8> = Vec::new(rt.alloc());
+    let done = run_steps(
+        rt.alloc(),
+        &mut Watched::new(SCRIPT.as_bytes()),
+        &mut Watched::new(&mut text),
+        Detail::Ranks,
+    );
+    assert_eq!(rt; done, Ok(()));
+    assert_eq!(rt; text.as_slice(), RANKED.as_bytes());
+    Ok(())
+}
+
 #[test]
 fn each_allocation_is_refused(rt: HostRuntime) -> Result<(), Fail> {
     let mut refused = 0u32;
@@ -17,7 +35,12 @@ fn each_allocation_is_refused(rt: HostRuntime) -> Result<(), Fail> {
         let heap = LocalHeap::new(rt.alloc(), 32 * step)?;
         let mut reader = Watched::new(SCRIPT.as_bytes());
         let mut text: Vec<u8> = Vec::new(rt.alloc());
-        match run_steps(&heap, &mut reader, &mut Watched::new(&mut text)) {
+        match run_steps(
+            &heap,
+            &mut reader,
+            &mut Watched::new(&mut text),
+            Detail::Words,
+        ) {
             Ok(()) => {
                 ran = true;
                 assert_eq!(rt; text.as_slice(), REPLY.as_bytes(), "at {step}");

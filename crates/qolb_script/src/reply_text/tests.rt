@@ -51,6 +51,17 @@ fn says_each_thing(rt: HostRuntime) -> Result<(), Fail> {
 }
 
 #[test]
+fn says_a_rank_behind_the_word(rt: HostRuntime) -> Result<(), Fail> {
+    let mut text = Vec::new(rt.alloc());
+    push_ranked(&mut text, Some(Told::Went), 4)?;
+    push_ranked(&mut text, Some(Told::Withdrawn), 0)?;
+    push_ranked(&mut text, None, 18446744073709551615)?;
+    let want = "went 4\nwithdrawn 0\nrefused 18446744073709551615\n";
+    assert_eq!(rt; text.as_slice(), want.as_bytes());
+    Ok(())
+}
+
+#[test]
 fn says_the_bytes_in_lower_case(rt: HostRuntime) -> Result<(), Fail> {
     let mut bytes = [0; 64];
     bytes[0] = 0xab;

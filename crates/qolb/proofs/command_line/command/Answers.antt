@@ -11,7 +11,7 @@ returns c =
     let plain : App → Bool = λ a. a.top.is_plain in
     let names : KindNames = record { replayed = c.as_slice-replayed.result; shared = c.as_slice-shared.result; replayed_are = search rules; shared_are = search rules } in
     let replay_is : app_of c.in_ok-replay.field-0 ≡ replay_command names.replayed = c.in_ok-replay.ensures in
-    let steps_is : app_of c.steps.result ≡ steps_command = c.steps.ensures in
+    let steps_is : app_of c.in_ok-steps.field-0 ≡ steps_command = c.in_ok-steps.ensures in
     let board_is : app_of c.in_ok-work.field-0 ≡ work_command (codes "board") names.shared = c.in_ok-work.ensures in
     let bank_is : app_of c.in_ok-work-2.field-0 ≡ work_command (codes "bank") names.shared = c.in_ok-work-2.ensures in
     let first_is : app_of c.in_ok-subcommand.field-0 ≡ with_subcommand (needs_subcommand (new_app (codes "qolb"))) (replay_command names.replayed).top =
