@@ -1,5 +1,5 @@
 -- What each call from C promises of the handle's node. `was` and `now` are the node before and after. (Of this project.)
-use Rattle.std.specs.Prelude.{◌≡◌, ◌≢◌, ℕ, ◌*◌, ◌<◌, List, Bool, true, false, Option, Some, None}
+use Rattle.std.specs.Prelude.{◌≡◌, ◌≢◌, ℕ, ◌*◌, ◌<◌, ◌≤◌, List, Bool, true, false, Option, Some, None}
 use Rattle.line_lanes.specs.Lane.{lane_of, with_lane_of}
 use Rattle.line_lanes.specs.Mask.{placed_mask}
 use Rattle.qolb_model.specs.declared.answer.Enq.{Enq}
@@ -15,6 +15,7 @@ use Rattle.qolb_model.specs.declared.answer.PortState.TheVariants.{Linking, Queu
 use Rattle.qolb_model.specs.declared.view.View.{View}
 use Rattle.qolb_model.specs.declared.write.Write.{Write}
 use Rattle.qolb_model.specs.Calls as line
+use Rattle.qolb_model.specs.Leases.{turns_left}
 use Rattle.qolb_model.specs.OneOwner.{turn_after}
 use Rattle.qolb_model.specs.PortStates.{may_ask}
 use Rattle.qolb_c.specs.declared.answer.Answer.{Answer}
@@ -22,7 +23,7 @@ use Rattle.qolb_c.specs.declared.answer.Answer.TheVariants as answer
 use Rattle.qolb_c.specs.declared.any_node.AnyNode.{AnyNode}
 use Rattle.qolb_c.specs.declared.any_node.AnyNode.TheVariants as kind
 use Rattle.qolb_c.specs.Nodes.{anything}
-use Rattle.qolb_c.specs.Numbers.{number_of, state_number}
+use Rattle.qolb_c.specs.Numbers.{number_of, state_number, turns_number}
 
 -- what the node's port knows of its line
 abbrev pub view_of : AnyNode → View
@@ -137,11 +138,26 @@ abbrev pub Closes : Option AnyNode → Option AnyNode → ℕ → Type 0
 Closes None now n = (now ≡ None) × (n ≡ number_of answer.Misuse)
 Closes (Some was) now n = (may_ask (state_of was) ≡ true → (now ≡ None) × (n ≡ number_of answer.Done)) × (may_ask (state_of was) ≡ false → (now ≡ Some was) × (n ≡ number_of answer.Misuse))
 
--- `number` and `state`: of an empty handle 0; nothing changes
+-- `number`, `label` and `state`: of an empty handle 0; nothing changes
 abbrev pub node_number : Option AnyNode → ℕ
 node_number None = 0
 node_number (Some node) = (view_of node).node
 
+abbrev pub label_told : Option AnyNode → ℕ
+label_told None = 0
+label_told (Some node) = (view_of node).label
+
 abbrev pub state_told : Option AnyNode → ℕ
 state_told None = 0
 state_told (Some node) = state_number (state_of node)
+
+-- the turns of the lease that are left, with the holder's own, where the node holds the line, and so at least 1; else 0
+pub record TellsTurns (node : AnyNode) (n : ℕ) : Type 0 where
+  pub holds : state_of node ≡ Holding → n ≡ turns_number (turns_left (view_of node).terms.lease (view_of node).ends)
+  pub some : state_of node ≡ Holding → 1 ≤ n
+  pub none : state_of node ≢ Holding → n ≡ 0
+
+-- `turns_left`: of an empty handle 0; nothing changes
+abbrev pub TurnsLeft : Option AnyNode → ℕ → Type 0
+TurnsLeft None n = n ≡ 0
+TurnsLeft (Some node) n = TellsTurns node n

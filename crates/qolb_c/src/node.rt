@@ -1,7 +1,8 @@
 //! A node of a line that several share, for any kind of line.
-ghost use Rattle.std.specs.Prelude.{◌≡◌, ◌≢◌, ℕ, ◌<◌, true, false, MatchResult};
+ghost use Rattle.std.specs.Prelude.{◌≡◌, ◌≢◌, ℕ, ◌<◌, true, false, Some, MatchResult};
 ghost use Rattle.std.specs.Arc.{arc_value};
 ghost use Rattle.qolb_model.specs.Calls.{Enqueues, Prepends, LinksUp, Polls, Withdraws, Releases, TellEachOther};
+ghost use Rattle.qolb_model.specs.Leases.{turns_left};
 ghost use Rattle.qolb_model.specs.OneOwner.{turn_after};
 ghost use Rattle.qolb_model.specs.PortStates.{may_ask};
 ghost use Rattle.qolb_c.specs.Nodes.{anything};
@@ -47,6 +48,13 @@ impl<L: LineSync<Free>> Node<L> {
         ensures { result ≡ (L.view self.now.port).node }
     {
         L::node(&self.port)
+    }
+
+    /// The label of the node's line.
+    pub fn label(&self) -> u64
+        ensures { result ≡ (L.view self.now.port).label }
+    {
+        self.line.label()
     }
 
     /// What the node's last call left.
@@ -130,6 +138,20 @@ impl<L: LineSync<Free>> Node<L> {
         } else {
             Err(Misuse)
         }
+    }
+
+    /// How many turns are left of the line's lease, with the holder's own: at least 1. `None` without a lease.
+    ///
+    /// # Errors
+    ///
+    /// `Misuse` where the node does not hold the line.
+    pub fn turns_left(&self) -> Result<Option<u64>, Misuse>
+        ensures { MatchResult result (λ left. ((L.view self.now.port).state ≡ PortState.Holding) × (left ≡ turns_left (L.view self.now.port).terms.lease (L.view self.now.port).ends) × (left ≢ Some 0)) (λ _. (L.view self.now.port).state ≢ PortState.Holding) }
+    {
+        if self.state() != PortState::Holding {
+            return Err(Misuse);
+        }
+        Ok(self.line.turns_left(&self.port))
     }
 
     /// The holder writes the bytes of the mask.
