@@ -31,6 +31,7 @@ use Rattle.link_line.specs.declared.parcel.Parcel.{Parcel}
 use Rattle.link_line.specs.declared.rule.Setup.{Setup}
 use Rattle.link_line.specs.Links.{Past, NodeOk, IsInHand, Laid, HasLine, Homes, MayServe, is_leaving, is_shut_by, state_of, state_at}
 use Rattle.link_line.specs.Steps.{Comes, point_at_arrival}
+use Rattle.link_line.proofs.Window.{few_open}
 use Rattle.link_line.proofs.Going.{SetsGrow, next, on}
 use Rattle.link_line.proofs.Laying.{St, Rule, mine_ok, is_node}
 use Rattle.link_line.proofs.Turning.{Joins, whole, passes_none, arrival_point, arrival_lined, arrival_state, arrival_passed, arrival_unserved, arrival_unlinked, arrival_unfreeing, Owes, via_none, Turned, turned, own_at, own_marked}
@@ -48,17 +49,19 @@ arrival_carries d n line true a c t shut own leaves = record {
 
 module _ (good : List ℕ → Type 0) (allows : List ℕ → List ℕ → Type 0) (about : Setup) where
   -- a port whose request waits, and one whose request was withdrawn
-  pub queued_at : (y : Past) (v : Known) (count : ℕ) (joins : List Request) (passed : List ℕ) (line : Parcel) → Shows about.terms y.core y.queue → count_of v.view.node y.queue.order ≡ count → Waits y.queue v.view.node → point y.core v.view.node ≡ Queued → IsQueued (whole y v count joins passed line).view
-  queued_at y v count joins passed line s c w e = record {
+  pub queued_at : (y : Past) (v : Known) (count : ℕ) (joins : List Request) (passed : List ℕ) (line : Parcel) → Shows about.terms y.core y.queue → v.view.terms ≡ about.terms → count_of v.view.node y.queue.order ≡ count → Waits y.queue v.view.node → point y.core v.view.node ≡ Queued → IsQueued (whole y v count joins passed line).view
+  queued_at y v count joins passed line s terms c w e = record {
     state = ap (λ (p : Point). state_at p (seat y.core v.view.node).reason (seat y.core v.view.node).passed) e;
     waits = (w.at, w.behind, own_at good allows about y v count w.at s c w.last);
+    near = few_open about.terms y.core y.queue s v.view.terms terms;
     unmarked = own_marked good allows about y v count w.at s c w.last (let l = w.behind in omega arith) ∙ ap is_rolled e;
   }
 
-  pub withdrawn_at : (y : Past) (v : Known) (count : ℕ) (joins : List Request) (passed : List ℕ) (line : Parcel) → Shows about.terms y.core y.queue → count_of v.view.node y.queue.order ≡ count → Waits y.queue v.view.node → point y.core v.view.node ≡ Rolled → IsWithdrawn (whole y v count joins passed line).view
-  withdrawn_at y v count joins passed line s c w e = record {
+  pub withdrawn_at : (y : Past) (v : Known) (count : ℕ) (joins : List Request) (passed : List ℕ) (line : Parcel) → Shows about.terms y.core y.queue → v.view.terms ≡ about.terms → count_of v.view.node y.queue.order ≡ count → Waits y.queue v.view.node → point y.core v.view.node ≡ Rolled → IsWithdrawn (whole y v count joins passed line).view
+  withdrawn_at y v count joins passed line s terms c w e = record {
     state = ap (λ (p : Point). state_at p (seat y.core v.view.node).reason (seat y.core v.view.node).passed) e;
     waits = (w.at, w.behind, own_at good allows about y v count w.at s c w.last);
+    near = few_open about.terms y.core y.queue s v.view.terms terms;
     marked = own_marked good allows about y v count w.at s c w.last (let l = w.behind in omega arith) ∙ ap is_rolled e;
   }
 

@@ -34,7 +34,7 @@ abbrev pub IsBetween : Inside → Type 0
 IsBetween q = IsPort q.label q.node q.seat q.parcel q.older q.state
 
 abbrev pub seen : Inside → Standing
-seen q = standing q.seat q.parcel q.steps
+seen q = standing q.seat q.parcel q.steps q.looks.count
 
 abbrev pub known : Inside → View
 known q = (known_of q.seat).view
@@ -46,8 +46,8 @@ module _ {good : List ℕ → Type 0} {allows : List ℕ → List ℕ → Type 0
   call_continues = goes.continues p.view (subst (λ (x : Standing). Continues allows p.view x.view) (sym is) (continues_sound good allows key.label key.terms p.view b.sound))
 
   -- it belongs to the line
-  pub call_belongs : (z : Parcel) (steps : ℕ) → BelongsTo good allows key table_id (standing t z steps)
-  call_belongs z steps = record {
+  pub call_belongs : (z : Parcel) (steps : ℕ) {looks : ℕ} → BelongsTo good allows key table_id (standing t z steps looks)
+  call_belongs z steps {looks = looks} = record {
     table_is = same.0 ∙ (ap (λ (x : Standing). x.table) is ∙ b.table_is);
     sound = sound_goes good allows key.label key.terms p.view (known_of t).view b.sound call_continues;
   }

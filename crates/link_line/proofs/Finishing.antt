@@ -42,7 +42,7 @@ pub all_rest : {A : Type 0} (P : A → Type 0) (x : A) (xs : List A) → All P (
 all_rest P x xs h = λ k d l. h (suc k) d (omega arith)
 
 -- the views of one seat
-module _ (label node : ℕ) (s : LinkSeat) (y : Parcel) (older steps : ℕ) (state : PortState) (p : Standing) (is : standing s y steps ≡ p) (ok : IsPort label node s y older state) (quiet : may_ask p.view.state ≡ true) where
+module _ (label node : ℕ) (s : LinkSeat) (y : Parcel) (older steps looks : ℕ) (state : PortState) (p : Standing) (is : standing s y steps looks ≡ p) (ok : IsPort label node s y older state) (quiet : may_ask p.view.state ≡ true) where
   same_view : (known_of s).view ≡ p.view
   same_view = ap (λ (q : Standing). q.view) is
 
@@ -88,9 +88,9 @@ module _ (label node : ℕ) (s : LinkSeat) (y : Parcel) (older steps : ℕ) (sta
   }
 
 -- the first seat, as the iterator over the ports gives it
-pub gathers_start : (label node : ℕ) (s : LinkSeat) (y : Parcel) (older steps : ℕ) (state : PortState) (p : Standing) → standing s y steps ≡ p → IsPort label node s y older state → (table_id : TableId) (ports items rest left : List Standing) → items ≡ ports → items ≡ p ∷ rest → left ≡ rest
+pub gathers_start : (label node : ℕ) (s : LinkSeat) (y : Parcel) (older steps looks : ℕ) (state : PortState) (p : Standing) → standing s y steps looks ≡ p → IsPort label node s y older state → (table_id : TableId) (ports items rest left : List Standing) → items ≡ ports → items ≡ p ∷ rest → left ≡ rest
     → All (λ (q : Standing). q.table ≡ table_id) ports → All (λ (q : Standing). may_ask q.view.state ≡ true) ports → Gathers table_id ports left s
-gathers_start label node s y older steps state p is ok table_id ports items rest left a b c tables quiets =
+gathers_start label node s y older steps looks state p is ok table_id ports items rest left a b c tables quiets =
     let e : ports ≡ p ∷ rest = sym a ∙ b in
     subst (λ l. Gathers table_id ports l s) (sym c)
-    (gathers_head label node s y older steps state p is ok (all_first (λ (q : Standing). may_ask q.view.state ≡ true) p rest (subst (All (λ (q : Standing). may_ask q.view.state ≡ true)) e quiets)) table_id ports rest e tables quiets)
+    (gathers_head label node s y older steps looks state p is ok (all_first (λ (q : Standing). may_ask q.view.state ≡ true) p rest (subst (All (λ (q : Standing). may_ask q.view.state ≡ true)) e quiets)) table_id ports rest e tables quiets)

@@ -90,7 +90,7 @@ holding_in Own (m ∷ ms) e = cc
 holding_in Closing (m ∷ ms) e = cc
 holding_in Refused (m ∷ ms) e = cc
 
-holding_of : (s : Seat) (p : Point) → s.point ≡ p → state_of (record s { point = p }) ≡ shows.Holding → (has_line p ≡ true) × ((p ≡ Holding) ⊎ (s.passed ≡ []))
+pub holding_of : (s : Seat) (p : Point) → s.point ≡ p → state_of (record s { point = p }) ≡ shows.Holding → (has_line p ≡ true) × ((p ≡ Holding) ⊎ (s.passed ≡ []))
 holding_of s Holding i e = (refl, inl refl)
 holding_of s (Leaving x) i e = (refl, inr (holding_in s.reason s.passed e))
 holding_of s (Marking x) i e = (refl, inr (holding_in s.reason s.passed e))
@@ -144,6 +144,8 @@ module _ (allows : List ℕ → List ℕ → Type 0) (about : Setup) (x : Past) 
           let here = element_at v.view.ends p (ok.knows.own_ends p r e at (mine ∙ ok.who.node) en gone) in
           here.1 ∙ ap Some (at_same x.queue.ends p here.0 e (prefix_get v.view.ends x.queue.ends p here.0 ok.knows.endings here.1) en);
       own_marks = λ p r e at en mine. ok.knows.own_marks r (mine ∙ ok.who.node) ∙ marked_is x.queue f.shown.gone p r e at en;
+      own_open = λ p r l at mine. at_same x.queue.order p r (own v.view) at
+          (own_at p (subst (λ (m : ℕ). IsLast x.queue.order m p) (ap (λ (z : Request). z.node) (request_got x.queue.order p r at) ∙ (mine ∙ ok.who.node)) (f.shown.matches.distinct p l (slice_get_within x.queue.order p r at))));
       holder = λ e. let h = holding_of v.seat v.seat.point refl (sym ok.stands.state ∙ e) in turn_own (ap has_line at_point ∙ h.0) (none_passed h.1);
     }
 

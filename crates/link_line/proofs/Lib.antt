@@ -1,5 +1,6 @@
 pub mod Packed
 pub mod Lists
+pub mod Window
 pub mod Histories
 pub mod Going
 pub mod Laying

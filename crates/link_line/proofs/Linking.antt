@@ -158,7 +158,7 @@ module _ (good : List ℕ → Type 0) (allows : List ℕ → List ℕ → Type 0
             goes_step allows v (whole y v v.view.count joins [] v.line) carried carried t.continues refl,
             links k v.line,
             (λ f. let z = sym f ∙ done_as ∙ un in cc),
-            (λ _. (refl, record { point = own'; queued = queued_at good allows about y v v.view.count joins [] v.line step'.shows (ap (λ (q : Queue). count_of v.view.node q.order) is ∙ ok.knows.counts) step'.says own' })),
+            (λ _. (refl, record { point = own'; queued = queued_at good allows about y v v.view.count joins [] v.line step'.shows ok.who.terms (ap (λ (q : Queue). count_of v.view.node q.order) is ∙ ok.knows.counts) step'.says own' })),
           ),
         )
 

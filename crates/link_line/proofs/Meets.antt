@@ -6,6 +6,8 @@ use lib.ListN.{get_elem?}
 use lib.Seq.{set-get_or}
 use Rattle.atomic_table.specs.Table.{step, keeps, gives, put_back, rest, Allows}
 use Rattle.atomic_table.proofs.Lists.{set_again}
+use Rattle.qolb_model.specs.declared.answer.PortState.TheVariants as shows
+use Rattle.qolb_model.specs.declared.end.End.{End}
 use Rattle.qolb_model.specs.OneHistory.{OneHistory}
 use Rattle.qolb_model.specs.Sound.{Continues}
 use Rattle.qolb_model.specs.Requests.{has}
@@ -29,7 +31,7 @@ use Rattle.link_line.specs.declared.parcel.Parcel.{Parcel}
 use Rattle.link_line.specs.Links.{node_of, Past, NodeOk, PastOk, InSlot}
 use Rattle.link_line.specs.Steps.{Contents}
 use Rattle.link_line.specs.Joins.{informed, met, parked}
-use Rattle.link_line.proofs.Histories.{one_history, continues, at_point}
+use Rattle.link_line.proofs.Histories.{one_history, continues, at_point, holding_of}
 use Rattle.link_line.proofs.Laying.{St, mine_ok, is_node}
 use Rattle.link_line.proofs.Seats.{Rule}
 
@@ -143,6 +145,14 @@ module _ (good : List ℕ → Type 0) (allows : List ℕ → List ℕ → Type 0
     before : OneHistory (v.view ∷ u.view ∷ [])
     before = pair_history allows about r.past r.fine v.view.node u.view.node v u first_node second_node first_ok second_ok
 
+    -- a port that holds knows all ends
+    knows_all : (n : ℕ) (w : Known) → NodeOk about r.past n w → w.view.state ≡ shows.Holding → w.view.ends ≡ r.past.queue.ends
+    knows_all n w ok held = ok.stands.holds (holding_of w.seat w.seat.point refl (sym ok.stands.state ∙ held)).0
+
+    -- and one that does learns of none
+    whole_stays : (xs ys : List End) → xs ≡ r.past.queue.ends → IsPrefix ys r.past.queue.ends → longer xs ys ≡ xs
+    whole_stays xs ys all begins = longer_whole xs ys r.past.queue.ends all begins ∙ sym all
+
     pair_tells : TellEachOther allows v.view u.view (informed_view v.view u.view) (informed_view u.view v.view)
     pair_tells = record {
       apart = differ;
@@ -153,6 +163,8 @@ module _ (good : List ℕ → Type 0) (allows : List ℕ → List ℕ → Type 0
       meets_a = meets_view v.view u.view;
       meets_b = meets_view u.view v.view;
       one_holds = λ h k. differ (one_holder (v.view ∷ u.view ∷ []) v.view u.view before (among_first v.view (u.view ∷ [])) (among_second v.view u.view []) h k);
+      holds_a = λ h. whole_stays v.view.ends u.view.ends (knows_all v.view.node v first_ok h) second_ok.knows.endings;
+      holds_b = λ h. whole_stays u.view.ends v.view.ends (knows_all u.view.node u second_ok h) first_ok.knows.endings;
     }
 
   pub meets_next : (me slots i : ℕ) (m : Contents) (v u : Known) → m.0 ≡ v ∷ u ∷ [] → Allows (Rule good allows about) slots me m i (λ n. n) (met allows (step slots i 0 0 none) m)
@@ -166,8 +178,8 @@ module _ (good : List ℕ → Type 0) (allows : List ℕ → List ℕ → Type 0
         subst (λ (vs : List Known). met allows (step slots i 0 0 none) (vs, m.1) (slice_index s.words i) (informed v u ∷ informed u v ∷ [], m.1)) (sym is) (
           refl,
           pair_tells s r me v u at',
-          (λ h. let w = a.stands.holds (ap has_line h) in longer_whole v.view.ends u.view.ends r.past.queue.ends w b.knows.endings ∙ sym w),
-          (λ h. let w = b.stands.holds (ap has_line h) in longer_whole u.view.ends v.view.ends r.past.queue.ends w a.knows.endings ∙ sym w),
+          (λ h. whole_stays s r me v u at' v.view.ends u.view.ends (a.stands.holds (ap has_line h)) b.knows.endings),
+          (λ h. whole_stays s r me v u at' u.view.ends v.view.ends (b.stands.holds (ap has_line h)) a.knows.endings),
         ),
       )
 

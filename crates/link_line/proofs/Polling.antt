@@ -156,7 +156,7 @@ module _ (good : List ℕ → Type 0) (allows : List ℕ → List ℕ → Type 0
               goes_step allows v (view_after good allows about s r me v at k) carried carried t.continues refl,
               refl,
               (λ f. let z = sym f ∙ granted_as ∙ un in cc),
-              (λ _. (refl, record { point = here; queued = queued_at good allows about y v v.view.count v.view.joined [] v.line step'.shows (ap (λ (q : Queue). count_of v.view.node q.order) is ∙ ok.knows.counts) step'.says here })),
+              (λ _. (refl, record { point = here; queued = queued_at good allows about y v v.view.count v.view.joined [] v.line step'.shows ok.who.terms (ap (λ (q : Queue). count_of v.view.node q.order) is ∙ ok.knows.counts) step'.says here })),
             ),
           )
 
@@ -177,7 +177,7 @@ module _ (good : List ℕ → Type 0) (allows : List ℕ → List ℕ → Type 0
               goes_step allows v (view_after good allows about s r me v at k) carried carried t.continues refl,
               refl,
               (λ f. let z = sym f ∙ granted_as ∙ un in cc),
-              (λ _. (refl, record { point = own; withdrawn = withdrawn_at good allows about y v v.view.count v.view.joined [] v.line step'.shows (ap (λ (q : Queue). count_of v.view.node q.order) is ∙ ok.knows.counts) step'.says own })),
+              (λ _. (refl, record { point = own; withdrawn = withdrawn_at good allows about y v v.view.count v.view.joined [] v.line step'.shows ok.who.terms (ap (λ (q : Queue). count_of v.view.node q.order) is ∙ ok.knows.counts) step'.says own })),
             ),
           )
 

@@ -37,6 +37,7 @@ use Rattle.link_line.specs.declared.rule.Setup.{Setup}
 use Rattle.link_line.specs.Words.{home_at}
 use Rattle.link_line.specs.Links.{At, Past, NodeOk, InSlot, HasLine, state_at, is_leaving}
 use Rattle.link_line.specs.Steps.{Contents, prepended, LinksTo}
+use Rattle.link_line.proofs.Window.{few_open}
 use Rattle.link_line.proofs.Going.{next, on, wide}
 use Rattle.link_line.proofs.Histories.{at_point}
 use Rattle.link_line.proofs.Laying.{St, Rule, mine_ok, is_node, home_laid, deep_taken, in_slot}
@@ -177,6 +178,7 @@ module _ (good : List ℕ → Type 0) (allows : List ℕ → List ℕ → Type 0
           linking = record {
             state = ap (λ (p : Point). state_at p (seat y.core n).reason (seat y.core n).passed) own';
             waits = (length q.order, behind, asked_at k r.past.joined order);
+            near = few_open about.terms y.core y.queue step'.shows v.view.terms ok.who.terms;
             unjoined = lacks_from v.view.joined asked (λ h. not_joined (ok.joins.all_joined asked h));
             unmarked = own_marked good allows about y v (v.view.count + 1) (length q.order) step'.shows number (last k r.past.joined order) (omega arith) ∙ ap is_rolled own';
           };

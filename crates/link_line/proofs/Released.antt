@@ -39,7 +39,7 @@ module _ (v : Known) (y : Parcel) (none : v.passed ≡ []) where
   ends_now : (w : Known) → Ended v w y → w.view.ends ≡ v.view.ends ++ own_end (is_closed v.view.ends) y ∷ []
   ends_now w e = e.ends ∙ ap (λ x. v.view.ends ++ x ∷ []) (ends_own v y (is_closed v.view.ends) none refl)
 
-  one_more : (w : Known) → Ended v w y → length w.view.ends ≡ length v.view.ends + 1
+  pub one_more : (w : Known) → Ended v w y → length w.view.ends ≡ length v.view.ends + 1
   one_more w e = omega (arith, ap length (ends_now w e), length-append v.view.ends (own_end (is_closed v.view.ends) y ∷ []))
 
   -- it is over where the line goes home or to the next request

@@ -177,11 +177,15 @@ walk_over v w x nodes k h f =
         let one = element_at w.passed i (omega (arith, low, high)) in
         (i, subst (At w.passed i) (k.run i one.0 one.1 ∙ omega (arith, low)) one.1)
 
+-- it put an end for each node that it passed
+pub walked_long : (v w x : Known) (nodes : List ℕ) → Walked v nodes w → FreesAll w x → length x.view.ends ≡ length v.view.ends + length nodes
+walked_long v w x nodes k f = ap length (f.ends ∙ k.ends) ∙ omega (arith, length-append v.view.ends (replicate (length nodes) Gone), length-replicate (length nodes) Gone)
+
 -- where a walk from the seat s stands, by what became of the line, after so many word steps: each passed request took three; and when
--- the line is away, a step more for each is within what a release may take
+-- the line is away, the last one took one to three, and a step more for each is within what a release may take
 abbrev pub StandsBy : LinkSeat → List ℕ → LinkSeat → ℕ → Handed → Type 0
-StandsBy s nodes t taken handed.On = HasNoSlot t × IsAway nodes (known_of t) × (taken + length nodes + 6 ≤ 4 * (known_of s).view.terms.nodes)
-StandsBy s nodes t taken handed.Left = HasNoSlot t × IsAway nodes (known_of t) × (taken + length nodes + 6 ≤ 4 * (known_of s).view.terms.nodes)
+StandsBy s nodes t taken handed.On = HasNoSlot t × IsAway nodes (known_of t) × (taken + length nodes + 6 ≤ 4 * (known_of s).view.terms.nodes) × (3 * length nodes ≤ taken + 2) × (taken ≤ 3 * length nodes)
+StandsBy s nodes t taken handed.Left = HasNoSlot t × IsAway nodes (known_of t) × (taken + length nodes + 6 ≤ 4 * (known_of s).view.terms.nodes) × (3 * length nodes ≤ taken + 2) × (taken ≤ 3 * length nodes)
 StandsBy s nodes t taken (handed.Passed node) = (t.me.1 ≡ s.me.1) × StandsAt nodes node (known_of t) × ((known_of t).line ≡ (known_of s).line) × (taken ≡ 3 * length nodes)
 
 -- what a walk that began at the seat s has done so far
@@ -246,13 +250,15 @@ module _ (allows : List ℕ → List ℕ → Type 0) (s t u : LinkSeat) (nodes :
       h.0,
       out_away h.1 h.2.passed (left_by (known_of s).line.closed) h.2.point h.2.state h.2.unmarked,
       ⊎_elim (λ one. omega (arith, one, k.few, b.3, b.1.many, longer)) (λ more. steps_out (omega (arith, more.0)) more.1) h.3,
+      ⊎_elim (λ one. omega (arith, one, b.3, longer)) (λ more. omega (arith, more.0, b.3, longer)) h.3,
+      ⊎_elim (λ one. omega (arith, one, b.3, longer)) (λ more. omega (arith, more.0, b.3, longer)) h.3,
     ),
   )
 
   walks_left : HandsOn t (known_of s).line u n handed.Left → Walked (known_of s) (nodes ++ node ∷ []) (known_of u) × StandsBy s (nodes ++ node ∷ []) u (taken + n) handed.Left
   walks_left h = let closed = h.2.state ∙ out_state (known_of t).passed (known_of s).line.closed some in (
     out_walked h.1 h.2.passed (left_in (known_of t).passed (known_of s).line.closed) h.2.point closed h.2.unmarked,
-    (h.0, out_away h.1 h.2.passed (left_in (known_of t).passed (known_of s).line.closed) h.2.point closed h.2.unmarked, steps_out (omega (arith, h.3)) h.4),
+    (h.0, out_away h.1 h.2.passed (left_in (known_of t).passed (known_of s).line.closed) h.2.point closed h.2.unmarked, steps_out (omega (arith, h.3)) h.4, omega (arith, h.3, b.3, longer), omega (arith, h.3, b.3, longer)),
   )
 
   walks_passed : (to : ℕ) → HandsOn t (known_of s).line u n (handed.Passed to) → Walked (known_of s) (nodes ++ node ∷ []) (known_of u) × StandsBy s (nodes ++ node ∷ []) u (taken + n) (handed.Passed to)
@@ -294,7 +300,7 @@ walking_on allows s t u before nodes node steps later n result k slot state same
     }
 
 -- when the walk is over, the line is away
-pub away_by : (allows : List ℕ → List ℕ → Type 0) (s t : LinkSeat) (before : ℕ) (nodes : List ℕ) (result : Handed) (steps : ℕ) → ((node : ℕ) → result ≢ handed.Passed node) → (k : IsWalking allows s before nodes result t steps) → HasNoSlot t × IsAway nodes (known_of t) × (k.taken + length nodes + 6 ≤ 4 * (known_of s).view.terms.nodes)
+pub away_by : (allows : List ℕ → List ℕ → Type 0) (s t : LinkSeat) (before : ℕ) (nodes : List ℕ) (result : Handed) (steps : ℕ) → ((node : ℕ) → result ≢ handed.Passed node) → (k : IsWalking allows s before nodes result t steps) → HasNoSlot t × IsAway nodes (known_of t) × (k.taken + length nodes + 6 ≤ 4 * (known_of s).view.terms.nodes) × (3 * length nodes ≤ k.taken + 2) × (k.taken ≤ 3 * length nodes)
 away_by allows s t from nodes handed.On steps none k = k.stands
 away_by allows s t from nodes handed.Left steps none k = k.stands
 away_by allows s t from nodes (handed.Passed node) steps none k = absurd (none node refl)

@@ -26,9 +26,10 @@ pub record Standing : Type 0 where
   pub turn : Write
   pub steps : ℕ
   pub taken : ℕ
+  pub looks : ℕ
 
-abbrev pub standing : LinkSeat → Parcel → ℕ → Standing
-standing s y steps = record { table = s.table_id; view = (known_of s).view; turn = write_of y; steps = steps; taken = (known_of s).steps }
+abbrev pub standing : LinkSeat → Parcel → ℕ → ℕ → Standing
+standing s y steps looks = record { table = s.table_id; view = (known_of s).view; turn = write_of y; steps = steps; taken = (known_of s).steps; looks = looks }
 
 -- the turn's bytes are those of the earlier ends, changed under the mask
 abbrev pub IsMerged : View → Parcel → Type 0

@@ -23,6 +23,11 @@ use Rattle.link_line.specs.Steps.{LinkSeat, known_of, HasSlot, HasNoSlot, own_en
 abbrev pub AreFew : ℕ → Type 0
 AreFew steps = steps ≤ 4 * MOST_NODES
 
+-- A release that put new_ends - old_ends ends took four word steps for each, less one to three: home, done, grant and freed for each
+-- withdrawn request that it passed, and for the last end home; or home and done; or home, done and grant.
+abbrev pub TakesFourEach : ℕ → ℕ → ℕ → Type 0
+TakesFourEach old_ends new_ends steps = (4 * new_ends ≤ 4 * old_ends + steps + 3) × (steps + 1 + 4 * old_ends ≤ 4 * new_ends)
+
 -- how many word steps it takes to find out whether a node may ask, and to make it ready
 abbrev pub steps_to_renew : Option ℕ → ℕ
 steps_to_renew (Some steps) = steps

@@ -1,10 +1,10 @@
 //! The calls of a line by which nodes queue at it.
-ghost use Rattle.std.specs.Prelude.{◌≡◌, ◌≢◌, ◌⊎◌, ◌+◌, ◌*◌, ◌≤◌, IsTrue, Some, true, false};
+ghost use Rattle.std.specs.Prelude.{◌≡◌, ◌≢◌, ◌⊎◌, ◌+◌, ◌*◌, ◌≤◌, length, IsTrue, Some, true, false};
 ghost use Rattle.qolb_model.specs.PortStates as states;
 ghost use Rattle.qolb_model.specs.Leases.{turns_left};
 ghost use Rattle.qolb_model.specs.Kept.{MayRelease};
 ghost use Rattle.qolb_model.specs.Calls.{Enqueues, Prepends, LinksUp, Polls, Withdraws, Releases};
-ghost use Rattle.link_line.specs.Releases.{steps_to_ask};
+ghost use Rattle.link_line.specs.Releases.{steps_to_ask, TakesFourEach};
 ghost use Rattle.link_line.specs.Line.{IsPortOf};
 
 use crate::line::LinkLine;
@@ -32,6 +32,7 @@ impl<K: Keep> LinkLine<K> {
         ensures belongs { IsPortOf K.good K.allows self.now port.new }
         ensures enqueues { Enqueues K.allows port.old.view port.new.view port.new.turn result }
         ensures taken { port.new.taken ≡ port.old.taken + port.new.steps }
+        ensures looks { port.new.looks ≡ port.old.looks }
         ensures counted_busy { result ≡ Enq.Busy → port.new.steps ≡ 1 }
         ensures counted_queued { result ≡ Enq.Queued → port.new.steps ≡ steps_to_ask port.old.view.state + 1 }
         ensures counted_granted { result ≡ Enq.Granted → port.new.steps ≤ steps_to_ask port.old.view.state + 1 }
@@ -57,6 +58,7 @@ impl<K: Keep> LinkLine<K> {
         ensures belongs { IsPortOf K.good K.allows self.now port.new }
         ensures prepends { Prepends K.allows port.old.view port.new.view port.new.turn result }
         ensures taken { port.new.taken ≡ port.old.taken + port.new.steps }
+        ensures looks { port.new.looks ≡ port.old.looks }
         ensures counted_busy { result ≡ Prep.Busy → port.new.steps ≡ 1 }
         ensures counted { (result ≡ Prep.Granted) ⊎ (result ≡ Prep.Linking) → port.new.steps ≡ steps_to_ask port.old.view.state }
         ensures bound { port.new.steps ≤ 4 * self.now.table.shared.key.terms.nodes }
@@ -93,6 +95,7 @@ impl<K: Keep> LinkLine<K> {
         ensures belongs { IsPortOf K.good K.allows self.now port.new }
         ensures links_up { LinksUp K.allows port.old.view port.new.view port.new.turn result }
         ensures taken { port.new.taken ≡ port.old.taken + port.new.steps }
+        ensures looks { port.new.looks ≡ port.old.looks }
         ensures counted { result ≢ Enq.Closed → port.new.steps ≡ 1 }
         ensures bound { port.new.steps + 2 ≤ 4 * self.now.table.shared.key.terms.nodes }
     {
@@ -123,10 +126,12 @@ impl<K: Keep> LinkLine<K> {
         ensures belongs { IsPortOf K.good K.allows self.now port.new }
         ensures polls { Polls K.allows port.old.view port.new.view port.new.turn result }
         ensures taken { port.new.taken ≡ port.old.taken + port.new.steps }
+        ensures looks { port.new.looks ≡ port.old.looks + 1 }
         ensures counted { result ≢ Poll.Closed → port.new.steps ≡ 1 }
         ensures bound { port.new.steps + 2 ≤ 4 * self.now.table.shared.key.terms.nodes }
     {
         let ground = &self.table.shared;
+        port.looks = port.looks.and_one();
         port.steps = 1;
         if !load(ground, &mut port.seat, port.node) {
             return Poll::Waiting;
@@ -152,6 +157,7 @@ impl<K: Keep> LinkLine<K> {
         ensures belongs { IsPortOf K.good K.allows self.now port.new }
         ensures withdraws { Withdraws K.allows port.old.view port.new.view port.new.turn result }
         ensures taken { port.new.taken ≡ port.old.taken + port.new.steps }
+        ensures looks { port.new.looks ≡ port.old.looks }
         ensures counted { result ≢ Out.Closed → port.new.steps ≡ 1 }
         ensures bound { port.new.steps + 2 ≤ 4 * self.now.table.shared.key.terms.nodes }
     {
@@ -184,6 +190,8 @@ impl<K: Keep> LinkLine<K> {
         ensures belongs { IsPortOf K.good K.allows self.now port.new }
         ensures releases { Releases K.allows false port.old.view port.new.view port.old.turn }
         ensures taken { port.new.taken ≡ port.old.taken + port.new.steps }
+        ensures looks { port.new.looks ≡ port.old.looks }
+        ensures counted { TakesFourEach (length port.old.view.ends) (length port.new.view.ends) port.new.steps }
         ensures bound { port.new.steps + 3 ≤ 4 * self.now.table.shared.key.terms.nodes }
     {
         self.let_go(port, false);
@@ -197,6 +205,8 @@ impl<K: Keep> LinkLine<K> {
         ensures belongs { IsPortOf K.good K.allows self.now port.new }
         ensures releases { Releases K.allows true port.old.view port.new.view port.old.turn }
         ensures taken { port.new.taken ≡ port.old.taken + port.new.steps }
+        ensures looks { port.new.looks ≡ port.old.looks }
+        ensures counted { TakesFourEach (length port.old.view.ends) (length port.new.view.ends) port.new.steps }
         ensures bound { port.new.steps + 3 ≤ 4 * self.now.table.shared.key.terms.nodes }
     {
         self.let_go(port, true);
@@ -211,6 +221,8 @@ impl<K: Keep> LinkLine<K> {
         ensures belongs { IsPortOf K.good K.allows self.now port.new }
         ensures releases { Releases K.allows shut port.old.view port.new.view port.old.turn }
         ensures taken { port.new.taken ≡ port.old.taken + port.new.steps }
+        ensures looks { port.new.looks ≡ port.old.looks }
+        ensures counted { TakesFourEach (length port.old.view.ends) (length port.new.view.ends) port.new.steps }
         ensures bound { port.new.steps + 3 ≤ 4 * self.now.table.shared.key.terms.nodes }
     {
         let ground = &self.table.shared;

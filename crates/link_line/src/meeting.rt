@@ -27,6 +27,7 @@ impl<K: Keep> LinkLine<K> {
         ensures turn_b { b.new.turn ≡ b.old.turn }
         ensures steps_a { (a.new.steps ≡ a.old.steps) × (a.new.taken ≡ a.old.taken) }
         ensures steps_b { (b.new.steps ≡ b.old.steps) × (b.new.taken ≡ b.old.taken) }
+        ensures looks { (a.new.looks ≡ a.old.looks) × (b.new.looks ≡ b.old.looks) }
     {
         let ground = &self.table.shared;
         if !b.holds() {

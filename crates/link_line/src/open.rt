@@ -12,7 +12,7 @@ use crate::rule::{Ground, LinkSeat, Setup};
 use crate::words::WORDS;
 use atomic_table::Table;
 use line_lanes::{Line64, Mask};
-use qolb_model::{Keep, OpenError, PortState, Terms};
+use qolb_model::{Keep, Looks, OpenError, PortState, Terms};
 use std::alloc::{AllocError, Global};
 use std::mem;
 
@@ -145,6 +145,7 @@ fn split_ports<K: Keep>(
             node: done + 1,
             steps: 0,
             state: PortState::Idle,
+            looks: Looks::none(),
         })?;
     }
     Ok(ports)

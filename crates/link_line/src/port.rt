@@ -3,7 +3,7 @@ ghost use Rattle.std.specs.Prelude.{◌≡◌, ◌↔◌, IsTrue};
 
 use crate::parcel::Parcel;
 use crate::rule::LinkSeat;
-use qolb_model::{LinePort, PortState};
+use qolb_model::{LinePort, Looks, PortState};
 use std::marker::Model;
 
 /// A node's end of the line.
@@ -21,6 +21,8 @@ pub struct Port {
     /// How many word steps the last call took.
     pub(crate) steps: u64,
     pub(crate) state: PortState,
+    /// How often it was polled: for proofs alone.
+    pub(crate) looks: Looks,
 }
 
 impl Model for Port {
@@ -28,7 +30,7 @@ impl Model for Port {
 
     ghost Value = { Standing };
 
-    ghost view = { λ p. standing p.seat p.parcel p.steps };
+    ghost view = { λ p. standing p.seat p.parcel p.steps p.looks.count };
 
     ghost invariant = { λ p. IsPort p.label p.node p.seat p.parcel p.older p.state };
 }

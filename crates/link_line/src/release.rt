@@ -6,7 +6,7 @@ ghost use Rattle.qolb_model.specs.PortStates as states;
 ghost use Rattle.link_core.specs.declared.point.Point.TheVariants.{Idle, Leaving, Freeing, Left, Rolled, Shut};
 ghost use Rattle.link_line.specs.Links.{At};
 ghost use Rattle.link_line.specs.Steps.{SameSeat, IsSeatOf, IsAt, HasSlot, HasNoSlot, IsOwnNode, Alone, known_of, GoesOn, Comes, MayLetGo};
-ghost use Rattle.link_line.specs.Releases.{AreFew, IsRenewed, steps_to_renew, rest_of, HandsOn, LetsLineGo, WalksOn, AreNodesAt, FreesAll};
+ghost use Rattle.link_line.specs.Releases.{AreFew, IsRenewed, steps_to_renew, rest_of, HandsOn, TakesFourEach, LetsLineGo, WalksOn, AreNodesAt, FreesAll};
 ghost use Rattle.link_line.specs.Ports.{Arrived};
 ghost use Rattle.link_line.specs.declared.parcel.Parcel.{Parcel};
 
@@ -148,6 +148,7 @@ pub(crate) fn release<K: Keep>(
     ensures slot { HasNoSlot seat.new }
     ensures goes_on { (n : ℕ) × (steps.new ≡ steps.old + n) × GoesOn K.allows seat.old.me seat.new.me n }
     ensures lets_go { (y : Parcel) → HasSlot seat.old y → LetsLineGo (known_of seat.old) y result (known_of seat.new) }
+    ensures counted { (n : ℕ) × (steps.new ≡ steps.old + n) × TakesFourEach (length (known_of seat.old).view.ends) (length (known_of seat.new).view.ends) n }
     ensures bound { steps.new + 3 ≤ steps.old + 4 * (known_of seat.old).view.terms.nodes }
 {
     match hand_on(ground, seat, steps, node) {
@@ -209,6 +210,7 @@ fn walk<K: Keep>(ground: &Ground<K>, seat: &mut LinkSeat, steps: u64, first: u64
     ensures slot { HasNoSlot seat.new }
     ensures goes_on { (n : ℕ) × (result ≡ steps + n) × GoesOn K.allows seat.old.me seat.new.me n }
     ensures walks_on { WalksOn (known_of seat.old) (known_of seat.new) }
+    ensures counted { (n : ℕ) × (result ≡ steps + n) × (4 * length (known_of seat.new).view.ends ≤ 4 * length (known_of seat.old).view.ends + n + 2) × (n + 4 * length (known_of seat.old).view.ends ≤ 4 * length (known_of seat.new).view.ends) }
     ensures bound { result + 6 ≤ steps + 4 * (known_of seat.old).view.terms.nodes }
 {
     let mut steps = steps;

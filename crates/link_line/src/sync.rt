@@ -18,6 +18,8 @@ impl<K: Keep> LineSync<K> for LinkLine<K> {
 
     ghost turn = { λ port. port.turn };
 
+    ghost looks = { λ port. port.looks };
+
     ghost belongs = { λ line port. IsPortOf K.good K.allows line port };
 
     ghost label_of = { λ line. line.table.shared.key.label };

@@ -129,6 +129,7 @@ new_knows label terms node = record {
   own_count = refl;
   own_ends = λ p r e at. absurd (nothing_there p r at);
   own_marks = λ p r e at. absurd (nothing_there p r at);
+  own_open = λ p r _ at. absurd (nothing_there p r at);
   holder = λ e. absurd (not_idle e);
 }
 

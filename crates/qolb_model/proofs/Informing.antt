@@ -38,4 +38,6 @@ tell_swapped {v = v} {u = u} {v' = v'} {u' = u'} t = record {
   meets_a = t.meets_b;
   meets_b = t.meets_a;
   one_holds = λ held other. t.one_holds other held;
+  holds_a = t.holds_b;
+  holds_b = t.holds_a;
 }

@@ -19,6 +19,7 @@ pub mod Answering
 pub mod Informing
 pub mod Updates
 pub mod Seats
+pub mod Ghosts
 pub mod Bounds
 pub mod Follows
 pub mod Passing

@@ -77,7 +77,7 @@ module _ (allows : List ℕ → List ℕ → Type 0) where
     pub ends_turn : let closed = closes old.terms.lease old.ends shut in EndsTurn old (Served turn closed) (left_by closed) new
     pub bytes : bytes_of new ≡ turn.bytes.bytes
 
-  -- `meet`: the ports of two nodes tell each other what they know
+  -- `meet`: the ports of two nodes tell each other what they know; a holder learns of no end
   pub record TellEachOther (a b a_then b_then : View) : Type 0 where
     pub apart : a.node ≢ b.node
     pub before : OneHistory (a ∷ b ∷ [])
@@ -87,3 +87,5 @@ module _ (allows : List ℕ → List ℕ → Type 0) where
     pub meets_a : Meets a b a_then
     pub meets_b : Meets b a b_then
     pub one_holds : a_then.state ≡ Holding → b_then.state ≢ Holding
+    pub holds_a : a.state ≡ Holding → a_then.ends ≡ a.ends
+    pub holds_b : b.state ≡ Holding → b_then.ends ≡ b.ends

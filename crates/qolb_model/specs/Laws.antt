@@ -1,5 +1,5 @@
 -- Laws of histories, and of views of one history: what their definitions are to say at the least. (Of this project.)
-use Rattle.std.specs.Prelude.{◌≡◌, ◌≢◌, ℕ, ◌≤◌, true, false, List, [], ◌∷◌, length, take, slice_get, filter, Option, Some}
+use Rattle.std.specs.Prelude.{◌≡◌, ◌≢◌, ℕ, ◌+◌, ◌<◌, ◌≤◌, true, false, List, [], ◌∷◌, length, take, slice_get, filter, Option, Some}
 use mathlib.Core.List.{IsPrefix}
 use Rattle.qolb_model.specs.declared.answer.PortState.TheVariants.{Holding}
 use Rattle.qolb_model.specs.declared.request.Request.{Request}
@@ -10,7 +10,8 @@ use Rattle.qolb_model.specs.Ends.{is_closed, bytes_after}
 use Rattle.qolb_model.specs.EndKinds.{is_served}
 use Rattle.qolb_model.specs.Leases.{served, IsLease, turns_left}
 use Rattle.qolb_model.specs.Histories.{IsLegal}
-use Rattle.qolb_model.specs.Views.{bytes_of, Extends}
+use Rattle.qolb_model.specs.Views.{own, bytes_of, Extends}
+use Rattle.qolb_model.specs.Turns.{IsNear}
 use Rattle.qolb_model.specs.OneHistory.{IsAmong, OneHistory}
 use Rattle.qolb_model.specs.Kept.{AreAllowed}
 use Rattle.qolb_model.specs.Opening.{AreNew}
@@ -66,6 +67,12 @@ SameEndsSameBytes = (views : List View) (v w : View) → OneHistory views → Is
 -- two views of one history that both hold are of one node
 abbrev pub OneNodeHolds : Type 0
 OneNodeHolds = (views : List View) (v w : View) → OneHistory views → IsAmong views v → IsAmong views w → v.state ≡ Holding → w.state ≡ Holding → v.node ≡ w.node
+
+-- Nobody is passed over. Once a port was answered that its request, at place p, is behind others, fewer requests end before it than its
+-- line has nodes, whatever anybody does: so many may have ended, as the port knows, and its own has not.
+abbrev pub FewEndBefore : Type 0
+FewEndBefore = (asked later : View) (p : ℕ) → IsNear asked → slice_get asked.order p ≡ Some (own asked) → Extends asked later → length later.ends ≤ p
+    → length later.ends < length asked.ends + asked.terms.nodes
 
 -- the ports that a line is opened with are of one history
 abbrev pub NewPortsAreOfOneHistory : Type 0

@@ -5,12 +5,13 @@ use Rattle.qolb_model.specs.declared.view.View.{View}
 use Rattle.qolb_model.specs.Requests.{Lacks}
 use Rattle.qolb_model.specs.Views.{own}
 use Rattle.qolb_model.specs.Asking.{IsJoined}
-use Rattle.qolb_model.specs.Turns.{Waits}
+use Rattle.qolb_model.specs.Turns.{Waits, IsNear}
 
 -- linking: the port's request is made and behind another, not yet linked to it, and not withdrawn
 pub record IsLinking (new : View) : Type 0 where
   pub state : new.state ≡ Linking
   pub waits : Waits new
+  pub near : IsNear new
   pub unjoined : Lacks new.joined (own new)
   pub unmarked : Lacks new.marked (own new)
 

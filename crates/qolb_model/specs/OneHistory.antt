@@ -17,7 +17,7 @@ IsAmong views v = (i : ℕ) × (slice_get views i ≡ Some v)
 
 -- What a view knows of a history: what its line was opened with; that all requests are of its line's nodes; a beginning of each of its
 -- lists; how many requests its own node has made; of these, each end by service or by telling, and which of the ended ones were
--- withdrawn. A holder's request is at its turn.
+-- withdrawn; and that none is open but the last. A holder's request is at its turn.
 pub record Knows (terms : Terms) (order : List Request) (ends : List End) (clear : List Request) (v : View) : Type 0 where
   pub terms_are : v.terms ≡ terms
   pub of_line : (p : ℕ) (r : Request) → slice_get order p ≡ Some r → (1 ≤ r.node) × (r.node ≤ terms.nodes)
@@ -27,6 +27,7 @@ pub record Knows (terms : Terms) (order : List Request) (ends : List End) (clear
   pub own_count : count_of v.node order ≡ v.count
   pub own_ends : (p : ℕ) (r : Request) (e : End) → slice_get order p ≡ Some r → slice_get ends p ≡ Some e → r.node ≡ v.node → is_gone e ≡ false → slice_get v.ends p ≡ Some e
   pub own_marks : (p : ℕ) (r : Request) (e : End) → slice_get order p ≡ Some r → slice_get ends p ≡ Some e → r.node ≡ v.node → has v.marked r ≡ is_gone e
+  pub own_open : (p : ℕ) (r : Request) → length ends ≤ p → slice_get order p ≡ Some r → r.node ≡ v.node → r ≡ own v
   pub holder : v.state ≡ Holding → turn_of order ends ≡ Some (own v)
 
 -- what one view knows to be joined or withdrawn of the requests of the other's node, that other view knows too

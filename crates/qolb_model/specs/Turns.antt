@@ -1,5 +1,5 @@
 -- Waiting for a turn, and having it. (The line itself is handed on: Goodman, Vernon and Woest, 1989.)
-use Rattle.std.specs.Prelude.{◌≡◌, ℕ, ◌+◌, ◌<◌, false, length, slice_get, Some}
+use Rattle.std.specs.Prelude.{◌≡◌, ℕ, ◌+◌, ◌<◌, ◌≤◌, false, length, slice_get, Some}
 use Rattle.qolb_model.specs.declared.answer.PortState.TheVariants.{Holding, Queued, Rolled}
 use Rattle.qolb_model.specs.declared.request.Request.{Request}
 use Rattle.qolb_model.specs.declared.write.Write.{Write}
@@ -14,6 +14,11 @@ use Rattle.qolb_model.specs.Views.{own, bytes_of}
 -- the port's request is not at its turn: fewer requests have ended than stand before it
 abbrev pub Waits : View → Type 0
 Waits v = (p : ℕ) × (length v.ends < p) × (slice_get v.order p ≡ Some (own v))
+
+-- As far as the port knows, no more requests are open than the line has nodes. So at most one fewer than that end before its own, whatever
+-- anybody does from then on: what comes later stands behind.
+abbrev pub IsNear : View → Type 0
+IsNear v = length v.order ≤ length v.ends + v.terms.nodes
 
 -- the request just before this place, where it was served or told, is clear
 abbrev pub IsClearBefore : View → ℕ → Type 0
@@ -34,10 +39,12 @@ pub record IsGranted (new : View) (turn : Write) : Type 0 where
 pub record IsQueued (new : View) : Type 0 where
   pub state : new.state ≡ Queued
   pub waits : Waits new
+  pub near : IsNear new
   pub unmarked : Lacks new.marked (own new)
 
 -- withdrawn: the port's request was marked while it was behind another, and is to be passed
 pub record IsWithdrawn (new : View) : Type 0 where
   pub state : new.state ≡ Rolled
   pub waits : Waits new
+  pub near : IsNear new
   pub marked : Has new.marked (own new)

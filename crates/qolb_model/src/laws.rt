@@ -1,5 +1,5 @@
 //! Laws of the definitions that a line's contracts speak of. Each is the contract of a function that does nothing.
-ghost use Rattle.qolb_model.specs.Laws.{NoRequestStandsTwice, NoneIsServedAfterClosing, LeaseBounds, OpenLineHasTurns, OnlyServedEndsWrite, GoodStaysGood, ExtendsThrough, PartIsOfOneHistory, EachTwoAreOfOneHistory, FewerEndsBegin, SameEndsSameBytes, OneNodeHolds, NewPortsAreOfOneHistory, PortsThatMetKnowTheSame};
+ghost use Rattle.qolb_model.specs.Laws.{NoRequestStandsTwice, NoneIsServedAfterClosing, LeaseBounds, OpenLineHasTurns, OnlyServedEndsWrite, GoodStaysGood, ExtendsThrough, PartIsOfOneHistory, EachTwoAreOfOneHistory, FewerEndsBegin, SameEndsSameBytes, OneNodeHolds, FewEndBefore, NewPortsAreOfOneHistory, PortsThatMetKnowTheSame};
 
 use crate::keep::Keep;
 
@@ -61,6 +61,11 @@ pub fn same_ends_same_bytes()
 /// No two nodes hold the line at once.
 pub fn one_node_holds()
     ensures { OneNodeHolds }
+{}
+
+/// Between an ask that waits and its turn, fewer requests end than the line has nodes.
+pub fn few_end_before()
+    ensures { FewEndBefore }
 {}
 
 /// The ports that a line is opened with are of one history.

@@ -34,7 +34,7 @@ abbrev pub IsBetween : Inside → Type 0
 IsBetween q = IsPort q.label q.node q.seat q.parcel q.cell q.state
 
 abbrev pub seen : Inside → Standing
-seen q = standing q.seat q.parcel q.steps
+seen q = standing q.seat q.parcel q.steps q.looks.count
 
 abbrev pub known : Inside → View
 known q = (entry_of q.seat).view
@@ -46,8 +46,8 @@ module _ {good : List ℕ → Type 0} {allows : List ℕ → List ℕ → Type 0
   call_continues = goes.continues p.view (subst (λ (x : Standing). Continues allows p.view x.view) (sym is) (continues_sound good allows key.label key.terms p.view b.sound))
 
   -- it belongs to the line
-  pub call_belongs : (z : Parcel) (steps : ℕ) → BelongsTo good allows key table_id (standing t z steps)
-  call_belongs z steps = record {
+  pub call_belongs : (z : Parcel) (steps : ℕ) {looks : ℕ} → BelongsTo good allows key table_id (standing t z steps looks)
+  call_belongs z steps {looks = looks} = record {
     table_is = same.0 ∙ (ap (λ (x : Standing). x.table) is ∙ b.table_is);
     sound = sound_goes good allows key.label key.terms p.view (entry_of t).view b.sound call_continues;
   }
@@ -76,10 +76,10 @@ told_of t z cell before steps shows.Shut a h = (a.3, a.4)
 
 -- a request behind another waits, or is withdrawn
 pub early_waits : (v w : Entry) → IsEarly v w → IsQueued w.view
-early_waits v w e = record { state = e.state; waits = (w.place, e.early, e.placed); unmarked = e.unmarked }
+early_waits v w e = record { state = e.state; waits = (w.place, e.early, e.placed); near = e.near; unmarked = e.unmarked }
 
 pub rolled_withdrawn : (v w : Entry) → IsRolled v w → IsWithdrawn w.view
-rolled_withdrawn v w e = record { state = e.state; waits = (w.place, e.early, e.placed); marked = e.marked }
+rolled_withdrawn v w e = record { state = e.state; waits = (w.place, e.early, e.placed); near = e.near; marked = e.marked }
 
 -- the count of a port's requests, as its contract shows it
 pub same_count : {p : Standing} (w : View) (q : Inside) → seen q ≡ p → w.count ≡ (known q).count → w.count ≡ p.view.count

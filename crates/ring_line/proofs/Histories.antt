@@ -46,6 +46,7 @@ module _ (good : List ℕ → Type 0) (allows : List ℕ → List ℕ → Type 0
         let here = element_at v.view.ends p (ok.knows.own_ends p r e at (mine ∙ ok.who.node) en gone) in
         here.1 ∙ ap Some (at_same x.ends p here.0 e (prefix_get v.view.ends x.ends p here.0 ok.knows.endings here.1) en);
     own_marks = λ p r e at en mine. same_test (has v.view.marked r) (is_gone e) (λ h. (f.gone p e en).1 (marked_at x f n v ok p r at h)) (λ g. ok.marks.known p r at (mine ∙ ok.who.node) ((f.gone p e en).0 g));
+    own_open = λ p r l at mine. let k = ok.stance.last_open p r at (mine ∙ ok.who.node) l in at_same x.order p r (own v.view) at (subst (λ q. At x.order q (own v.view)) (sym k.1) (placed_at about x n v ok k.0));
     holder = λ e. let h = ok.hand.holder e in subst (λ q. At x.order q (own v.view)) h.1 (placed_at about x n v ok (ok.stance.asked (λ i. clash_at has_line Idle h.0 i refl)));
   }
 

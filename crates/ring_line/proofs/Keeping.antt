@@ -8,6 +8,7 @@ use lib.ListN.{get_elem?}
 use Rattle.std.proofs.lemmas.Option.{slice_get_within}
 use Rattle.atomic_table.specs.Table.{State}
 use Rattle.qolb_model.specs.declared.request.Request.{Request}
+use Rattle.qolb_model.specs.declared.terms.Terms.{Terms}
 use Rattle.qolb_model.specs.Requests.{count_of}
 use Rattle.qolb_model.proofs.Lists.{at_drop}
 use Rattle.qolb_model.proofs.Counts.{few_if_once, count_once}
@@ -66,6 +67,10 @@ module _ (good : List ℕ → Type 0) (allows : List ℕ → List ℕ → Type 0
 
       once : (k : ℕ) → 0 < k → k ≤ about.terms.nodes → count_of k (drop (length r.past.ends) r.past.order) ≤ 1
       once k a b = count_once k (drop (length r.past.ends) r.past.order) (λ i j q t at at' mine mine'. let ok = r.each k a b in let l = place k ok i q at mine in let m = place k ok j t at' mine' in omega arith)
+
+  -- nor than the nodes of terms that are the line's
+  pub few_open : (s : St) (r : Rule s) (terms : Terms) → terms ≡ about.terms → length r.past.order ≤ length r.past.ends + terms.nodes
+  few_open s r terms is = subst (λ (t : Terms). length r.past.order ≤ length r.past.ends + t.nodes) (sym is) (window s r)
 
   -- far ahead nothing is marked
   pub blank : (s : St) (r : Rule s) → r.past.marks (length r.past.ends + CELLS) ≡ 0

@@ -16,7 +16,7 @@ use Rattle.ring_line.specs.Ring.{NodeOk, RingRule, has_line, lets_go, is_kept}
 use Rattle.ring_line.specs.Steps.{sole, Contents, IsEarly, Comes, loaded}
 use Rattle.ring_line.proofs.Nodes.{fresh, fresh_ok}
 use Rattle.ring_line.proofs.Histories.{not_withdrawn, continues}
-use Rattle.ring_line.proofs.Keeping.{St, rule_step, mine_ok}
+use Rattle.ring_line.proofs.Keeping.{St, rule_step, mine_ok, few_open}
 use Rattle.ring_line.proofs.Taking.{take_entry, asked_at, home, finds_grant, finds_blank, takes_rule, comes, learns_take}
 use Rattle.ring_line.proofs.Turning.{goes_step}
 
@@ -50,6 +50,7 @@ module _ (good : List ℕ → Type 0) (allows : List ℕ → List ℕ → Type 0
       place = refl;
       placed = asked_at good allows about v queued r.past ok;
       early = let w = ok.stance.queued queued in omega arith;
+      near = few_open good allows about s r v.view.terms ok.who.terms;
     }
 
   pub loads_next : (me slots i : ℕ) (m : Contents) → m.0 ≡ v ∷ [] → i ≡ cell_at (cell_of v.place) → Allows Rule slots me m i (λ n. n) (loaded allows (step slots i 0 0 none) m)

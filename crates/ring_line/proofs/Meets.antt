@@ -6,6 +6,7 @@ use lib.ListN.{get_elem?}
 use lib.Seq.{set-get_or}
 use Rattle.atomic_table.specs.Table.{step, keeps, gives, put_back, rest, Allows}
 use Rattle.atomic_table.proofs.Lists.{set_again}
+use Rattle.qolb_model.specs.declared.end.End.{End}
 use Rattle.qolb_model.specs.Views.{own}
 use Rattle.qolb_model.specs.OneHistory.{OneHistory}
 use Rattle.qolb_model.specs.Sound.{Continues}
@@ -120,6 +121,10 @@ module _ (good : List ℕ → Type 0) (allows : List ℕ → List ℕ → Type 0
       members = pair_members node_of about.terms.nodes r.who r.owner s.views r.members me v u at (informed v u) (informed u v) refl refl;
     }
 
+    -- one that knows all ends learns of none
+    whole_stays : (xs ys : List End) → xs ≡ r.past.ends → IsPrefix ys r.past.ends → longer xs ys ≡ xs
+    whole_stays xs ys whole begins = longer_whole xs ys r.past.ends whole begins ∙ sym whole
+
     pair_tells : TellEachOther allows v.view u.view (informed_view v.view u.view) (informed_view u.view v.view)
     pair_tells = record {
       apart = differ;
@@ -130,6 +135,8 @@ module _ (good : List ℕ → Type 0) (allows : List ℕ → List ℕ → Type 0
       meets_a = meets_view v.view u.view;
       meets_b = meets_view u.view v.view;
       one_holds = λ h k. differ (sym (first_ok.hand.holds (first_ok.hand.holder h).0).1 ∙ (second_ok.hand.holds (second_ok.hand.holder k).0).1);
+      holds_a = λ h. whole_stays v.view.ends u.view.ends (first_ok.hand.holds (first_ok.hand.holder h).0).0 second_ok.knows.endings;
+      holds_b = λ h. whole_stays u.view.ends v.view.ends (second_ok.hand.holds (second_ok.hand.holder h).0).0 first_ok.knows.endings;
     }
 
   pub meets_next : (me slots i : ℕ) (m : Contents) (v u : Entry) → m.0 ≡ v ∷ u ∷ [] → Allows Rule slots me m i (λ n. n) (met allows (step slots i 0 0 none) m)
@@ -143,8 +150,8 @@ module _ (good : List ℕ → Type 0) (allows : List ℕ → List ℕ → Type 0
         subst (λ (vs : List Entry). met allows (step slots i 0 0 none) (vs, m.1) (slice_index s.words i) (informed v u ∷ informed u v ∷ [], m.1)) (sym is) (
           refl,
           pair_tells s r me v u at',
-          (λ h. let w = (a.hand.holds (ap has_line h)).0 in longer_whole v.view.ends u.view.ends r.past.ends w b.knows.endings ∙ sym w),
-          (λ h. let w = (b.hand.holds (ap has_line h)).0 in longer_whole u.view.ends v.view.ends r.past.ends w a.knows.endings ∙ sym w),
+          (λ h. whole_stays s r me v u at' v.view.ends u.view.ends (a.hand.holds (ap has_line h)).0 b.knows.endings),
+          (λ h. whole_stays s r me v u at' u.view.ends v.view.ends (b.hand.holds (ap has_line h)).0 a.knows.endings),
         ),
       )
 

@@ -24,7 +24,7 @@ use Rattle.ring_line.specs.Ring.{At, Past, NodeOk, PastOk, Shown, RingRule, has_
 use Rattle.ring_line.specs.Steps.{sole, Contents, IsRolled, Comes, rolled}
 use Rattle.ring_line.proofs.Nodes.{others_roll, knows_whole, hand_none, passes_none, freed_so}
 use Rattle.ring_line.proofs.Histories.{continues}
-use Rattle.ring_line.proofs.Keeping.{St, Homes, rule_step, mine_ok, mine_low}
+use Rattle.ring_line.proofs.Keeping.{St, Homes, rule_step, mine_ok, mine_low, few_open}
 use Rattle.ring_line.proofs.Taking.{take_entry, asked_at, near, home, finds_grant, finds_blank, takes_rule, comes, learns_take}
 use Rattle.ring_line.proofs.Turning.{goes_step}
 
@@ -155,6 +155,7 @@ module _ (good : List ℕ → Type 0) (allows : List ℕ → List ℕ → Type 0
       place = refl;
       placed = asked_at good allows about v queued r.past ok;
       early = behind;
+      near = few_open good allows about s r v.view.terms ok.who.terms;
       marked = has_last v.view.marked (own v.view);
     }
 

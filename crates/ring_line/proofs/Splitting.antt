@@ -29,12 +29,12 @@ module _ (about : Setup) (n : ℕ) (old first rest : RingSeat) (more : n < about
     node_is = ap (λ m. (sole m.0).view.node) is;
   }
 
-pub one_more : (table_id : TableId) (about : Setup) (n : ℕ) (ports : List Standing) (first : RingSeat) (y : Parcel) → AreSplit table_id about n ports → first.table_id ≡ table_id → first.me ≡ (newcomer about (n + 1) ∷ [], []) → AreSplit table_id about (n + 1) (ports ++ standing first y 0 ∷ [])
-one_more table_id about n ports first y d t is = record {
-  many = length-append ports (standing first y 0 ∷ []) ∙ ap (λ k. k + 1) d.many;
+pub one_more : (table_id : TableId) (about : Setup) (n : ℕ) (ports : List Standing) (first : RingSeat) (y : Parcel) (looks : ℕ) → looks ≡ 0 → AreSplit table_id about n ports → first.table_id ≡ table_id → first.me ≡ (newcomer about (n + 1) ∷ [], []) → AreSplit table_id about (n + 1) (ports ++ standing first y 0 looks ∷ [])
+one_more table_id about n ports first y looks none d t is = record {
+  many = length-append ports (standing first y 0 looks ∷ []) ∙ ap (λ k. k + 1) d.many;
   each = λ k p at. ⊎_elim (λ z. d.each k p z.1)
-      (λ z. subst (λ (q : ℕ × Standing). (q.1.table ≡ table_id) × (q.1.view ≡ new_view about.label about.terms (q.0 + 1)) × (q.1.steps ≡ 0) × (q.1.taken ≡ 0)) (λ i. (sym (z.0 ∙ d.many) i, sym z.1 i)) (t, ap (λ m. (sole m.0).view) is, refl, ap (λ m. (sole m.0).steps) is))
-      (push_cases ports (standing first y 0) k p at);
+      (λ z. subst (λ (q : ℕ × Standing). (q.1.table ≡ table_id) × (q.1.view ≡ new_view about.label about.terms (q.0 + 1)) × (q.1.steps ≡ 0) × (q.1.taken ≡ 0) × (q.1.looks ≡ 0)) (λ i. (sym (z.0 ∙ d.many) i, sym z.1 i)) (t, ap (λ m. (sole m.0).view) is, refl, ap (λ m. (sole m.0).steps) is, none))
+      (push_cases ports (standing first y 0 looks) k p at);
 }
 
 -- the ports of a new line, which took no step

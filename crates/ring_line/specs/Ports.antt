@@ -31,9 +31,10 @@ pub record Standing : Type 0 where
   pub turn : Write
   pub steps : ℕ
   pub taken : ℕ
+  pub looks : ℕ
 
-abbrev pub standing : RingSeat → Parcel → ℕ → Standing
-standing s y steps = record { table = s.table_id; view = (entry_of s).view; turn = write_of y; steps = steps; taken = (entry_of s).steps }
+abbrev pub standing : RingSeat → Parcel → ℕ → ℕ → Standing
+standing s y steps looks = record { table = s.table_id; view = (entry_of s).view; turn = write_of y; steps = steps; taken = (entry_of s).steps; looks = looks }
 
 -- the turn's bytes are those of the earlier ends, changed under the mask
 abbrev pub IsMerged : View → Parcel → Type 0
@@ -89,7 +90,7 @@ pub record BelongsTo (good : List ℕ → Type 0) (allows : List ℕ → List �
 -- the ports of the first n nodes, which never asked
 pub record AreSplit (table_id : TableId) (about : Setup) (n : ℕ) (ports : List Standing) : Type 0 where
   pub many : length ports ≡ n
-  pub each : (k : ℕ) (p : Standing) → At ports k p → (p.table ≡ table_id) × (p.view ≡ new_view about.label about.terms (k + 1)) × (p.steps ≡ 0) × (p.taken ≡ 0)
+  pub each : (k : ℕ) (p : Standing) → At ports k p → (p.table ≡ table_id) × (p.view ≡ new_view about.label about.terms (k + 1)) × (p.steps ≡ 0) × (p.taken ≡ 0) × (p.looks ≡ 0)
 
 -- the ports of the first n nodes are there, and the seat `rest` has the others' entries
 pub record HasSplit (table_id : TableId) (about : Setup) (n : ℕ) (rest : RingSeat) (ports : List Standing) : Type 0 where
@@ -97,9 +98,9 @@ pub record HasSplit (table_id : TableId) (about : Setup) (n : ℕ) (rest : RingS
   pub me : rest.me ≡ (newcomers_from about n (about.terms.nodes - n), [])
   pub new_ports : AreSplit table_id about n ports
 
--- none of these ports has taken a step
+-- none of these ports has taken a step, or was polled
 abbrev pub AreUnused : List Standing → Type 0
-AreUnused ports = All (λ (p : Standing). (p.steps ≡ 0) × (p.taken ≡ 0)) ports
+AreUnused ports = All (λ (p : Standing). (p.steps ≡ 0) × (p.taken ≡ 0) × (p.looks ≡ 0)) ports
 
 -- what an opened line gives
 abbrev pub IsOpened : (good : List ℕ → Type 0) (allows : List ℕ → List ℕ → Type 0) → Setup → TableId → ℕ → Terms → List Standing → Type 0

@@ -18,7 +18,7 @@ use Rattle.qolb_model.specs.Views.{own, bytes_of, Extends}
 use Rattle.qolb_model.specs.Kept.{AreAllowed}
 use Rattle.qolb_model.specs.Sound.{Continues}
 use Rattle.qolb_model.specs.Asking.{Asks}
-use Rattle.qolb_model.specs.Turns.{IsClearBefore}
+use Rattle.qolb_model.specs.Turns.{IsClearBefore, IsNear}
 use Rattle.qolb_model.specs.Meeting.{longer, informed_view}
 use Rattle.qolb_model.specs.Entries.{behind}
 use Rattle.qolb_model.specs.Calls.{TellEachOther}
@@ -113,6 +113,7 @@ pub record IsEarly (v w : Entry) : Type 0 where
   pub place : w.place ≡ v.place
   pub placed : At w.view.order w.place (own w.view)
   pub early : length w.view.ends < w.place
+  pub near : IsNear w.view
 
 -- the request has come to its turn, and the line is in the slot
 pub record Comes (v w : Entry) (y : Parcel) : Type 0 where
@@ -139,6 +140,7 @@ pub record IsRolled (v w : Entry) : Type 0 where
   pub place : w.place ≡ v.place
   pub placed : At w.view.order w.place (own w.view)
   pub early : length w.view.ends < w.place
+  pub near : IsNear w.view
   pub marked : Has w.view.marked (own w.view)
 
 -- the withdrawn request is clear, or it is not

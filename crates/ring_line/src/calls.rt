@@ -32,6 +32,7 @@ impl<K: Keep> RingLine<K> {
         ensures belongs { IsPortOf K.good K.allows self.now port.new }
         ensures enqueues { Enqueues K.allows port.old.view port.new.view port.new.turn result }
         ensures taken { port.new.taken ≡ port.old.taken + port.new.steps }
+        ensures looks { port.new.looks ≡ port.old.looks }
         ensures counted_busy { result ≡ Enq.Busy → port.new.steps ≡ 1 }
         ensures counted { (result ≡ Enq.Granted) ⊎ (result ≡ Enq.Queued) → port.old.view.state ≢ PortState.Rolled → port.new.steps ≡ 2 }
         ensures counted_anew { (result ≡ Enq.Granted) ⊎ (result ≡ Enq.Queued) → port.old.view.state ≡ PortState.Rolled → port.new.steps ≡ 4 }
@@ -44,7 +45,7 @@ impl<K: Keep> RingLine<K> {
         };
         port.cell = ask(ground, &mut port.seat);
         port.state = PortState::Queued;
-        let answer = self.poll(port);
+        let answer = self.look(port);
         port.steps += renewing + 1;
         match answer {
             Poll::Granted => Enq::Granted,
@@ -61,6 +62,23 @@ impl<K: Keep> RingLine<K> {
         ensures belongs { IsPortOf K.good K.allows self.now port.new }
         ensures polls { Polls K.allows port.old.view port.new.view port.new.turn result }
         ensures taken { port.new.taken ≡ port.old.taken + port.new.steps }
+        ensures looks { port.new.looks ≡ port.old.looks + 1 }
+        ensures counted { result ≢ Poll.Closed → port.new.steps ≡ 1 }
+        ensures bound { port.new.steps ≤ 3 * self.now.table.shared.key.terms.nodes }
+    {
+        port.looks = port.looks.and_one();
+        self.look(port)
+    }
+
+    /// Looks at the own cell, and takes the line where it has come.
+    #[inline(always)]
+    fn look(&self, port: &mut Port) -> Poll
+        requires belongs { IsPortOf K.good K.allows self.now port.old }
+        requires state { port.old.view.state ≡ PortState.Queued }
+        ensures belongs { IsPortOf K.good K.allows self.now port.new }
+        ensures polls { Polls K.allows port.old.view port.new.view port.new.turn result }
+        ensures taken { port.new.taken ≡ port.old.taken + port.new.steps }
+        ensures looks { port.new.looks ≡ port.old.looks }
         ensures counted { result ≢ Poll.Closed → port.new.steps ≡ 1 }
         ensures bound { port.new.steps ≤ 3 * self.now.table.shared.key.terms.nodes }
     {
@@ -90,6 +108,7 @@ impl<K: Keep> RingLine<K> {
         ensures belongs { IsPortOf K.good K.allows self.now port.new }
         ensures withdraws { Withdraws K.allows port.old.view port.new.view port.new.turn result }
         ensures taken { port.new.taken ≡ port.old.taken + port.new.steps }
+        ensures looks { port.new.looks ≡ port.old.looks }
         ensures counted { result ≢ Out.Closed → port.new.steps ≡ 1 }
         ensures bound { port.new.steps ≤ 3 * self.now.table.shared.key.terms.nodes }
     {
@@ -121,6 +140,7 @@ impl<K: Keep> RingLine<K> {
         ensures belongs { IsPortOf K.good K.allows self.now port.new }
         ensures releases { Releases K.allows false port.old.view port.new.view port.old.turn }
         ensures taken { port.new.taken ≡ port.old.taken + port.new.steps }
+        ensures looks { port.new.looks ≡ port.old.looks }
         ensures counted { port.new.steps + 1 + 3 * length port.old.view.ends ≡ 3 * length port.new.view.ends }
         ensures bound { port.new.steps + 1 ≤ 3 * self.now.table.shared.key.terms.nodes }
     {
@@ -135,6 +155,7 @@ impl<K: Keep> RingLine<K> {
         ensures belongs { IsPortOf K.good K.allows self.now port.new }
         ensures releases { Releases K.allows true port.old.view port.new.view port.old.turn }
         ensures taken { port.new.taken ≡ port.old.taken + port.new.steps }
+        ensures looks { port.new.looks ≡ port.old.looks }
         ensures counted { port.new.steps + 1 + 3 * length port.old.view.ends ≡ 3 * length port.new.view.ends }
         ensures bound { port.new.steps + 1 ≤ 3 * self.now.table.shared.key.terms.nodes }
     {
@@ -150,6 +171,7 @@ impl<K: Keep> RingLine<K> {
         ensures belongs { IsPortOf K.good K.allows self.now port.new }
         ensures releases { Releases K.allows shut port.old.view port.new.view port.old.turn }
         ensures taken { port.new.taken ≡ port.old.taken + port.new.steps }
+        ensures looks { port.new.looks ≡ port.old.looks }
         ensures counted { port.new.steps + 1 + 3 * length port.old.view.ends ≡ 3 * length port.new.view.ends }
         ensures bound { port.new.steps + 1 ≤ 3 * self.now.table.shared.key.terms.nodes }
     {
@@ -170,6 +192,7 @@ impl<K: Keep> RingLine<K> {
         ensures turn_b { b.new.turn ≡ b.old.turn }
         ensures steps_a { (a.new.steps ≡ a.old.steps) × (a.new.taken ≡ a.old.taken) }
         ensures steps_b { (b.new.steps ≡ b.old.steps) × (b.new.taken ≡ b.old.taken) }
+        ensures looks { (a.new.looks ≡ a.old.looks) × (b.new.looks ≡ b.old.looks) }
     {
         let ground = &self.table.shared;
         if !b.holds() {

@@ -91,6 +91,7 @@ impl<K: Keep> RingLine<K> {
         ensures view { port.new.view ≡ port.old.view }
         ensures turn { port.new.turn ≡ turn_after port.old.turn mask.0 bytes.now.bytes }
         ensures steps { (port.new.steps ≡ port.old.steps) × (port.new.taken ≡ port.old.taken) }
+        ensures looks { port.new.looks ≡ port.old.looks }
     {
         port.parcel.bytes = merge(&port.parcel.bytes, bytes, mask);
         port.parcel.mask = Mask(port.parcel.mask.0 | mask.0);

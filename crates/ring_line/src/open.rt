@@ -12,7 +12,7 @@ use crate::rule::{Ground, Parcel, RingSeat, Setup};
 use crate::words::{WORDS, cell_word};
 use atomic_table::Table;
 use line_lanes::{Line64, Mask};
-use qolb_model::{Keep, OpenError, PortState, Terms};
+use qolb_model::{Keep, Looks, OpenError, PortState, Terms};
 use std::alloc::{AllocError, Global};
 use std::mem;
 
@@ -157,6 +157,7 @@ fn split_ports<K: Keep>(
             node: done + 1,
             steps: 0,
             state: PortState::Idle,
+            looks: Looks::none(),
         })?;
     }
     Ok(ports)

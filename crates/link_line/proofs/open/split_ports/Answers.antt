@@ -21,5 +21,5 @@ loop-done-preserved g c = let s = c.split_seat-others.ensures in
       table = ap (λ (p : LinkSeat). p.table_id) c.replace-seat.ensures.after ∙ s.3 ∙ i.table;
       me = rest;
       new_ports = subst (AreSplit c.args.ground.now.table_id c.args.setup.now (c.loop-done.done + 1)) (sym c.in_ok-push.ensures.items)
-          (one_more c.args.ground.now.table_id c.args.setup.now c.loop-done.done c.loop-done.ports.items c.replace-seat.result (record { bytes = c.zero.result; mask = record { 0 = 0 }; turns_left = None; closed = false }) i.new_ports (ap (λ (p : LinkSeat). p.table_id) c.replace-seat.ensures.value ∙ s.0 ∙ i.table) first);
+          (one_more c.args.ground.now.table_id c.args.setup.now c.loop-done.done c.loop-done.ports.items c.replace-seat.result (record { bytes = c.zero.result; mask = record { 0 = 0 }; turns_left = None; closed = false }) c.none.result.count c.none.ensures i.new_ports (ap (λ (p : LinkSeat). p.table_id) c.replace-seat.ensures.value ∙ s.0 ∙ i.table) first);
     }

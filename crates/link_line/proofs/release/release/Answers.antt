@@ -1,4 +1,4 @@
-use Rattle.std.proofs.Common.{◌+◌, ◌∙◌, ap, sym, subst, arith}
+use Rattle.std.proofs.Common.{◌+◌, ◌∙◌, ap, sym, subst, ⊎_elim, arith}
 use Rattle.qolb_model.specs.declared.answer.PortState.{PortState}
 use Rattle.qolb_model.specs.declared.terms.Terms.{Terms}
 use Rattle.qolb_model.specs.PortStates.{left_by}
@@ -6,7 +6,7 @@ use Rattle.link_line.specs.declared.parcel.Parcel.{Parcel}
 use Rattle.link_line.specs.Steps.{known_of}
 use Rattle.link_line.specs.Releases.{LetsLineGo}
 use Rattle.link_line.proofs.Stepping.{goes_trans}
-use Rattle.link_line.proofs.Released.{lets_out, lets_left, lets_on, walk_nodes, same_slot}
+use Rattle.link_line.proofs.Released.{one_more, lets_out, lets_left, lets_on, walk_nodes, same_slot}
 use Rattle.link_line.proofs.release.release.Goals as goal
 
 pub walk-requires-clause-nodes : goal.walk-requires-clause-nodes
@@ -41,3 +41,28 @@ returns-in-Passed-clause-lets_go g c y slot =
     let closed = ap (λ (z : Parcel). left_by z.closed) (same_slot c.args.seat.now.me.1 y own.0 slot own.1) ∙ ap left_by own.3 in
     subst (λ (state : PortState). LetsLineGo (known_of c.args.seat.now) y state (known_of c.walk.new.seat)) (closed ∙ sym c.left_by-in-Passed.ensures)
     (lets_on (known_of c.args.seat.now) y c.requires.none_passed (known_of c.hand_on.new.seat) (known_of c.walk.new.seat) c.in-Passed.next on.1 on.2 c.walk.ensures.goes_on.2.extends c.walk.ensures.walks_on)
+
+pub returns-in-On-clause-counted : goal.returns-in-On-clause-counted
+returns-in-On-clause-counted g c =
+    let y = c.requires.parcel in
+    let on = c.in-On.ensures.handed in
+    let away = on.3 y.0 y.1 in
+    let one = one_more (known_of c.args.seat.now) y.0 c.requires.none_passed (known_of c.hand_on.new.seat) away.1 in
+    (on.0, on.1, (⊎_elim (λ k. omega (arith, k, one)) (λ k. omega (arith, k.0, one)) away.3, ⊎_elim (λ k. omega (arith, k, one)) (λ k. omega (arith, k.0, one)) away.3))
+
+pub returns-in-Left-clause-counted : goal.returns-in-Left-clause-counted
+returns-in-Left-clause-counted g c =
+    let y = c.requires.parcel in
+    let on = c.in-Left.ensures.handed in
+    let left = on.3 y.0 y.1 in
+    let one = one_more (known_of c.args.seat.now) y.0 c.requires.none_passed (known_of c.hand_on.new.seat) left.1 in
+    (on.0, on.1, (omega (arith, left.3, one), omega (arith, left.3, one)))
+
+pub returns-in-Passed-clause-counted : goal.returns-in-Passed-clause-counted
+returns-in-Passed-clause-counted g c =
+    let y = c.requires.parcel in
+    let on = c.in-Passed.ensures.handed in
+    let passed = on.3 y.0 y.1 in
+    let one = one_more (known_of c.args.seat.now) y.0 c.requires.none_passed (known_of c.hand_on.new.seat) passed.1 in
+    let walked = c.walk.ensures.counted in
+    (on.0 + walked.0, omega (arith, on.1, walked.1), (omega (arith, passed.3, one, walked.2), omega (arith, passed.3, one, walked.3)))

@@ -2,7 +2,7 @@ use Rattle.std.proofs.Common.{sym, subst, ap, ◌∙◌, ◌+◌, ℕ, List, len
 use Rattle.link_line.specs.declared.release.Handed.{Handed}
 use Rattle.link_line.specs.Steps.{known_of, GoesOn}
 use Rattle.link_line.proofs.Stepping.{goes_trans}
-use Rattle.link_line.proofs.Walking.{IsWalking, walking_on, walk_over, away_by}
+use Rattle.link_line.proofs.Walking.{IsWalking, walking_on, walk_over, walked_long, away_by}
 use Rattle.link_line.proofs.release.walk.Goals as goal
 
 pub loop-handed-preserved : goal.loop-handed-preserved
@@ -22,5 +22,11 @@ returns g c =
       slot = c.free_passed.ensures.slot ∙ away.0;
       goes_on = (k.taken + length c.loop-handed.passed.items, omega (arith, k.counted, c.len.ensures.value), goes_trans g.K.Keep.allows c.args.seat.now.me c.loop-handed.seat.me c.free_passed.new.seat.me k.taken (length c.loop-handed.passed.items) k.goes_on freed);
       walks_on = walk_over (known_of c.args.seat.now) (known_of c.loop-handed.seat) (known_of c.free_passed.new.seat) c.loop-handed.passed.items k.walked away.1 c.free_passed.ensures.frees;
+      counted = (
+        k.taken + length c.loop-handed.passed.items,
+        omega (arith, k.counted, c.len.ensures.value),
+        omega (arith, walked_long (known_of c.args.seat.now) (known_of c.loop-handed.seat) (known_of c.free_passed.new.seat) c.loop-handed.passed.items k.walked c.free_passed.ensures.frees, away.3),
+        omega (arith, walked_long (known_of c.args.seat.now) (known_of c.loop-handed.seat) (known_of c.free_passed.new.seat) c.loop-handed.passed.items k.walked c.free_passed.ensures.frees, away.4),
+      );
       bound = omega (arith, k.counted, c.len.ensures.value, away.2);
     }

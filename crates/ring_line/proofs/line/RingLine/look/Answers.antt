@@ -4,7 +4,7 @@ use Rattle.ring_line.specs.Steps.{entry_of}
 use Rattle.ring_line.proofs.Turning.{goes_trans}
 use Rattle.qolb_model.proofs.Answering.{polls_waiting, polls_granted, polls_told}
 use Rattle.ring_line.proofs.Calling.{call_continues, call_belongs, same_count, early_waits, granted_of, told_of}
-use Rattle.ring_line.proofs.line.RingLine.poll.Goals as goal
+use Rattle.ring_line.proofs.line.RingLine.look.Goals as goal
 
 pub returns-then-not-load-clause-belongs : goal.returns-then-not-load-clause-belongs
 returns-then-not-load-clause-belongs g c = call_belongs c.port.inside c.requires.belongs c.port.view_is c.load.new.seat 1 c.load.ensures.same c.load.ensures.goes_on c.port.inside.parcel 1

@@ -1,0 +1,22 @@
+-- What a value with no bytes owns: nothing.
+use Rattle.std.proofs.Common.{List, [], ◌∷◌, refl}
+use seplogic.Ra.Ura.{Ura}
+use mir.Val.{Val, vstruct, vnil}
+use types.Logic.{Logic}
+use types.Kit.{Goal, Step, step, Item, ‵, ◌$◌, fjoin, fpack, feq_i}
+use denote.RattleType.{RattleType, Valss}
+use denote.Steps.{nothing}
+use denote.Struct.Struct.{Struct, within}
+
+-- the machine's value of a struct with no fields, and its type
+abbrev pub no_bytes : Val
+no_bytes = vstruct vnil
+
+abbrev pub fieldless : RattleType
+fieldless = Struct (record { name = []; args = []; types = []; fields = [] })
+
+-- one can be made at any time
+pub made : {M : Type 1} {𝓤 : Ura M} {𝓛 : Logic 𝓤} {K : Type 0} {Γ : List (Item 𝓤)} {G : Goal 𝓤 𝓛.H} → K → Step K 𝓛 (‵ (fieldless.own_val tt (no_bytes ∷ [])) ∷ Γ) G Γ G
+made t = step (λ s.
+    nothing t $ feq_i t (List Val) (no_bytes ∷ []) (no_bytes ∷ []) refl $ fjoin t $
+    fpack t (Valss []) (within (record { name = []; args = []; types = []; fields = [] }) tt (no_bytes ∷ [])) tt $ s)
