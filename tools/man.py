@@ -19,7 +19,7 @@ SUBCOMMANDS = ["replay", "draw", "steps", "board", "bank"]
 def escaped(text):
     """Text for troff: a dash is a minus, and no line begins as a command does."""
     text = text.replace("\\", "\\e").replace("-", "\\-")
-    return "\n".join("\\&" + line if line[:1] in ".'" else line for line in text.split("\n"))
+    return "\n".join("\\&" + line if line.startswith((".", "'")) else line for line in text.split("\n"))
 
 
 def uncommented(comment):
@@ -102,7 +102,7 @@ def section(title, runs):
             out.append(".PP\n.in +4n\n.nf\n" + "\n".join(escaped(line[4:]) for line in run) + "\n.fi\n.in")
         else:
             out.append(running(run))
-    return f".SH {title}\n" + "\n".join(out)
+    return f".SH {title}\n" + "\n".join(out).removeprefix(".PP\n")
 
 
 def prototype(line):
@@ -168,7 +168,7 @@ def as_told(text):
 
 def page_of_program(program):
     head = help_of(program)
-    about = head.split("\n", 1)[0].rstrip(".")
+    about = " ".join(head.split("\n\n", 1)[0].split()).rstrip(".")
     out = ['.TH QOLB 1 "" "qolb"', f".SH NAME\nqolb \\- {escaped(about[:1].lower() + about[1:])}", f".SH DESCRIPTION\n{as_told(head)}"]
     out += [f".SH QOLB {name.upper()}\n{as_told(help_of(program, name))}" for name in SUBCOMMANDS]
     out.append(".SH SEE ALSO\n.BR qolb (3)")

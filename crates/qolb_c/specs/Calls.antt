@@ -22,7 +22,7 @@ use Rattle.qolb_c.specs.declared.answer.Answer.{Answer}
 use Rattle.qolb_c.specs.declared.answer.Answer.TheVariants as answer
 use Rattle.qolb_c.specs.declared.any_node.AnyNode.{AnyNode}
 use Rattle.qolb_c.specs.declared.any_node.AnyNode.TheVariants as kind
-use Rattle.qolb_c.specs.Nodes.{anything}
+use Rattle.qolb_c.specs.Nodes.{anything, PollsWithin}
 use Rattle.qolb_c.specs.Numbers.{number_of, state_number, turns_number}
 
 -- what the node's port knows of its line
@@ -34,6 +34,11 @@ view_of (kind.List node) = node.port.view
 abbrev pub turn_of : AnyNode → Write
 turn_of (kind.Ring node) = node.port.turn
 turn_of (kind.List node) = node.port.turn
+
+-- how often the node has polled
+abbrev pub looks_of : AnyNode → ℕ
+looks_of (kind.Ring node) = node.port.looks
+looks_of (kind.List node) = node.port.looks
 
 abbrev pub state_of : AnyNode → PortState
 state_of node = (view_of node).state
@@ -92,9 +97,10 @@ Enqolbs was now a = IsCall (may_ask (state_of was) ≡ true) enq_told (line.Enqu
 abbrev pub Polls : AnyNode → AnyNode → Answer → Type 0
 Polls was now a = IsCall (state_of was ≡ Queued) poll_told (line.Polls anything (view_of was) (view_of now) (turn_of now)) was now a
 
--- `wait`: where it waits, and may poll at least once; it promises what `poll` does
+-- `wait`: where it waits, and may poll at least once; it promises what `poll` does, and how often it polls
 abbrev pub Waits : ℕ → AnyNode → AnyNode → Answer → Type 0
-Waits polls was now a = IsCall ((state_of was ≡ Queued) × (0 < polls)) poll_told (line.Polls anything (view_of was) (view_of now) (turn_of now)) was now a
+Waits polls was now a =
+    IsCall ((state_of was ≡ Queued) × (0 < polls)) poll_told (λ made. line.Polls anything (view_of was) (view_of now) (turn_of now) made × PollsWithin polls (looks_of was) (looks_of now) made) was now a
 
 -- `prepend` and `link`, of a list: where the node neither waits nor holds, and where it is linking
 abbrev pub Prepends : AnyNode → AnyNode → Answer → Type 0
