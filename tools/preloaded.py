@@ -83,7 +83,7 @@ def main():
                 packed.write_bytes(compare(f"{tool[0]}, {threads} threads", [*tool, f"-p{threads}"], plain, same, folder))
                 if compare(f"{tool[0]} -d, {threads} threads", [tool[0], "-d", "-c", f"-p{threads}"], packed, same, folder) != plain.read_bytes():
                     sys.exit(f"{tool[0]}: unpacked is not what was packed")
-            for test, *more in (["mutex", "--events=20000", "--mutex-num=16", "--mutex-locks=20000", "--mutex-loops=100"], ["threads", "--events=2000", "--thread-locks=3"]):
+            for test, *more in (["mutex", "--events=20000", "--mutex-num=16", "--mutex-locks=20000", "--mutex-loops=100"], ["threads", "--events=200", "--thread-locks=3"]):
                 compare(f"sysbench {test}, {threads} threads", ["sysbench", test, f"--threads={threads}", "--time=0", *more, "run"], os.devnull, events, folder)
 
 
