@@ -38,6 +38,7 @@
  * lane: one of the line's eight numbers of 64 bits. Lane k is bytes 8k to 8k + 7, the lowest first.
  * lease: how many turns a line has. At the end of the last it closes.
  * closed: nobody is served any more, and each later request is told so. A holder closes the line (qolb_shut), or its lease is used up.
+ * predecessor, successor: the nodes whose requests stand right before a node's own in the queue, and right behind.
  * withdrawn: a request that its node took back. It is passed when the line comes to it.
  * busy: a node whose last request is not cleared away yet, and which so may not ask again (BUSY, below).
  * label: a number of the caller's own, which qolb_label gives back. Give each line another: the thread sanitizer takes lines of one label for one.
@@ -94,11 +95,13 @@
  *
  * No call but qolb_open and qolb_close uses the heap.
  *
- * SANITIZERS
+ * SANITIZERS AND DEBUGGERS
  *
  * The sanitizers of addresses, leaks and undefined behaviour see the program and the heap, and nothing inside the library. With the thread sanitizer
  * (-fsanitize=thread) the calls below tell it of each grant and release, so data that a line guards is not reported, and data that none guards is.
- * Lines of one label are one to it, so between these it may miss a race.
+ * Lines of one label are one to it, and so are a few of different labels: between these it may miss a race.
+ *
+ * The library has no tables for unwinding, so a backtrace that begins inside one of its calls may end there.
  *
  * PROCESSOR
  *
@@ -200,7 +203,8 @@ uint32_t qolb_wait(qolb_node *node, uint64_t polls) QOLB_LOOK;
 /* Takes the request back, unless it has come to its turn. In the state QUEUED: WITHDRAWN, GRANTED, CLOSED. Else MISUSE. */
 uint32_t qolb_withdraw(qolb_node *node) QOLB_LOOK;
 
-/* The two halves of qolb_enqolb, of a list alone; on a ring MISUSE.
+/* The two halves of qolb_enqolb, of a list alone: prepend takes the place in the queue, and link tells the node before, its predecessor, who comes
+ * next. Until then the line does not go on past the predecessor. On a ring MISUSE.
  * prepend, where the node may ask: GRANTED, LINKING, CLOSED, BUSY. link, in the state LINKING: GRANTED, QUEUED, CLOSED. */
 uint32_t qolb_prepend(qolb_node *node) QOLB_LOOK;
 uint32_t qolb_link(qolb_node *node) QOLB_LOOK;

@@ -15,6 +15,7 @@
 #include <array>
 #include <chrono>
 #include <cstdint>
+#include <cstdlib>
 #include <mutex>
 #include <stdexcept>
 #include <utility>
@@ -27,6 +28,13 @@
 #endif
 #ifndef QOLB_NODISCARD
 #define QOLB_NODISCARD QOLB_LOOK
+#endif
+
+// Without exceptions what would throw ends the program.
+#if defined(__cpp_exceptions)
+#define QOLB_THROW(what) throw what
+#else
+#define QOLB_THROW(what) std::abort()
 #endif
 
 namespace qolb {
@@ -111,7 +119,7 @@ class Node {
         return try_lock_for(end - Clock::now());
     }
     void unlock() {
-        if (deqolb() != QOLB_DONE) throw Misuse();
+        if (deqolb() != QOLB_DONE) QOLB_THROW(Misuse());
     }
 
     // Acquires the line, lets `change` change its bytes, writes them and releases the line: granted. Else closed or misuse, and `change` is not
@@ -149,8 +157,8 @@ class Node {
     }
 
     static bool locked(Got got) {
-        if (got == Got::closed) throw Closed();
-        if (got == Got::misuse) throw Misuse();
+        if (got == Got::closed) QOLB_THROW(Closed());
+        if (got == Got::misuse) QOLB_THROW(Misuse());
         return got == Got::granted;
     }
 
@@ -174,7 +182,7 @@ class Guard {
 
     // Takes over the turn of a node that holds the line, as after try_acquire or acquire_for. Throws Misuse where it holds none.
     Guard(Node &node, std::adopt_lock_t) : node_(&node) {
-        if (node.state() != QOLB_STATE_HOLDING) throw Misuse();
+        if (node.state() != QOLB_STATE_HOLDING) QOLB_THROW(Misuse());
     }
 
     Guard(Guard &&other) noexcept : node_(std::exchange(other.node_, nullptr)) {}
@@ -208,7 +216,7 @@ class Guard {
 
   private:
     static void did(qolb_answer told) {
-        if (told != QOLB_DONE) throw Misuse();
+        if (told != QOLB_DONE) QOLB_THROW(Misuse());
     }
 
     void ended(qolb_answer told) {
