@@ -58,7 +58,7 @@ def running(lines):
             flush()
             out.append(".IP \\(bu 2")
             text.append(line[2:])
-        elif re.match(r"[a-z]+: ", line):
+        elif re.match(r"[a-z]+(, [a-z]+)?: ", line):
             flush()
             word, rest = line.split(": ", 1)
             out.append(f".TP\n.B {word}")
