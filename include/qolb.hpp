@@ -174,7 +174,8 @@ class Node {
     qolb_node node_{};
 };
 
-// A turn of a node: the line is acquired here and released where the scope ends, in whatever way. It writes nothing by itself.
+// A turn of a node: the line is acquired here and released where the scope ends, in whatever way. It writes nothing by itself. The node must stay
+// where it is meanwhile.
 class Guard {
   public:
     // Waits as long as it takes. Throws Closed where the line is closed, and Misuse where the node is none, or waits or holds already.
