@@ -6,16 +6,15 @@
 #define _POSIX_C_SOURCE 200809L
 #include <pthread.h>
 #include <qolb.h>
-#include <sched.h>
 #include <stdio.h>
 #include <stdlib.h>
 #include <string.h>
 #include <time.h>
 
-enum { MOST = 32, SPINS = 64 };
+enum { MOST = 32 };
 
 struct task {
-    _Alignas(128) qolb_node node;
+    _Alignas(QOLB_NODE_ALIGN) qolb_node node;
 };
 
 static struct task tasks[MOST];
@@ -23,19 +22,8 @@ static uint64_t rounds;
 static int by_lines;
 static pthread_barrier_t gate;
 
-/* As the programs of bench/ wait: single pauses first, and then the processor is given away between polls. */
 static void acquire(qolb_node *node) {
-    uint32_t got;
-    for (unsigned tries = 0; (got = qolb_enqolb(node)) == QOLB_BUSY; tries++)
-        if (tries >= SPINS) sched_yield();
-    if (got == QOLB_QUEUED) {
-        got = qolb_wait(node, SPINS);
-        while (got == QOLB_WAITING) {
-            sched_yield();
-            got = qolb_poll(node);
-        }
-    }
-    if (got != QOLB_GRANTED) abort();
+    if (qolb_acquire(node) != QOLB_GRANTED) abort();
 }
 
 static void add_one(qolb_node *node) {
@@ -73,10 +61,7 @@ int main(int argc, char **argv) {
     qolb_bytes zeros = {{0}};
     qolb_node nodes[MOST] = {{0}};
     if (qolb_open(kind, 1, threads, QOLB_NO_LEASE, &zeros, nodes, MOST) != QOLB_DONE) return 3;
-    for (int k = 0; k < threads; k++) {
-        tasks[k].node = nodes[k];
-        nodes[k].own = NULL;
-    }
+    for (int k = 0; k < threads; k++) tasks[k].node = qolb_move(&nodes[k]);
     pthread_barrier_init(&gate, NULL, threads + 1);
     pthread_t ids[MOST];
     for (int k = 0; k < threads; k++)

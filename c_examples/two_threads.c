@@ -2,7 +2,6 @@
  * what went wrong. */
 #include <pthread.h>
 #include <qolb.h>
-#include <sched.h>
 #include <stdio.h>
 #include <string.h>
 
@@ -17,20 +16,16 @@ enum { THREADS = 2, ROUNDS = 20000 };
         }                                                                                      \
     } while (0)
 
-/* Asks, and waits until the line is granted or closed. */
-static uint32_t acquire(qolb_node *node) {
-    uint32_t got;
-    while ((got = qolb_enqolb(node)) == QOLB_BUSY) sched_yield();
-    if (got != QOLB_QUEUED) return got;
-    while ((got = qolb_wait(node, 64)) == QOLB_WAITING) sched_yield();
-    return got;
-}
+/* A thread's own node, apart from others, so that the threads share no cache line but the line's. */
+struct adder {
+    _Alignas(QOLB_NODE_ALIGN) qolb_node node;
+};
 
-/* A thread adds 1 to lane 3, half of its rounds by lanes and half by whole lines. The handle is the thread's alone. */
+/* A thread adds 1 to lane 3, half of its rounds by lanes and half by whole lines. The node is the thread's alone. */
 static void *add(void *argument) {
-    qolb_node *node = argument;
+    qolb_node *node = &((struct adder *)argument)->node;
     for (int round = 0; round < ROUNDS; round++) {
-        if (acquire(node) != QOLB_GRANTED) return "not granted";
+        if (qolb_acquire(node) != QOLB_GRANTED) return "not granted";
         uint64_t count;
         if (round % 2) {
             if (qolb_read_lane(node, 3, &count) != QOLB_DONE) return "lane not read";
@@ -52,9 +47,11 @@ static void *add(void *argument) {
 static int count(uint32_t kind) {
     qolb_bytes zeros = {{0}}, line;
     qolb_node nodes[THREADS] = {{0}};
+    struct adder adders[THREADS];
     pthread_t threads[THREADS];
     WANT(qolb_open(kind, 1, THREADS, QOLB_NO_LEASE, &zeros, nodes, THREADS), QOLB_DONE);
-    for (int k = 0; k < THREADS; k++) WANT(pthread_create(&threads[k], NULL, add, &nodes[k]), 0);
+    for (int k = 0; k < THREADS; k++) adders[k].node = qolb_move(&nodes[k]);
+    for (int k = 0; k < THREADS; k++) WANT(pthread_create(&threads[k], NULL, add, &adders[k]), 0);
     for (int k = 0; k < THREADS; k++) {
         void *wrong;
         WANT(pthread_join(threads[k], &wrong), 0);
@@ -63,15 +60,15 @@ static int count(uint32_t kind) {
             return 1;
         }
     }
-    WANT(acquire(&nodes[0]), QOLB_GRANTED);
-    WANT(qolb_read(&nodes[0], &line), QOLB_DONE);
+    WANT(qolb_acquire(&adders[0].node), QOLB_GRANTED);
+    WANT(qolb_read(&adders[0].node, &line), QOLB_DONE);
     for (int k = 0; k < 64; k++)
         if (k / 8 != 3) WANT(line.byte[k], 0);
     uint64_t sum;
-    WANT(qolb_read_lane(&nodes[0], 3, &sum), QOLB_DONE);
+    WANT(qolb_read_lane(&adders[0].node, 3, &sum), QOLB_DONE);
     WANT(sum, THREADS * ROUNDS);
-    WANT(qolb_deqolb(&nodes[0]), QOLB_DONE);
-    for (int k = 0; k < THREADS; k++) WANT(qolb_close(&nodes[k]), QOLB_DONE);
+    WANT(qolb_deqolb(&adders[0].node), QOLB_DONE);
+    for (int k = 0; k < THREADS; k++) WANT(qolb_close(&adders[k].node), QOLB_DONE);
     return 0;
 }
 
@@ -85,8 +82,8 @@ static int refusals(void) {
     WANT(qolb_open(QOLB_RING, 7, 4, 1, &zeros, nodes, 3), QOLB_TOO_FEW);
     WANT(qolb_open(QOLB_LIST, 7, 1, 1, &zeros, &other, 1), QOLB_DONE);
     void *own = other.own;
-    nodes[2] = other; /* moved there, and back */
-    other.own = NULL;
+    nodes[2] = qolb_move(&other);
+    WANT(other.own == NULL, 1);
     WANT(qolb_open(QOLB_RING, 8, 3, QOLB_NO_LEASE, &zeros, nodes, 3), QOLB_OCCUPIED);
     WANT(nodes[0].own == NULL && nodes[1].own == NULL && nodes[2].own == own, 1);
     WANT(qolb_open(QOLB_RING, 8, 2, QOLB_NO_LEASE, &zeros, nodes, 3), QOLB_DONE);

@@ -1,9 +1,10 @@
 // Two threads move a token to and fro between two counts of one line, and a third node sees their sum. Prints nothing but what went wrong.
 #include <qolb.hpp>
 
+#include <chrono>
 #include <cstdio>
-#include <cstdlib>
 #include <cstring>
+#include <mutex>
 #include <thread>
 #include <vector>
 
@@ -14,13 +15,9 @@ constexpr int rounds = 20000;
 // Moves 1 from one lane to another, again and again.
 void move_one(qolb::Node &node, std::uint64_t from, std::uint64_t to) {
     for (int k = 0; k < rounds; k++) {
-        if (!node.acquire()) std::abort();
-        std::uint64_t a = 0, b = 0;
-        node.read_lane(from, a);
-        node.read_lane(to, b);
-        node.write_lane(from, a - 1);
-        node.write_lane(to, b + 1);
-        node.deqolb();
+        qolb::Guard turn(node);
+        turn.set_lane(from, turn.lane(from) - 1);
+        turn.set_lane(to, turn.lane(to) + 1);
     }
 }
 
@@ -35,11 +32,76 @@ bool run(qolb_kind kind) {
     there.join();
     back.join();
     std::uint64_t lanes[2] = {};
-    bool done = nodes[2].with([&](qolb_bytes &bytes) { std::memcpy(lanes, bytes.byte, sizeof lanes); });
-    if (!done || lanes[0] != 65536 || lanes[1] != 65536) return false;
+    qolb::Got got = nodes[2].with([&](qolb_bytes &bytes) { std::memcpy(lanes, bytes.byte, sizeof lanes); });
+    if (got != qolb::Got::granted || lanes[0] != 65536 || lanes[1] != 65536) return false;
     // A moved-from node is empty, and one that holds is let go of where it ends.
     if (nodes[0].state() != QOLB_STATE_EMPTY || nodes[0].enqolb() != QOLB_MISUSE) return false;
-    return nodes[2].acquire() && nodes[2].shut() == QOLB_DONE && !nodes[2].acquire();
+    return nodes[2].acquire() == qolb::Got::granted && nodes[2].shut() == QOLB_DONE && nodes[2].acquire() == qolb::Got::closed;
+}
+
+// Whether the work throws this.
+template <class Thrown, class Work> bool throws(Work work) {
+    try {
+        work();
+    } catch (const Thrown &) {
+        return true;
+    }
+    return false;
+}
+
+// A holder whose work throws releases the line, and what it has not written stays as it was; what it has written stands.
+bool work_throws(qolb_kind kind) {
+    auto opened = qolb::Node::open(kind, 1, 2, qolb_bytes{});
+    auto &nodes = opened.second;
+    bool left = throws<int>([&] {
+        (void)nodes[0].with([](qolb_bytes &bytes) {
+            bytes.byte[0] = 1;
+            throw 7;
+        });
+    });
+    if (!left || nodes[0].state() != QOLB_STATE_IDLE) return false;
+    left = throws<int>([&] {
+        qolb::Guard turn(nodes[0]);
+        turn.set_lane(1, 5);
+        throw 7;
+    });
+    if (!left || nodes[0].state() != QOLB_STATE_IDLE) return false;
+    qolb::Guard turn(nodes[1]);
+    return turn.lane(0) == 0 && turn.lane(1) == 5;
+}
+
+// A node is a timed lock as the standard library means it, and tells what it can't do.
+bool is_lock(qolb_kind kind) {
+    using namespace std::chrono_literals;
+    auto opened = qolb::Node::open(kind, 9, 2, qolb_bytes{}, 4);
+    auto &a = opened.second[0], &b = opened.second[1];
+    {
+        std::unique_lock<qolb::Node> lock(a);
+        if (!lock || a.turns_left() != 4 || a.label() != 9) return false;
+        std::unique_lock<qolb::Node> now(b, std::try_to_lock);
+        auto since = std::chrono::steady_clock::now();
+        std::unique_lock<qolb::Node> soon(b, 5ms);
+        if (now || soon || std::chrono::steady_clock::now() - since < 5ms || b.state() != QOLB_STATE_ROLLED) return false;
+        if (std::unique_lock<qolb::Node>(b, std::chrono::steady_clock::now() + 1ms)) return false;
+        if (b.try_acquire() != qolb::Got::busy || b.acquire_for(0s) != qolb::Got::late) return false;
+        if (a.acquire() != qolb::Got::misuse || a.with([](qolb_bytes &) {}) != qolb::Got::misuse) return false;
+        if (!throws<qolb::Misuse>([&] { a.lock(); }) || !throws<qolb::Misuse>([&] { qolb::Guard turn(b, std::adopt_lock); })) return false;
+    }
+    if (!throws<qolb::Misuse>([&] { a.unlock(); })) return false;
+    {
+        std::unique_lock<qolb::Node> lock(b, 1h);
+        if (!lock) return false;
+    }
+    {
+        std::lock_guard<qolb::Node> lock(b);
+    }
+    // The guard is over before its scope, and closes the line at the last turn of its lease.
+    qolb::Guard last(a);
+    last.release();
+    if (!throws<qolb::Misuse>([&] { (void)last.lane(0); }) || !throws<qolb::Misuse>([&] { last.release(); })) return false;
+    if (!throws<qolb::Closed>([&] { b.lock(); }) || !throws<qolb::Closed>([&] { (void)b.try_lock(); })) return false;
+    if (!throws<qolb::Closed>([&] { (void)b.try_lock_for(1ms); }) || !throws<qolb::Closed>([&] { qolb::Guard turn(a); })) return false;
+    return a.acquire_for(1ms) == qolb::Got::closed && b.with([](qolb_bytes &) {}) == qolb::Got::closed && a.state() == QOLB_STATE_SHUT;
 }
 
 } // namespace
@@ -49,5 +111,9 @@ int main() {
     if (refused != QOLB_BAD_NODES || !none.empty()) return std::puts("201 nodes were opened"), 1;
     if (!run(QOLB_RING)) return std::puts("ring"), 1;
     if (!run(QOLB_LIST)) return std::puts("list"), 1;
+    for (qolb_kind kind : {QOLB_RING, QOLB_LIST}) {
+        if (!work_throws(kind)) return std::puts("a holder whose work throws"), 1;
+        if (!is_lock(kind)) return std::puts("the node as a lock"), 1;
+    }
     return 0;
 }

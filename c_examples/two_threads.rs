@@ -2,17 +2,18 @@
 #[path = "../include/qolb.rs"]
 mod qolb;
 
-use qolb::{Answer, Bytes, Kind, Node, State};
+use qolb::{Answer, Bytes, Kind, Node, State, Stopped};
+use std::panic;
 use std::thread;
+use std::time::{Duration, Instant};
 
 const ROUNDS: u64 = 20_000;
 
 fn add(mut node: Node) -> Node {
     for _ in 0..ROUNDS {
-        assert!(node.acquire());
-        let count = node.read_lane(5).unwrap();
-        assert_eq!(node.write_lane(5, count + 1), Answer::Done);
-        assert_eq!(node.deqolb(), Answer::Done);
+        let mut turn = node.lock().unwrap();
+        let count = turn.lane(5);
+        turn.set_lane(5, count + 1);
     }
     node
 }
@@ -22,17 +23,69 @@ fn count(kind: Kind) {
     let mut last = nodes.pop().unwrap();
     let threads: Vec<_> = nodes.into_iter().map(|node| thread::spawn(move || add(node))).collect();
     let back: Vec<Node> = threads.into_iter().map(|thread| thread.join().unwrap()).collect();
-    assert!(last.acquire());
+    assert_eq!(last.acquire(), Answer::Granted);
+    assert_eq!(last.turns_left(), 1);
     let bytes = last.read().unwrap();
     assert_eq!(u64::from_le_bytes(bytes.0[40..48].try_into().unwrap()), 2 * ROUNDS);
     assert_eq!(last.deqolb(), Answer::Done);
     for (k, mut node) in back.into_iter().enumerate() {
         assert_eq!(node.number(), k as u64 + 1);
-        assert!(!node.acquire(), "the lease is used up");
+        assert_eq!(node.acquire(), Answer::Closed, "the lease is used up");
+        assert_eq!(node.lock().err(), Some(Stopped::Closed));
+        assert_eq!(node.try_lock().err(), Some(Stopped::Closed));
+        assert_eq!(node.try_lock_for(Duration::from_millis(1)).err(), Some(Stopped::Closed));
         assert_eq!(node.state(), State::Shut);
         assert_eq!(node.read(), None);
         assert_eq!(node.deqolb(), Answer::Misuse);
     }
+}
+
+/// A holder that panics releases the line: what it wrote stands, nothing is poisoned, and the next holder is granted.
+fn panics_while_holding(kind: Kind) {
+    let mut nodes = qolb::open(kind, 1, 3, None, &Bytes([0; 64])).unwrap();
+    let mut first = nodes.remove(0);
+    let by_guard = thread::spawn(move || {
+        let mut turn = first.lock().unwrap();
+        turn.set_lane(1, 5);
+        panic!("a holder's panic");
+    });
+    assert!(by_guard.join().is_err());
+    let mut second = nodes.remove(0);
+    let by_node = thread::spawn(move || {
+        assert_eq!(second.acquire(), Answer::Granted);
+        panic!("a holder's panic, with no guard");
+    });
+    assert!(by_node.join().is_err());
+    let mut turn = nodes[0].lock().unwrap();
+    assert_eq!(turn.lane(1), 5);
+    assert_eq!(turn.turns_left(), None);
+}
+
+/// Guards that wait for a while or not at all, and what closing a node says.
+fn guards(kind: Kind) {
+    let mut nodes = qolb::open(kind, 9, 2, None, &Bytes([7; 64])).unwrap();
+    let mut b = nodes.pop().unwrap();
+    let mut a = nodes.pop().unwrap();
+    assert_eq!((a.label(), a.turns_left()), (9, 0));
+    let mut turn = a.lock().unwrap();
+    assert!(b.try_lock().unwrap().is_none());
+    assert_eq!(b.state(), State::Rolled);
+    let since = Instant::now();
+    assert!(b.try_lock_for(Duration::from_millis(5)).unwrap().is_none());
+    assert!(since.elapsed() >= Duration::from_millis(5));
+    assert_eq!(turn.read(), Bytes([7; 64]));
+    turn.write(1, &Bytes([1; 64]));
+    drop(turn);
+    assert_eq!(b.try_lock_for(Duration::from_secs(3600)).unwrap().unwrap().lane(0), 0x0707_0707_0707_0701);
+    assert_eq!(b.acquire(), Answer::Granted);
+    assert_eq!(b.lock().err(), Some(Stopped::Misuse));
+    // A node that holds is not let go of.
+    let Err(mut b) = b.close() else { panic!("a holder was closed") };
+    assert_eq!(b.deqolb(), Answer::Done);
+    assert!(b.close().is_ok());
+    a.lock().unwrap().shut();
+    assert_eq!(a.state(), State::Shut);
+    assert_eq!(a.try_acquire(), Answer::Closed);
 }
 
 fn main() {
@@ -40,4 +93,15 @@ fn main() {
     assert_eq!(qolb::open(Kind::List, 1, 2, Some(0), &Bytes([0; 64])).err(), Some(Answer::BadLease));
     count(Kind::Ring);
     count(Kind::List);
+    // The panics that are wanted print nothing.
+    panic::set_hook(Box::new(|told| {
+        if !told.to_string().contains("a holder's panic") {
+            eprintln!("{told}");
+        }
+    }));
+    for kind in [Kind::Ring, Kind::List] {
+        panics_while_holding(kind);
+        guards(kind);
+    }
+    assert_eq!(qolb::version(), 10100);
 }

@@ -1,96 +1,213 @@
-/* QOLB for C and C++: a queue lock that hands over 64 bytes with the lock. The library behind it is proved; crates/qolb_c/README.md says what.
+/* QOLB for C and C++: a queue lock that hands over 64 bytes with the lock.
  *
- * A line is 64 bytes that 1 to 200 nodes share. A node asks for it (qolb_enqolb), polls until it is granted (qolb_poll, qolb_wait), reads and
- * writes it, and releases it (qolb_deqolb), which hands lock and bytes to the oldest request. Nobody is overtaken.
+ * A line is 64 bytes that 1 to 200 nodes share. A node asks for it, waits for its turn, reads and writes it, and releases it, which hands lock and
+ * bytes to the oldest request. Nobody is overtaken. The library behind this header is proved; crates/qolb_c/README.md says what.
  *
- * A `qolb_node` is a handle of one node. A handle of zeros is empty. What you must keep:
+ * EXAMPLE
  *
- *   - Move a handle, never copy it: of all copies of its pointer use one, and set the others to zeros. Only these calls read or change it.
- *   - Start a handle as zeros: `qolb_node node = {0};`.
- *   - Pass no null pointer, no freed one, and no two arguments that overlap.
- *   - One call at a time for a handle. Different handles, of one line too, may be called by different threads at the same time.
- *   - Hand a handle to another thread by a lock, a thread's start or join, or a sequentially consistent atomic.
- *   - Call nothing from a signal handler, nor in the forked child of a process with threads.
- *   - The program's malloc, realloc and free are of one allocator, which aligns as C asks.
+ *     #include <qolb.h>
+ *     #include <stdio.h>
  *
- * Every other mistake is answered QOLB_MISUSE, and then nothing has changed. No call waits for another thread, and none but qolb_open and
- * qolb_close uses the heap. Link with -lqolb. */
+ *     int main(void) {
+ *         qolb_bytes zeros = {{0}};
+ *         qolb_node node[2] = {{0}};
+ *         if (qolb_open(QOLB_RING, 1, 2, QOLB_NO_LEASE, &zeros, node, 2) != QOLB_DONE) return 1;
+ *
+ *         // each thread has a node of its own: qolb_move(&node[0]), qolb_move(&node[1])
+ *         uint32_t got = qolb_acquire_within(&node[0], 1000000);   // at most 1 ms; qolb_acquire waits as long as it takes
+ *         if (got == QOLB_GRANTED) {
+ *             uint64_t count;
+ *             qolb_read_lane(&node[0], 0, &count);                 // what the last holder left
+ *             qolb_write_lane(&node[0], 0, count + 1);
+ *             qolb_deqolb(&node[0]);                               // lock and bytes go to the oldest request
+ *         } else {
+ *             puts(qolb_answer_name(got));                         // QOLB_LATE or QOLB_CLOSED
+ *         }
+ *         qolb_close(&node[0]);
+ *         qolb_close(&node[1]);
+ *         return 0;
+ *     }
+ *
+ *     cc prog.c $(pkg-config --cflags --libs qolb)
+ *
+ * WORDS
+ *
+ * node: one of those that share a line. They are numbered from 1. A thread that uses a line has a node of its own.
+ * handle: a qolb_node, by which C has a node. A handle of zeros is empty: it has none.
+ * turn: from being granted the line until its release. Whose turn it is holds the line, and is its holder.
+ * lane: one of the line's eight numbers of 64 bits. Lane k is bytes 8k to 8k + 7, the lowest first.
+ * lease: how many turns a line has. At the end of the last it closes.
+ * closed: nobody is served any more, and each later request is told so. A holder closes the line (qolb_shut), or its lease is used up.
+ * predecessor, successor: the nodes whose requests stand right before a node's own in the queue, and right behind.
+ * withdrawn: a request that its node took back. It is passed when the line comes to it.
+ * busy: a node whose last request is not cleared away yet, and which so may not ask again (BUSY, below).
+ * label: a number of the caller's own, which qolb_label gives back. Give each line another: the thread sanitizer takes lines of one label for one.
+ *
+ * WHAT YOU MUST KEEP
+ *
+ * - Start a handle as zeros: `qolb_node node = {0};`.
+ * - Move a handle, never copy it: qolb_move. Only these calls read or change what is in it.
+ * - Pass no null pointer, no freed one, and no two arguments that overlap.
+ * - One call at a time for a handle. Different handles, of one line too, may be called by different threads at the same time.
+ * - Hand a handle to another thread by a lock, a thread's start or join, or a sequentially consistent atomic.
+ * - Call nothing from a signal handler, nor in the forked child of a process with threads.
+ * - The program's malloc, realloc and free are of one allocator, which aligns as C asks.
+ *
+ * Every other mistake is answered QOLB_MISUSE, and then nothing has changed.
+ *
+ * MEMORY ORDER
+ *
+ * A line guards whatever you let it guard, as a mutex does. All that a thread wrote anywhere in memory before its node's release (qolb_deqolb,
+ * qolb_shut) is seen by the thread whose node is granted the line next, and by those that are told that it is closed.
+ *
+ * For the line's own 64 bytes this is proved. For other memory it rests on how the library is made: every step on a word that nodes share is a
+ * sequentially consistent atomic operation, and the last step of a release writes the word in which the next holder finds its grant.
+ *
+ * WAITING
+ *
+ * No call of the library waits for another thread. Those that wait are in this header: qolb_acquire and qolb_acquire_within. They look 64 times,
+ * with one pause of the processor between two looks (the instruction `pause`, some 10 to 140 cycles), and then give the processor away between
+ * looks (sched_yield); qolb_acquire_within does so 16 times, and then sleeps between looks, first for 1 us and in the end for 200 us. So with much
+ * work elsewhere it may see its turn up to 200 us late, and all who stand behind it wait that long too: when the line comes to a node, it is that
+ * node's, whether it has looked or not.
+ *
+ * Nothing promises that a turn comes. It comes once each node before has been granted the line and has released it, or was withdrawn.
+ *
+ * BUSY
+ *
+ * A request that is withdrawn stays in the queue until the line comes to it, and until then its node is busy. A release of another node passes it
+ * and clears it. A node of a list may besides be busy after its own release: where its successor has asked and has not linked yet, and until it
+ * has, which is the last step of that node's qolb_enqolb. So ask again later. It can last as long as those before the withdrawn request keep the
+ * line; if one never releases it, for ever. qolb_acquire and qolb_acquire_within ask again by themselves.
+ *
+ * THREADS THAT END
+ *
+ * A line knows nodes and not threads. A thread that ends while its node holds the line, or waits for it, releases and withdraws nothing: the line
+ * comes to that node and stays there, and all behind it wait. Nobody can take it over, and nobody is told. But any thread that has the handle, and
+ * has got it in one of the ways above, may go on with it: qolb_state says where the node stands.
+ *
+ * SPEED
+ *
+ * Each call writes to its handle. Handles that lie side by side share a cache line, and then threads slow each other down though they use
+ * different lines (two to three times as slow). So keep each thread's handle on its stack, or QOLB_NODE_ALIGN bytes apart:
+ *
+ *     struct worker { _Alignas(QOLB_NODE_ALIGN) qolb_node node; };
+ *
+ * No call but qolb_open and qolb_close uses the heap.
+ *
+ * SANITIZERS AND DEBUGGERS
+ *
+ * The sanitizers of addresses, leaks and undefined behaviour see the program and the heap, and nothing inside the library. With the thread sanitizer
+ * (-fsanitize=thread) the calls below tell it of each grant and release, so data that a line guards is not reported, and data that none guards is.
+ * Lines of one label are one to it, and so are a few of different labels: between these it may miss a race.
+ *
+ * The library has no tables for unwinding, so a backtrace that begins inside one of its calls may end there.
+ *
+ * PROCESSOR
+ *
+ * Linux on x86-64, with the instructions of x86-64-v2 (SSE4.1 among them), which processors have since 2009. On an older one the first call that
+ * needs one ends the program by SIGILL. A program that may meet one asks first: __builtin_cpu_supports("sse4.1"). */
 #ifndef QOLB_H
 #define QOLB_H
 
+#include <sched.h>
 #include <stddef.h>
 #include <stdint.h>
+#include <time.h>
+
+/* The version of this header. QOLB_VERSION is one number, 10000 for each major version, 100 for each minor one; qolb_version() is that of the
+ * library that the program runs with. */
+#define QOLB_VERSION_MAJOR 1
+#define QOLB_VERSION_MINOR 1
+#define QOLB_VERSION_PATCH 0
+#define QOLB_VERSION (QOLB_VERSION_MAJOR * 10000 + QOLB_VERSION_MINOR * 100 + QOLB_VERSION_PATCH)
+
+/* So many bytes apart, handles share no cache line, nor a pair of them that is fetched together. */
+#define QOLB_NODE_ALIGN 128
+
+/* The line is never closed by the number of its turns. */
+#define QOLB_NO_LEASE UINT64_MAX
+
+/* Who does not look at this answer does not know whether the node holds the line. */
+#if defined(__GNUC__)
+#define QOLB_LOOK __attribute__((warn_unused_result))
+#else
+#define QOLB_LOOK
+#endif
 
 #ifdef __cplusplus
 extern "C" {
 #endif
 
+/* A handle of a node; empty, if it is zeros. */
 typedef struct qolb_node {
     void *own;
 } qolb_node;
 
+/* 64 bytes, as a line has. */
 typedef struct qolb_bytes {
     uint8_t byte[64];
 } qolb_bytes;
 
-/* How the nodes of a line wait: at cells that they draw by tickets, or in a list that they link. */
+/* How the nodes of a line wait: at cells that they draw by tickets, or in a list that they link. Take a ring, unless you want the two halves of
+ * asking. */
 enum qolb_kind { QOLB_RING = 0, QOLB_LIST = 1 };
 
+/* What a call answers. */
 enum qolb_answer {
     QOLB_DONE = 0,
-    QOLB_GRANTED = 1,   /* the node holds the line */
-    QOLB_QUEUED = 2,    /* its request waits: poll */
-    QOLB_WAITING = 3,   /* its request waits still */
-    QOLB_LINKING = 4,   /* its request stands behind another: link */
-    QOLB_WITHDRAWN = 5, /* its request is withdrawn */
-    QOLB_CLOSED = 6,    /* the line is closed, and the request has ended */
-    QOLB_BUSY = 7,      /* its last request is not clear yet: ask again later */
-    QOLB_MISUSE = 8,    /* the handle or its node does not allow the call; nothing changed */
-    /* of qolb_open alone; nothing changed */
-    QOLB_NO_MEMORY = 9,
+    QOLB_GRANTED = 1,    /* the node holds the line */
+    QOLB_QUEUED = 2,     /* its request waits: look again, by qolb_poll or qolb_wait */
+    QOLB_WAITING = 3,    /* its request waits still */
+    QOLB_LINKING = 4,    /* its request stands behind another: link it */
+    QOLB_WITHDRAWN = 5,  /* its request is withdrawn */
+    QOLB_CLOSED = 6,     /* the line is closed, and the request has ended */
+    QOLB_BUSY = 7,       /* its last request is not cleared away yet: ask again later. Of qolb_try also: others have the line */
+    QOLB_MISUSE = 8,     /* the handle or its node does not allow the call; nothing changed */
+    QOLB_NO_MEMORY = 9,  /* of qolb_open alone, as the next five; nothing changed */
     QOLB_BAD_NODES = 10, /* not 1 to 200 nodes */
     QOLB_BAD_LEASE = 11, /* a lease of no turn */
-    QOLB_BAD_KIND = 12,
-    QOLB_TOO_FEW = 13,  /* fewer handles than nodes */
-    QOLB_OCCUPIED = 14  /* one of the handles has a node */
+    QOLB_BAD_KIND = 12,  /* no such kind */
+    QOLB_TOO_FEW = 13,   /* fewer handles than nodes */
+    QOLB_OCCUPIED = 14,  /* one of the handles has a node */
+    QOLB_LATE = 15       /* of qolb_acquire_within alone: its time is over, and the request is withdrawn */
 };
 
+/* Where a node stands. In the states IDLE, LEFT, ROLLED and SHUT it may ask. */
 enum qolb_node_state {
     QOLB_STATE_EMPTY = 0,   /* the handle has no node */
-    QOLB_STATE_IDLE = 1,    /* it may ask, as in the last three */
+    QOLB_STATE_IDLE = 1,    /* it has not asked, or its turn is over */
     QOLB_STATE_LINKING = 2, /* it has asked and must link */
     QOLB_STATE_QUEUED = 3,  /* it waits */
     QOLB_STATE_HOLDING = 4, /* it holds the line */
-    QOLB_STATE_LEFT = 5,    /* its request has ended, and the line lay in its own mailbox */
+    QOLB_STATE_LEFT = 5,    /* its turn in a list is over, and its successor had not linked yet */
     QOLB_STATE_ROLLED = 6,  /* its request was withdrawn */
     QOLB_STATE_SHUT = 7     /* it knows that the line is closed */
 };
 
-/* The line is never closed by the number of its turns. */
-#define QOLB_NO_LEASE UINT64_MAX
-
-/* Opens a line of `nodes` nodes with these bytes, and puts node k into out[k - 1], which must be empty; `handles` handles lie at `out`. It
- * closes at its lease-th served turn. The label is for the caller alone.
+/* Opens a line of `nodes` nodes with these bytes, and puts node k into out[k - 1], which must be empty; `handles` handles lie at `out`. The line
+ * closes at the end of its lease-th turn.
  * DONE; else, the first that stands of BAD_KIND, BAD_NODES, BAD_LEASE, TOO_FEW, OCCUPIED and NO_MEMORY. */
-uint32_t qolb_open(uint32_t kind, uint64_t label, uint64_t nodes, uint64_t lease, const qolb_bytes *opening, qolb_node *out, size_t handles);
+uint32_t qolb_open(uint32_t kind, uint64_t label, uint64_t nodes, uint64_t lease, const qolb_bytes *opening, qolb_node *out, size_t handles) QOLB_LOOK;
 
-/* Asks. In the states IDLE, LEFT, ROLLED, SHUT: GRANTED, QUEUED, CLOSED, BUSY. Else MISUSE. */
-uint32_t qolb_enqolb(qolb_node *node);
+/* Asks, and does not wait. Where the node may ask: GRANTED, QUEUED, CLOSED, BUSY. Else MISUSE. */
+uint32_t qolb_enqolb(qolb_node *node) QOLB_LOOK;
 
 /* Looks whether the request has come to its turn. In the state QUEUED: GRANTED, WAITING, CLOSED. Else MISUSE. */
-uint32_t qolb_poll(qolb_node *node);
+uint32_t qolb_poll(qolb_node *node) QOLB_LOOK;
 
-/* Polls at most `polls` times, with a pause between two. In the state QUEUED, with polls above 0: GRANTED, WAITING, CLOSED. Else MISUSE.
+/* Looks at most `polls` times, with a pause between two. In the state QUEUED, with polls above 0: GRANTED, WAITING, CLOSED. Else MISUSE.
  * It spins meanwhile: with more threads than processors, wait for few polls, and give the processor away between two waits. */
-uint32_t qolb_wait(qolb_node *node, uint64_t polls);
+uint32_t qolb_wait(qolb_node *node, uint64_t polls) QOLB_LOOK;
 
-/* Gives the request up, unless it has come to its turn. In the state QUEUED: WITHDRAWN, GRANTED, CLOSED. Else MISUSE. */
-uint32_t qolb_withdraw(qolb_node *node);
+/* Takes the request back, unless it has come to its turn. In the state QUEUED: WITHDRAWN, GRANTED, CLOSED. Else MISUSE. */
+uint32_t qolb_withdraw(qolb_node *node) QOLB_LOOK;
 
-/* The two halves of qolb_enqolb, of a list alone; on a ring MISUSE.
- * prepend, in the states IDLE, LEFT, ROLLED, SHUT: GRANTED, LINKING, CLOSED, BUSY. link, in the state LINKING: GRANTED, QUEUED, CLOSED. */
-uint32_t qolb_prepend(qolb_node *node);
-uint32_t qolb_link(qolb_node *node);
+/* The two halves of qolb_enqolb, of a list alone: prepend takes the place in the queue, and link tells the node before, its predecessor, who comes
+ * next. Until then the line does not go on past the predecessor. On a ring MISUSE.
+ * prepend, where the node may ask: GRANTED, LINKING, CLOSED, BUSY. link, in the state LINKING: GRANTED, QUEUED, CLOSED. */
+uint32_t qolb_prepend(qolb_node *node) QOLB_LOOK;
+uint32_t qolb_link(qolb_node *node) QOLB_LOOK;
 
 /* The holder reads the line. In the state HOLDING: DONE. Else MISUSE, and `out` is as it was. */
 uint32_t qolb_read(qolb_node *node, qolb_bytes *out);
@@ -98,10 +215,12 @@ uint32_t qolb_read(qolb_node *node, qolb_bytes *out);
 /* The holder writes byte k of `bytes` where bit k of the mask is set. In the state HOLDING: DONE. Else MISUSE. */
 uint32_t qolb_write(qolb_node *node, uint64_t mask, const qolb_bytes *bytes);
 
-/* The same for one lane: lane k, of 0 to 7, is the little-endian number of bytes 8k to 8k + 7. In the state HOLDING, with lane below 8: DONE.
- * Else MISUSE. */
+/* The same for one lane, of 0 to 7. In the state HOLDING, with lane below 8: DONE. Else MISUSE, and `out` is as it was. */
 uint32_t qolb_read_lane(qolb_node *node, uint64_t lane, uint64_t *out);
 uint32_t qolb_write_lane(qolb_node *node, uint64_t lane, uint64_t value);
+
+/* How many turns are left of the line's lease, with the holder's own: QOLB_NO_LEASE, if it has none. 0 where the node does not hold the line. */
+uint64_t qolb_turns_left(qolb_node *node);
 
 /* Releases the line; the last turn of a lease closes it. In the state HOLDING: DONE. Else MISUSE. */
 uint32_t qolb_deqolb(qolb_node *node);
@@ -115,8 +234,147 @@ uint32_t qolb_close(qolb_node *node);
 /* The node's number, from 1; 0 of an empty handle. */
 uint64_t qolb_number(qolb_node *node);
 
+/* The label that the node's line was opened with; 0 of an empty handle. */
+uint64_t qolb_label(qolb_node *node);
+
 /* What the node's last call left: a `qolb_node_state`. */
 uint32_t qolb_state(qolb_node *node);
+
+/* The version of the library, as QOLB_VERSION is that of the header. */
+uint32_t qolb_version(void);
+
+/* The node moves out of this handle, which is empty then, into the one that is returned. */
+static inline qolb_node qolb_move(qolb_node *from) {
+    qolb_node to = *from;
+    from->own = NULL;
+    return to;
+}
+
+#if defined(__SANITIZE_THREAD__)
+#define QOLB_TSAN 1
+#elif defined(__has_feature)
+#if __has_feature(thread_sanitizer)
+#define QOLB_TSAN 1
+#endif
+#endif
+
+/* ---- Below: what the waiting calls and the sanitizer want. No name that ends in `_` is for callers. ---- */
+
+#ifdef QOLB_TSAN
+void __tsan_acquire(void *address);
+void __tsan_release(void *address);
+
+/* An address for each label, the same in all files of the program. */
+__attribute__((weak)) char qolb_lines_[1021];
+
+static inline uint32_t qolb_took_(qolb_node *node, uint32_t got) {
+    if (got == QOLB_GRANTED || got == QOLB_CLOSED) __tsan_acquire(&qolb_lines_[qolb_label(node) % sizeof qolb_lines_]);
+    return got;
+}
+
+static inline void qolb_gives_(qolb_node *node) {
+    if (qolb_state(node) == QOLB_STATE_HOLDING) __tsan_release(&qolb_lines_[qolb_label(node) % sizeof qolb_lines_]);
+}
+
+QOLB_LOOK static inline uint32_t qolb_enqolb_(qolb_node *node) { return qolb_took_(node, qolb_enqolb(node)); }
+QOLB_LOOK static inline uint32_t qolb_poll_(qolb_node *node) { return qolb_took_(node, qolb_poll(node)); }
+QOLB_LOOK static inline uint32_t qolb_wait_(qolb_node *node, uint64_t polls) { return qolb_took_(node, qolb_wait(node, polls)); }
+QOLB_LOOK static inline uint32_t qolb_withdraw_(qolb_node *node) { return qolb_took_(node, qolb_withdraw(node)); }
+QOLB_LOOK static inline uint32_t qolb_prepend_(qolb_node *node) { return qolb_took_(node, qolb_prepend(node)); }
+QOLB_LOOK static inline uint32_t qolb_link_(qolb_node *node) { return qolb_took_(node, qolb_link(node)); }
+static inline uint32_t qolb_deqolb_(qolb_node *node) { return qolb_gives_(node), qolb_deqolb(node); }
+static inline uint32_t qolb_shut_(qolb_node *node) { return qolb_gives_(node), qolb_shut(node); }
+#define qolb_enqolb qolb_enqolb_
+#define qolb_poll qolb_poll_
+#define qolb_wait qolb_wait_
+#define qolb_withdraw qolb_withdraw_
+#define qolb_prepend qolb_prepend_
+#define qolb_link qolb_link_
+#define qolb_deqolb qolb_deqolb_
+#define qolb_shut qolb_shut_
+#endif
+
+enum { QOLB_LOOKS_ = 64, QOLB_YIELDS_ = 16, QOLB_LONGEST_SLEEP_ = 200000 };
+
+/* The system's calls by names of their own: a compiler that is told to keep to ISO C declares them not. */
+int qolb_clock_gettime_(int clock, struct timespec *out) __asm__("clock_gettime");
+int qolb_nanosleep_(const struct timespec *time, struct timespec *left) __asm__("nanosleep");
+
+/* Nanoseconds of a clock that nobody sets. */
+static inline uint64_t qolb_now_(void) {
+    struct timespec now;
+    qolb_clock_gettime_(1 /* CLOCK_MONOTONIC */, &now);
+    return (uint64_t)now.tv_sec * 1000000000u + (uint64_t)now.tv_nsec;
+}
+
+/* The k-th rest between two looks of who waits at most so long since then. 0, and no rest, where the time is over. */
+static inline int qolb_rest_(unsigned k, uint64_t since, uint64_t nanoseconds) {
+    uint64_t spent = qolb_now_() - since, most;
+    struct timespec time;
+    if (spent >= nanoseconds) return 0;
+    if (k < QOLB_YIELDS_) {
+        sched_yield();
+        return 1;
+    }
+    most = k - QOLB_YIELDS_ < 8 ? (uint64_t)1000 << (k - QOLB_YIELDS_) : (uint64_t)QOLB_LONGEST_SLEEP_;
+    if (most > nanoseconds - spent) most = nanoseconds - spent;
+    time.tv_sec = 0;
+    time.tv_nsec = (long)most;
+    qolb_nanosleep_(&time, NULL);
+    return 1;
+}
+
+/* ---- For callers again. ---- */
+
+/* Asks, and waits as long as it takes, also while the node is busy. Where the node may ask: GRANTED, CLOSED. Else MISUSE. */
+QOLB_LOOK static inline uint32_t qolb_acquire(qolb_node *node) {
+    uint32_t got;
+    while ((got = qolb_enqolb(node)) == QOLB_BUSY) sched_yield();
+    if (got != QOLB_QUEUED) return got;
+    got = qolb_wait(node, QOLB_LOOKS_);
+    while (got == QOLB_WAITING) {
+        sched_yield();
+        got = qolb_poll(node);
+    }
+    return got;
+}
+
+/* Asks, and takes the request back if it is not granted at once. Where the node may ask: GRANTED, BUSY, CLOSED. Else MISUSE.
+ * After BUSY the node has no turn to come, and may ask again; each try answers BUSY until the line has come to the request that was taken back. */
+QOLB_LOOK static inline uint32_t qolb_try(qolb_node *node) {
+    uint32_t got = qolb_enqolb(node);
+    if (got != QOLB_QUEUED) return got;
+    got = qolb_withdraw(node);
+    return got == QOLB_WITHDRAWN ? (uint32_t)QOLB_BUSY : got;
+}
+
+/* Asks, and waits at most so many nanoseconds, also while the node is busy. Where the node may ask: GRANTED, CLOSED, LATE. Else MISUSE.
+ * After LATE the node is withdrawn: it has no turn to come, and may ask again, but may be busy at first. It looks at least once. */
+QOLB_LOOK static inline uint32_t qolb_acquire_within(qolb_node *node, uint64_t nanoseconds) {
+    uint64_t since = qolb_now_();
+    unsigned rests = 0;
+    uint32_t got;
+    while ((got = qolb_enqolb(node)) == QOLB_BUSY)
+        if (!qolb_rest_(rests++, since, nanoseconds)) return QOLB_LATE;
+    if (got != QOLB_QUEUED) return got;
+    got = qolb_wait(node, QOLB_LOOKS_);
+    while (got == QOLB_WAITING) {
+        if (!qolb_rest_(rests++, since, nanoseconds)) {
+            got = qolb_withdraw(node);
+            return got == QOLB_WITHDRAWN ? (uint32_t)QOLB_LATE : got;
+        }
+        got = qolb_poll(node);
+    }
+    return got;
+}
+
+/* The name of an answer, as "QOLB_GRANTED"; "?" of a number that is none. */
+static inline const char *qolb_answer_name(uint32_t answer) {
+    static const char *const names[] = {"QOLB_DONE",      "QOLB_GRANTED",   "QOLB_QUEUED",   "QOLB_WAITING",   "QOLB_LINKING", "QOLB_WITHDRAWN",
+                                        "QOLB_CLOSED",    "QOLB_BUSY",      "QOLB_MISUSE",   "QOLB_NO_MEMORY", "QOLB_BAD_NODES", "QOLB_BAD_LEASE",
+                                        "QOLB_BAD_KIND",  "QOLB_TOO_FEW",   "QOLB_OCCUPIED", "QOLB_LATE"};
+    return answer < sizeof names / sizeof names[0] ? names[answer] : "?";
+}
 
 #ifdef __cplusplus
 }

@@ -1,41 +1,91 @@
-// QOLB for C++14 and later: a node that moves and is never copied. qolb.h says what each call answers, and what its caller must keep.
+// QOLB for C++14 and later: a node that moves and is never copied, and a guard. qolb.h says what each call answers, and what its caller must keep.
+//
+//     auto [opened, nodes] = qolb::Node::open(QOLB_RING, 1, 2, qolb_bytes{});
+//     {
+//         qolb::Guard turn(nodes[0]);                    // waits; throws qolb::Closed where the line is closed
+//         turn.set_lane(0, turn.lane(0) + 1);
+//     }                                                  // releases, also where an exception leaves the scope
+//     std::unique_lock<qolb::Node> lock(nodes[1], std::chrono::milliseconds(1));
+//     if (lock) ...                                      // a timed lock, as of any std::timed_mutex
 #ifndef QOLB_HPP
 #define QOLB_HPP
 
 #include "qolb.h"
 
 #include <array>
+#include <chrono>
 #include <cstdint>
-#include <thread>
+#include <cstdlib>
+#include <mutex>
+#include <stdexcept>
 #include <utility>
 #include <vector>
 
+#if defined(__has_cpp_attribute)
+#if __has_cpp_attribute(nodiscard) && __cplusplus >= 201703L
+#define QOLB_NODISCARD [[nodiscard]]
+#endif
+#endif
+#ifndef QOLB_NODISCARD
+#define QOLB_NODISCARD QOLB_LOOK
+#endif
+
+// Without exceptions what would throw ends the program.
+#if defined(__cpp_exceptions)
+#define QOLB_THROW(what) throw what
+#else
+#define QOLB_THROW(what) std::abort()
+#endif
+
 namespace qolb {
 
+// How a call that asks and waits ended. No number of it is true or false.
+enum class Got {
+    granted, // the node holds the line
+    closed,  // the line is closed
+    busy,    // of try_acquire: others have the line
+    late,    // of acquire_for: the time is over
+    misuse   // the node is none, or waits or holds already; nothing changed
+};
+
+// The line is closed, so a lock that waits for it can't be had.
+class Closed : public std::runtime_error {
+  public:
+    Closed() : std::runtime_error("qolb: the line is closed") {}
+};
+
+// The node is none, or waits or holds already; or it does not hold the line that it is to read, write or release. Nothing changed.
+class Misuse : public std::logic_error {
+  public:
+    Misuse() : std::logic_error("qolb: the node does not allow the call") {}
+};
+
 // A node of a line, or none. A node that is destroyed withdraws its request, or releases the line that it holds.
+//
+// It is a timed lock as the standard library means it, so std::unique_lock, std::lock_guard and std::scoped_lock take it.
 class Node {
   public:
     Node() = default;
     Node(const Node &) = delete;
     Node &operator=(const Node &) = delete;
-    Node(Node &&other) noexcept : node_(std::exchange(other.node_, qolb_node{})) {}
+    Node(Node &&other) noexcept : node_(qolb_move(&other.node_)) {}
 
     Node &operator=(Node &&other) noexcept {
         if (this != &other) {
             let_go();
-            node_ = std::exchange(other.node_, qolb_node{});
+            node_ = qolb_move(&other.node_);
         }
         return *this;
     }
 
     ~Node() { let_go(); }
 
-    qolb_answer enqolb() { return answer(qolb_enqolb(&node_)); }
-    qolb_answer poll() { return answer(qolb_poll(&node_)); }
-    qolb_answer wait(std::uint64_t polls) { return answer(qolb_wait(&node_, polls)); }
-    qolb_answer withdraw() { return answer(qolb_withdraw(&node_)); }
-    qolb_answer prepend() { return answer(qolb_prepend(&node_)); }
-    qolb_answer link() { return answer(qolb_link(&node_)); }
+    QOLB_NODISCARD qolb_answer enqolb() { return answer(qolb_enqolb(&node_)); }
+    QOLB_NODISCARD qolb_answer poll() { return answer(qolb_poll(&node_)); }
+    QOLB_NODISCARD qolb_answer wait(std::uint64_t polls) { return answer(qolb_wait(&node_, polls)); }
+    QOLB_NODISCARD qolb_answer withdraw() { return answer(qolb_withdraw(&node_)); }
+    QOLB_NODISCARD qolb_answer prepend() { return answer(qolb_prepend(&node_)); }
+    QOLB_NODISCARD qolb_answer link() { return answer(qolb_link(&node_)); }
     qolb_answer read(qolb_bytes &out) { return answer(qolb_read(&node_, &out)); }
     qolb_answer write(std::uint64_t mask, const qolb_bytes &bytes) { return answer(qolb_write(&node_, mask, &bytes)); }
     qolb_answer read_lane(std::uint64_t lane, std::uint64_t &out) { return answer(qolb_read_lane(&node_, lane, &out)); }
@@ -43,55 +93,150 @@ class Node {
     qolb_answer deqolb() { return answer(qolb_deqolb(&node_)); }
     qolb_answer shut() { return answer(qolb_shut(&node_)); }
     qolb_answer close() { return answer(qolb_close(&node_)); }
+    std::uint64_t turns_left() { return qolb_turns_left(&node_); }
     std::uint64_t number() { return qolb_number(&node_); }
+    std::uint64_t label() { return qolb_label(&node_); }
     qolb_node_state state() { return static_cast<qolb_node_state>(qolb_state(&node_)); }
 
-    // Asks, and waits until the line is granted. False where it is closed, and at once where the node is none, or waits or holds already.
-    bool acquire() {
-        qolb_answer got;
-        while ((got = enqolb()) == QOLB_BUSY) std::this_thread::yield();
-        while (got == QOLB_QUEUED || got == QOLB_WAITING) {
-            got = wait(64);
-            if (got == QOLB_WAITING) std::this_thread::yield();
-        }
-        return got == QOLB_GRANTED;
+    // Asks, and waits as long as it takes: granted, closed, misuse.
+    QOLB_NODISCARD Got acquire() { return got(qolb_acquire(&node_)); }
+
+    // Asks, and takes the request back if it is not granted at once: granted, busy, closed, misuse.
+    QOLB_NODISCARD Got try_acquire() { return got(qolb_try(&node_)); }
+
+    // Asks, and waits at most so long: granted, late, closed, misuse.
+    template <class Rep, class Period> QOLB_NODISCARD Got acquire_for(const std::chrono::duration<Rep, Period> &time) {
+        return got(qolb_acquire_within(&node_, nanoseconds(time)));
     }
 
-    // Acquires the line, lets `change` change its bytes, writes them and releases the line. False as acquire is.
-    template <class Change> bool with(Change change) {
-        if (!acquire()) return false;
-        qolb_bytes bytes;
-        read(bytes);
-        change(bytes);
-        write(UINT64_MAX, bytes);
-        deqolb();
-        return true;
+    // The same as locks: they throw Closed where the line is closed, so that a loop around them ends, and Misuse.
+    void lock() { locked(acquire()); }
+    QOLB_NODISCARD bool try_lock() { return locked(try_acquire()); }
+    template <class Rep, class Period> QOLB_NODISCARD bool try_lock_for(const std::chrono::duration<Rep, Period> &time) {
+        return locked(acquire_for(time));
     }
+    template <class Clock, class Duration> QOLB_NODISCARD bool try_lock_until(const std::chrono::time_point<Clock, Duration> &end) {
+        return try_lock_for(end - Clock::now());
+    }
+    void unlock() {
+        if (deqolb() != QOLB_DONE) QOLB_THROW(Misuse());
+    }
+
+    // Acquires the line, lets `change` change its bytes, writes them and releases the line: granted. Else closed or misuse, and `change` is not
+    // called. Where `change` throws, nothing is written and the line is released.
+    template <class Change> QOLB_NODISCARD Got with(Change change);
 
     // The nodes of a new line, in their order, or why there is none.
-    static std::pair<qolb_answer, std::vector<Node>> open(qolb_kind kind, std::uint64_t label, std::uint64_t nodes, const qolb_bytes &opening,
-                                                          std::uint64_t lease = QOLB_NO_LEASE) {
+    QOLB_NODISCARD static std::pair<qolb_answer, std::vector<Node>> open(qolb_kind kind, std::uint64_t label, std::uint64_t nodes,
+                                                                         const qolb_bytes &opening, std::uint64_t lease = QOLB_NO_LEASE) {
         std::array<qolb_node, 200> raw{};
         std::vector<Node> made(nodes <= raw.size() ? nodes : 0);
-        qolb_answer got = answer(qolb_open(kind, label, nodes, lease, &opening, raw.data(), raw.size()));
-        if (got != QOLB_DONE) made.clear();
-        for (std::size_t k = 0; k < made.size(); k++) made[k].node_ = std::exchange(raw[k], qolb_node{});
-        return {got, std::move(made)};
+        qolb_answer told = answer(qolb_open(kind, label, nodes, lease, &opening, raw.data(), raw.size()));
+        if (told != QOLB_DONE) made.clear();
+        for (std::size_t k = 0; k < made.size(); k++) made[k].node_ = qolb_move(&raw[k]);
+        return {told, std::move(made)};
     }
 
   private:
     // Each of these calls leads to the next state, or is misuse and does nothing.
-    void let_go() {
-        qolb_link(&node_);
-        qolb_withdraw(&node_);
-        qolb_deqolb(&node_);
-        qolb_close(&node_);
+    void let_go() noexcept {
+        std::uint32_t answers[] = {qolb_link(&node_), qolb_withdraw(&node_), qolb_deqolb(&node_), qolb_close(&node_)};
+        (void)answers;
     }
 
     static qolb_answer answer(std::uint32_t number) { return static_cast<qolb_answer>(number); }
 
+    static Got got(std::uint32_t number) {
+        switch (number) {
+        case QOLB_GRANTED: return Got::granted;
+        case QOLB_CLOSED: return Got::closed;
+        case QOLB_BUSY: return Got::busy;
+        case QOLB_LATE: return Got::late;
+        default: return Got::misuse;
+        }
+    }
+
+    static bool locked(Got got) {
+        if (got == Got::closed) QOLB_THROW(Closed());
+        if (got == Got::misuse) QOLB_THROW(Misuse());
+        return got == Got::granted;
+    }
+
+    // Never below the time, and as long as a number can say.
+    template <class Rep, class Period> static std::uint64_t nanoseconds(const std::chrono::duration<Rep, Period> &time) {
+        if (time <= std::chrono::duration<Rep, Period>::zero()) return 0;
+        if (time >= std::chrono::hours(24 * 365 * 200)) return UINT64_MAX;
+        auto count = std::chrono::duration_cast<std::chrono::nanoseconds>(time);
+        if (count < time) count += std::chrono::nanoseconds(1);
+        return static_cast<std::uint64_t>(count.count());
+    }
+
     qolb_node node_{};
 };
+
+// A turn of a node: the line is acquired here and released where the scope ends, in whatever way. It writes nothing by itself. The node must stay
+// where it is meanwhile.
+class Guard {
+  public:
+    // Waits as long as it takes. Throws Closed where the line is closed, and Misuse where the node is none, or waits or holds already.
+    explicit Guard(Node &node) : node_(&node) { node.lock(); }
+
+    // Takes over the turn of a node that holds the line, as after try_acquire or acquire_for. Throws Misuse where it holds none.
+    Guard(Node &node, std::adopt_lock_t) : node_(&node) {
+        if (node.state() != QOLB_STATE_HOLDING) QOLB_THROW(Misuse());
+    }
+
+    Guard(Guard &&other) noexcept : node_(std::exchange(other.node_, nullptr)) {}
+    Guard(const Guard &) = delete;
+    Guard &operator=(const Guard &) = delete;
+    Guard &operator=(Guard &&) = delete;
+
+    ~Guard() {
+        if (node_) node_->deqolb();
+    }
+
+    QOLB_NODISCARD qolb_bytes read() const {
+        qolb_bytes bytes{};
+        did(node_ ? node_->read(bytes) : QOLB_MISUSE);
+        return bytes;
+    }
+
+    void write(std::uint64_t mask, const qolb_bytes &bytes) { did(node_ ? node_->write(mask, bytes) : QOLB_MISUSE); }
+
+    QOLB_NODISCARD std::uint64_t lane(std::uint64_t lane) const {
+        std::uint64_t value = 0;
+        did(node_ ? node_->read_lane(lane, value) : QOLB_MISUSE);
+        return value;
+    }
+
+    void set_lane(std::uint64_t lane, std::uint64_t value) { did(node_ ? node_->write_lane(lane, value) : QOLB_MISUSE); }
+
+    // Releases the line before the scope ends; and closes it. Any later call of the guard throws Misuse.
+    void release() { ended(node_ ? node_->deqolb() : QOLB_MISUSE); }
+    void shut() { ended(node_ ? node_->shut() : QOLB_MISUSE); }
+
+  private:
+    static void did(qolb_answer told) {
+        if (told != QOLB_DONE) QOLB_THROW(Misuse());
+    }
+
+    void ended(qolb_answer told) {
+        did(told);
+        node_ = nullptr;
+    }
+
+    Node *node_;
+};
+
+template <class Change> Got Node::with(Change change) {
+    Got got = acquire();
+    if (got != Got::granted) return got;
+    Guard turn(*this, std::adopt_lock);
+    qolb_bytes bytes = turn.read();
+    change(bytes);
+    turn.write(UINT64_MAX, bytes);
+    return got;
+}
 
 } // namespace qolb
 

@@ -1,10 +1,29 @@
-//! QOLB for Rust: a node that is moved and never copied. `qolb.h` says what each call answers.
+//! QOLB for Rust: a node that is moved and never copied, and a guard. `qolb.h` says what each call answers.
 //!
 //! A program takes this file as a module, `#[path = ".../qolb.rs"] mod qolb;`, and links with `-lqolb`.
+//!
+//! ```ignore
+//! let mut nodes = qolb::open(Kind::Ring, 1, 2, None, &Bytes([0; 64]))?;
+//! let mut turn = nodes[0].lock()?;                 // waits; `Stopped::Closed` where the line is closed
+//! let count = turn.lane(0);
+//! turn.set_lane(0, count + 1);
+//! drop(turn);                                      // releases
+//! if let Some(turn) = nodes[1].try_lock_for(Duration::from_millis(1))? { .. }
+//! ```
+//!
+//! # A panic while a line is held
+//!
+//! The guard is dropped while the thread unwinds, and a node whose guard was leaked when the node is: so the line is released. What the holder
+//! had written until then stands, and the next holder is granted the line as ever: nothing is poisoned, and nobody is told. Where a half-made
+//! change must not be seen, read the line, change the copy and write it as the last thing. With `panic = "abort"` the process ends, and its lines
+//! with it.
 #![allow(dead_code)]
 
 use std::ffi::c_void;
+use std::fmt;
 use std::ptr::null_mut;
+use std::thread;
+use std::time::{Duration, Instant};
 
 /// How the nodes of a line wait.
 #[derive(Clone, Copy, Debug, PartialEq, Eq)]
@@ -32,7 +51,29 @@ pub enum Answer {
     BadKind,
     TooFew,
     Occupied,
+    /// Of `Node::acquire_for` alone: the time is over, and the request is withdrawn.
+    Late,
 }
+
+/// Why a lock cannot be had.
+#[derive(Clone, Copy, Debug, PartialEq, Eq)]
+pub enum Stopped {
+    /// The line is closed.
+    Closed,
+    /// The node waits or holds already. Nothing changed.
+    Misuse,
+}
+
+impl fmt::Display for Stopped {
+    fn fmt(&self, f: &mut fmt::Formatter<'_>) -> fmt::Result {
+        f.write_str(match self {
+            Stopped::Closed => "the line is closed",
+            Stopped::Misuse => "the node waits or holds already",
+        })
+    }
+}
+
+impl std::error::Error for Stopped {}
 
 /// A node's state.
 #[derive(Clone, Copy, Debug, PartialEq, Eq)]
@@ -69,14 +110,29 @@ unsafe extern "C" {
     fn qolb_write(node: &mut Handle, mask: u64, bytes: &Bytes) -> u32;
     fn qolb_read_lane(node: &mut Handle, lane: u64, out: &mut u64) -> u32;
     fn qolb_write_lane(node: &mut Handle, lane: u64, value: u64) -> u32;
+    fn qolb_turns_left(node: &mut Handle) -> u64;
     fn qolb_deqolb(node: &mut Handle) -> u32;
     fn qolb_shut(node: &mut Handle) -> u32;
     fn qolb_close(node: &mut Handle) -> u32;
     fn qolb_number(node: &mut Handle) -> u64;
+    fn qolb_label(node: &mut Handle) -> u64;
     fn qolb_state(node: &mut Handle) -> u32;
+    safe fn qolb_version() -> u32;
 }
 
+/// The version of the library: 10,000 for each major version, 100 for each minor one.
+pub fn version() -> u32 {
+    qolb_version()
+}
+
+/// How many looks come before a waiting call gives the processor away, and how many times it does before it sleeps, at most so long.
+const LOOKS: u64 = 64;
+const YIELDS: u32 = 16;
+const LONGEST_SLEEP: Duration = Duration::from_micros(200);
+
 /// A node of a line. A node that is dropped withdraws its request, or releases the line that it holds.
+///
+/// Nodes that lie side by side share cache lines, and then slow each other's threads down: keep each on its thread's stack.
 pub struct Node(Handle);
 
 // SAFETY: the library has it proved that a handle may go to another thread. No call takes a `&Node`, so nothing is shared.
@@ -100,26 +156,32 @@ pub fn open(kind: Kind, label: u64, nodes: u64, lease: Option<u64>, opening: &By
 
 // SAFETY of all calls: the handle is this node's alone, by `&mut self`, and the other references overlap nothing.
 impl Node {
+    #[must_use]
     pub fn enqolb(&mut self) -> Answer {
         told(unsafe { qolb_enqolb(&mut self.0) })
     }
 
+    #[must_use]
     pub fn poll(&mut self) -> Answer {
         told(unsafe { qolb_poll(&mut self.0) })
     }
 
+    #[must_use]
     pub fn wait(&mut self, polls: u64) -> Answer {
         told(unsafe { qolb_wait(&mut self.0, polls) })
     }
 
+    #[must_use]
     pub fn withdraw(&mut self) -> Answer {
         told(unsafe { qolb_withdraw(&mut self.0) })
     }
 
+    #[must_use]
     pub fn prepend(&mut self) -> Answer {
         told(unsafe { qolb_prepend(&mut self.0) })
     }
 
+    #[must_use]
     pub fn link(&mut self) -> Answer {
         told(unsafe { qolb_link(&mut self.0) })
     }
@@ -175,22 +237,193 @@ impl Node {
         }
     }
 
-    /// Asks, and waits until the line is granted. False where it is closed, and at once where the node waits or holds already.
-    pub fn acquire(&mut self) -> bool {
-        loop {
-            match self.enqolb() {
-                Answer::Busy => std::thread::yield_now(),
-                Answer::Granted => return true,
-                Answer::Queued => break,
-                _ => return false,
+    /// How many turns are left of the line's lease, with the holder's own: `u64::MAX` without a lease; 0 where the node does not hold the line.
+    pub fn turns_left(&mut self) -> u64 {
+        unsafe { qolb_turns_left(&mut self.0) }
+    }
+
+    /// The label of the node's line.
+    pub fn label(&mut self) -> u64 {
+        unsafe { qolb_label(&mut self.0) }
+    }
+
+    /// Lets go of a node that neither waits nor holds. Any other is given back.
+    pub fn close(mut self) -> Result<(), Node> {
+        match told(unsafe { qolb_close(&mut self.0) }) {
+            Answer::Done => Ok(()),
+            _ => Err(self),
+        }
+    }
+
+    /// Asks, and waits as long as it takes, also while the node is busy: `Granted`, `Closed`, `Misuse`.
+    #[must_use]
+    pub fn acquire(&mut self) -> Answer {
+        let mut got = self.enqolb();
+        while got == Answer::Busy {
+            thread::yield_now();
+            got = self.enqolb();
+        }
+        if got == Answer::Queued {
+            got = self.wait(LOOKS);
+            while got == Answer::Waiting {
+                thread::yield_now();
+                got = self.poll();
             }
         }
-        loop {
-            match self.wait(64) {
-                Answer::Waiting => std::thread::yield_now(),
-                answer => return answer == Answer::Granted,
-            }
+        got
+    }
+
+    /// Asks, and takes the request back if it is not granted at once: `Granted`, `Busy`, `Closed`, `Misuse`.
+    #[must_use]
+    pub fn try_acquire(&mut self) -> Answer {
+        match self.enqolb() {
+            Answer::Queued => match self.withdraw() {
+                Answer::Withdrawn => Answer::Busy,
+                got => got,
+            },
+            got => got,
         }
+    }
+
+    /// Asks, and waits at most so long, also while the node is busy: `Granted`, `Late`, `Closed`, `Misuse`. After `Late` the node is withdrawn. It
+    /// looks at least once. Between looks it rests as `qolb.h` says.
+    #[must_use]
+    pub fn acquire_for(&mut self, time: Duration) -> Answer {
+        let mut rests = Rests::new(time);
+        let mut got = self.enqolb();
+        while got == Answer::Busy {
+            if !rests.rest() {
+                return Answer::Late;
+            }
+            got = self.enqolb();
+        }
+        if got != Answer::Queued {
+            return got;
+        }
+        got = self.wait(LOOKS);
+        while got == Answer::Waiting {
+            if !rests.rest() {
+                return match self.withdraw() {
+                    Answer::Withdrawn => Answer::Late,
+                    got => got,
+                };
+            }
+            got = self.poll();
+        }
+        got
+    }
+
+    /// Waits as long as it takes, and gives a guard that releases the line where it is dropped.
+    pub fn lock(&mut self) -> Result<Guard<'_>, Stopped> {
+        match self.acquire() {
+            Answer::Granted => Ok(Guard(self)),
+            answer => Err(stopped(answer)),
+        }
+    }
+
+    /// A guard, if the line is granted at once.
+    pub fn try_lock(&mut self) -> Result<Option<Guard<'_>>, Stopped> {
+        match self.try_acquire() {
+            Answer::Granted => Ok(Some(Guard(self))),
+            Answer::Busy => Ok(None),
+            answer => Err(stopped(answer)),
+        }
+    }
+
+    /// A guard, if the line is granted within this time.
+    pub fn try_lock_for(&mut self, time: Duration) -> Result<Option<Guard<'_>>, Stopped> {
+        match self.acquire_for(time) {
+            Answer::Granted => Ok(Some(Guard(self))),
+            Answer::Late => Ok(None),
+            answer => Err(stopped(answer)),
+        }
+    }
+}
+
+/// A turn of a node, which holds the line. Dropped, it releases the line, also where a panic unwinds (see above). It writes nothing by itself.
+#[must_use]
+pub struct Guard<'a>(&'a mut Node);
+
+impl Guard<'_> {
+    /// The line's bytes.
+    pub fn read(&mut self) -> Bytes {
+        self.0.read().expect("a guard's node holds the line")
+    }
+
+    /// Writes the bytes of the mask: byte k where bit k is set.
+    pub fn write(&mut self, mask: u64, bytes: &Bytes) {
+        assert_eq!(self.0.write(mask, bytes), Answer::Done);
+    }
+
+    /// Lane k of the line.
+    ///
+    /// # Panics
+    ///
+    /// Where `k` is not below 8.
+    pub fn lane(&mut self, k: u64) -> u64 {
+        self.0.read_lane(k).expect("a line has eight lanes")
+    }
+
+    /// Writes lane k of the line.
+    ///
+    /// # Panics
+    ///
+    /// Where `k` is not below 8.
+    pub fn set_lane(&mut self, k: u64, value: u64) {
+        assert_eq!(self.0.write_lane(k, value), Answer::Done, "a line has eight lanes");
+    }
+
+    /// How many turns are left of the line's lease, with this one: `None` without a lease.
+    pub fn turns_left(&mut self) -> Option<u64> {
+        Some(self.0.turns_left()).filter(|turns| *turns != u64::MAX)
+    }
+
+    /// Releases the line and closes it: nobody is served any more.
+    pub fn shut(self) {
+        // The drop that follows finds nothing to release.
+        self.0.shut();
+    }
+}
+
+impl Drop for Guard<'_> {
+    fn drop(&mut self) {
+        self.0.deqolb();
+    }
+}
+
+/// The rests between looks of a call that waits at most so long.
+struct Rests {
+    since: Instant,
+    time: Duration,
+    taken: u32,
+}
+
+impl Rests {
+    fn new(time: Duration) -> Rests {
+        Rests { since: Instant::now(), time, taken: 0 }
+    }
+
+    /// Gives the processor away, or sleeps. `false`, and no rest, where the time is over.
+    fn rest(&mut self) -> bool {
+        let left = self.time.saturating_sub(self.since.elapsed());
+        if left.is_zero() {
+            return false;
+        }
+        if self.taken < YIELDS {
+            thread::yield_now();
+        } else {
+            let longest = Duration::from_micros(1 << (self.taken - YIELDS).min(8)).min(LONGEST_SLEEP);
+            thread::sleep(longest.min(left));
+        }
+        self.taken = (self.taken + 1).min(2 * YIELDS);
+        true
+    }
+}
+
+fn stopped(answer: Answer) -> Stopped {
+    match answer {
+        Answer::Closed => Stopped::Closed,
+        _ => Stopped::Misuse,
     }
 }
 

@@ -1,5 +1,5 @@
 -- What each call from C promises of the handle's node. `was` and `now` are the node before and after. (Of this project.)
-use Rattle.std.specs.Prelude.{◌≡◌, ◌≢◌, ℕ, ◌*◌, ◌<◌, List, Bool, true, false, Option, Some, None}
+use Rattle.std.specs.Prelude.{◌≡◌, ◌≢◌, ℕ, ◌*◌, ◌<◌, ◌≤◌, List, Bool, true, false, Option, Some, None}
 use Rattle.line_lanes.specs.Lane.{lane_of, with_lane_of}
 use Rattle.line_lanes.specs.Mask.{placed_mask}
 use Rattle.qolb_model.specs.declared.answer.Enq.{Enq}
@@ -15,14 +15,15 @@ use Rattle.qolb_model.specs.declared.answer.PortState.TheVariants.{Linking, Queu
 use Rattle.qolb_model.specs.declared.view.View.{View}
 use Rattle.qolb_model.specs.declared.write.Write.{Write}
 use Rattle.qolb_model.specs.Calls as line
+use Rattle.qolb_model.specs.Leases.{turns_left}
 use Rattle.qolb_model.specs.OneOwner.{turn_after}
 use Rattle.qolb_model.specs.PortStates.{may_ask}
 use Rattle.qolb_c.specs.declared.answer.Answer.{Answer}
 use Rattle.qolb_c.specs.declared.answer.Answer.TheVariants as answer
 use Rattle.qolb_c.specs.declared.any_node.AnyNode.{AnyNode}
 use Rattle.qolb_c.specs.declared.any_node.AnyNode.TheVariants as kind
-use Rattle.qolb_c.specs.Nodes.{anything}
-use Rattle.qolb_c.specs.Numbers.{number_of, state_number}
+use Rattle.qolb_c.specs.Nodes.{anything, PollsWithin}
+use Rattle.qolb_c.specs.Numbers.{number_of, state_number, turns_number}
 
 -- what the node's port knows of its line
 abbrev pub view_of : AnyNode → View
@@ -33,6 +34,11 @@ view_of (kind.List node) = node.port.view
 abbrev pub turn_of : AnyNode → Write
 turn_of (kind.Ring node) = node.port.turn
 turn_of (kind.List node) = node.port.turn
+
+-- how often the node has polled
+abbrev pub looks_of : AnyNode → ℕ
+looks_of (kind.Ring node) = node.port.looks
+looks_of (kind.List node) = node.port.looks
 
 abbrev pub state_of : AnyNode → PortState
 state_of node = (view_of node).state
@@ -91,9 +97,10 @@ Enqolbs was now a = IsCall (may_ask (state_of was) ≡ true) enq_told (line.Enqu
 abbrev pub Polls : AnyNode → AnyNode → Answer → Type 0
 Polls was now a = IsCall (state_of was ≡ Queued) poll_told (line.Polls anything (view_of was) (view_of now) (turn_of now)) was now a
 
--- `wait`: where it waits, and may poll at least once; it promises what `poll` does
+-- `wait`: where it waits, and may poll at least once; it promises what `poll` does, and how often it polls
 abbrev pub Waits : ℕ → AnyNode → AnyNode → Answer → Type 0
-Waits polls was now a = IsCall ((state_of was ≡ Queued) × (0 < polls)) poll_told (line.Polls anything (view_of was) (view_of now) (turn_of now)) was now a
+Waits polls was now a =
+    IsCall ((state_of was ≡ Queued) × (0 < polls)) poll_told (λ made. line.Polls anything (view_of was) (view_of now) (turn_of now) made × PollsWithin polls (looks_of was) (looks_of now) made) was now a
 
 -- `prepend` and `link`, of a list: where the node neither waits nor holds, and where it is linking
 abbrev pub Prepends : AnyNode → AnyNode → Answer → Type 0
@@ -137,11 +144,26 @@ abbrev pub Closes : Option AnyNode → Option AnyNode → ℕ → Type 0
 Closes None now n = (now ≡ None) × (n ≡ number_of answer.Misuse)
 Closes (Some was) now n = (may_ask (state_of was) ≡ true → (now ≡ None) × (n ≡ number_of answer.Done)) × (may_ask (state_of was) ≡ false → (now ≡ Some was) × (n ≡ number_of answer.Misuse))
 
--- `number` and `state`: of an empty handle 0; nothing changes
+-- `number`, `label` and `state`: of an empty handle 0; nothing changes
 abbrev pub node_number : Option AnyNode → ℕ
 node_number None = 0
 node_number (Some node) = (view_of node).node
 
+abbrev pub label_told : Option AnyNode → ℕ
+label_told None = 0
+label_told (Some node) = (view_of node).label
+
 abbrev pub state_told : Option AnyNode → ℕ
 state_told None = 0
 state_told (Some node) = state_number (state_of node)
+
+-- the turns of the lease that are left, with the holder's own, where the node holds the line, and so at least 1; else 0
+pub record TellsTurns (node : AnyNode) (n : ℕ) : Type 0 where
+  pub holds : state_of node ≡ Holding → n ≡ turns_number (turns_left (view_of node).terms.lease (view_of node).ends)
+  pub some : state_of node ≡ Holding → 1 ≤ n
+  pub none : state_of node ≢ Holding → n ≡ 0
+
+-- `turns_left`: of an empty handle 0; nothing changes
+abbrev pub TurnsLeft : Option AnyNode → ℕ → Type 0
+TurnsLeft None n = n ≡ 0
+TurnsLeft (Some node) n = TellsTurns node n

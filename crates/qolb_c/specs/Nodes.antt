@@ -1,5 +1,7 @@
 -- A node as its callers see it, for any kind of line. (Of this project.)
-use Rattle.std.specs.Prelude.{ℕ, List}
+use Rattle.std.specs.Prelude.{◌≡◌, ℕ, ◌+◌, ◌<◌, ◌≤◌, List}
+use Rattle.qolb_model.specs.declared.answer.Poll.{Poll}
+use Rattle.qolb_model.specs.declared.answer.Poll.TheVariants.{Waiting}
 
 -- the line that the node is of, and its port of that line
 pub record NodeOf (Line Port : Type 0) : Type 0 where
@@ -9,3 +11,10 @@ pub record NodeOf (Line Port : Type 0) : Type 0 where
 -- the law of these lines: a turn may make any change
 abbrev pub anything : List ℕ → List ℕ → Type 0
 anything old new = Unit {0}
+
+-- a call that may poll so often: by its port's counts before and after it polled at least once and at most so often, and just so often where its
+-- request waits still
+pub record PollsWithin (polls was now : ℕ) (answer : Poll) : Type 0 where
+  pub some : was < now
+  pub at_most : now ≤ was + polls
+  pub all : answer ≡ Waiting → now ≡ was + polls

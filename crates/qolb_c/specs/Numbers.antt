@@ -1,5 +1,5 @@
 -- C's numbers. (Of this project.)
-use Rattle.std.specs.Prelude.{ℕ}
+use Rattle.std.specs.Prelude.{ℕ, Option, Some, None}
 use Rattle.qolb_model.specs.declared.answer.PortState.{PortState}
 use Rattle.qolb_model.specs.declared.answer.PortState.TheVariants as state
 use Rattle.qolb_c.specs.declared.answer.Answer.{Answer}
@@ -32,3 +32,8 @@ state_number state.Holding = 4
 state_number state.Left = 5
 state_number state.Rolled = 6
 state_number state.Shut = 7
+
+-- the number of the turns that are left of a lease; of none it is 2^64 - 1
+abbrev pub turns_number : Option ℕ → ℕ
+turns_number None = 0xffff_ffff_ffff_ffff
+turns_number (Some turns) = turns

@@ -1,6 +1,6 @@
 //! What a call answers, and C's numbers for it.
 ghost use Rattle.std.specs.Prelude.{◌≡◌, MatchResult};
-ghost use Rattle.qolb_c.specs.Numbers.{number_of, state_number};
+ghost use Rattle.qolb_c.specs.Numbers.{number_of, state_number, turns_number};
 ghost use Rattle.qolb_c.specs.Calls.{enq_told, prep_told, poll_told, out_told};
 
 use qolb_model::{Enq, Out, Poll, PortState, Prep};
@@ -125,5 +125,19 @@ pub fn state_number(state: PortState) -> u32
         PortState::Left => 5,
         PortState::Rolled => 6,
         PortState::Shut => 7,
+    }
+}
+
+/// C's number for no lease.
+pub const NO_LEASE: u64 = u64::MAX;
+
+/// C's number for the turns that are left of a lease. A node that does not hold the line has 0.
+pub fn turns_number(left: Result<Option<u64>, Misuse>) -> u64
+    ensures { MatchResult left (λ turns. result ≡ turns_number turns) (λ _. result ≡ 0) }
+{
+    match left {
+        Ok(Some(turns)) => turns,
+        Ok(None) => NO_LEASE,
+        Err(Misuse) => 0,
     }
 }

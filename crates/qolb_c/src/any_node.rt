@@ -1,10 +1,10 @@
 //! A node of a line of either kind.
 ghost use Rattle.std.specs.Prelude.{◌≡◌, ◌≢◌, ℕ, true, false, MatchOption, MatchResult};
 ghost use Rattle.qolb_model.specs.PortStates.{may_ask};
-ghost use Rattle.qolb_c.specs.Calls.{view_of, turn_of, state_of, Enqolbs, Polls, Waits, Prepends, LinksUp, Withdraws, Reads, ReadsLane, Writes, WritesLane, Releases};
+ghost use Rattle.qolb_c.specs.Calls.{view_of, turn_of, state_of, Enqolbs, Polls, Waits, Prepends, LinksUp, Withdraws, Reads, ReadsLane, Writes, WritesLane, Releases, TellsTurns};
 ghost use Rattle.qolb_c.specs.declared.any_node.AnyNode.{AnyNode};
 
-use crate::answer::Answer;
+use crate::answer::{Answer, turns_number};
 use crate::lanes::for_lane;
 use crate::node::Node;
 use line_lanes::{Line64, Mask, lane, placed};
@@ -32,6 +32,16 @@ impl AnyNode {
         match self {
             AnyNode::Ring(node) => node.number(),
             AnyNode::List(node) => node.number(),
+        }
+    }
+
+    /// The label of the node's line.
+    pub fn label(&self) -> u64
+        ensures { result ≡ (view_of self.now).label }
+    {
+        match self {
+            AnyNode::Ring(node) => node.label(),
+            AnyNode::List(node) => node.label(),
         }
     }
 
@@ -112,6 +122,16 @@ impl AnyNode {
         match self {
             AnyNode::Ring(node) => node.bytes().ok(),
             AnyNode::List(node) => node.bytes().ok(),
+        }
+    }
+
+    /// How many turns are left of the line's lease, by C's number; 0 where the node does not hold the line.
+    pub fn turns_left(&self) -> u64
+        ensures { TellsTurns self.now result }
+    {
+        match self {
+            AnyNode::Ring(node) => turns_number(node.turns_left()),
+            AnyNode::List(node) => turns_number(node.turns_left()),
         }
     }
 

@@ -8,7 +8,7 @@ ghost use Rattle.std.specs.Prelude.{◌≡◌, true, false, None};
 ghost use Rattle.qolb_c.specs.declared.answer.Answer.{Answer};
 ghost use Rattle.qolb_c.specs.Numbers.{number_of};
 ghost use Rattle.qolb_c.specs.Opens.{Opens, terms_by};
-ghost use Rattle.qolb_c.specs.Calls.{Calls, Enqolbs, Polls, Waits, Prepends, LinksUp, Withdraws, Reads, ReadsLane, Writes, WritesLane, Releases, Closes, node_number, state_told};
+ghost use Rattle.qolb_c.specs.Calls.{Calls, Enqolbs, Polls, Waits, Prepends, LinksUp, Withdraws, Reads, ReadsLane, Writes, WritesLane, Releases, Closes, TurnsLeft, node_number, label_told, state_told};
 
 mod answer;
 mod any_node;
@@ -17,7 +17,7 @@ mod lanes;
 mod node;
 mod opening;
 
-use answer::{Answer, state_number};
+use answer::{Answer, NO_LEASE, state_number};
 use handle::Handle;
 use line_lanes::{Line64, Mask};
 use qolb_model::Terms;
@@ -30,8 +30,8 @@ pub struct Bytes {
     pub bytes: [u8; 64],
 }
 
-/// No lease.
-const NO_LEASE: u64 = u64::MAX;
+/// The version of the library: 10,000 for each major version, 100 for each minor one. The header has it too, as `QOLB_VERSION`.
+const VERSION: u32 = 10_100;
 
 /// Opens a line of this kind (0 a ring, 1 a list) with the bytes of `opening`, and puts its nodes into the first of these handles. The line
 /// closes at the turn that is the lease's last; with a lease of 2^64 - 1 it has none.
@@ -210,6 +210,22 @@ pub extern "C" fn qolb_write_lane(alloc: Global, node: &mut Handle, lane: u64, v
     }
 }
 
+/// How many turns are left of the line's lease, with the holder's own: 2^64 - 1 without a lease; 0 where the node does not hold the line.
+#[unsafe(no_mangle)]
+pub extern "C" fn qolb_turns_left(alloc: Global, node: &mut Handle) -> u64
+    ensures held { node.new.held ≡ node.old.held }
+    ensures turns { TurnsLeft node.old.held result }
+{
+    match node.take(alloc) {
+        None => 0,
+        Some(taken) => {
+            let turns = taken.turns_left();
+            node.put(taken);
+            turns
+        }
+    }
+}
+
 /// Releases the line.
 #[unsafe(no_mangle)]
 pub extern "C" fn qolb_deqolb(alloc: Global, node: &mut Handle) -> u32
@@ -275,6 +291,22 @@ pub extern "C" fn qolb_number(alloc: Global, node: &mut Handle) -> u64
     }
 }
 
+/// The label of the node's line; 0 where there is no node.
+#[unsafe(no_mangle)]
+pub extern "C" fn qolb_label(alloc: Global, node: &mut Handle) -> u64
+    ensures held { node.new.held ≡ node.old.held }
+    ensures label { result ≡ label_told node.old.held }
+{
+    match node.take(alloc) {
+        None => 0,
+        Some(taken) => {
+            let label = taken.label();
+            node.put(taken);
+            label
+        }
+    }
+}
+
 /// The number of the node's state, from 1; 0 where there is no node.
 #[unsafe(no_mangle)]
 pub extern "C" fn qolb_state(alloc: Global, node: &mut Handle) -> u32
@@ -289,4 +321,12 @@ pub extern "C" fn qolb_state(alloc: Global, node: &mut Handle) -> u32
             state_number(state)
         }
     }
+}
+
+/// The library's version.
+#[unsafe(no_mangle)]
+pub extern "C" fn qolb_version() -> u32
+    ensures { result ≡ 10100 }
+{
+    VERSION
 }

@@ -1,10 +1,11 @@
 //! A node of a line that several share, for any kind of line.
-ghost use Rattle.std.specs.Prelude.{◌≡◌, ◌≢◌, ℕ, ◌<◌, true, false, MatchResult};
+ghost use Rattle.std.specs.Prelude.{◌≡◌, ◌≢◌, ℕ, ◌<◌, true, false, Some, MatchResult};
 ghost use Rattle.std.specs.Arc.{arc_value};
 ghost use Rattle.qolb_model.specs.Calls.{Enqueues, Prepends, LinksUp, Polls, Withdraws, Releases, TellEachOther};
+ghost use Rattle.qolb_model.specs.Leases.{turns_left};
 ghost use Rattle.qolb_model.specs.OneOwner.{turn_after};
 ghost use Rattle.qolb_model.specs.PortStates.{may_ask};
-ghost use Rattle.qolb_c.specs.Nodes.{anything};
+ghost use Rattle.qolb_c.specs.Nodes.{anything, PollsWithin};
 
 use crate::answer::Misuse;
 use line_lanes::{Line64, Mask};
@@ -47,6 +48,13 @@ impl<L: LineSync<Free>> Node<L> {
         ensures { result ≡ (L.view self.now.port).node }
     {
         L::node(&self.port)
+    }
+
+    /// The label of the node's line.
+    pub fn label(&self) -> u64
+        ensures { result ≡ (L.view self.now.port).label }
+    {
+        self.line.label()
     }
 
     /// What the node's last call left.
@@ -94,7 +102,7 @@ impl<L: LineSync<Free>> Node<L> {
     /// `Misuse` where the node does not wait, or may not look even once.
     pub fn wait(&mut self, polls: u64) -> Result<Poll, Misuse>
         ensures line { self.new.line ≡ self.old.line }
-        ensures polls { MatchResult result (λ answer. ((L.view self.old.port).state ≡ PortState.Queued) × (0 < polls) × Polls anything (L.view self.old.port) (L.view self.new.port) (L.turn self.new.port) answer) (λ _. (((L.view self.old.port).state ≡ PortState.Queued) × (0 < polls) → ⊥) × (self.new ≡ self.old)) }
+        ensures polls { MatchResult result (λ answer. ((L.view self.old.port).state ≡ PortState.Queued) × (0 < polls) × Polls anything (L.view self.old.port) (L.view self.new.port) (L.turn self.new.port) answer × PollsWithin polls (L.looks self.old.port) (L.looks self.new.port) answer) (λ _. (((L.view self.old.port).state ≡ PortState.Queued) × (0 < polls) → ⊥) × (self.new ≡ self.old)) }
     {
         if polls == 0 || self.state() != PortState::Queued {
             return Err(Misuse);
@@ -130,6 +138,20 @@ impl<L: LineSync<Free>> Node<L> {
         } else {
             Err(Misuse)
         }
+    }
+
+    /// How many turns are left of the line's lease, with the holder's own: at least 1. `None` without a lease.
+    ///
+    /// # Errors
+    ///
+    /// `Misuse` where the node does not hold the line.
+    pub fn turns_left(&self) -> Result<Option<u64>, Misuse>
+        ensures { MatchResult result (λ left. ((L.view self.now.port).state ≡ PortState.Holding) × (left ≡ turns_left (L.view self.now.port).terms.lease (L.view self.now.port).ends) × (left ≢ Some 0)) (λ _. (L.view self.now.port).state ≢ PortState.Holding) }
+    {
+        if self.state() != PortState::Holding {
+            return Err(Misuse);
+        }
+        Ok(self.line.turns_left(&self.port))
     }
 
     /// The holder writes the bytes of the mask.
@@ -225,15 +247,16 @@ impl Node<LinkLine<Free>> {
     }
 }
 
-/// Polls at most so many times, with a pause between two.
+/// Polls at most so many times, with a pause between two: just so many times where the request waits still.
 fn poll_on<L: LineSync<Free>>(line: &L, port: &mut L::Port, polls: u64) -> Poll
     requires belongs { L.belongs line.now port.old }
     requires state { (L.view port.old).state ≡ PortState.Queued }
     requires some { 0 < polls }
     ensures belongs { L.belongs line.now port.new }
     ensures polls { Polls anything (L.view port.old) (L.view port.new) (L.turn port.new) result }
+    ensures within { PollsWithin polls (L.looks port.old) (L.looks port.new) result }
 {
-    for _ in 1..polls {
+    for _look in 1..polls {
         match line.poll(port) {
             Poll::Waiting => spin_loop(),
             answer => return answer,

@@ -1,0 +1,264 @@
+/* Random calls on lines by one thread, each compared with a model of the calls in plain C: every answer, state, byte, count and name.
+ *
+ *   build/model [CALLS [SEED]]        300,000 calls, seed 1
+ *
+ * Prints nothing but the first difference. The model is written from qolb.h: a queue of requests, of which the first that is not withdrawn has the
+ * turn, and a line that lies with the first request, at home where there is none, or in a list with the last one that ended, where the one behind
+ * it has not linked yet. */
+#include <qolb.h>
+#include <stdio.h>
+#include <stdlib.h>
+#include <string.h>
+
+enum { MOST = 200, NOBODY = 0 };
+
+/* What the model knows of a node, numbered from 1, and of the line. */
+struct node {
+    uint32_t state;
+    int busy;
+};
+
+struct request {
+    unsigned node;
+    int withdrawn, unlinked;
+};
+
+static struct line {
+    uint32_t kind;
+    uint64_t label, nodes, turns; /* turns that are left; QOLB_NO_LEASE without a lease */
+    uint8_t byte[64];
+    int closed;
+    struct node node[MOST + 1];
+    struct request queue[MOST];
+    unsigned waiting; /* requests in the queue */
+    unsigned lies_with; /* in a list: whose turn is over, while the first request is not linked */
+} model;
+
+static qolb_node handle[MOST + 1];
+static uint64_t seed, calls, done;
+
+static uint64_t draw(uint64_t below) {
+    seed += 0x9e3779b97f4a7c15;
+    uint64_t z = seed;
+    z = (z ^ z >> 30) * 0xbf58476d1ce4e5b9;
+    z = (z ^ z >> 27) * 0x94d049bb133111eb;
+    return (z ^ z >> 31) % below;
+}
+
+static void differ(const char *call, unsigned node, uint64_t got, uint64_t wanted) {
+    printf("call %llu, %s, node %u of %llu, kind %u: got %llu (%s), wanted %llu (%s)\n", (unsigned long long)done, call, node,
+           (unsigned long long)model.nodes, model.kind, (unsigned long long)got, qolb_answer_name((uint32_t)got), (unsigned long long)wanted,
+           qolb_answer_name((uint32_t)wanted));
+    exit(1);
+}
+
+#define SAME(call, node, wanted)                                 \
+    do {                                                         \
+        uint64_t want_ = (wanted), got_ = (call);                \
+        if (got_ != want_) differ(#call, node, got_, want_);     \
+    } while (0)
+
+/* ---- The model ---- */
+
+static int may_ask(unsigned n) {
+    uint32_t s = model.node[n].state;
+    return s == QOLB_STATE_IDLE || s == QOLB_STATE_LEFT || s == QOLB_STATE_ROLLED || s == QOLB_STATE_SHUT;
+}
+
+static void drop_first(void) { memmove(model.queue, model.queue + 1, --model.waiting * sizeof model.queue[0]); }
+
+/* The first request ends, and the line goes on: over those that were withdrawn, as far as the requests are linked. */
+static void goes_on(void) {
+    unsigned from = model.queue[0].node;
+    drop_first();
+    while (model.waiting && !model.queue[0].unlinked && model.queue[0].withdrawn) {
+        model.node[from = model.queue[0].node].busy = 0;
+        drop_first();
+    }
+    if (model.waiting && model.queue[0].unlinked) {
+        model.lies_with = from;
+        model.node[from].busy = 1;
+    }
+}
+
+/* The node's turn is over, and leaves it in this state. */
+static void ends(unsigned n, uint32_t state) {
+    goes_on();
+    model.node[n].state = model.lies_with == n ? (uint32_t)QOLB_STATE_LEFT : state;
+}
+
+/* The line has come to the node's request, which is the first: it is granted, or told. */
+static uint32_t comes(unsigned n) {
+    if (!model.closed) {
+        model.node[n].state = QOLB_STATE_HOLDING;
+        return QOLB_GRANTED;
+    }
+    ends(n, QOLB_STATE_SHUT);
+    return QOLB_CLOSED;
+}
+
+static int has_turn(unsigned n) { return model.queue[0].node == n && model.lies_with == NOBODY; }
+
+static uint32_t asks(unsigned n, int in_halves) {
+    if (!may_ask(n) || (in_halves && model.kind == QOLB_RING)) return QOLB_MISUSE;
+    if (model.node[n].busy) return QOLB_BUSY;
+    int behind = model.waiting > 0;
+    model.queue[model.waiting++] = (struct request){n, 0, behind && in_halves};
+    if (!behind) return comes(n);
+    model.node[n].state = in_halves ? QOLB_STATE_LINKING : QOLB_STATE_QUEUED;
+    return in_halves ? QOLB_LINKING : QOLB_QUEUED;
+}
+
+static uint32_t links(unsigned n) {
+    if (model.node[n].state != QOLB_STATE_LINKING) return QOLB_MISUSE;
+    unsigned place = 0;
+    while (model.queue[place].node != n) place++;
+    model.queue[place].unlinked = 0;
+    model.node[n].state = QOLB_STATE_QUEUED;
+    if (place > 0 || model.lies_with == NOBODY) return QOLB_QUEUED;
+    model.node[model.lies_with].busy = 0;
+    model.lies_with = NOBODY;
+    return comes(n);
+}
+
+static uint32_t polls(unsigned n) {
+    if (model.node[n].state != QOLB_STATE_QUEUED) return QOLB_MISUSE;
+    return has_turn(n) ? comes(n) : (uint32_t)QOLB_WAITING;
+}
+
+static uint32_t withdraws(unsigned n) {
+    if (model.node[n].state != QOLB_STATE_QUEUED) return QOLB_MISUSE;
+    if (has_turn(n)) return comes(n);
+    unsigned place = 0;
+    while (model.queue[place].node != n) place++;
+    model.queue[place].withdrawn = 1;
+    model.node[n].busy = 1;
+    model.node[n].state = QOLB_STATE_ROLLED;
+    return QOLB_WITHDRAWN;
+}
+
+static uint32_t releases(unsigned n, int shut) {
+    if (model.node[n].state != QOLB_STATE_HOLDING) return QOLB_MISUSE;
+    int last = model.turns == 1;
+    if (model.turns != QOLB_NO_LEASE) model.turns--;
+    if (shut || last) model.closed = 1;
+    ends(n, model.closed ? QOLB_STATE_SHUT : QOLB_STATE_IDLE);
+    return QOLB_DONE;
+}
+
+static uint32_t closes(unsigned n) {
+    if (!may_ask(n)) return QOLB_MISUSE;
+    model.node[n].state = QOLB_STATE_EMPTY;
+    return QOLB_DONE;
+}
+
+/* What the header's calls make of these. */
+static uint32_t tries(unsigned n, uint32_t late) {
+    uint32_t got = asks(n, 0);
+    if (got == QOLB_BUSY) return late;
+    if (got != QOLB_QUEUED) return got;
+    got = withdraws(n);
+    return got == QOLB_WITHDRAWN ? late : got;
+}
+
+/* ---- The calls ---- */
+
+static void reads_and_writes(unsigned n) {
+    int holds = model.node[n].state == QOLB_STATE_HOLDING;
+    uint64_t lane = draw(9), value = draw(UINT64_MAX), out = 77, mask = draw(UINT64_MAX);
+    int may = holds && lane < 8;
+    uint32_t told = holds ? QOLB_DONE : QOLB_MISUSE, of_lane = may ? QOLB_DONE : QOLB_MISUSE;
+    qolb_bytes line, seen;
+    for (int k = 0; k < 64; k++) line.byte[k] = (uint8_t)draw(256);
+    memset(seen.byte, 0x5a, 64);
+    switch (draw(4)) {
+    case 0:
+        SAME(qolb_write(&handle[n], mask, &line), n, told);
+        for (int k = 0; k < 64; k++)
+            if (holds && mask >> k & 1) model.byte[k] = line.byte[k];
+        break;
+    case 1:
+        SAME(qolb_write_lane(&handle[n], lane, value), n, of_lane);
+        for (int k = 0; may && k < 8; k++) model.byte[8 * lane + k] = (uint8_t)(value >> 8 * k);
+        break;
+    case 2:
+        SAME(qolb_read(&handle[n], &seen), n, told);
+        for (int k = 0; k < 64; k++) SAME(seen.byte[k], n, holds ? model.byte[k] : 0x5a);
+        break;
+    default:
+        SAME(qolb_read_lane(&handle[n], lane, &out), n, of_lane);
+        for (int k = 0; k < 8; k++) SAME(out >> 8 * k & 0xff, n, may ? model.byte[8 * lane + k] : k ? 0 : 77);
+    }
+}
+
+static void ask_somehow(unsigned n) {
+    int at_once = may_ask(n) && !model.node[n].busy && !model.waiting;
+    switch (draw(8)) {
+    case 0: SAME(qolb_try(&handle[n]), n, tries(n, QOLB_BUSY)); break;
+    case 1: SAME(qolb_acquire_within(&handle[n], draw(2) * 300), n, tries(n, QOLB_LATE)); break;
+    case 2: /* waits for ever where it must wait, so only where it need not, or may not */
+        if (at_once || !may_ask(n)) SAME(qolb_acquire(&handle[n]), n, asks(n, 0));
+        break;
+    case 3:
+    case 4: SAME(qolb_prepend(&handle[n]), n, asks(n, 1)); break;
+    default: SAME(qolb_enqolb(&handle[n]), n, asks(n, 0));
+    }
+}
+
+static void call(unsigned n) {
+    uint64_t some = draw(3);
+    switch (draw(12)) {
+    case 0:
+    case 1:
+    case 2: ask_somehow(n); break;
+    case 3: SAME(qolb_poll(&handle[n]), n, polls(n)); break;
+    case 4: SAME(qolb_wait(&handle[n], some), n, some ? polls(n) : (uint32_t)QOLB_MISUSE); break;
+    case 5:
+        if (draw(3)) break;
+        SAME(qolb_withdraw(&handle[n]), n, withdraws(n));
+        break;
+    case 6:
+    case 7: SAME(qolb_link(&handle[n]), n, links(n)); break;
+    case 8:
+    case 9: SAME(qolb_deqolb(&handle[n]), n, releases(n, 0)); break;
+    case 10:
+        if (draw(40) == 0) SAME(qolb_shut(&handle[n]), n, releases(n, 1));
+        if (draw(60) == 0) SAME(qolb_close(&handle[n]), n, closes(n));
+        break;
+    default: reads_and_writes(n);
+    }
+    int there = model.node[n].state != QOLB_STATE_EMPTY;
+    SAME(qolb_state(&handle[n]), n, model.node[n].state);
+    SAME(qolb_number(&handle[n]), n, there ? n : 0);
+    SAME(qolb_label(&handle[n]), n, there ? model.label : 0);
+    SAME(qolb_turns_left(&handle[n]), n, model.node[n].state == QOLB_STATE_HOLDING ? model.turns : 0);
+    done++;
+}
+
+/* A line is opened, called at random for a while, and let go of: all that wait are withdrawn, and those that hold release. */
+static void one_line(void) {
+    qolb_bytes opening;
+    for (int k = 0; k < 64; k++) opening.byte[k] = (uint8_t)draw(256);
+    memset(&model, 0, sizeof model);
+    model.kind = (uint32_t)draw(2);
+    model.label = draw(UINT64_MAX);
+    model.nodes = draw(10) ? 1 + draw(6) : 1 + draw(MOST);
+    model.turns = draw(3) ? QOLB_NO_LEASE : 1 + draw(200);
+    memcpy(model.byte, opening.byte, 64);
+    for (unsigned n = 1; n <= model.nodes; n++) model.node[n].state = QOLB_STATE_IDLE;
+    SAME(qolb_open(model.kind, model.label, model.nodes, model.turns, &opening, handle + 1, MOST), 0, QOLB_DONE);
+    for (uint64_t end = done + 1 + draw(2000); done < end && done < calls;) call(1 + (unsigned)draw(model.nodes));
+    for (unsigned n = 1; n <= model.nodes; n++) {
+        SAME(qolb_link(&handle[n]), n, links(n));
+        SAME(qolb_withdraw(&handle[n]), n, withdraws(n));
+        SAME(qolb_deqolb(&handle[n]), n, releases(n, 0));
+        SAME(qolb_close(&handle[n]), n, closes(n));
+    }
+}
+
+int main(int argc, char **argv) {
+    calls = argc > 1 ? strtoull(argv[1], NULL, 10) : 300000;
+    seed = argc > 2 ? strtoull(argv[2], NULL, 10) : 1;
+    while (done < calls) one_line();
+    return 0;
+}

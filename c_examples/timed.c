@@ -1,0 +1,172 @@
+/* A timed lock: threads share a line that guards data of the program's own, and give up where it takes too long. Then the answers of the calls that
+ * wait. Prints nothing but what went wrong.
+ *
+ * The thread sanitizer sees the data, and must be quiet. Built with -DUNGUARDED each thread has a line of its own, so that nothing guards the data,
+ * and then it must not be. */
+#define _POSIX_C_SOURCE 200809L
+#include <pthread.h>
+#include <qolb.h>
+#include <stdio.h>
+#include <string.h>
+#include <time.h>
+
+enum { THREADS = 4, ROUNDS = 5000 };
+
+#define WANT(call, wanted)                                                                     \
+    do {                                                                                       \
+        unsigned long long got_ = (call);                                                      \
+        if (got_ != (wanted)) {                                                                \
+            printf("line %d: %s gave %llu\n", __LINE__, #call, got_);                          \
+            return 1;                                                                          \
+        }                                                                                      \
+    } while (0)
+
+/* What the line guards: ordinary data, too large for the line's own bytes. */
+static struct {
+    long turns, by[THREADS];
+    char last[200];
+} guarded;
+
+struct worker {
+    _Alignas(QOLB_NODE_ALIGN) qolb_node node;
+    long had, gave_up;
+    uint32_t wrong;
+};
+
+static struct worker workers[THREADS];
+
+static void *work(void *argument) {
+    struct worker *me = argument;
+    int self = (int)(me - workers);
+    for (int round = 0; round < ROUNDS; round++) {
+        uint32_t got = round % 3 == 0   ? qolb_try(&me->node)
+                       : round % 3 == 1 ? qolb_acquire_within(&me->node, 1000000)
+                                        : qolb_acquire(&me->node);
+        if (got == QOLB_BUSY || got == QOLB_LATE) {
+            me->gave_up++;
+            continue;
+        }
+        if (got != QOLB_GRANTED) {
+            me->wrong = got;
+            return NULL;
+        }
+        guarded.turns++;
+        guarded.by[self]++;
+        memset(guarded.last, 'a' + self, sizeof guarded.last);
+        me->had++;
+        if ((got = qolb_deqolb(&me->node)) != QOLB_DONE) me->wrong = got;
+    }
+    return NULL;
+}
+
+static int share(uint32_t kind) {
+    qolb_bytes zeros = {{0}};
+    qolb_node nodes[THREADS] = {{0}};
+    pthread_t ids[THREADS];
+    memset(&guarded, 0, sizeof guarded);
+#ifdef UNGUARDED
+    for (int k = 0; k < THREADS; k++) WANT(qolb_open(kind, (uint64_t)k, 1, QOLB_NO_LEASE, &zeros, &nodes[k], 1), QOLB_DONE);
+#else
+    long had = 0;
+    WANT(qolb_open(kind, 1, THREADS, QOLB_NO_LEASE, &zeros, nodes, THREADS), QOLB_DONE);
+#endif
+    for (int k = 0; k < THREADS; k++) {
+        workers[k] = (struct worker){.node = qolb_move(&nodes[k])};
+        WANT(pthread_create(&ids[k], NULL, work, &workers[k]), 0);
+    }
+    for (int k = 0; k < THREADS; k++) pthread_join(ids[k], NULL);
+    for (int k = 0; k < THREADS; k++) {
+        WANT(workers[k].wrong, 0);
+        WANT(workers[k].had + workers[k].gave_up, ROUNDS);
+        WANT(qolb_close(&workers[k].node), QOLB_DONE);
+#ifndef UNGUARDED
+        had += workers[k].had;
+        WANT(guarded.by[k] == workers[k].had, 1);
+#endif
+    }
+#ifndef UNGUARDED
+    WANT(guarded.turns == had, 1);
+    for (size_t k = 1; k < sizeof guarded.last; k++) WANT(guarded.last[k] == guarded.last[0], 1);
+#endif
+    return 0;
+}
+
+#ifndef UNGUARDED
+static double now(void) {
+    struct timespec at;
+    clock_gettime(CLOCK_MONOTONIC, &at);
+    return (double)at.tv_sec + (double)at.tv_nsec / 1e9;
+}
+
+static int answers(uint32_t kind) {
+    qolb_bytes zeros = {{0}};
+    qolb_node n[2] = {{0}}, none = {0};
+    WANT(qolb_acquire(&none), QOLB_MISUSE);
+    WANT(qolb_try(&none), QOLB_MISUSE);
+    WANT(qolb_acquire_within(&none, 1000000000), QOLB_MISUSE);
+    WANT(qolb_open(kind, 7, 2, 4, &zeros, n, 2), QOLB_DONE);
+    WANT(qolb_label(&n[1]), 7);
+    WANT(qolb_turns_left(&n[0]), 0);
+    WANT(qolb_acquire(&n[0]), QOLB_GRANTED);
+    WANT(qolb_turns_left(&n[0]), 4);
+    WANT(qolb_acquire(&n[0]), QOLB_MISUSE);
+    WANT(qolb_try(&n[0]), QOLB_MISUSE);
+    WANT(qolb_acquire_within(&n[0], 1000000000), QOLB_MISUSE);
+    WANT(qolb_state(&n[0]), QOLB_STATE_HOLDING);
+    /* The second node waits in vain: for 20 ms, not at all, and while it is busy. */
+    double since = now();
+    WANT(qolb_acquire_within(&n[1], 20000000), QOLB_LATE);
+    WANT(now() - since >= 0.02, 1);
+    WANT(qolb_state(&n[1]), QOLB_STATE_ROLLED);
+    WANT(qolb_enqolb(&n[1]), QOLB_BUSY);
+    since = now();
+    WANT(qolb_acquire_within(&n[1], 20000000), QOLB_LATE);
+    WANT(now() - since >= 0.02, 1);
+    WANT(qolb_try(&n[1]), QOLB_BUSY);
+    WANT(qolb_deqolb(&n[0]), QOLB_DONE);
+    /* The release passed what it had taken back, so it is free again. */
+    WANT(qolb_acquire_within(&n[1], 0), QOLB_GRANTED);
+    WANT(qolb_turns_left(&n[1]), 3);
+    WANT(qolb_try(&n[0]), QOLB_BUSY);
+    WANT(qolb_deqolb(&n[1]), QOLB_DONE);
+    WANT(qolb_try(&n[0]), QOLB_GRANTED);
+    WANT(qolb_deqolb(&n[0]), QOLB_DONE);
+    /* The last turn of the lease closes the line. */
+    WANT(qolb_acquire(&n[1]), QOLB_GRANTED);
+    WANT(qolb_turns_left(&n[1]), 1);
+    WANT(qolb_deqolb(&n[1]), QOLB_DONE);
+    WANT(qolb_try(&n[0]), QOLB_CLOSED);
+    WANT(qolb_acquire(&n[0]), QOLB_CLOSED);
+    WANT(qolb_acquire_within(&n[1], 1000000000), QOLB_CLOSED);
+    WANT(qolb_turns_left(&n[1]), 0);
+    for (int k = 0; k < 2; k++) WANT(qolb_close(&n[k]), QOLB_DONE);
+    WANT(qolb_label(&n[0]), 0);
+    /* A line with no lease. */
+    WANT(qolb_open(kind, 0, 1, QOLB_NO_LEASE, &zeros, n, 1), QOLB_DONE);
+    WANT(qolb_acquire(&n[0]), QOLB_GRANTED);
+    WANT(qolb_turns_left(&n[0]), QOLB_NO_LEASE);
+    n[1] = qolb_move(&n[0]);
+    WANT(qolb_deqolb(&n[0]), QOLB_MISUSE);
+    WANT(qolb_deqolb(&n[1]), QOLB_DONE);
+    WANT(qolb_close(&n[1]), QOLB_DONE);
+    return 0;
+}
+
+static int names(void) {
+    WANT(strcmp(qolb_answer_name(QOLB_DONE), "QOLB_DONE"), 0);
+    WANT(strcmp(qolb_answer_name(QOLB_MISUSE), "QOLB_MISUSE"), 0);
+    WANT(strcmp(qolb_answer_name(QOLB_OCCUPIED), "QOLB_OCCUPIED"), 0);
+    WANT(strcmp(qolb_answer_name(QOLB_LATE), "QOLB_LATE"), 0);
+    WANT(strcmp(qolb_answer_name(16), "?"), 0);
+    WANT(qolb_version(), QOLB_VERSION);
+    return 0;
+}
+#endif
+
+int main(void) {
+    if (share(QOLB_RING) || share(QOLB_LIST)) return 1;
+#ifndef UNGUARDED
+    if (answers(QOLB_RING) || answers(QOLB_LIST) || names()) return 1;
+#endif
+    return 0;
+}

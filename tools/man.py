@@ -1,0 +1,192 @@
+#!/usr/bin/env python3
+"""Writes the manual pages: docs/man/qolb.3 from the text of include/qolb.h, and docs/man/qolb.1 from the help of the program.
+
+    tools/man.py [PROGRAM]      writes both; without a program, and none at crates/qolb/out/qolb, qolb(3) alone
+    tools/man.py --check        whether qolb(3) is that of the header: writes nothing, and ends with 1 where it is not
+"""
+
+import pathlib
+import re
+import subprocess
+import sys
+
+ROOT = pathlib.Path(__file__).resolve().parent.parent
+HEADER = ROOT / "include/qolb.h"
+PAGES = ROOT / "docs/man"
+SUBCOMMANDS = ["replay", "draw", "steps", "board", "bank"]
+
+
+def escaped(text):
+    """Text for troff: a dash is a minus, and no line begins as a command does."""
+    text = text.replace("\\", "\\e").replace("-", "\\-")
+    return "\n".join("\\&" + line if line.startswith((".", "'")) else line for line in text.split("\n"))
+
+
+def uncommented(comment):
+    """The lines of a comment, without its stars."""
+    body = comment.strip()[2:-2].strip()
+    return [re.sub(r"^ ?\* ?", "", line).rstrip() for line in body.split("\n")]
+
+
+def paragraphs(lines):
+    """Runs of lines with nothing between."""
+    run = []
+    for line in [*lines, ""]:
+        if line.strip():
+            run.append(line)
+        elif run:
+            yield run
+            run = []
+
+
+def running(lines):
+    """A paragraph, an indented sample, a list of dashes or of words with a colon, as troff."""
+    if all(line.startswith("    ") for line in lines):
+        return ".PP\n.in +4n\n.nf\n" + "\n".join(escaped(line[4:]) for line in lines) + "\n.fi\n.in"
+    out, text = [], []
+
+    def flush():
+        if text:
+            out.append(escaped(" ".join(text)))
+            text.clear()
+
+    if not re.match(r"- |[\w, ]+: ", lines[0]):
+        out.append(".PP")
+    for line in lines:
+        line = line.strip()
+        if line.startswith("- "):
+            flush()
+            out.append(".IP \\(bu 2")
+            text.append(line[2:])
+        elif re.match(r"[a-z]+(, [a-z]+)?: ", line):
+            flush()
+            word, rest = line.split(": ", 1)
+            out.append(f".TP\n.B {word}")
+            text.append(rest)
+        else:
+            text.append(line)
+    flush()
+    return "\n".join(out)
+
+
+def sections(lines):
+    """The head's sections: a title in capitals, and its paragraphs. The first has none."""
+    title, runs = "DESCRIPTION", []
+    for run in paragraphs(lines):
+        if len(run) == 1 and re.fullmatch(r"[A-Z ]+", run[0]):
+            yield title, runs
+            title, runs = run[0], []
+        else:
+            runs.append(run)
+    yield title, runs
+
+
+def samples_joined(runs):
+    """A sample with empty lines in it is one."""
+    joined = []
+    for run in runs:
+        is_sample = all(line.startswith("    ") for line in run)
+        if joined and is_sample and all(not line or line.startswith("    ") for line in joined[-1]):
+            joined[-1] += ["", *run] if run[0].strip()[:3] != "cc " else []
+            if run[0].strip()[:3] == "cc ":
+                joined.append(run)
+        else:
+            joined.append(run)
+    return joined
+
+
+def section(title, runs):
+    out = []
+    for run in samples_joined(runs):
+        if "" in run:
+            out.append(".PP\n.in +4n\n.nf\n" + "\n".join(escaped(line[4:]) for line in run) + "\n.fi\n.in")
+        else:
+            out.append(running(run))
+    return f".SH {title}\n" + "\n".join(out).removeprefix(".PP\n")
+
+
+def prototype(line):
+    """A declaration as a caller reads it, or nothing where the line is none."""
+    line = re.sub(r"^QOLB_LOOK static inline |^static inline ", "", line.strip())
+    match = re.match(r"([\w ]+\*?[\w ]*\*?)(qolb_\w+[a-z])\((.*)\)( QOLB_LOOK)?( ?[;{].*)?$", line)
+    return f"{match[1]}{match[2]}({match[3]});" if match else None
+
+
+def calls(text):
+    """Each run of declarations that a comment stands above, with that comment."""
+    for match in re.finditer(r"(/\*(?:(?!\*/).)*\*/)\n((?:(?!/\*)[^\n]+\n)+)", text, re.S):
+        told = [made for made in map(prototype, match[2].split("\n")) if made]
+        if told:
+            yield told, uncommented(match[1])
+
+
+def values(text, name):
+    """The names of an enum, each with its number and what is said of it."""
+    body = re.search(rf"enum {name} {{(.*?)}};", text, re.S)[1]
+    return re.findall(r"(QOLB_\w+) = (\d+),?(?: +/\* (.*?) \*/)?", body)
+
+
+def tagged(tag, text):
+    return f".TP\n.B {escaped(tag)}\n{escaped(text) if text else ''}"
+
+
+def page_of_header():
+    text = HEADER.read_text()
+    head, rest = text.split("#ifndef QOLB_H", 1)
+    parts = dict(sections(uncommented(head)))
+    version = ".".join(re.search(rf"QOLB_VERSION_{part} (\d+)", rest)[1] for part in ("MAJOR", "MINOR", "PATCH"))
+    what, _, of_what = parts["DESCRIPTION"][0][0].partition(": ")
+    name = ", ".join(sorted({re.search(r"(qolb_\w+)\(", made)[1] for told, _ in calls(rest) for made in told}))
+    out = [f'.TH QOLB 3 "" "qolb {version}"', f".SH NAME\n{escaped(name)} \\- {escaped(of_what.rstrip('.'))}"]
+    prototypes = [made for told, _ in calls(rest) for made in told]
+    out.append(".SH SYNOPSIS\n.nf\n.B #include <qolb.h>\n.PP\n" + "\n".join(f".B {escaped(made)}" for made in prototypes) + "\n.PP\n" + escaped("cc prog.c $(pkg-config --cflags --libs qolb)") + "\n.fi")
+    out.append(section("DESCRIPTION", parts.pop("DESCRIPTION")[1:]))
+    example = parts.pop("EXAMPLE")
+    out.append(section("WORDS", parts.pop("WORDS")))
+    out.append(".SH CALLS")
+    for told, said in calls(rest):
+        out.append(".PP\n.nf\n" + "\n".join(f".B {escaped(made)}" for made in told) + "\n.fi\n.RS 4\n" + "\n".join(escaped(line) for line in said) + "\n.RE")
+    out.append(".SH ANSWERS\n" + "\n".join(tagged(f"{name} ({number})", said) for name, number, said in values(rest, "qolb_answer")))
+    out.append(".SH STATES\n" + "\n".join(tagged(f"{name} ({number})", said) for name, number, said in values(rest, "qolb_node_state")))
+    out += [section(title, runs) for title, runs in parts.items()]
+    out.append(section("EXAMPLE", example))
+    out.append(".SH SEE ALSO\n.BR qolb (1),\n.BR pthread_mutex_lock (3)")
+    return "\n".join(out) + "\n"
+
+
+def help_of(program, *words):
+    """What the program says of itself, which it does on standard error, with 2."""
+    run = subprocess.run([program, *words, "--help"], capture_output=True, text=True, check=False)
+    if run.returncode != 2 or not run.stderr.startswith(("Usage", "Replays")) and "Usage:" not in run.stderr:
+        sys.exit(f"man.py: {program} {' '.join(words)} --help ended with {run.returncode} and said: {run.stderr[:200]}")
+    return run.stderr.rstrip("\n")
+
+
+def as_told(text):
+    return ".nf\n" + escaped(text) + "\n.fi"
+
+
+def page_of_program(program):
+    head = help_of(program)
+    about = " ".join(head.split("\n\n", 1)[0].split()).rstrip(".")
+    out = ['.TH QOLB 1 "" "qolb"', f".SH NAME\nqolb \\- {escaped(about[:1].lower() + about[1:])}", f".SH DESCRIPTION\n{as_told(head)}"]
+    out += [f".SH QOLB {name.upper()}\n{as_told(help_of(program, name))}" for name in SUBCOMMANDS]
+    out.append(".SH SEE ALSO\n.BR qolb (3)")
+    return "\n".join(out) + "\n"
+
+
+def main():
+    page = page_of_header()
+    if sys.argv[1:] == ["--check"]:
+        if (PAGES / "qolb.3").read_text() != page:
+            sys.exit("man.py: docs/man/qolb.3 is not that of include/qolb.h: run tools/man.py")
+        return
+    (PAGES / "qolb.3").write_text(page)
+    program = pathlib.Path(sys.argv[1]) if len(sys.argv) > 1 else ROOT / "crates/qolb/out/qolb"
+    if program.exists():
+        (PAGES / "qolb.1").write_text(page_of_program(program))
+    else:
+        print(f"man.py: no program at {program}: qolb(3) alone was written", file=sys.stderr)
+
+
+main()
