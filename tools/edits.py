@@ -12,6 +12,7 @@ For each one a line:
   search  CRATE/EDIT  FUNCTION: GOAL    a goal of that name, which the tactics proved, they no longer prove
   false   CRATE/EDIT  FUNCTION: GOAL    the goal is false: the prover found values
   new     CRATE/EDIT  FUNCTION: GOAL    only goals are open that have a new name: look whether a harmless rewrite is refused alike
+  meant   CRATE/EDIT  FUNCTION: GOAL    the same edit made harmless is proved: a condition that it adds is what is refused
   shape   CRATE/EDIT  FUNCTION: GOAL    the same edit made harmless is refused alike: it shows nothing, rewrite it
   names   CRATE/EDIT  FUNCTION          only names of the proof are gone: it shows nothing, rewrite it
   PROVED  CRATE/EDIT                    the contracts let it through
@@ -74,7 +75,7 @@ def harmless(edit):
     lines = edit.read_text().splitlines()
     for place, line in enumerate(lines):
         found = re.match(r"(new: .*?) (\|\||&&) (.+?)( \{|;|)$", line)
-        if found and place > 0 and lines[place - 1].startswith("old: ") and found[1][5:].strip() in lines[place - 1]:
+        if found and place > 0 and lines[place - 1][5:].split() == (found[1][5:] + found[4]).split():
             head, joint, added, tail = found.groups()
             if any(added.count(a) != added.count(b) for a, b in ("()", "{}", "[]")) or added.endswith("=>"):
                 continue
@@ -152,8 +153,8 @@ def main():
                     path = crate / "must-fail" / "control"
                     path.write_text(control)
                     log = tried(crate, path, args.jobs)
-                    if re.search(r"^logic=", log, re.M) and verdict(log, goals)[0] != "PROVED":
-                        kind = "shape"
+                    if re.search(r"^logic=", log, re.M):
+                        kind = "meant" if verdict(log, goals)[0] == "PROVED" else "shape"
                     path.unlink()
                 bad += kind in ("new", "shape", "names", "PROVED")
                 print(f"{kind:7} {name}/{edit.stem}  {where}", flush=True)
