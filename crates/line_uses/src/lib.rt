@@ -2,6 +2,7 @@
 #![tactic(auto)]
 
 pub mod counter;
+pub mod fair;
 pub mod mailbox;
 pub mod seats;
 #[cfg(test)]

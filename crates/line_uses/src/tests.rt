@@ -1,12 +1,14 @@
 //! The uses, over the ring and over the list.
 use crate::mailbox::Asked;
-use crate::{counter, mailbox, seats};
+use crate::{counter, fair, mailbox, seats};
 use line_lanes::Line64;
 use link_line::LinkLine;
 use qolb_model::{Free, OpenLine, Terms};
+use qolb_run::Got;
 use ring_line::RingLine;
 use seats::House;
 use std::alloc::Global;
+use std::sync::Wait;
 use std::test::Fail;
 
 #[test]
@@ -27,6 +29,39 @@ fn each_value_is_taken_up(rt: HostRuntime) -> Result<(), Fail> {
     assert_eq!(rt; by_ring, Some(500_500));
     let by_list = mailbox::hand_over::<HostRuntime, LinkLine<Free>>(&rt, alloc, 1_000);
     assert_eq!(rt; by_list, Some(500_500));
+    Ok(())
+}
+
+/// Two nodes, one after the other: node 2 shuts the line in its turn. What each was answered.
+fn one_after_the_other<R: Wait, L: OpenLine<Free> + Drop>(rt: &R, alloc: Global) -> Option<[Got; 2]>
+where
+    L::Port: Drop,
+{
+    let terms = Terms {
+        nodes: 2,
+        opening: Line64::zero(),
+        lease: None,
+    };
+    let (line, ports) = L::open_with(alloc, 1, terms).ok()?;
+    let mut ports = ports;
+    let mut two = ports.pop()?;
+    let mut one = ports.pop()?;
+    let first = fair::after_the_other(rt, &line, &mut two);
+    let Got::Granted = first else {
+        return None;
+    };
+    line.shut(&mut two);
+    Some([first, fair::after_the_other(rt, &line, &mut one)])
+}
+
+#[test]
+fn a_turn_comes_or_the_line_is_closed(rt: HostRuntime) -> Result<(), Fail> {
+    let alloc = rt.alloc();
+    let wanted = Some([Got::Granted, Got::Closed]);
+    let by_ring = one_after_the_other::<HostRuntime, RingLine<Free>>(&rt, alloc);
+    assert_eq!(rt; by_ring, wanted);
+    let by_list = one_after_the_other::<HostRuntime, LinkLine<Free>>(&rt, alloc);
+    assert_eq!(rt; by_list, wanted);
     Ok(())
 }
 
