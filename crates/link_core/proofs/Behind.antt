@@ -1,6 +1,6 @@
 -- A withdrawn node that was not granted waits behind the turn, whatever step is made.
 use Rattle.qolb_model.specs.declared.terms.Terms.{Terms}
-use Rattle.std.proofs.Common.{◌≡◌, ◌≢◌, ℕ, ◌+◌, ◌<◌, ◌≤◌, ◌⊎◌, Bool, true, false, List, [], ◌∷◌, ◌++◌, length, Option, Some, None, refl, sym, ◌∙◌, ap, subst, inl, inr, arith, length-append}
+use Rattle.std.proofs.Common.{◌≡◌, ◌≢◌, ℕ, ◌+◌, ◌<◌, Bool, true, false, List, [], ◌∷◌, ◌++◌, length, refl, sym, ◌∙◌, ap, subst, inl, inr, arith, length-append}
 use Rattle.std.proofs.lemmas.Bool.{cases_eq}
 use Rattle.qolb_model.specs.declared.end.End.{End}
 use Rattle.qolb_model.specs.declared.request.Request.{Request}
@@ -14,7 +14,7 @@ use Rattle.link_core.specs.declared.point.Point.TheVariants.{Idle, Ready, Linkin
 use Rattle.link_core.specs.declared.seat.Reason.{Reason}
 use Rattle.link_core.specs.declared.seat.Reason.TheVariants.{Own, Closing, Refused}
 use Rattle.link_core.specs.declared.told.Told.{Told as Answer}
-use Rattle.link_core.specs.Places.{asker, IsLast}
+use Rattle.link_core.specs.Places.{IsLast}
 use Rattle.link_core.specs.State.{State, IsWide, Seat, no_mask, empty, entry, seat, point, IsNode, current}
 use Rattle.link_core.specs.Steps.{Step, closed_by, turns_after, seat_at_arrival, seat_with, point_at_end}
 use Rattle.link_core.specs.Steps as row

@@ -1,13 +1,13 @@
 -- The open requests are of different nodes, so they are no more than the nodes.
 use Rattle.qolb_model.specs.declared.terms.Terms.{Terms}
-use Rattle.std.proofs.Common.{◌≡◌, ◌≢◌, ℕ, suc, ◌+◌, ◌<◌, ◌≤◌, List, length, map, drop, sym, ◌∙◌, ap, subst, arith}
+use Rattle.std.proofs.Common.{◌≡◌, ℕ, suc, ◌+◌, ◌<◌, ◌≤◌, List, length, map, drop, sym, ◌∙◌, ap, subst, arith}
 use Rattle.std.specs.Prelude.{slice_index_or}
 use Rattle.std.proofs.lemmas.List.{get_or-drop, length-drop, length-map}
 use Rattle.std.proofs.Math.ListN.{get_or-map}
 use Rattle.qolb_model.specs.declared.request.Request.{Request}
 use Rattle.qolb_model.specs.Queue.{Queue}
 use Rattle.link_core.specs.Places.{nobody, asker, IsLast}
-use Rattle.link_core.specs.State.{State, IsNode}
+use Rattle.link_core.specs.State.{State}
 use Rattle.link_core.specs.Shown.{Matches}
 use Rattle.link_core.specs.Laws.{AreFew}
 use Rattle.link_core.proofs.Orders.{last_once}
