@@ -17,6 +17,8 @@ use Rattle.qolb_model.specs.OneHistory.{IsAmong, OneHistory}
 use Rattle.qolb_model.specs.Kept.{AreAllowed}
 use Rattle.qolb_model.specs.Opening.{AreNew}
 use Rattle.qolb_model.specs.Meeting.{Meets}
+use Rattle.qolb_model.specs.OneOwner.{LineState}
+use Rattle.qolb_model.specs.Plain.{IsReached}
 
 -- two places of a legal order that have the same request are one place
 abbrev pub NoRequestStandsTwice : Type 0
@@ -79,6 +81,10 @@ FewEndBefore = (asked later : View) (p : ℕ) → IsNear asked → slice_get ask
 abbrev pub FewTurnsBefore : Type 0
 FewTurnsBefore = (asked later : View) (turn : Write) → IsQueued asked → Extends asked later → later.count ≡ asked.count → OneHistory (later ∷ []) → IsGranted later turn
     → length later.ends < length asked.ends + asked.terms.nodes
+
+-- of a line with one owner no more requests are open than it has nodes: so at most one fewer than that end before any that waits
+abbrev pub FewWaitAtOnce : Type 0
+FewWaitAtOnce = (s : LineState) → IsReached s → length s.queue.order ≤ length s.queue.ends + s.terms.nodes
 
 -- the ports that a line is opened with are of one history
 abbrev pub NewPortsAreOfOneHistory : Type 0

@@ -1,6 +1,6 @@
 //! Laws of the definitions that a line's contracts speak of. Each is the contract of a function that does nothing.
 ghost use Rattle.std.specs.Prelude.{◌≡◌};
-ghost use Rattle.qolb_model.specs.Laws.{NoRequestStandsTwice, NoneIsServedAfterClosing, LeaseBounds, OpenLineHasTurns, OnlyServedEndsWrite, GoodStaysGood, ExtendsThrough, PartIsOfOneHistory, EachTwoAreOfOneHistory, FewerEndsBegin, SameEndsSameBytes, OneNodeHolds, FewEndBefore, FewTurnsBefore, NewPortsAreOfOneHistory, PortsThatMetKnowTheSame};
+ghost use Rattle.qolb_model.specs.Laws.{NoRequestStandsTwice, NoneIsServedAfterClosing, LeaseBounds, OpenLineHasTurns, OnlyServedEndsWrite, GoodStaysGood, ExtendsThrough, PartIsOfOneHistory, EachTwoAreOfOneHistory, FewerEndsBegin, SameEndsSameBytes, OneNodeHolds, FewEndBefore, FewTurnsBefore, FewWaitAtOnce, NewPortsAreOfOneHistory, PortsThatMetKnowTheSame};
 
 use crate::keep::Keep;
 use crate::terms::MOST_NODES;
@@ -73,6 +73,11 @@ pub fn few_end_before()
 /// When a turn has come, fewer requests have ended since the answer that it waits than the line has nodes.
 pub fn few_turns_before()
     ensures { FewTurnsBefore }
+{}
+
+/// Of a line with one owner no more requests are open than it has nodes.
+pub fn few_wait_at_once()
+    ensures { FewWaitAtOnce }
 {}
 
 /// A line has at most 200 nodes.
