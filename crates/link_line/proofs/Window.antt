@@ -25,7 +25,7 @@ module _ (terms : Terms) (c : State) (q : Queue) (s : Shows terms c q) where
   last_at : (k i : ℕ) (r : Request) → slice_get (drop (length q.ends) q.order) i ≡ Some r → r.node ≡ k → IsLast q.order k (length q.ends + i)
   last_at k i r at mine = let there = at_drop (length q.ends) q.order i r at in
       subst (λ (n : ℕ). IsLast q.order n (length q.ends + i)) (node_at (length q.ends + i) r there ∙ mine)
-          (s.matches.distinct (length q.ends + i) (omega arith) (slice_get_within q.order (length q.ends + i) r there))
+      (s.matches.distinct (length q.ends + i) (omega arith) (slice_get_within q.order (length q.ends + i) r there))
 
   once : (k : ℕ) → 0 < k → k ≤ terms.nodes → count_of k (drop (length q.ends) q.order) ≤ 1
   once k a b = count_once k (drop (length q.ends) q.order) (λ i j r t at at' mine mine'. let e = last_once q.order k (length q.ends + i) (length q.ends + j) (last_at k i r at mine) (last_at k j t at' mine') in omega arith)
