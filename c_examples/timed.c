@@ -43,6 +43,11 @@ static void *work(void *argument) {
                        : round % 3 == 1 ? qolb_acquire_within(&me->node, 1000000)
                                         : qolb_acquire(&me->node);
         if (got == QOLB_BUSY || got == QOLB_LATE) {
+            /* Who gave up has no turn, also where it came at that moment: the line would stay with it. */
+            if (qolb_state(&me->node) == QOLB_STATE_HOLDING) {
+                me->wrong = got;
+                return NULL;
+            }
             me->gave_up++;
             continue;
         }

@@ -104,6 +104,16 @@ bool is_lock(qolb_kind kind) {
     return a.acquire_for(1ms) == qolb::Got::closed && b.with([](qolb_bytes &) {}) == qolb::Got::closed && a.state() == QOLB_STATE_SHUT;
 }
 
+// A holder that is assigned to lets its line go.
+bool is_assigned(qolb_kind kind) {
+    using namespace std::chrono_literals;
+    auto opened = qolb::Node::open(kind, 1, 2, qolb_bytes{});
+    auto &a = opened.second[0], &b = opened.second[1];
+    if (a.acquire() != qolb::Got::granted) return false;
+    a = qolb::Node();
+    return b.acquire_for(1min) == qolb::Got::granted;
+}
+
 } // namespace
 
 int main() {
@@ -113,6 +123,7 @@ int main() {
     if (!run(QOLB_LIST)) return std::puts("list"), 1;
     for (qolb_kind kind : {QOLB_RING, QOLB_LIST}) {
         if (!work_throws(kind)) return std::puts("a holder whose work throws"), 1;
+        if (!is_assigned(kind)) return std::puts("a holder that is assigned to"), 1;
         if (!is_lock(kind)) return std::puts("the node as a lock"), 1;
     }
     return 0;

@@ -40,6 +40,36 @@ fn count(kind: Kind) {
     }
 }
 
+/// Takes a turn in one of three ways. Who gives up has no turn, also where it came at that moment: the line would stay with it.
+fn take(node: &mut Node, round: u64) {
+    loop {
+        let got = match round % 3 {
+            0 => node.try_acquire(),
+            1 => node.acquire_for(Duration::from_micros(1)),
+            _ => node.acquire(),
+        };
+        match got {
+            Answer::Granted => return,
+            Answer::Busy | Answer::Late => assert_ne!(node.state(), State::Holding, "{got:?}"),
+            other => panic!("{other:?}"),
+        }
+    }
+}
+
+fn races(kind: Kind) {
+    let nodes = qolb::open(kind, 1, 4, None, &Bytes([0; 64])).unwrap();
+    let turns = |mut node: Node| {
+        for round in 0..ROUNDS {
+            take(&mut node, round);
+            assert_eq!(node.deqolb(), Answer::Done);
+        }
+    };
+    let threads: Vec<_> = nodes.into_iter().map(|node| thread::spawn(move || turns(node))).collect();
+    for thread in threads {
+        thread.join().unwrap();
+    }
+}
+
 /// A holder that panics releases the line: what it wrote stands, nothing is poisoned, and the next holder is granted.
 fn panics_while_holding(kind: Kind) {
     let mut nodes = qolb::open(kind, 1, 3, None, &Bytes([0; 64])).unwrap();
@@ -93,6 +123,8 @@ fn main() {
     assert_eq!(qolb::open(Kind::List, 1, 2, Some(0), &Bytes([0; 64])).err(), Some(Answer::BadLease));
     count(Kind::Ring);
     count(Kind::List);
+    races(Kind::Ring);
+    races(Kind::List);
     // The panics that are wanted print nothing.
     panic::set_hook(Box::new(|told| {
         if !told.to_string().contains("a holder's panic") {

@@ -1,7 +1,8 @@
 //! Workers at a board.
-ghost use Rattle.std.specs.Prelude.{◌≡◌, ◌*◌, [], ◌∷◌, ◌≤◌, All, IfOk, IfErr, Some, true, false, length, map, vec_len};
+ghost use Rattle.std.specs.Prelude.{◌≡◌, ◌*◌, [], ◌∷◌, ◌≤◌, All, IfOk, IfErr, IfNone, Some, true, false, length, map, vec_len};
 ghost use Rattle.qolb_script.specs.declared.schedule.TheConstants.{MOST_COMMANDS};
 ghost use Rattle.qolb_model.specs.declared.terms.TheConstants.{MOST_NODES};
+ghost use Rattle.qolb_model.specs.LettingGo.{IsTold};
 ghost use Rattle.line_accounts.specs.Desks.{IsAtRest};
 ghost use Rattle.qolb_run.specs.Workers.{AreDone, AreFresh, MayStop, IsWithinLimits};
 ghost use Rattle.qolb_run.specs.BoardWork.{Turn, HasTurns, HasStored, FoundFull, HasTakenOne, FoundNone, HasWorked, AreWithin, AreAdded, AreSums};
@@ -83,6 +84,7 @@ fn put_at_last<R: Wait, L: LineSync<BoardLaw>>(
     ensures belongs { L.belongs line.now port.new }
     ensures stored { result ≡ Some true → (turn : Turn) × HasTurns (L.view port.old) (L.view port.new) (turn ∷ []) × HasStored task turn }
     ensures full { result ≡ Some false → (turn : Turn) × HasTurns (L.view port.old) (L.view port.new) (turn ∷ []) × FoundFull turn }
+    ensures told { IfNone result (IsTold (L.view port.new)) }
 {
     for _ in rt.forever() {
         match put(line, port, task, PATIENCE) {
@@ -106,6 +108,7 @@ fn take_at_last<R: Wait, L: LineSync<BoardLaw>>(
     ensures belongs { L.belongs line.now port.new }
     ensures taken { result ≡ Some true → (turn : Turn) × HasTurns (L.view port.old) (L.view port.new) (turn ∷ []) × HasTakenOne turn }
     ensures empty { result ≡ Some false → (turn : Turn) × HasTurns (L.view port.old) (L.view port.new) (turn ∷ []) × FoundNone turn }
+    ensures told { IfNone result (IsTold (L.view port.new)) }
 {
     for _ in rt.forever() {
         match take(line, port, PATIENCE) {

@@ -1,6 +1,7 @@
 use super::*;
 use crate::gate::AlwaysOpen;
-use qolb_script::read_work;
+use crate::report::report_work;
+use qolb_script::{Watched, read_work};
 use std::process::Abort;
 use std::sync::atomic::{AtomicU64, Ordering};
 use std::test::Fail;
@@ -200,6 +201,19 @@ fn two_hundred_workers_end(rt: HostRuntime) -> Result<(), Fail> {
     )
 }
 
+#[test]
+fn a_worker_of_a_bank_gives_up_before_a_closed_gate(rt: HostRuntime) -> Result<(), Fail> {
+    let script = "bank workers 2 lines 1\n2 in 0 1\n";
+    expect(
+        &rt,
+        rt.alloc(),
+        &Closed,
+        script,
+        WorkKind::Bank,
+        Err(RunError::Stalled(2)),
+    )
+}
+
 /// A gate that opens at so many asks for a job, each time, and counts the asks for each number.
 #[derive(Drop)]
 struct Counting {
@@ -256,6 +270,30 @@ fn a_worker_asks_before_each_job_and_once_after_the_last(rt: HostRuntime) -> Res
             "by {lines:?}"
         );
         assert_eq!(rt; gate.numbers.load(Ordering::SeqCst), 123, "by {lines:?}");
+        for at in 0..3usize {
+            assert_eq!(rt; gate.asks_for(at), 1, "for {at} by {lines:?}");
+        }
+    }
+    Ok(())
+}
+
+#[test]
+fn work_that_is_reported_is_done_once(rt: HostRuntime) -> Result<(), Fail> {
+    let script = "board workers 2\n1 put 5\n2 put 6\n1 take\n";
+    for lines in [Lines::Ring, Lines::Link] {
+        let gate = Counting::new(1);
+        let mut reader = Watched::new(script.as_bytes());
+        let mut writer = Watched::new(Vec::new(rt.alloc()));
+        let done = report_work(
+            &rt,
+            rt.alloc(),
+            &gate,
+            &mut reader,
+            &mut writer,
+            WorkKind::Board,
+            lines,
+        );
+        assert!(rt; done.is_ok(), "by {lines:?}");
         for at in 0..3usize {
             assert_eq!(rt; gate.asks_for(at), 1, "for {at} by {lines:?}");
         }
