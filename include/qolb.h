@@ -61,7 +61,8 @@
  * qolb_shut) is seen by the thread whose node is granted the line next, and by those that are told that it is closed.
  *
  * For the line's own 64 bytes this is proved. For other memory it rests on how the library is made: every step on a word that nodes share is a
- * sequentially consistent atomic operation, and the last step of a release writes the word in which the next holder finds its grant.
+ * sequentially consistent atomic operation, and a release writes, after all that its holder wrote, the word in which the next holder finds its
+ * grant.
  *
  * WAITING
  *

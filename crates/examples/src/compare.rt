@@ -20,7 +20,11 @@ pub enum Form {
 }
 
 /// The kinds of line that answer a schedule.
-static KINDS: [Kind; 3] = [Kind::Plain, Kind::Ring, Kind::Link];
+static KINDS: [Kind; 3] = [
+    Kind::Plain,
+    Kind::Shared(Lines::Ring),
+    Kind::Shared(Lines::Link),
+];
 
 /// The kinds that workers share.
 static LINES: [Lines; 2] = [Lines::Ring, Lines::Link];

@@ -8,8 +8,8 @@ ghost use Rattle.line_bench.specs.Rising.{Rises};
 use crate::law::Rising;
 use crate::workers::Task;
 use line_lanes::{Line64, Mask, lane, with_lane};
+use line_threads::{Got, acquire};
 use qolb_model::{LineSync, PortState};
-use qolb_run::{Got, acquire};
 use std::rt::Clock;
 use std::sync::Wait;
 

@@ -3,8 +3,8 @@ ghost use Rattle.std.specs.Prelude.{IsTrue};
 ghost use Rattle.qolb_model.specs.PortStates.{may_ask};
 
 use crate::law::Rising;
+use line_threads::together::Work;
 use qolb_model::LineSync;
-use qolb_run::together::Work;
 use std::rt::Clock;
 use std::sync::Wait;
 
@@ -26,7 +26,7 @@ pub struct Each<'a, T> {
 impl<R: Wait + Clock, L: LineSync<Rising>, T: Task<L>> Work<R, L, L::Port> for Each<'_, T> {
     type Back = L::Port;
 
-    ghost fits = { λ line port. L.belongs line port × IsTrue (may_ask (L.view port).state) };
+    ghost fits = { λ _ line _ port. L.belongs line port × IsTrue (may_ask (L.view port).state) };
 
     ghost done = { λ _ line _ port. L.belongs line port };
 

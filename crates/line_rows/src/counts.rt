@@ -4,9 +4,9 @@ ghost use Rattle.line_accounts.specs.NewDesks.{IsNewPort};
 ghost use Rattle.line_rows.specs.Ports.{HoldsOrWaits, MayAskFor};
 
 use line_lanes::{Line64, changed, lane, with_lane};
+use line_threads::together::{Work, together};
+use line_threads::{Got, acquire};
 use qolb_model::{Enq, Free, LineSync, Out, PortState};
-use qolb_run::together::{Work, together};
-use qolb_run::{Got, acquire};
 use std::alloc::Global;
 use std::sync::Wait;
 use std::thread::Threads;
@@ -20,7 +20,7 @@ pub struct Raising {
 impl<R: Wait, L: LineSync<Free>> Work<R, L, L::Port> for Raising {
     type Back = L::Port;
 
-    ghost fits = { λ line port. MayAskFor L.belongs L.view line port };
+    ghost fits = { λ _ line _ port. MayAskFor L.belongs L.view line port };
 
     ghost done = { λ _ line _ port. MayAskFor L.belongs L.view line port };
 
@@ -83,7 +83,7 @@ struct Racer<P> {
 impl<R: Wait, L: LineSync<Free>> Work<R, L, L::Port> for Contest {
     type Back = Racer<L::Port>;
 
-    ghost fits = { λ line port. HoldsOrWaits L.belongs L.view line port };
+    ghost fits = { λ _ line _ port. HoldsOrWaits L.belongs L.view line port };
 
     ghost done = { λ _ line _ racer. MayAskFor L.belongs L.view line racer.port };
 

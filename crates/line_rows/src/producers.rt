@@ -5,8 +5,8 @@ ghost use Rattle.line_accounts.specs.NewDesks.{IsNewPort};
 ghost use Rattle.line_rows.specs.Ports.{MayAskFor};
 
 use line_board::{BoardLaw, Put, Take, Tasks, decode, put, take};
+use line_threads::together::{Work, together};
 use qolb_model::LineSync;
-use qolb_run::together::{Work, together};
 use std::alloc::Global;
 use std::sync::Wait;
 use std::sync::atomic::{AtomicU64, Ordering};
@@ -93,7 +93,7 @@ pub struct Board {
 impl<R: Wait, L: LineSync<BoardLaw>> Work<R, L, Worker<L::Port>> for Board {
     type Back = Worker<L::Port>;
 
-    ghost fits = { λ line worker. MayAskFor L.belongs L.view line worker.port };
+    ghost fits = { λ _ line _ worker. MayAskFor L.belongs L.view line worker.port };
 
     ghost done = { λ _ line _ worker. MayAskFor L.belongs L.view line worker.port };
 

@@ -4,8 +4,8 @@ ghost use Rattle.line_accounts.specs.Desks.{IsDeskOver};
 ghost use Rattle.line_accounts.specs.NewDesks.{IsNewPort};
 
 use line_accounts::{AccountLaw, Desk, Reply, deposit, desks_over, settle, transfer};
+use line_threads::together::{Work, together};
 use qolb_model::LineSync;
-use qolb_run::together::{Work, together};
 use rand::{RngExt, SeedableRng};
 use rand_xoshiro::Xoshiro256PlusPlus;
 use std::alloc::Global;
@@ -52,7 +52,7 @@ pub struct Transfers {
 impl<R: Wait, L: LineSync<AccountLaw>> Work<R, Vec<L>, Customer<L>> for Transfers {
     type Back = Customer<L>;
 
-    ghost fits = { λ lines customer. IsDeskOver L.belongs L.view lines.items customer.desk };
+    ghost fits = { λ _ lines _ customer. IsDeskOver L.belongs L.view lines.items customer.desk };
 
     ghost done = { λ _ lines _ customer. IsDeskOver L.belongs L.view lines.items customer.desk };
 

@@ -7,9 +7,9 @@ ghost use Rattle.qolb_model.specs.Turns.{IsGranted};
 ghost use Rattle.qolb_model.specs.LettingGo.{IsTold};
 
 use line_lanes::{Line64, Mask, lane, with_lane};
+use line_threads::together::{Work, together};
+use line_threads::{Got, acquire};
 use qolb_model::{Free, LineSync, OpenLine, Terms};
-use qolb_run::together::{Work, together};
-use qolb_run::{Got, acquire};
 use std::alloc::Global;
 use std::sync::Wait;
 use std::thread::Threads;
@@ -57,7 +57,7 @@ struct Rounds {
 impl<R: Wait, L: LineSync<Free>> Work<R, L, L::Port> for Rounds {
     type Back = L::Port;
 
-    ghost fits = { λ line port. L.belongs line port × IsTrue (may_ask (L.view port).state) };
+    ghost fits = { λ _ line _ port. L.belongs line port × IsTrue (may_ask (L.view port).state) };
 
     ghost done = { λ _ line _ port. L.belongs line port × IsTrue (may_ask (L.view port).state) };
 

@@ -5,8 +5,8 @@ ghost use Rattle.qolb_model.specs.Asking.{Asks};
 ghost use Rattle.qolb_model.specs.Turns.{IsGranted};
 ghost use Rattle.qolb_model.specs.LettingGo.{IsTold};
 
+use line_threads::{Got, acquire};
 use qolb_model::{Free, LineSync};
-use qolb_run::{Got, acquire};
 use std::sync::Wait;
 
 /// Waits for a line that two nodes share. From the moment on in which the node has asked, and before it has looked, the other node has at

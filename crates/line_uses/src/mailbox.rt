@@ -8,8 +8,8 @@ ghost use Rattle.qolb_model.specs.LettingGo.{IsTold};
 ghost use Rattle.line_uses.specs.Mailbox.{IsLate, HadNoTurn, HadTurn, WasFull};
 
 use line_lanes::{Line64, Mask, lane, with_lane};
+use line_threads::together::{Work, together};
 use qolb_model::{Enq, Free, LineSync, OpenLine, Out, Poll, Terms};
-use qolb_run::together::{Work, together};
 use std::alloc::Global;
 use std::sync::Wait;
 use std::sync::atomic::{AtomicU64, Ordering};
@@ -51,7 +51,7 @@ pub fn ask<L: LineSync<Free>>(line: &L, port: &mut L::Port, patience: u64) -> As
         Enq::Busy => return Asked::Late,
         Enq::Queued => (),
     }
-    for _look in 0..patience {
+    for _ in 0..patience {
         match line.poll(port) {
             Poll::Granted => return Asked::Granted,
             Poll::Closed => return Asked::Closed,
@@ -119,7 +119,7 @@ struct Exchange {
 impl<R: Wait, L: LineSync<Free>> Work<R, L, L::Port> for Exchange {
     type Back = L::Port;
 
-    ghost fits = { λ line port. L.belongs line port × IsTrue (may_ask (L.view port).state) };
+    ghost fits = { λ _ line _ port. L.belongs line port × IsTrue (may_ask (L.view port).state) };
 
     ghost done = { λ _ line _ port. L.belongs line port × IsTrue (may_ask (L.view port).state) };
 

@@ -8,9 +8,9 @@ ghost use Rattle.qolb_model.specs.Kept.{MayRelease};
 ghost use Rattle.line_uses.specs.Seats.{IsWithin, StaysWithin, sold_after};
 
 use line_lanes::{Line64, Mask, lane, with_lane};
+use line_threads::together::{Work, together};
+use line_threads::{Got, acquire};
 use qolb_model::{Keep, LineSync, OpenLine, Terms};
-use qolb_run::together::{Work, together};
-use qolb_run::{Got, acquire};
 use std::alloc::Global;
 use std::sync::Wait;
 use std::thread::Threads;
@@ -58,7 +58,7 @@ struct Clerk {
 impl<R: Wait, L: LineSync<House>> Work<R, L, L::Port> for Clerk {
     type Back = L::Port;
 
-    ghost fits = { λ line port. L.belongs line port × IsTrue (may_ask (L.view port).state) };
+    ghost fits = { λ _ line _ port. L.belongs line port × IsTrue (may_ask (L.view port).state) };
 
     ghost done = { λ _ line _ port. L.belongs line port × IsTrue (may_ask (L.view port).state) };
 

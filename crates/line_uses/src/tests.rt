@@ -2,12 +2,13 @@
 use crate::mailbox::Asked;
 use crate::{counter, fair, mailbox, seats};
 use line_lanes::Line64;
+use line_threads::{Got, acquire};
 use link_line::LinkLine;
-use qolb_model::{Free, OpenLine, Terms};
-use qolb_run::Got;
+use qolb_model::{Free, OpenLine, PortState, Terms};
 use ring_line::RingLine;
 use seats::House;
 use std::alloc::Global;
+use std::process::Abort;
 use std::sync::Wait;
 use std::test::Fail;
 
@@ -30,6 +31,37 @@ fn each_value_is_taken_up(rt: HostRuntime) -> Result<(), Fail> {
     let by_list = mailbox::hand_over::<HostRuntime, LinkLine<Free>>(&rt, alloc, 1_000);
     assert_eq!(rt; by_list, Some(500_500));
     Ok(())
+}
+
+/// A line of one node: its node is granted it, closes it, and is then told so.
+fn granted_and_then_told<R: Wait + Abort, L: OpenLine<Free> + Drop>(
+    rt: &R,
+    alloc: Global,
+) -> Result<(), Fail>
+where
+    L::Port: Drop,
+{
+    let terms = Terms {
+        nodes: 1,
+        opening: Line64::zero(),
+        lease: None,
+    };
+    let (line, mut ports) = L::open_with(alloc, 0, terms)?;
+    let Some(mut port) = ports.pop() else {
+        return Err(Fail::from("no port"));
+    };
+    assert_eq!(rt; acquire(rt, &line, &mut port), Got::Granted);
+    line.shut(&mut port);
+    assert_eq!(rt; L::state(&port), PortState::Shut);
+    assert_eq!(rt; acquire(rt, &line, &mut port), Got::Closed);
+    assert_eq!(rt; L::state(&port), PortState::Shut);
+    Ok(())
+}
+
+#[test]
+fn a_line_is_granted_and_then_closed(rt: HostRuntime) -> Result<(), Fail> {
+    granted_and_then_told::<_, RingLine<Free>>(&rt, rt.alloc())?;
+    granted_and_then_told::<_, LinkLine<Free>>(&rt, rt.alloc())
 }
 
 /// Two nodes, one after the other: node 2 shuts the line in its turn. What each was answered.

@@ -1,3 +1,4 @@
+//! How far a core is from its rest.
 ghost use Rattle.std.specs.Prelude.{◌≡◌, ◌≤◌};
 ghost use Rattle.link_core.specs.State.{IsNode};
 ghost use Rattle.link_core.specs.Steps.{Fits};

@@ -26,15 +26,15 @@ use Rattle.link_core.specs.Promise.{Waits}
 use Rattle.link_core.specs.Shown.{has_line, is_rolled, Shows}
 use Rattle.link_core.proofs.Arrival.{arrival_unrolled}
 use Rattle.link_core.proofs.Found.{found}
-use Rattle.link_line.specs.declared.known.Known.{Known}
-use Rattle.link_line.specs.declared.parcel.Parcel.{Parcel}
-use Rattle.link_line.specs.declared.rule.Setup.{Setup}
+use Rattle.link_line.specs.Known.{Known}
+use Rattle.shared_line.specs.declared.rule.Parcel.{Parcel}
+use Rattle.shared_line.specs.declared.rule.Setup.{Setup}
 use Rattle.link_line.specs.Links.{Past, NodeOk, IsInHand, Laid, HasLine, Homes, MayServe, is_leaving, is_shut_by, state_of, state_at}
-use Rattle.link_line.specs.Steps.{Comes, point_at_arrival}
+use Rattle.link_line.specs.Steps.{Comes}
 use Rattle.link_line.proofs.Window.{few_open}
 use Rattle.link_line.proofs.Going.{SetsGrow, next, on}
-use Rattle.link_line.proofs.Laying.{St, Rule, mine_ok, is_node}
-use Rattle.link_line.proofs.Turning.{Joins, whole, passes_none, arrival_point, arrival_lined, arrival_state, arrival_passed, arrival_unserved, arrival_unlinked, arrival_unfreeing, Owes, via_none, Turned, turned, own_at, own_marked}
+use Rattle.link_line.specs.Laws.Nodes.{St, Rule, mine_ok, is_node}
+use Rattle.link_line.proofs.Turning.{Joins, whole, passes_none, arrival_lined, arrival_state, arrival_passed, arrival_unserved, arrival_unlinked, arrival_unfreeing, Owes, via_none, Turned, turned, own_at, own_marked}
 
 -- the line that a node carries to whom it came closed
 arrival_carries : (d : Core) (n : ℕ) (line : Parcel) (b : Bool) → line.bytes ≡ d.bytes → line.closed ≡ d.closed → line.turns_left ≡ d.left → line.closed ≡ b → seat d n ≡ seat_at_arrival n b → is_leaving (point d n) ≡ true → IsInHand d n (seat d n) line
@@ -127,11 +127,12 @@ module _ (good : List ℕ → Type 0) (allows : List ℕ → List ℕ → Type 0
         turns_are : h.line.turns_left ≡ turns_left about.terms.lease came.queue.ends
         turns_are = h.turns ∙ r.fine.shown.matches.turns ∙ ap (turns_left about.terms.lease) (sym a.ends)
 
+        point_by : {k : Bool} → is_closed came.queue.ends ≡ k → point d v.view.node ≡ (seat_at_arrival v.view.node k).point
+        point_by e = ap (λ (s : Seat). s.point) a.seat_is ∙ ap (λ (k : Bool). (seat_at_arrival v.view.node k).point) (is_whole.1 ∙ e)
+
         pub comes : Comes view_come h.line
-        comes = record {
-          point = ap (λ (s : Seat). s.point) a.seat_is ∙ arrival_point v.view.node b ∙ ap (point_at_arrival v.view.node) (sym h.closed);
-          line_is = λ _. refl;
-          passed = refl;
+        comes = λ mark. record {
+          has = record { holds = λ unclosed. (point_by unclosed, refl); refuses = λ shut. (point_by shut, refl, refl) };
           state = ap state_of a.seat_is ∙ arrival_state v.view.node b;
           turn = own_at good allows about came v count (length came.queue.ends) shows a.counts last;
           unmarked = own_marked good allows about came v count (length came.queue.ends) shows a.counts last (omega arith) ∙ ap (λ (s : Seat). is_rolled s.point) a.seat_is ∙ arrival_unrolled v.view.node b;
@@ -140,7 +141,7 @@ module _ (good : List ℕ → Type 0) (allows : List ℕ → List ℕ → Type 0
           closed = h.closed ∙ is_whole.1;
           turns = turns_are ∙ ap (λ (t : Terms). turns_left t.lease came.queue.ends) (sym ok.who.terms);
           some_left = λ unclosed none. open_has_turns about.terms.lease came.queue.order came.queue.ends r.may_open.lease shows.legal unclosed (sym turns_are ∙ none);
-          long = ap (λ (bs : List ℕ). length bs) bytes_are ∙ length-bytes_after about.terms.opening.bytes came.queue.ends r.fine.shown.matches.opened;
+          line = ap (λ (bs : List ℕ). length bs) bytes_are ∙ length-bytes_after about.terms.opening.bytes came.queue.ends r.fine.shown.matches.opened;
         }
 
         pub come_turned : (words : List ℕ) (homes : Homes) → Laid d words homes → Turned good allows about s r me v at r.past (via_none good allows about r.past v r.fine) came view_come words homes

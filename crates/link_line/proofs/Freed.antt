@@ -12,9 +12,10 @@ use Rattle.qolb_model.specs.Views.{own, Extends}
 use Rattle.qolb_model.proofs.Lists.{element_at, drop_with, same_some}
 use Rattle.qolb_model.proofs.Requests.{has_prefix}
 use Rattle.link_core.specs.declared.point.Point.TheVariants.{Freeing}
-use Rattle.link_line.specs.declared.known.Known.{Known}
+use Rattle.link_line.specs.Known.{Known}
 use Rattle.link_line.specs.Links.{At}
-use Rattle.link_line.specs.Steps.{LinkSeat, known_of, after_release, Frees, GoesOn, SameSeat}
+use Rattle.shared_line.specs.Steps.{SameSeat}
+use Rattle.link_line.specs.Steps.{LinkSeat, known_of, after_release, Frees, GoesOn}
 use Rattle.link_line.specs.Releases.{AreNodesAt, FreesAll}
 use Rattle.link_line.proofs.Stepping.{goes_trans}
 
@@ -24,25 +25,25 @@ IsClearOrLast v p r = Has v.clear r ⊎ ((p + 1 ≡ length v.ends) × IsShort v)
 
 -- the first of the requests that were passed are freed
 pub record FreesFirst (v : Known) (i : ℕ) (w : Known) : Type 0 where
-  pub point : w.seat.point ≡ after_release v.view.state (drop i v.passed)
-  pub passed : w.passed ≡ drop i v.passed
+  pub point : w.own.seat.point ≡ after_release v.view.state (drop i v.own.passed)
+  pub passed : w.own.passed ≡ drop i v.own.passed
   pub state : w.view.state ≡ v.view.state
   pub count : w.view.count ≡ v.view.count
   pub order : w.view.order ≡ v.view.order
   pub ends : w.view.ends ≡ v.view.ends
   pub marked : w.view.marked ≡ v.view.marked
-  pub freed : (k p : ℕ) (r : Request) → k < i → At v.passed k p → At v.view.order p r → Has w.view.freed r
-  pub clear : (k p : ℕ) (r : Request) → k < i → At v.passed k p → At v.view.order p r → IsClearOrLast w.view p r
-  pub own_clear : drop i v.passed ≡ [] → Has w.view.clear (own w.view)
+  pub freed : (k p : ℕ) (r : Request) → k < i → At v.own.passed k p → At v.view.order p r → Has w.view.freed r
+  pub clear : (k p : ℕ) (r : Request) → k < i → At v.own.passed k p → At v.view.order p r → IsClearOrLast w.view p r
+  pub own_clear : drop i v.own.passed ≡ [] → Has w.view.clear (own w.view)
 
 some_passed : (state : PortState) (ps : List ℕ) → ps ≢ [] → Freeing ≡ after_release state ps
 some_passed state [] n = absurd (n refl)
 some_passed state (q ∷ ps) n = refl
 
 -- at first none is
-pub frees_none : (v : Known) → v.seat.point ≡ Freeing → v.passed ≢ [] → FreesFirst v 0 v
+pub frees_none : (v : Known) → v.own.seat.point ≡ Freeing → v.own.passed ≢ [] → FreesFirst v 0 v
 frees_none v p some = record {
-  point = p ∙ some_passed v.view.state v.passed some;
+  point = p ∙ some_passed v.view.state v.own.passed some;
   passed = refl;
   state = refl;
   count = refl;
@@ -55,28 +56,28 @@ frees_none v p some = record {
 }
 
 -- the node that is freed next
-pub frees_which : (v w : Known) (nodes : List ℕ) (i node : ℕ) → FreesFirst v i w → length nodes ≡ length v.passed → AreNodesAt v.view.order v.passed nodes → At nodes i node
-    → (w.seat.point ≡ Freeing) × (node ≤ MOST_NODES) × ((q : ℕ) × (ps : List ℕ) × (r : Request) × (w.passed ≡ q ∷ ps) × At w.view.order q r × (r.node ≡ node))
+pub frees_which : (v w : Known) (nodes : List ℕ) (i node : ℕ) → FreesFirst v i w → length nodes ≡ length v.own.passed → AreNodesAt v.view.order v.own.passed nodes → At nodes i node
+    → (w.own.seat.point ≡ Freeing) × (node ≤ MOST_NODES) × ((q : ℕ) × (ps : List ℕ) × (r : Request) × (w.own.passed ≡ q ∷ ps) × At w.view.order q r × (r.node ≡ node))
 frees_which v w nodes i node f many are is =
-    let here = element_at v.passed i (omega (arith, many, slice_get_within nodes i node is)) in
-    let cut : drop i v.passed ≡ here.0 ∷ drop (i + 1) v.passed = drop_with v.passed i here.0 here.1 in
+    let here = element_at v.own.passed i (omega (arith, many, slice_get_within nodes i node is)) in
+    let cut : drop i v.own.passed ≡ here.0 ∷ drop (i + 1) v.own.passed = drop_with v.own.passed i here.0 here.1 in
     let made = are.each i here.0 node here.1 is in
-    (f.point ∙ ap (after_release v.view.state) cut, made.3, (here.0, drop (i + 1) v.passed, made.0, f.passed ∙ cut, subst (λ o. At o here.0 made.0) (sym f.order) made.1, made.2))
+    (f.point ∙ ap (after_release v.view.state) cut, made.3, (here.0, drop (i + 1) v.own.passed, made.0, f.passed ∙ cut, subst (λ o. At o here.0 made.0) (sym f.order) made.1, made.2))
 
 -- a release stays short while its nodes are freed
 short_stays : (v w : View) → w.order ≡ v.order → w.ends ≡ v.ends → w.joined ≡ v.joined → IsShort v → IsShort w
 short_stays v w orders ends joined s = (s.0, (λ i. turn_of (orders i) (ends i)) ∙ s.1, subst (λ rs. Lacks rs s.0) (sym joined) s.2)
 
 -- and one more is freed
-pub frees_next : (v w x : Known) (nodes : List ℕ) (i node : ℕ) → FreesFirst v i w → length nodes ≡ length v.passed → AreNodesAt v.view.order v.passed nodes → At nodes i node → Extends w.view x.view
-    → ((p : ℕ) (ps : List ℕ) (r : Request) → w.passed ≡ p ∷ ps → At w.view.order p r → Frees w p ps r x) → FreesFirst v (i + 1) x
+pub frees_next : (v w x : Known) (nodes : List ℕ) (i node : ℕ) → FreesFirst v i w → length nodes ≡ length v.own.passed → AreNodesAt v.view.order v.own.passed nodes → At nodes i node → Extends w.view x.view
+    → ((p : ℕ) (ps : List ℕ) (r : Request) → w.own.passed ≡ p ∷ ps → At w.view.order p r → Frees w p ps r x) → FreesFirst v (i + 1) x
 frees_next v w x nodes i node f many are is more frees =
-    let here = element_at v.passed i (omega (arith, many, slice_get_within nodes i node is)) in
-    let cut : drop i v.passed ≡ here.0 ∷ drop (i + 1) v.passed = drop_with v.passed i here.0 here.1 in
+    let here = element_at v.own.passed i (omega (arith, many, slice_get_within nodes i node is)) in
+    let cut : drop i v.own.passed ≡ here.0 ∷ drop (i + 1) v.own.passed = drop_with v.own.passed i here.0 here.1 in
     let made = are.each i here.0 node here.1 is in
-    let one = frees here.0 (drop (i + 1) v.passed) made.0 (f.passed ∙ cut) (subst (λ o. At o here.0 made.0) (sym f.order) made.1) in
+    let one = frees here.0 (drop (i + 1) v.own.passed) made.0 (f.passed ∙ cut) (subst (λ o. At o here.0 made.0) (sym f.order) made.1) in
     record {
-      point = one.point ∙ ap (λ state. after_release state (drop (i + 1) v.passed)) (one.state ∙ f.state);
+      point = one.point ∙ ap (λ state. after_release state (drop (i + 1) v.own.passed)) (one.state ∙ f.state);
       passed = one.passed;
       state = one.state ∙ f.state;
       count = one.count ∙ f.count;
@@ -85,11 +86,11 @@ frees_next v w x nodes i node f many are is more frees =
       marked = one.marked ∙ f.marked;
       freed = λ k p r lt at on. elim (upto k i (omega (arith, lt))) [
         | inl early ↦ more.freed r (f.freed k p r early at on)
-        | inr last ↦ subst (Has x.view.freed) (same v.view.order v.passed i k here.0 p made.0 r last here.1 at made.1 on).1 one.freed
+        | inr last ↦ subst (Has x.view.freed) (same v.view.order v.own.passed i k here.0 p made.0 r last here.1 at made.1 on).1 one.freed
       ];
       clear = λ k p r lt at on. elim (upto k i (omega (arith, lt))) [
         | inl early ↦ stays p r one.order one.ends one.joined (f.clear k p r early at on)
-        | inr last ↦ let e = same v.view.order v.passed i k here.0 p made.0 r last here.1 at made.1 on in subst (λ (z : ℕ × Request). IsClearOrLast x.view z.0 z.1) (λ j. (e.0 j, e.1 j)) one.clear
+        | inr last ↦ let e = same v.view.order v.own.passed i k here.0 p made.0 r last here.1 at made.1 on in subst (λ (z : ℕ × Request). IsClearOrLast x.view z.0 z.1) (λ j. (e.0 j, e.1 j)) one.clear
       ];
       own_clear = one.own_clear;
     }
@@ -112,16 +113,16 @@ frees_next v w x nodes i node f many are is more frees =
     stays p r orders ends joined c = ⊎_elim (λ h. inl (has_prefix w.view.clear x.view.clear r more.clear h)) (λ l. inr (l.0 ∙ ap length (sym ends), short_stays w.view x.view orders ends joined l.1)) c
 
 -- until all are
-pub frees_all : (v w : Known) (i : ℕ) → FreesFirst v i w → length v.passed ≤ i → FreesAll v w
-frees_all v w i f le = let none : drop i v.passed ≡ [] = past i v.passed le in record {
+pub frees_all : (v w : Known) (i : ℕ) → FreesFirst v i w → length v.own.passed ≤ i → FreesAll v w
+frees_all v w i f le = let none : drop i v.own.passed ≡ [] = past i v.own.passed le in record {
   point = f.point ∙ ap (after_release v.view.state) none;
   state = f.state;
   count = f.count;
   order = f.order;
   ends = f.ends;
   marked = f.marked;
-  freed = λ k p r at on. f.freed k p r (omega (arith, le, slice_get_within v.passed k p at)) at on;
-  clear = λ k p r at on. f.clear k p r (omega (arith, le, slice_get_within v.passed k p at)) at on;
+  freed = λ k p r at on. f.freed k p r (omega (arith, le, slice_get_within v.own.passed k p at)) at on;
+  clear = λ k p r at on. f.clear k p r (omega (arith, le, slice_get_within v.own.passed k p at)) at on;
   own_clear = f.own_clear none;
 }
   where
@@ -136,16 +137,16 @@ pub record IsFreeing (allows : List ℕ → List ℕ → Type 0) (s : LinkSeat) 
   pub same : SameSeat s t
   pub carried : t.me.1 ≡ s.me.1
   pub goes_on : GoesOn allows s.me t.me i
-  pub within : i ≤ length (known_of s).passed
+  pub within : i ≤ length (known_of s).own.passed
   pub frees : FreesFirst (known_of s) i (known_of t)
 
-pub freeing_which : {allows : List ℕ → List ℕ → Type 0} (s t : LinkSeat) (nodes : List ℕ) (i : ℕ) → IsFreeing allows s i t → length nodes ≡ length (known_of s).passed → AreNodesAt (known_of s).view.order (known_of s).passed nodes → i < length nodes
-    → ((known_of t).seat.point ≡ Freeing) × (get_or nodes i 0 ≤ MOST_NODES) × ((q : ℕ) × (ps : List ℕ) × (r : Request) × ((known_of t).passed ≡ q ∷ ps) × At (known_of t).view.order q r × (r.node ≡ get_or nodes i 0))
+pub freeing_which : {allows : List ℕ → List ℕ → Type 0} (s t : LinkSeat) (nodes : List ℕ) (i : ℕ) → IsFreeing allows s i t → length nodes ≡ length (known_of s).own.passed → AreNodesAt (known_of s).view.order (known_of s).own.passed nodes → i < length nodes
+    → ((known_of t).own.seat.point ≡ Freeing) × (get_or nodes i 0 ≤ MOST_NODES) × ((q : ℕ) × (ps : List ℕ) × (r : Request) × ((known_of t).own.passed ≡ q ∷ ps) × At (known_of t).view.order q r × (r.node ≡ get_or nodes i 0))
 freeing_which s t nodes i f many are lt = frees_which (known_of s) (known_of t) nodes i (get_or nodes i 0) f.frees many are (slice_get-get_or nodes i 0 lt)
 
-pub freeing_next : (allows : List ℕ → List ℕ → Type 0) (s t u : LinkSeat) (nodes : List ℕ) (i : ℕ) → IsFreeing allows s i t → length nodes ≡ length (known_of s).passed → AreNodesAt (known_of s).view.order (known_of s).passed nodes → i < length nodes
+pub freeing_next : (allows : List ℕ → List ℕ → Type 0) (s t u : LinkSeat) (nodes : List ℕ) (i : ℕ) → IsFreeing allows s i t → length nodes ≡ length (known_of s).own.passed → AreNodesAt (known_of s).view.order (known_of s).own.passed nodes → i < length nodes
     → SameSeat t u → u.me.1 ≡ t.me.1 → GoesOn allows t.me u.me 1
-    → ((p : ℕ) (ps : List ℕ) (r : Request) → (known_of t).passed ≡ p ∷ ps → At (known_of t).view.order p r → Frees (known_of t) p ps r (known_of u)) → IsFreeing allows s (i + 1) u
+    → ((p : ℕ) (ps : List ℕ) (r : Request) → (known_of t).own.passed ≡ p ∷ ps → At (known_of t).view.order p r → Frees (known_of t) p ps r (known_of u)) → IsFreeing allows s (i + 1) u
 freeing_next allows s t u nodes i f many are lt same slot went frees = record {
   same = (same.0 ∙ f.same.0, same.1 ∙ f.same.1);
   carried = slot ∙ f.carried;
@@ -154,5 +155,5 @@ freeing_next allows s t u nodes i f many are lt same slot went frees = record {
   frees = frees_next (known_of s) (known_of t) (known_of u) nodes i (get_or nodes i 0) f.frees many are (slice_get-get_or nodes i 0 lt) went.extends frees;
 }
 
-pub freed_steps : (allows : List ℕ → List ℕ → Type 0) (s t : LinkSeat) (nodes : List ℕ) (i : ℕ) → IsFreeing allows s i t → length nodes ≡ length (known_of s).passed → length nodes ≤ i → GoesOn allows s.me t.me (length nodes)
+pub freed_steps : (allows : List ℕ → List ℕ → Type 0) (s t : LinkSeat) (nodes : List ℕ) (i : ℕ) → IsFreeing allows s i t → length nodes ≡ length (known_of s).own.passed → length nodes ≤ i → GoesOn allows s.me t.me (length nodes)
 freed_steps allows s t nodes i f many all = let is : i ≡ length nodes = omega (arith, many, f.within) in subst (GoesOn allows s.me t.me) is f.goes_on

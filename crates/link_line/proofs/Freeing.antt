@@ -41,18 +41,19 @@ use Rattle.link_core.proofs.Follows.{sits_at, rolled_unfreed}
 use Rattle.link_core.proofs.Found.{found, unset}
 use Rattle.link_core.proofs.Orders.{request_got, last_once, last_is}
 use Rattle.link_core.proofs.Steady.{after_is}
-use Rattle.link_line.specs.declared.known.Known.{Known}
-use Rattle.link_line.specs.declared.parcel.Parcel.{Parcel}
-use Rattle.link_line.specs.declared.rule.Setup.{Setup}
+use Rattle.link_line.specs.Known.{Known}
+use Rattle.shared_line.specs.declared.rule.Parcel.{Parcel}
+use Rattle.shared_line.specs.declared.rule.Setup.{Setup}
 use Rattle.link_line.specs.declared.words.TheConstants.{FREED}
 use Rattle.link_line.specs.Words.{entry_at, pack}
 use Rattle.link_line.specs.Links.{At, Past, NodeOk, PastOk, Knowing, Passing, IsFreed, state_of, state_at, is_shut_by}
 use Rattle.link_line.specs.Steps.{Contents, freed, Frees, after_release}
 use Rattle.link_line.proofs.Going.{SetsGrow, next, on, wide, fine_next, leaving_lined}
-use Rattle.link_line.proofs.Histories.{at_point, clear_is}
-use Rattle.link_line.proofs.Lists.{at_same}
+use Rattle.link_line.specs.Laws.Histories.{at_point, clear_is}
+use Rattle.link_line.specs.Laws.Histories.{at_same}
 use Rattle.link_line.proofs.Packed.{add_freed}
-use Rattle.link_line.proofs.Laying.{St, Rule, mine_ok, is_node, entry_laid, in_slot}
+use Rattle.link_line.specs.Laws.Nodes.{St, Rule, mine_ok, is_node}
+use Rattle.link_line.proofs.Laying.{entry_laid, in_slot}
 use Rattle.link_line.proofs.Turning.{goes_step, via_none, turned_by, between}
 use Rattle.link_line.proofs.Releasing.{close_not, is_linking, end_clear, out_state}
 
@@ -114,7 +115,7 @@ module _ {terms : Terms} {c : Core} {q : Queue} (s : Shows terms c q) (joined : 
             (λ next here. subst (λ (z : Request). Lacks joined z) (sym made ∙ ap (λ (k : ℕ). request q.order (k + 1)) at ∙ request_got q.order (f.at + 1) next here) (unjoined t z n i)),
           )
 
-module _ (good : List ℕ → Type 0) (allows : List ℕ → List ℕ → Type 0) (about : Setup) (v : Known) (freeing : v.seat.point ≡ Freeing) (p : ℕ) (ps : List ℕ) (a : Request) (first : v.passed ≡ p ∷ ps) (here : At v.view.order p a) where
+module _ (good : List ℕ → Type 0) (allows : List ℕ → List ℕ → Type 0) (about : Setup) (v : Known) (freeing : v.own.seat.point ≡ Freeing) (p : ℕ) (ps : List ℕ) (a : Request) (first : v.own.passed ≡ p ∷ ps) (here : At v.view.order p a) where
   abbrev n : ℕ
   n = v.view.node
 
@@ -146,7 +147,7 @@ module _ (good : List ℕ → Type 0) (allows : List ℕ → List ℕ → Type 0
     abbrev rest : List ℕ
     rest = map (asker r.past.queue.order) ps
 
-    first_at : At v.passed 0 p
+    first_at : At v.own.passed 0 p
     first_at = ap (λ (zs : List ℕ). slice_get zs 0) first
 
     passed_is : (seat r.past.core n).passed ≡ x ∷ rest
@@ -244,12 +245,12 @@ module _ (good : List ℕ → Type 0) (allows : List ℕ → List ℕ → Type 0
     state_then = ap state_of own_seat ∙ out_state (asker r.past.queue.order) reason ps (is_shut_by reason) refl
 
     abbrev w : Known
-    w = record v { view = record v.view { state = state_of (seat d n); clear = q.clear; freed = v.view.freed ++ a ∷ [] }; seat = seat d n; passed = ps; steps = v.steps + 1 }
+    w = record v { view = record v.view { state = state_of (seat d n); clear = q.clear; freed = v.view.freed ++ a ∷ [] }; own = record v.own { seat = seat d n; passed = ps }; steps = v.steps + 1 }
 
     clear_grows : IsPrefix v.view.clear q.clear
     clear_grows = prefix_trans v.view.clear r.past.queue.clear q.clear ok.knows.clears went.spared.clear
 
-    at_rest : (i z : ℕ) → At ps i z → At v.passed (suc i) z
+    at_rest : (i z : ℕ) → At ps i z → At v.own.passed (suc i) z
     at_rest i z b = subst (λ (zs : List ℕ). At zs (suc i) z) (sym first) b
 
     passing : Passing q.order w
@@ -261,7 +262,7 @@ module _ (good : List ℕ → Type 0) (allows : List ℕ → List ℕ → Type 0
       ended = λ _ i z b. ok.passes.ended freeing (suc i) z (at_rest i z b);
     }
 
-    seat_passed : v.seat.passed ≡ x ∷ rest
+    seat_passed : v.own.seat.passed ≡ x ∷ rest
     seat_passed = ap (λ (z : Seat). z.passed) ok.stands.seat ∙ passed_is
 
     own_left : (i z u : ℕ) → At (seat d n).passed i z → At ps i u → (entry d z).done ≡ true → (entry d z).link ≡ 0 → u + 1 < length v.view.order
@@ -333,7 +334,7 @@ module _ (good : List ℕ → Type 0) (allows : List ℕ → List ℕ → Type 0
       frees = record {
         point = ap (λ (z : Seat). z.point) own_seat ∙ free_point (asker r.past.queue.order) reason ps ∙ ap (λ st. after_release st ps) (sym state_then);
         passed = refl;
-        state = state_then ∙ ap (λ (z : Seat). left_by (is_shut_by z.reason)) (sym ok.stands.seat) ∙ ap (λ (z : Point). state_at z v.seat.reason v.seat.passed) (sym freeing) ∙ sym ok.stands.state;
+        state = state_then ∙ ap (λ (z : Seat). left_by (is_shut_by z.reason)) (sym ok.stands.seat) ∙ ap (λ (z : Point). state_at z v.own.seat.reason v.own.seat.passed) (sym freeing) ∙ sym ok.stands.state;
         count = refl;
         order = refl;
         ends = refl;
@@ -360,7 +361,7 @@ module _ (good : List ℕ → Type 0) (allows : List ℕ → List ℕ → Type 0
             ),
           )
         where
-          same : (p' : ℕ) (ps' : List ℕ) (a' : Request) → v.passed ≡ p' ∷ ps' → At v.view.order p' a' → Frees v p' ps' a' w
+          same : (p' : ℕ) (ps' : List ℕ) (a' : Request) → v.own.passed ≡ p' ∷ ps' → At v.view.order p' a' → Frees v p' ps' a' w
           same p' ps' a' first' here' =
               let e : p ∷ ps ≡ p' ∷ ps' = sym first ∙ first' in
               let e0 : p ≡ p' = ap (λ (zs : List ℕ). slice_index_or zs 0 0) e in

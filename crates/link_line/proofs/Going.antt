@@ -42,10 +42,10 @@ use Rattle.link_core.proofs.Orders.{get_request, request_got, last_once}
 use Rattle.qolb_model.specs.declared.terms.Terms.{Terms}
 use Rattle.link_core.proofs.Sound.{step_sizes}
 use Rattle.link_core.proofs.Steady.{step_shows, after_is}
-use Rattle.link_line.specs.declared.known.Known.{Known}
-use Rattle.link_line.specs.declared.rule.Setup.{Setup}
+use Rattle.link_line.specs.Known.{Known}
+use Rattle.shared_line.specs.declared.rule.Setup.{Setup}
 use Rattle.link_line.specs.Links.{At, Past, NodeOk, Standing, Passing, Joining, Knowing, PastOk, IsFreed, MayServe, is_leaving}
-use Rattle.link_line.proofs.Histories.{clear_is, asked_by, joined_clear}
+use Rattle.link_line.specs.Laws.Histories.{clear_is, asked_by, joined_clear}
 
 pub leaving_lined : (p : Point) → is_leaving p ≡ true → has_line p ≡ true
 leaving_lined (Leaving e) a = refl
@@ -261,7 +261,7 @@ module _ (allows : List ℕ → List ℕ → Type 0) (about : Setup) (few : abou
 
       -- another node
       module _ (fine : PastOk allows about y) (m : ℕ) (v : Known) (node : IsNode x.core m) (ne : m ≢ node_of e) (ok : NodeOk about x m v) where
-        line : has_line v.seat.point ≡ true → (d.bytes ≡ x.core.bytes) × (d.closed ≡ x.core.closed) × (d.mask ≡ x.core.mask) × (d.left ≡ x.core.left) × (on.after.ends ≡ x.queue.ends)
+        line : has_line v.own.seat.point ≡ true → (d.bytes ≡ x.core.bytes) × (d.closed ≡ x.core.closed) × (d.mask ≡ x.core.mask) × (d.left ≡ x.core.left) × (on.after.ends ≡ x.queue.ends)
         line l = on.spared.line m ne node (ap (λ (s : Seat). has_line s.point) (sym ok.stands.seat) ∙ l)
 
         own_ends : (p : ℕ) (r : Request) (z : End) → At on.after.order p r → r.node ≡ m → At on.after.ends p z → is_gone z ≡ false → p < length v.view.ends
@@ -303,7 +303,7 @@ module _ (allows : List ℕ → List ℕ → Type 0) (about : Setup) (few : abou
         }
 
         -- a passed request stays its node's last
-        module _ (i p : ℕ) (at : At v.passed i p) where
+        module _ (i p : ℕ) (at : At v.own.passed i p) where
           was : IsLast x.queue.order (asker x.queue.order p) p
           was = ok.passes.last i p at
 
@@ -317,8 +317,8 @@ module _ (allows : List ℕ → List ℕ → Type 0) (about : Setup) (few : abou
 
           rolled : point x.core (asker x.queue.order p) ≡ Rolled
           rolled =
-              let k = map_at (asker x.queue.order) v.passed i p at in
-              let same : (seat x.core m).passed ≡ map (asker x.queue.order) v.passed = sym (ap (λ (s : Seat). s.passed) ok.stands.seat) ∙ ok.passes.places in
+              let k = map_at (asker x.queue.order) v.own.passed i p at in
+              let same : (seat x.core m).passed ≡ map (asker x.queue.order) v.own.passed = sym (ap (λ (s : Seat). s.passed) ok.stands.seat) ∙ ok.passes.places in
               subst (λ (n : ℕ). point x.core n ≡ Rolled) (ap (λ (ps : List ℕ). slice_index_or ps i 0) same ∙ k.1) (f.shown.matches.passes m i node (subst (λ (ps : List ℕ). i < length ps) (sym same) k.0)).point
 
         standing : Standing d on.after.ends m v
@@ -327,7 +327,7 @@ module _ (allows : List ℕ → List ℕ → Type 0) (about : Setup) (few : abou
           state = ok.stands.state;
           holds = λ l. ok.stands.holds l ∙ sym (line l).4;
           unwritten = λ h. (line (ap has_line h)).2 ∙ ok.stands.unwritten h;
-          carries = λ l. let z = line (leaving_lined v.seat.point l) in let c = ok.stands.carries l in record {
+          carries = λ l. let z = line (leaving_lined v.own.seat.point l) in let c = ok.stands.carries l in record {
             bytes = c.bytes ∙ sym z.0;
             closed = c.closed ∙ sym z.1;
             turns = c.turns ∙ (λ i. left_after (sym z.3 i) (sym (on.spared.seats m ne) i).reason (sym (on.spared.seats m ne) i).passed);
@@ -335,7 +335,7 @@ module _ (allows : List ℕ → List ℕ → Type 0) (about : Setup) (few : abou
             shut = c.shut;
           };
           left = λ fr i z p a b dn un.
-              let same : z ≡ asker x.queue.order p = map_get (asker x.queue.order) v.passed i p z b (subst (λ (ps : List ℕ). At ps i z) ok.passes.places a) in
+              let same : z ≡ asker x.queue.order p = map_get (asker x.queue.order) v.own.passed i p z b (subst (λ (ps : List ℕ). At ps i z) ok.passes.places a) in
               let e = ok.passes.ended fr i p b in
               let l = prefix_length v.view.ends x.queue.ends ok.knows.endings in
               let o = was_boxed f.shown (asker x.queue.order p) p (rolled i p b) (was i p b) (omega arith) k (ap (λ (n : ℕ). (entry d n).done) (sym same) ∙ dn) (ap (λ (n : ℕ). (entry d n).link) (sym same) ∙ un) in
@@ -344,7 +344,7 @@ module _ (allows : List ℕ → List ℕ → Type 0) (about : Setup) (few : abou
 
         passing : Passing on.after.order v
         passing = record {
-          places = ok.passes.places ∙ map_same (asker x.queue.order) (asker on.after.order) v.passed (λ i p at. sym (same_asker i p at));
+          places = ok.passes.places ∙ map_same (asker x.queue.order) (asker on.after.order) v.own.passed (λ i p at. sym (same_asker i p at));
           last = λ i p at. still_last i p at (rolled i p at);
           known = ok.passes.known;
           within = ok.passes.within;

@@ -30,17 +30,18 @@ use Rattle.link_core.proofs.Found.{found, unset}
 use Rattle.link_core.proofs.Orders.{get_request}
 use Rattle.link_core.proofs.Short.{short}
 use Rattle.link_core.proofs.Steady.{after_is}
-use Rattle.link_line.specs.declared.known.Known.{Known}
-use Rattle.link_line.specs.declared.parcel.Parcel.{Parcel}
-use Rattle.link_line.specs.declared.rule.Setup.{Setup}
+use Rattle.link_line.specs.Known.{Known}
+use Rattle.shared_line.specs.declared.rule.Parcel.{Parcel}
+use Rattle.shared_line.specs.declared.rule.Setup.{Setup}
 use Rattle.link_line.specs.declared.words.TheConstants.{GRANTED}
 use Rattle.link_line.specs.Words.{entry_at, pack, is_rolled}
 use Rattle.link_line.specs.Links.{At, Past, NodeOk, Passing, Laid, InSlot, Homes, is_leaving, is_shut_by, state_of, state_in_release}
 use Rattle.link_line.specs.Steps.{Contents, granted, Ended, GoesOut}
 use Rattle.link_line.proofs.Going.{on, wide}
-use Rattle.link_line.proofs.Histories.{at_point}
+use Rattle.link_line.specs.Laws.Histories.{at_point}
 use Rattle.link_line.proofs.Packed.{rolled_is, add_granted}
-use Rattle.link_line.proofs.Laying.{St, Rule, mine_ok, is_node, entry_laid}
+use Rattle.link_line.specs.Laws.Nodes.{St, Rule, mine_ok, is_node}
+use Rattle.link_line.proofs.Laying.{entry_laid}
 use Rattle.link_line.proofs.Turning.{goes_step, grows_none, joins_same, Owes, turned}
 use Rattle.link_line.proofs.Releasing.{Holds, holds_so, after, view_after, kept, counts, ended, longer, out_turned, goes_out, end_quiet, with_line, line_is}
 
@@ -62,34 +63,34 @@ state_more r [] m = refl
 state_more r (p ∷ ps) m = refl
 
 -- one more request is passed
-module _ (x y : Past) (v w : Known) (m : ℕ) (old : Passing x.queue.order v) (order : y.queue.order ≡ x.queue.order) (passed : w.passed ≡ v.passed ++ length y.queue.ends ∷ []) (its : asker y.queue.order (length y.queue.ends) ≡ m) (turn : IsLast y.queue.order (asker y.queue.order (length y.queue.ends)) (length y.queue.ends)) where
-  last : (i p : ℕ) → At w.passed i p → IsLast y.queue.order (asker y.queue.order p) p
-  last i p a = elim (push_cases v.passed (length y.queue.ends) i p (subst (λ (ps : List ℕ). At ps i p) passed a)) [
+module _ (x y : Past) (v w : Known) (m : ℕ) (old : Passing x.queue.order v) (order : y.queue.order ≡ x.queue.order) (passed : w.own.passed ≡ v.own.passed ++ length y.queue.ends ∷ []) (its : asker y.queue.order (length y.queue.ends) ≡ m) (turn : IsLast y.queue.order (asker y.queue.order (length y.queue.ends)) (length y.queue.ends)) where
+  last : (i p : ℕ) → At w.own.passed i p → IsLast y.queue.order (asker y.queue.order p) p
+  last i p a = elim (push_cases v.own.passed (length y.queue.ends) i p (subst (λ (ps : List ℕ). At ps i p) passed a)) [
     | inl was ↦ subst (λ (o : List Request). IsLast o (asker o p) p) (sym order) (old.last i p was.1)
     | inr new ↦ subst (λ (q : ℕ). IsLast y.queue.order (asker y.queue.order q) q) (sym new.1) turn
   ]
 
-  within : length v.view.ends ≤ length y.queue.ends → (i p : ℕ) → At w.passed i p → p ≤ length y.queue.ends
-  within l i p a = elim (push_cases v.passed (length y.queue.ends) i p (subst (λ (ps : List ℕ). At ps i p) passed a)) [
+  within : length v.view.ends ≤ length y.queue.ends → (i p : ℕ) → At w.own.passed i p → p ≤ length y.queue.ends
+  within l i p a = elim (push_cases v.own.passed (length y.queue.ends) i p (subst (λ (ps : List ℕ). At ps i p) passed a)) [
     | inl was ↦ let k = old.within i p was.1 in omega arith
     | inr new ↦ let k = new.1 in omega arith
   ]
 
-  pub passing_more : w.seat.passed ≡ v.seat.passed ++ m ∷ [] → w.seat.point ≡ Leaving m → w.view.order ≡ y.queue.order → w.view.ends ≡ y.queue.ends → length v.view.ends ≤ length y.queue.ends → Passing y.queue.order w
+  pub passing_more : w.own.seat.passed ≡ v.own.seat.passed ++ m ∷ [] → w.own.seat.point ≡ Leaving m → w.view.order ≡ y.queue.order → w.view.ends ≡ y.queue.ends → length v.view.ends ≤ length y.queue.ends → Passing y.queue.order w
   passing_more more point knows ends l = record {
-    places = more ∙ (λ i. old.places i ++ m ∷ []) ∙ (λ i. map (asker (sym order i)) v.passed ++ sym its i ∷ []) ∙ sym (map-append (asker y.queue.order) v.passed (length y.queue.ends ∷ [])) ∙ ap (map (asker y.queue.order)) (sym passed);
+    places = more ∙ (λ i. old.places i ++ m ∷ []) ∙ (λ i. map (asker (sym order i)) v.own.passed ++ sym its i ∷ []) ∙ sym (map-append (asker y.queue.order) v.own.passed (length y.queue.ends ∷ [])) ∙ ap (map (asker y.queue.order)) (sym passed);
     last = last;
     known = λ i p a. subst (λ (o : List Request). p < length o) (sym knows) (last i p a).known;
     within = λ i p a. subst (λ (es : List End). p ≤ length es) (sym ends) (within l i p a);
     ended = λ f. let z : Leaving m ≡ Freeing = sym point ∙ f in cc;
   }
 
-module _ (good : List ℕ → Type 0) (allows : List ℕ → List ℕ → Type 0) (about : Setup) (v : Known) (m : ℕ) (granting : v.seat.point ≡ Granting m) where
+module _ (good : List ℕ → Type 0) (allows : List ℕ → List ℕ → Type 0) (about : Setup) (v : Known) (m : ℕ) (granting : v.own.seat.point ≡ Granting m) where
   abbrev n : ℕ
   n = v.view.node
 
   abbrev z : Parcel
-  z = v.line
+  z = v.own.line
 
   module _ (me slots : ℕ) (s : St good allows about) (r : Rule good allows about s) (at : get_elem? s.views me ≡ some (v ∷ [])) (small : slice_index s.words (entry_at m) < 18446744073709551616) where
     ok : NodeOk about r.past n v
@@ -154,7 +155,7 @@ module _ (good : List ℕ → Type 0) (allows : List ℕ → List ℕ → Type 0
         let behind : (Mailbox m ≡ Home) ⊎ (length y.queue.ends < length y.queue.order) = inr (let a = next.0 in let b = longer good allows about s r me v at z r.past h k refl order ends in let c = ap (λ (o : List Request). length o) order in omega arith) in
         let t = out_turned good allows about s r me v at z r.past h k refl order ends p quiet own behind (set s.words (entry_at m) word) homes
         (laid y.core homes refl refl refl (length-set s.homes 0 (some z) ∙ r.laid.deep) (record { line = z; at = set_here s.homes 0 (some z) (let d = r.laid.deep in omega arith); bytes = h.bytes; closed = h.closed; turns = h.turns })) in
-        let w : Known = view_after good allows about s r me v at z r.past h k refl v.passed in (
+        let w : Known = view_after good allows about s r me v at z r.past h k refl v.own.passed in (
           w ∷ [],
           gives,
           tt,
@@ -162,7 +163,7 @@ module _ (good : List ℕ → Type 0) (allows : List ℕ → List ℕ → Type 0
           (
             goes_step allows v w (with_line z) [] t.continues refl,
             (λ y' has. (
-              subst (λ (q : Parcel). Ended v w q) (line_is z y' has) (ended good allows about s r me v at z r.past h k refl order ends v.passed),
+              subst (λ (q : Parcel). Ended v w q) (line_is z y' has) (ended good allows about s r me v at z r.past h k refl order ends v.own.passed),
               (λ _. (refl, subst (λ (q : Parcel). GoesOut v w q) (line_is z y' has) (goes_out good allows about s r me v at z r.past h k refl order ends p quiet own behind refl no_hand))),
               (λ f. absurd (never f (rolled_as ∙ un))),
             )),
@@ -183,7 +184,7 @@ module _ (good : List ℕ → Type 0) (allows : List ℕ → List ℕ → Type 0
         let st : Seat = record { point = Leaving m; passed = (seat r.past.core n).passed ++ m ∷ []; reason = (seat r.past.core n).reason } in
         let own = own_seat st in
         let long = longer good allows about s r me v at z r.past h k refl order ends in
-        let passed : List ℕ = v.passed ++ length y.queue.ends ∷ [] in
+        let passed : List ℕ = v.own.passed ++ length y.queue.ends ∷ [] in
         let w : Known = view_after good allows about s r me v at z r.past h k refl passed in
         let more : length y.queue.ends < length y.queue.order = let a = next.0 in let b = ap (λ (o : List Request). length o) order in omega arith in
         let its : asker y.queue.order (length y.queue.ends) ≡ m = (λ i. asker (order i) (long i)) ∙ next.1 in
@@ -249,6 +250,6 @@ module _ (good : List ℕ → Type 0) (allows : List ℕ → List ℕ → Type 0
         next_is : (a b : ℕ) → Granting a ≡ Granting b → a ≡ b
         next_is a b e = cc
 
-  pub grants_next : (me slots i : ℕ) (m' : Contents) → m' ≡ (v ∷ [], with_line v.line) → i ≡ entry_at m → Allows (Rule good allows about) slots me m' i (λ k. (k + GRANTED) % 2 ^ 64) (granted allows (step slots i GRANTED 0 none) m')
+  pub grants_next : (me slots i : ℕ) (m' : Contents) → m' ≡ (v ∷ [], with_line v.own.line) → i ≡ entry_at m → Allows (Rule good allows about) slots me m' i (λ k. (k + GRANTED) % 2 ^ 64) (granted allows (step slots i GRANTED 0 none) m')
   grants_next me slots i m' is word = subst (λ (z : ℕ × Contents). Allows (Rule good allows about) slots me z.1 z.0 (λ k. (k + GRANTED) % 2 ^ 64) (granted allows (step slots z.0 GRANTED 0 none) z.1)) (λ j. (sym word j, sym is j))
       (λ s r deep at small. elim (cases_Bool (entry r.past.core m).rolled) [ inl ro ↦ passes me slots s r at small ro | inr un ↦ grants me slots s r at small un ])

@@ -7,16 +7,17 @@ use Rattle.qolb_model.specs.Ends.{is_closed}
 use Rattle.qolb_model.specs.Views.{own, Extends}
 use Rattle.link_core.specs.declared.point.Point.{Point}
 use Rattle.link_core.specs.declared.point.Point.TheVariants.{Marking, Granting}
-use Rattle.link_line.specs.declared.known.Known.{Known}
-use Rattle.link_line.specs.declared.parcel.Parcel.{Parcel}
+use Rattle.link_line.specs.Known.{Known}
+use Rattle.shared_line.specs.declared.rule.Parcel.{Parcel}
 use Rattle.link_line.specs.declared.release.Handed.TheVariants as handed
 use Rattle.link_line.specs.Links.{At}
-use Rattle.link_line.specs.Steps.{LinkSeat, known_of, HasSlot, HasNoSlot, GoesOn, Carries, IsOneLeft, Ended, GoesOut, IsLeft, Passes, end_of, after_release, left_in}
+use Rattle.shared_line.specs.Steps.{HasSlot, HasNoSlot}
+use Rattle.link_line.specs.Steps.{LinkSeat, known_of, GoesOn, Carries, IsOneLeft, Ended, GoesOut, IsLeft, Passes, end_of, after_release, left_in}
 use Rattle.link_line.specs.Releases.{HandsOn, with_line}
 
 -- the line was carried on from v to h; what a step then tells is true of the line and the node as they were before
 module _ (v h w : Known) (y : Parcel) (point : Point) (c : Carries v h y point) where
-  pub carried_ended : Ended h w h.line → Ended v w y
+  pub carried_ended : Ended h w h.own.line → Ended v w y
   carried_ended e = record {
     known = e.known;
     ends = e.ends ∙ (λ i. c.ends i ++ end_of (c.passed i) (is_closed (c.ends i)) (c.line_is i) ∷ []);
@@ -24,7 +25,7 @@ module _ (v h w : Known) (y : Parcel) (point : Point) (c : Carries v h y point) 
     own_turn = λ none. subst (λ es. At w.view.order (length es) (own w.view)) c.ends (e.own_turn (c.passed ∙ none));
   }
 
-  pub carried_out : GoesOut h w h.line → GoesOut v w y
+  pub carried_out : GoesOut h w h.own.line → GoesOut v w y
   carried_out o = record {
     point = o.point ∙ (λ i. after_release (left_by (c.line_is i).closed) (c.passed i));
     state = o.state ∙ (λ i. left_by (c.line_is i).closed);
@@ -33,7 +34,7 @@ module _ (v h w : Known) (y : Parcel) (point : Point) (c : Carries v h y point) 
     clear = λ none. o.clear (c.passed ∙ none);
   }
 
-  pub carried_left : IsLeft h w h.line → IsLeft v w y
+  pub carried_left : IsLeft h w h.own.line → IsLeft v w y
   carried_left l = record {
     point = l.point ∙ (λ i. after_release (left_in (c.passed i) (c.line_is i).closed) (c.passed i));
     state = l.state ∙ (λ i. left_in (c.passed i) (c.line_is i).closed);
@@ -54,7 +55,7 @@ module _ (v h w : Known) (y : Parcel) (point : Point) (c : Carries v h y point) 
     few = p.few;
   }
 
-  pub carried_on : (next : Point) → Carries h w h.line next → Carries v w y next
+  pub carried_on : (next : Point) → Carries h w h.own.line next → Carries v w y next
   carried_on next d = record {
     point_is = d.point_is;
     state = d.state ∙ c.state;
@@ -69,7 +70,7 @@ one_left v h y point c e l = omega (arith, l, ap length c.passed, ap (λ (t : Te
 
 -- home does not name the entry, and so it is marked as done; s, t and u are the seat before, between and after
 module _ (allows : List ℕ → List ℕ → Type 0) (s t u : LinkSeat) (y : Parcel) (at : ℕ) (first : GoesOn allows s.me t.me 1) (one : IsOneLeft (known_of t)) (c : Carries (known_of s) (known_of t) y (Marking at)) where
-  pub hands_left : HasNoSlot u → Ended (known_of t) (known_of u) (known_of t).line → IsLeft (known_of t) (known_of u) (known_of t).line → HandsOn s y u 2 handed.Left
+  pub hands_left : HasNoSlot u → Ended (known_of t) (known_of u) (known_of t).own.line → IsLeft (known_of t) (known_of u) (known_of t).own.line → HandsOn s y u 2 handed.Left
   hands_left slot ended left = (
     slot,
     carried_ended (known_of s) (known_of t) (known_of u) y (Marking at) c ended,
@@ -79,11 +80,11 @@ module _ (allows : List ℕ → List ℕ → Type 0) (s t u : LinkSeat) (y : Par
   )
 
   -- a link is found there, and its request is granted
-  module _ (w : LinkSeat) (next : ℕ) (d : Carries (known_of t) (known_of u) (known_of t).line (Granting next)) where
+  module _ (w : LinkSeat) (next : ℕ) (d : Carries (known_of t) (known_of u) (known_of t).own.line (Granting next)) where
     both : Carries (known_of s) (known_of u) y (Granting next)
     both = carried_on (known_of s) (known_of t) (known_of u) y (Marking at) c (Granting next) d
 
-    pub hands_out : HasNoSlot w → Ended (known_of u) (known_of w) (known_of u).line → GoesOut (known_of u) (known_of w) (known_of u).line → HandsOn s y w 3 handed.On
+    pub hands_out : HasNoSlot w → Ended (known_of u) (known_of w) (known_of u).own.line → GoesOut (known_of u) (known_of w) (known_of u).own.line → HandsOn s y w 3 handed.On
     hands_out slot ended out = (
       slot,
       carried_ended (known_of s) (known_of u) (known_of w) y (Granting next) both ended,
@@ -91,7 +92,7 @@ module _ (allows : List ℕ → List ℕ → Type 0) (s t u : LinkSeat) (y : Par
       inr (refl, one_left (known_of s) (known_of t) y (Marking at) c first.extends one),
     )
 
-    pub hands_passed : HasSlot w y → next ≤ MOST_NODES → Ended (known_of u) (known_of w) (known_of u).line → Passes (known_of u) (known_of w) next → HandsOn s y w 3 (handed.Passed next)
+    pub hands_passed : HasSlot w y → next ≤ MOST_NODES → Ended (known_of u) (known_of w) (known_of u).own.line → Passes (known_of u) (known_of w) next → HandsOn s y w 3 (handed.Passed next)
     hands_passed slot high ended passes = (
       slot,
       carried_ended (known_of s) (known_of u) (known_of w) y (Granting next) both ended,

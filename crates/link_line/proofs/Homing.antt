@@ -37,15 +37,16 @@ use Rattle.link_core.specs.Steps as row
 use Rattle.link_core.specs.Shown.{has_line, IsCarried}
 use Rattle.link_core.proofs.Found.{found}
 use Rattle.link_core.proofs.Steady.{after_is, after_made}
-use Rattle.link_line.specs.declared.known.Known.{Known}
-use Rattle.link_line.specs.declared.parcel.Parcel.{Parcel}
-use Rattle.link_line.specs.declared.rule.Setup.{Setup}
+use Rattle.link_line.specs.Known.{Known}
+use Rattle.shared_line.specs.declared.rule.Parcel.{Parcel}
+use Rattle.shared_line.specs.declared.rule.Setup.{Setup}
 use Rattle.link_line.specs.Words.{home_at}
 use Rattle.link_line.specs.Links.{Past, NodeOk, PastOk, Laid, InSlot, Homes, is_leaving, is_shut_by, state_at, state_in_release}
 use Rattle.link_line.specs.Steps.{Contents, homed, Ended, GoesOut, Carries, TurnIsOver, MayLetGo}
 use Rattle.link_line.proofs.Going.{SetsGrow, next, on, wide, fine_next, others_next}
-use Rattle.link_line.proofs.Histories.{at_point}
-use Rattle.link_line.proofs.Laying.{St, Rule, mine_ok, is_node, home_laid}
+use Rattle.link_line.specs.Laws.Histories.{at_point}
+use Rattle.link_line.specs.Laws.Nodes.{St, Rule, mine_ok, is_node}
+use Rattle.link_line.proofs.Laying.{home_laid}
 use Rattle.link_line.proofs.Turning.{goes_step, grows_none}
 use Rattle.link_line.proofs.Releasing.{Holds, holds_so, after, view_after, node, few_passed, ended, out_turned, goes_out, stays_turned, carries_on, end_quiet, with_line, line_is}
 
@@ -86,7 +87,7 @@ module _ (good : List ℕ → Type 0) (allows : List ℕ → List ℕ → Type 0
         let homes : Homes = set s.homes 0 (some z) in
         let t = out_turned good allows about s r me v at z x h k refl order ends p quiet own (inl refl) (set s.words home_at 0) homes
         (laid y.core homes 0 refl refl refl (length-set s.homes 0 (some z) ∙ r.laid.deep) (record { line = z; at = set_here s.homes 0 (some z) (let d = r.laid.deep in omega arith); bytes = h.bytes; closed = h.closed; turns = h.turns })) in
-        let w : Known = view_after good allows about s r me v at z x h k refl v.passed in (
+        let w : Known = view_after good allows about s r me v at z x h k refl v.own.passed in (
           w ∷ [],
           gives,
           tt,
@@ -96,7 +97,7 @@ module _ (good : List ℕ → Type 0) (allows : List ℕ → List ℕ → Type 0
             (λ y' has. (
               (λ _. (
                 refl,
-                subst (λ (q : Parcel). Ended v w q) (line_is z y' has) (ended good allows about s r me v at z x h k refl order ends v.passed),
+                subst (λ (q : Parcel). Ended v w q) (line_is z y' has) (ended good allows about s r me v at z x h k refl order ends v.own.passed),
                 subst (λ (q : Parcel). GoesOut v w q) (line_is z y' has) (goes_out good allows about s r me v at z x h k refl order ends p quiet own (inl refl) refl no_hand),
               )),
               (λ ne. absurd (ne f)),
@@ -107,8 +108,8 @@ module _ (good : List ℕ → Type 0) (allows : List ℕ → List ℕ → Type 0
         no_hand : (q : ℕ) → Home ≡ Hand q → ⊥
         no_hand q f = cc
 
-    one_left : x.core.home ≢ e → length v.passed + 2 ≤ about.terms.nodes
-    one_left ne = dite (ℕ_discrete (length v.passed + 1) about.terms.nodes)
+    one_left : x.core.home ≢ e → length v.own.passed + 2 ≤ about.terms.nodes
+    one_left ne = dite (ℕ_discrete (length v.own.passed + 1) about.terms.nodes)
         (λ all. absurd (ne ((few_passed good allows about s r me v at z x h).1 all ∙ ((found h.via.fine.shown).releases n e its rel).1)))
         (λ less. let l = (few_passed good allows about s r me v at z x h).0 in omega arith)
 
@@ -123,7 +124,7 @@ module _ (good : List ℕ → Type 0) (allows : List ℕ → List ℕ → Type 0
         let own = own_seat (record (seat x.core n) { point = Marking e }) in
         let t = stays_turned good allows about s r me v at z x h k refl order ends (Marking e) refl own refl refl refl refl (set s.words home_at (slice_index s.words home_at)) s.homes
         (laid y.core s.homes (slice_index s.words home_at) refl refl (r.laid.home ∙ sym h.home) r.laid.deep (subst (InSlot y.core s.homes) (sym ((found h.via.fine.shown).hand n its h.lined)) tt)) in
-        let w : Known = view_after good allows about s r me v at z x h k refl v.passed in
+        let w : Known = view_after good allows about s r me v at z x h k refl v.own.passed in
         let c = carries_on good allows about s r me v at z x h k refl order ends (Marking e) refl own refl refl refl refl in (
           w ∷ [],
           keeps,
@@ -133,7 +134,7 @@ module _ (good : List ℕ → Type 0) (allows : List ℕ → List ℕ → Type 0
             goes_step allows v w (with_line z) (with_line z) t.continues refl,
             (λ y' has. (
               (λ g. absurd (f g)),
-              (λ _. (refl, subst (λ (q : Parcel). Carries v w q (Marking e)) (line_is z y' has) c, subst (λ (t : Terms). length v.passed + 2 ≤ t.nodes) (sym ok.who.terms) (one_left other))),
+              (λ _. (refl, subst (λ (q : Parcel). Carries v w q (Marking e)) (line_is z y' has) c, subst (λ (t : Terms). length v.own.passed + 2 ≤ t.nodes) (sym ok.who.terms) (one_left other))),
             )),
           ),
         )
@@ -142,7 +143,7 @@ module _ (good : List ℕ → Type 0) (allows : List ℕ → List ℕ → Type 0
     homes_by = exchanged (slice_index s.words home_at) e 0 GoalAt goes fails
 
 -- a holder's turn is over: its write, and perhaps its closing of the line, come to the core with this step
-module _ (good : List ℕ → Type 0) (allows : List ℕ → List ℕ → Type 0) (about : Setup) (v : Known) (z : Parcel) (hold : v.seat.point ≡ Holding) (over : TurnIsOver allows v z) where
+module _ (good : List ℕ → Type 0) (allows : List ℕ → List ℕ → Type 0) (about : Setup) (v : Known) (z : Parcel) (hold : v.own.seat.point ≡ Holding) (over : TurnIsOver allows v z) where
   module _ (me : ℕ) (s : St good allows about) (r : Rule good allows about s) (at : get_elem? s.views me ≡ some (v ∷ [])) where
     mine : NodeOk about r.past v.view.node v
     mine = mine_ok good allows about s r me v at
@@ -208,9 +209,9 @@ module _ (good : List ℕ → Type 0) (allows : List ℕ → List ℕ → Type 0
     turns_over = over.turns ∙ ap one_fewer ((λ i. turns_left (mine.who.terms i).lease (ends_same i)) ∙ sym r.fine.shown.matches.turns)
 
     state_is : v.view.state ≡ shows.Holding
-    state_is = mine.stands.state ∙ ap (λ (p : Point). state_at p v.seat.reason v.seat.passed) hold
+    state_is = mine.stands.state ∙ ap (λ (p : Point). state_at p v.own.seat.reason v.own.seat.passed) hold
 
-    passed_is : (seat r.past.core v.view.node).passed ≡ v.seat.passed
+    passed_is : (seat r.past.core v.view.node).passed ≡ v.own.seat.passed
     passed_is = ap (λ (s : Seat). s.passed) (sym mine.stands.seat)
 
     -- an open line is let go as it is written
@@ -299,11 +300,11 @@ module _ (good : List ℕ → Type 0) (allows : List ℕ → List ℕ → Type 0
     ]
 
 module _ (good : List ℕ → Type 0) (allows : List ℕ → List ℕ → Type 0) (about : Setup) (v : Known) (z : Parcel) (e : ℕ) where
-  begins : (v.seat.point ≡ Holding) × (e ≡ v.view.node) × TurnIsOver allows v z → (me slots : ℕ) → Allows (Rule good allows about) slots me (v ∷ [], with_line z) home_at (λ k. taken (eqb k e) 0 k) (homed allows (step slots home_at e 0 none) (v ∷ [], with_line z))
+  begins : (v.own.seat.point ≡ Holding) × (e ≡ v.view.node) × TurnIsOver allows v z → (me slots : ℕ) → Allows (Rule good allows about) slots me (v ∷ [], with_line z) home_at (λ k. taken (eqb k e) 0 k) (homed allows (step slots home_at e 0 none) (v ∷ [], with_line z))
   begins (hold, own, over) me slots = subst (λ (e : ℕ). Allows (Rule good allows about) slots me (v ∷ [], with_line z) home_at (λ k. taken (eqb k e) 0 k) (homed allows (step slots home_at e 0 none) (v ∷ [], with_line z))) (sym own)
       (λ s r deep at small. starts good allows about v z hold over me slots s r at)
 
-  continues_home : (v.seat.point ≡ Leaving e) × (z ≡ v.line) → (me slots : ℕ) → Allows (Rule good allows about) slots me (v ∷ [], with_line z) home_at (λ k. taken (eqb k e) 0 k) (homed allows (step slots home_at e 0 none) (v ∷ [], with_line z))
+  continues_home : (v.own.seat.point ≡ Leaving e) × (z ≡ v.own.line) → (me slots : ℕ) → Allows (Rule good allows about) slots me (v ∷ [], with_line z) home_at (λ k. taken (eqb k e) 0 k) (homed allows (step slots home_at e 0 none) (v ∷ [], with_line z))
   continues_home (lv, same) me slots s r deep at small =
       let here = at_point allows about r.past r.fine v.view.node v (is_node good allows about s r me v at) (mine_ok good allows about s r me v at) ∙ lv in
       homes_by good allows about v z e me slots s r at r.past (subst (λ (q : Parcel). Holds good allows about r.past v q r.past) (sym same) (holds_so good allows about s r me v at (ap is_leaving lv))) (leaving here)

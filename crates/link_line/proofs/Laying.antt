@@ -1,23 +1,22 @@
 -- How a step leaves the words and the slot, and keeps the rule.
-use Rattle.std.proofs.Common.{◌≡◌, ◌≢◌, ℕ, ◌<◌, ◌≤◌, List, [], ◌∷◌, length, set, slice_index, sym, refl, ap, ◌∙◌, subst, arith, length-set, get_or-set_same, get_or-set_other}
+use Rattle.std.proofs.Common.{◌≡◌, ◌≢◌, ℕ, ◌<◌, ◌≤◌, List, [], ◌∷◌, length, set, slice_index, sym, ap, ◌∙◌, subst, arith, length-set, get_or-set_same, get_or-set_other}
 use mathlib.Core.Logic.{dite}
 use mathlib.Core.Option.{some, none}
 use native.Mathlib.Decide.{ℕ_discrete}
 use lib.ListN.{get_elem?}
 use Rattle.std.specs.Prelude.{slice_index_or}
-use Rattle.atomic_table.specs.Table.{State}
 use Rattle.qolb_model.specs.declared.terms.TheConstants.{MOST_NODES}
 use Rattle.link_core.specs.declared.state.State.{State as Core}
 use Rattle.link_core.specs.declared.entry.Entry.{Entry}
 use Rattle.link_core.specs.declared.place.Place.{Place}
 use Rattle.link_core.specs.declared.place.Place.TheVariants.{Home, Mailbox, Hand}
 use Rattle.link_core.specs.State.{empty, entry, IsNode}
-use Rattle.link_line.specs.declared.known.Known.{Known}
-use Rattle.link_line.specs.declared.parcel.Parcel.{Parcel}
-use Rattle.link_line.specs.declared.rule.Setup.{Setup}
+use Rattle.link_line.specs.Known.{Known}
+use Rattle.shared_line.specs.declared.rule.Setup.{Setup}
 use Rattle.link_line.specs.Words.{home_at, entry_at, pack}
-use Rattle.link_line.specs.Links.{Past, NodeOk, PastOk, Laid, InSlot, Homes, LinkRule}
+use Rattle.link_line.specs.Links.{Past, NodeOk, PastOk, Laid, InSlot, Homes}
 use Rattle.qolb_model.proofs.Updates.{put, put_here, put_else}
+use Rattle.link_line.specs.Laws.Nodes.{St, Rule}
 use Rattle.link_line.proofs.Lists.{members_step}
 
 -- only the home word changes
@@ -71,17 +70,11 @@ in_slot c d homes (Mailbox q) a b l s = record { line = s.line; at = s.at; bytes
 in_slot c d homes (Hand q) a b l s = tt
 
 module _ (good : List ℕ → Type 0) (allows : List ℕ → List ℕ → Type 0) (about : Setup) where
-  abbrev pub St : Type 0
-  St = State Parcel (List Known)
-
-  abbrev pub Rule : St → Type 0
-  Rule = LinkRule good allows about
-
   -- the seat `me`, which has the view v alone, gets w, and the past becomes y
-  pub rule_step : (s : St) (r : Rule s) (me : ℕ) (v w : Known) (y : Past) (words : List ℕ) (homes : Homes) → get_elem? s.views me ≡ some (v ∷ []) → w.view.node ≡ v.view.node
+  pub rule_step : (s : St good allows about) (r : Rule good allows about s) (me : ℕ) (v w : Known) (y : Past) (words : List ℕ) (homes : Homes) → get_elem? s.views me ≡ some (v ∷ []) → w.view.node ≡ v.view.node
       → PastOk allows about y → Laid y.core words homes → NodeOk about y v.view.node w
       → ((n : ℕ) (u : Known) → 0 < n → n ≤ about.terms.nodes → n ≢ v.view.node → NodeOk about r.past n u → NodeOk about y n u)
-      → Rule record { words = words; homes = homes; views = set s.views me (w ∷ []) }
+      → Rule good allows about record { words = words; homes = homes; views = set s.views me (w ∷ []) }
   rule_step s r me v w y words homes at same fine laid mine others = record {
     past = y;
     who = put r.who v.view.node w;
@@ -95,13 +88,3 @@ module _ (good : List ℕ → Type 0) (allows : List ℕ → List ℕ → Type 0
         (λ ne. subst (NodeOk about y n) (sym (put_else r.who v.view.node w n ne)) (others n (r.who n) a b ne (r.each n a b)));
     members = members_step about.terms.nodes r.who r.owner s.views me v w at same r.members;
   }
-
-  pub low : (s : St) (r : Rule s) (me : ℕ) (v : Known) → get_elem? s.views me ≡ some (v ∷ []) → (0 < v.view.node) × (v.view.node ≤ about.terms.nodes)
-  low s r me v at = let m = r.members me 0 (v ∷ []) v at refl in (m.low, m.high)
-
-  -- what the rule says of the seat's own view
-  pub mine_ok : (s : St) (r : Rule s) (me : ℕ) (v : Known) → get_elem? s.views me ≡ some (v ∷ []) → NodeOk about r.past v.view.node v
-  mine_ok s r me v at = let m = r.members me 0 (v ∷ []) v at refl in subst (NodeOk about r.past v.view.node) m.is (r.each v.view.node m.low m.high)
-
-  pub is_node : (s : St) (r : Rule s) (me : ℕ) (v : Known) → get_elem? s.views me ≡ some (v ∷ []) → IsNode r.past.core v.view.node
-  is_node s r me v at = let l = low s r me v at in (l.0, subst (λ (q : ℕ). v.view.node ≤ q) (sym r.fine.shown.matches.size) l.1)

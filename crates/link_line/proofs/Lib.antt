@@ -1,7 +1,6 @@
 pub mod Packed
 pub mod Lists
 pub mod Window
-pub mod Histories
 pub mod Going
 pub mod Laying
 pub mod Turning
@@ -21,9 +20,3 @@ pub mod Handing
 pub mod Walking
 pub mod Freed
 pub mod Released
-pub mod Calling
-pub mod Seats
-pub mod Meets
-pub mod Lasting
-pub mod Splitting
-pub mod Finishing

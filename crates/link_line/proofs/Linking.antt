@@ -24,22 +24,23 @@ use Rattle.link_core.specs.Steps as row
 use Rattle.link_core.specs.Shown.{IsBehind}
 use Rattle.link_core.proofs.Found.{found, unset}
 use Rattle.link_core.proofs.Steady.{after_is}
-use Rattle.link_line.specs.declared.known.Known.{Known}
-use Rattle.link_line.specs.declared.parcel.Parcel.{Parcel}
-use Rattle.link_line.specs.declared.rule.Setup.{Setup}
+use Rattle.link_line.specs.Known.{Known}
+use Rattle.shared_line.specs.declared.rule.Parcel.{Parcel}
+use Rattle.shared_line.specs.declared.rule.Setup.{Setup}
 use Rattle.link_line.specs.declared.words.TheConstants.{LINK}
 use Rattle.link_line.specs.Words.{entry_at, pack, is_done}
 use Rattle.link_line.specs.Links.{Past, NodeOk, Laid, InSlot, HasLine, Homes}
 use Rattle.link_line.specs.Steps.{Contents, linked}
 use Rattle.link_line.proofs.Going.{SetsGrow, next, on, wide}
-use Rattle.link_line.proofs.Histories.{at_point, own_at}
+use Rattle.link_line.specs.Laws.Histories.{at_point, own_at}
 use Rattle.link_line.proofs.Packed.{done_is, add_link}
-use Rattle.link_line.proofs.Laying.{St, Rule, mine_ok, is_node, entry_laid, deep_taken, in_slot}
+use Rattle.link_line.specs.Laws.Nodes.{St, Rule, mine_ok, is_node}
+use Rattle.link_line.proofs.Laying.{entry_laid, deep_taken, in_slot}
 use Rattle.link_line.proofs.Turning.{whole, goes_step, grows_joined, joins_push, via_none, turned}
 use Rattle.link_line.proofs.Quiet.{quiet_owes}
 use Rattle.link_line.proofs.Arriving.{view_come, Arrives, comes, come_turned, queued_at}
 
-module _ (good : List ℕ → Type 0) (allows : List ℕ → List ℕ → Type 0) (about : Setup) (v : Known) (p : ℕ) (linking : v.seat.point ≡ Linking p) where
+module _ (good : List ℕ → Type 0) (allows : List ℕ → List ℕ → Type 0) (about : Setup) (v : Known) (p : ℕ) (linking : v.own.seat.point ≡ Linking p) where
   module _ (me slots : ℕ) (carried : List (ℕ × Parcel)) (s : St good allows about) (r : Rule good allows about s) (at : get_elem? s.views me ≡ some (v ∷ [])) (small : slice_index s.words (entry_at p) < 18446744073709551616) where
     ok : NodeOk about r.past v.view.node v
     ok = mine_ok good allows about s r me v at
@@ -146,19 +147,19 @@ module _ (good : List ℕ → Type 0) (allows : List ℕ → List ℕ → Type 0
         let is = after_is step' in
         let own' = ap (λ (z : Seat). z.point) (own_seat (record (seat r.past.core v.view.node) { point = Queued })) in
         let order = ap (λ (q : Queue). q.order) is in
-        let t = turned good allows about s r me v at r.past (via_none good allows about r.past v r.fine) k refl joined r.past.early r.past.late (grows k refl order) v.view.count joins [] v.line
+        let t = turned good allows about s r me v at r.past (via_none good allows about r.past v r.fine) k refl joined r.past.early r.past.late (grows k refl order) v.view.count joins [] v.own.line
         (quiet_owes good allows about r.past y v Queued joins r.fine ok step'.shows node own' refl order (ap (λ (q : Queue). q.ends) is) (joins_push about r.past y v (own v.view) ok refl))
         (set s.words (entry_at p) word) s.homes
         (laid y.core s.homes refl refl refl r.laid.deep (in_slot r.past.core y.core s.homes r.past.core.place refl refl refl r.laid.slot)) in (
-          whole y v v.view.count joins [] v.line ∷ [],
+          whole y v v.view.count joins [] v.own.line ∷ [],
           keeps,
           tt,
           t.rule,
           (
-            goes_step allows v (whole y v v.view.count joins [] v.line) carried carried t.continues refl,
-            links k v.line,
+            goes_step allows v (whole y v v.view.count joins [] v.own.line) carried carried t.continues refl,
+            links k v.own.line,
             (λ f. let z = sym f ∙ done_as ∙ un in cc),
-            (λ _. (refl, record { point = own'; queued = queued_at good allows about y v v.view.count joins [] v.line step'.shows ok.who.terms (ap (λ (q : Queue). count_of v.view.node q.order) is ∙ ok.knows.counts) step'.says own' })),
+            (λ _. (refl, λ mark. record { stands = own'; queued = queued_at good allows about y v v.view.count joins [] v.own.line step'.shows ok.who.terms (ap (λ (q : Queue). count_of v.view.node q.order) is ∙ ok.knows.counts) step'.says own' })),
           ),
         )
 

@@ -1,18 +1,14 @@
 -- Values by place, which are replaced one at a time.
 use Rattle.std.proofs.Common.{◌≡◌, ◌≢◌, ℕ, zero, suc, ◌<◌, ◌≤◌, List, [], ◌∷◌, set, sym, refl, ap, ◌∙◌, subst, ⊎_elim, Some, None}
 use mathlib.Core.Option.{some}
-use native.Mathlib.Decide.{ℕ_discrete}
 use lib.ListN.{get_elem?}
 use Rattle.atomic_table.proofs.Lists.{at_set}
 use Rattle.qolb_model.specs.Entries.{Member, AreMembers}
 use Rattle.qolb_model.proofs.Lists.{same_some}
 use Rattle.qolb_model.proofs.Updates.{put, put_here, put_else}
-use Rattle.link_line.specs.declared.known.Known.{Known}
-use Rattle.link_line.specs.Links.{At, node_of}
-
-module _ {A : Type 0} where
-  pub at_same : (xs : List A) (p : ℕ) (x y : A) → At xs p x → At xs p y → x ≡ y
-  at_same xs p x y a b = same_some (sym a ∙ b)
+use Rattle.link_line.specs.Known.{Known}
+use Rattle.shared_line.specs.Entries.{node_of}
+use Rattle.link_line.specs.Links.{At}
 
 -- the seat `me` with the view v alone gets the view w of the same node
 pub members_step : (nodes : ℕ) (who : ℕ → Known) (owner : ℕ → ℕ × ℕ) (views : List (List Known)) (me : ℕ) (v w : Known) → get_elem? views me ≡ some (v ∷ []) → w.view.node ≡ v.view.node

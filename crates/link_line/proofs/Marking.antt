@@ -25,27 +25,28 @@ use Rattle.link_core.specs.Places.{asker}
 use Rattle.link_core.proofs.Follows.{current_cases}
 use Rattle.link_core.proofs.Found.{found, unset}
 use Rattle.link_core.proofs.Steady.{after_is}
-use Rattle.link_line.specs.declared.known.Known.{Known}
-use Rattle.link_line.specs.declared.parcel.Parcel.{Parcel}
-use Rattle.link_line.specs.declared.rule.Setup.{Setup}
+use Rattle.link_line.specs.Known.{Known}
+use Rattle.shared_line.specs.declared.rule.Parcel.{Parcel}
+use Rattle.shared_line.specs.declared.rule.Setup.{Setup}
 use Rattle.link_line.specs.declared.words.TheConstants.{DONE}
 use Rattle.link_line.specs.Words.{entry_at, pack, link_of}
 use Rattle.link_line.specs.Links.{Past, NodeOk, Laid, InSlot, Homes, is_leaving}
 use Rattle.link_line.specs.Steps.{Contents, marked, Carries, Ended, IsLeft}
 use Rattle.link_line.proofs.Going.{on, wide}
-use Rattle.link_line.proofs.Histories.{at_point}
+use Rattle.link_line.specs.Laws.Histories.{at_point}
 use Rattle.link_line.proofs.Packed.{link_is, add_done}
-use Rattle.link_line.proofs.Laying.{St, Rule, mine_ok, is_node, entry_laid, in_slot}
+use Rattle.link_line.specs.Laws.Nodes.{St, Rule, mine_ok, is_node}
+use Rattle.link_line.proofs.Laying.{entry_laid, in_slot}
 use Rattle.link_line.proofs.Turning.{goes_step}
 use Rattle.link_line.proofs.Quiet.{is_quiet}
 use Rattle.link_line.proofs.Releasing.{Holds, holds_so, after, view_after, places, ended, longer, out_turned, is_left, stays_turned, carries_on, left_short, end_quiet, with_line, line_is}
 
-module _ (good : List ℕ → Type 0) (allows : List ℕ → List ℕ → Type 0) (about : Setup) (v : Known) (e : ℕ) (marking : v.seat.point ≡ Marking e) where
+module _ (good : List ℕ → Type 0) (allows : List ℕ → List ℕ → Type 0) (about : Setup) (v : Known) (e : ℕ) (marking : v.own.seat.point ≡ Marking e) where
   abbrev n : ℕ
   n = v.view.node
 
   abbrev z : Parcel
-  z = v.line
+  z = v.own.line
 
   module _ (me slots : ℕ) (s : St good allows about) (r : Rule good allows about s) (at : get_elem? s.views me ≡ some (v ∷ [])) (small : slice_index s.words (entry_at e) < 18446744073709551616) where
     ok : NodeOk about r.past n v
@@ -107,7 +108,7 @@ module _ (good : List ℕ → Type 0) (allows : List ℕ → List ℕ → Type 0
         let own = own_seat (record (seat r.past.core n) { point = p }) in
         let t = stays_turned good allows about s r me v at z r.past h k refl order ends p refl own refl refl refl refl (set s.words (entry_at e) word) s.homes
         (laid y.core s.homes refl refl refl r.laid.deep (in_slot r.past.core y.core s.homes r.past.core.place refl refl refl r.laid.slot)) in
-        let w : Known = view_after good allows about s r me v at z r.past h k refl v.passed in
+        let w : Known = view_after good allows about s r me v at z r.past h k refl v.own.passed in
         let c = carries_on good allows about s r me v at z r.past h k refl order ends p refl own refl refl refl refl in (
           w ∷ [],
           keeps,
@@ -130,7 +131,7 @@ module _ (good : List ℕ → Type 0) (allows : List ℕ → List ℕ → Type 0
       abbrev left_core : Point → Core
       left_core p = put_seat n (seat_at_close p (seat r.past.core n)) (put_entry e with_done (record r.past.core { place = Mailbox e; left = turns_after n r.past.core }))
 
-      leaves : (p : Point) → is_quiet p ≡ true → (v.passed ≡ [] → p ≡ Left) → {t : Answer} (k : Step r.past.core (event.Done n) t (left_core p))
+      leaves : (p : Point) → is_quiet p ≡ true → (v.own.passed ≡ [] → p ≡ Left) → {t : Answer} (k : Step r.past.core (event.Done n) t (left_core p))
           → (after good allows about s r me v at z r.past h k refl).queue.order ≡ r.past.queue.order → (after good allows about s r me v at z r.past h k refl).queue.ends ≡ r.past.queue.ends ++ end_by r.past.core (seat r.past.core n).reason (seat r.past.core n).passed ∷ [] → Goal
       leaves p quiet e' k order ends =
           let y : Past = after good allows about s r me v at z r.past h k refl in
@@ -139,7 +140,7 @@ module _ (good : List ℕ → Type 0) (allows : List ℕ → List ℕ → Type 0
           let behind : (Mailbox e ≡ Home) ⊎ (length y.queue.ends < length y.queue.order) = inr (let a = ((found r.fine.shown).marks n e node here).1 in let b = longer good allows about s r me v at z r.past h k refl order ends in let c = ap (λ (o : List Request). length o) order in omega arith) in
           let t = out_turned good allows about s r me v at z r.past h k refl order ends p quiet own behind (set s.words (entry_at e) word) homes
           (laid y.core homes refl refl refl (length-set s.homes 0 (some z) ∙ r.laid.deep) (record { line = z; at = set_here s.homes 0 (some z) (let d = r.laid.deep in omega arith); bytes = h.bytes; closed = h.closed; turns = h.turns })) in
-          let w : Known = view_after good allows about s r me v at z r.past h k refl v.passed in
+          let w : Known = view_after good allows about s r me v at z r.past h k refl v.own.passed in
           let late = (found r.fine.shown).late n e node here un in
           let others = (on allows about r.may_open.nodes.few r.past h.via.fine k).spared.seats (asker r.past.queue.order (length r.past.queue.ends + 1)) (λ i. let q : Linking e ≡ Marking e = sym late ∙ ap (point r.past.core) i ∙ here in cc) in
           let short = left_short good allows about s r me v at z r.past h here un y w t.fine (others, order, longer good allows about s r me v at z r.past h k refl order ends) refl refl (λ q j. ok.joins.all_joined q j) in (
@@ -152,7 +153,7 @@ module _ (good : List ℕ → Type 0) (allows : List ℕ → List ℕ → Type 0
               (λ y' has. (
                 (λ _. (
                   refl,
-                  subst (λ (q : Parcel). Ended v w q) (line_is z y' has) (ended good allows about s r me v at z r.past h k refl order ends v.passed),
+                  subst (λ (q : Parcel). Ended v w q) (line_is z y' has) (ended good allows about s r me v at z r.past h k refl order ends v.own.passed),
                   subst (λ (q : Parcel). IsLeft v w q) (line_is z y' has) (is_left good allows about s r me v at z r.past h k refl order ends p quiet own behind e' (λ m f. no_hand m f) short),
                 )),
                 (λ ne. absurd (ne (link_as ∙ un))),
@@ -169,7 +170,7 @@ module _ (good : List ℕ → Type 0) (allows : List ℕ → List ℕ → Type 0
       not_own : point r.past.core (current r.past.core n) ≡ Rolled → e ≢ n
       not_own rolled same = let q : Rolled ≡ Marking e = sym rolled ∙ ap (point r.past.core) (at_entry ∙ same) ∙ here in cc
 
-      some_passed : e ≢ n → v.passed ≡ [] → ⊥
+      some_passed : e ≢ n → v.own.passed ≡ [] → ⊥
       some_passed ne empty = ne (sym at_entry ∙ ap (last_or n) (places good allows about s r me v at z r.past h ∙ ap (map (asker r.past.queue.order)) empty))
 
       is_left_there : Goal
@@ -189,6 +190,6 @@ module _ (good : List ℕ → Type 0) (allows : List ℕ → List ℕ → Type 0
             )
       ]
 
-  pub marks_next : (me slots i : ℕ) (m : Contents) → m ≡ (v ∷ [], with_line v.line) → i ≡ entry_at e → Allows (Rule good allows about) slots me m i (λ k. (k + DONE) % 2 ^ 64) (marked allows (step slots i DONE 0 none) m)
+  pub marks_next : (me slots i : ℕ) (m : Contents) → m ≡ (v ∷ [], with_line v.own.line) → i ≡ entry_at e → Allows (Rule good allows about) slots me m i (λ k. (k + DONE) % 2 ^ 64) (marked allows (step slots i DONE 0 none) m)
   marks_next me slots i m is word = subst (λ (z : ℕ × Contents). Allows (Rule good allows about) slots me z.1 z.0 (λ k. (k + DONE) % 2 ^ 64) (marked allows (step slots z.0 DONE 0 none) z.1)) (λ j. (sym word j, sym is j))
       (λ s r deep at small. dite (ℕ_discrete (entry r.past.core e).link 0) (λ un. is_left_there me slots s r at small un) (λ ne. goes_on me slots s r at small ne))

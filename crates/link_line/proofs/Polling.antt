@@ -19,22 +19,23 @@ use Rattle.link_core.specs.Steps.{Step, node_of, seat_at_arrival}
 use Rattle.link_core.specs.Steps as row
 use Rattle.link_core.proofs.Found.{found, unset}
 use Rattle.link_core.proofs.Steady.{after_is}
-use Rattle.link_line.specs.declared.known.Known.{Known}
-use Rattle.link_line.specs.declared.parcel.Parcel.{Parcel}
-use Rattle.link_line.specs.declared.rule.Setup.{Setup}
+use Rattle.link_line.specs.Known.{Known}
+use Rattle.shared_line.specs.declared.rule.Parcel.{Parcel}
+use Rattle.shared_line.specs.declared.rule.Setup.{Setup}
 use Rattle.link_line.specs.declared.words.TheConstants.{ROLLED}
 use Rattle.link_line.specs.Words.{entry_at, pack, is_granted}
 use Rattle.link_line.specs.Links.{Past, NodeOk, InSlot, HasLine}
 use Rattle.link_line.specs.Steps.{Contents, loaded, rolled}
 use Rattle.link_line.proofs.Going.{on, wide}
-use Rattle.link_line.proofs.Histories.{at_point}
+use Rattle.link_line.specs.Laws.Histories.{at_point}
 use Rattle.link_line.proofs.Packed.{granted_is, add_rolled}
-use Rattle.link_line.proofs.Laying.{St, Rule, mine_ok, is_node, entry_laid, same_laid, deep_taken, in_slot}
+use Rattle.link_line.specs.Laws.Nodes.{St, Rule, mine_ok, is_node}
+use Rattle.link_line.proofs.Laying.{entry_laid, same_laid, deep_taken, in_slot}
 use Rattle.link_line.proofs.Turning.{goes_step, grows_none, joins_same}
 use Rattle.link_line.proofs.Quiet.{after, view_after, quiet_turned}
 use Rattle.link_line.proofs.Arriving.{view_come, Arrives, comes, come_turned, queued_at, withdrawn_at}
 
-module _ (good : List ℕ → Type 0) (allows : List ℕ → List ℕ → Type 0) (about : Setup) (v : Known) (queued : v.seat.point ≡ Queued) where
+module _ (good : List ℕ → Type 0) (allows : List ℕ → List ℕ → Type 0) (about : Setup) (v : Known) (queued : v.own.seat.point ≡ Queued) where
   module _ (me slots : ℕ) (carried : List (ℕ × Parcel)) (s : St good allows about) (r : Rule good allows about s) (at : get_elem? s.views me ≡ some (v ∷ [])) (small : slice_index s.words (entry_at v.view.node) < 18446744073709551616) where
     ok : NodeOk about r.past v.view.node v
     ok = mine_ok good allows about s r me v at
@@ -156,7 +157,7 @@ module _ (good : List ℕ → Type 0) (allows : List ℕ → List ℕ → Type 0
               goes_step allows v (view_after good allows about s r me v at k) carried carried t.continues refl,
               refl,
               (λ f. let z = sym f ∙ granted_as ∙ un in cc),
-              (λ _. (refl, record { point = here; queued = queued_at good allows about y v v.view.count v.view.joined [] v.line step'.shows ok.who.terms (ap (λ (q : Queue). count_of v.view.node q.order) is ∙ ok.knows.counts) step'.says here })),
+              (λ _. (refl, λ mark. record { stands = here; queued = queued_at good allows about y v v.view.count v.view.joined [] v.own.line step'.shows ok.who.terms (ap (λ (q : Queue). count_of v.view.node q.order) is ∙ ok.knows.counts) step'.says here })),
             ),
           )
 
@@ -177,7 +178,7 @@ module _ (good : List ℕ → Type 0) (allows : List ℕ → List ℕ → Type 0
               goes_step allows v (view_after good allows about s r me v at k) carried carried t.continues refl,
               refl,
               (λ f. let z = sym f ∙ granted_as ∙ un in cc),
-              (λ _. (refl, record { point = own; withdrawn = withdrawn_at good allows about y v v.view.count v.view.joined [] v.line step'.shows ok.who.terms (ap (λ (q : Queue). count_of v.view.node q.order) is ∙ ok.knows.counts) step'.says own })),
+              (λ _. (refl, λ mark. record { stands = own; withdrawn = withdrawn_at good allows about y v v.view.count v.view.joined [] v.own.line step'.shows ok.who.terms (ap (λ (q : Queue). count_of v.view.node q.order) is ∙ ok.knows.counts) step'.says own })),
             ),
           )
 

@@ -31,20 +31,21 @@ use Rattle.link_core.specs.Shown.{has_line, is_rolled, is_freeing}
 use Rattle.link_core.proofs.Found.{found}
 use Rattle.link_core.proofs.Orders.{last_new, last_place}
 use Rattle.link_core.proofs.Steady.{after_is}
-use Rattle.link_line.specs.declared.known.Known.{Known}
-use Rattle.link_line.specs.declared.parcel.Parcel.{Parcel}
-use Rattle.link_line.specs.declared.rule.Setup.{Setup}
+use Rattle.link_line.specs.Known.{Known}
+use Rattle.shared_line.specs.declared.rule.Parcel.{Parcel}
+use Rattle.shared_line.specs.declared.rule.Setup.{Setup}
 use Rattle.link_line.specs.Words.{home_at}
 use Rattle.link_line.specs.Links.{At, Past, NodeOk, InSlot, HasLine, state_at, is_leaving}
 use Rattle.link_line.specs.Steps.{Contents, prepended, LinksTo}
 use Rattle.link_line.proofs.Window.{few_open}
 use Rattle.link_line.proofs.Going.{next, on, wide}
-use Rattle.link_line.proofs.Histories.{at_point}
-use Rattle.link_line.proofs.Laying.{St, Rule, mine_ok, is_node, home_laid, deep_taken, in_slot}
+use Rattle.link_line.specs.Laws.Histories.{at_point}
+use Rattle.link_line.specs.Laws.Nodes.{St, Rule, mine_ok, is_node}
+use Rattle.link_line.proofs.Laying.{home_laid, deep_taken, in_slot}
 use Rattle.link_line.proofs.Turning.{whole, goes_step, grows_none, grows_joined, joins_same, joins_push, passes_none, Owes, via_none, turned, own_marked}
 use Rattle.link_line.proofs.Arriving.{view_come, Arrives, comes, come_turned}
 
-module _ (good : List ℕ → Type 0) (allows : List ℕ → List ℕ → Type 0) (about : Setup) (v : Known) (ready : v.seat.point ≡ Ready) where
+module _ (good : List ℕ → Type 0) (allows : List ℕ → List ℕ → Type 0) (about : Setup) (v : Known) (ready : v.own.seat.point ≡ Ready) where
   abbrev n : ℕ
   n = v.view.node
 
@@ -158,7 +159,7 @@ module _ (good : List ℕ → Type 0) (allows : List ℕ → List ℕ → Type 0
         let number = counts k r.past.joined order in
         let unjoined : Lacks r.past.joined asked = lacks_from r.past.joined asked not_joined in
         let behind : length y.queue.ends < length q.order = let e = ap (λ (es : List End). length es) ends in let l = r.fine.shown.matches.known in open' (λ z. busy (r.fine.shown.matches.home_idle z)) e l in
-        let owes : Owes good allows about y v (v.view.count + 1) v.view.joined [] v.line = record {
+        let owes : Owes good allows about y v (v.view.count + 1) v.view.joined [] v.own.line = record {
           kept = subst (AreAllowed allows about.terms.opening.bytes) (sym ends) r.fine.kept;
           lawful = λ z. let l : is_leaving (Linking r.past.core.home) ≡ true = ap is_leaving (sym own') ∙ z.leaves in cc;
           unjoined = λ _ _. ap (λ (c : ℕ). has r.past.joined (record { node = n; number = c })) number ∙ unjoined;
@@ -169,12 +170,11 @@ module _ (good : List ℕ → Type 0) (allows : List ℕ → List ℕ → Type 0
           left = λ z. let l : Linking r.past.core.home ≡ Freeing = sym own' ∙ z in cc;
           passes = passes_none y.queue.order _ (step'.shows.matches.unpassed n node (ap (λ (z : Point). has_line z || is_freeing z) own')) refl;
         } in
-        let t = turned good allows about s r me v at r.past (via_none good allows about r.past v r.fine) k refl r.past.joined r.past.early r.past.late (grows_none r.past y n refl refl refl) (v.view.count + 1) v.view.joined [] v.line owes (set s.words home_at n) s.homes
+        let t = turned good allows about s r me v at r.past (via_none good allows about r.past v r.fine) k refl r.past.joined r.past.early r.past.late (grows_none r.past y n refl refl refl) (v.view.count + 1) v.view.joined [] v.own.line owes (set s.words home_at n) s.homes
         (home_laid r.past.core y.core s.words s.homes s.homes n r.laid refl refl refl r.laid.deep (in_slot r.past.core y.core s.homes r.past.core.place refl refl refl r.laid.slot)) in
-        let w : Known = whole y v (v.view.count + 1) v.view.joined [] v.line in
+        let w : Known = whole y v (v.view.count + 1) v.view.joined [] v.own.line in
         let links : LinksTo r.past.core.home w = record {
-          point = own';
-          high = let z = subst (Names y.core) own' ((found step'.shows).names n node) in let f = few in let l = z.1 in omega arith;
+          stands = (own', (let z = subst (Names y.core) own' ((found step'.shows).names n node) in let f = few in let l = z.1 in omega arith));
           linking = record {
             state = ap (λ (p : Point). state_at p (seat y.core n).reason (seat y.core n).passed) own';
             waits = (length q.order, behind, asked_at k r.past.joined order);
@@ -189,7 +189,7 @@ module _ (good : List ℕ → Type 0) (allows : List ℕ → List ℕ → Type 0
           t.rule,
           (
             goes_step allows v w carried carried t.continues refl,
-            asks k r.past.joined order v.view.joined v.line,
+            asks k r.past.joined order v.view.joined v.own.line,
             (λ idle. absurd (busy (sym found_word ∙ idle))),
             (λ _. (refl, subst (λ (older : ℕ). LinksTo older w) (sym found_word) links)),
           ),

@@ -13,11 +13,11 @@ use Rattle.link_core.specs.declared.event.Event.{Event}
 use Rattle.link_core.specs.State.{point, IsNode}
 use Rattle.link_core.specs.Steps.{Step, node_of}
 use Rattle.link_core.specs.Shown.{has_line, is_freeing, Shows}
-use Rattle.link_line.specs.declared.known.Known.{Known}
-use Rattle.link_line.specs.declared.rule.Setup.{Setup}
+use Rattle.link_line.specs.Known.{Known}
+use Rattle.shared_line.specs.declared.rule.Setup.{Setup}
 use Rattle.link_line.specs.Links.{Past, NodeOk, PastOk, Laid, Homes, is_leaving}
 use Rattle.link_line.proofs.Going.{next, on}
-use Rattle.link_line.proofs.Laying.{St, Rule, mine_ok}
+use Rattle.link_line.specs.Laws.Nodes.{St, Rule, mine_ok}
 use Rattle.link_line.proofs.Turning.{Joins, joins_same, whole, grows_none, passes_none, Owes, via_none, Turned, turned}
 
 abbrev pub is_quiet : Point → Bool
@@ -61,7 +61,7 @@ quiet_unleaving Rolled a b = cc
 quiet_unleaving Shut a b = cc
 
 module _ (good : List ℕ → Type 0) (allows : List ℕ → List ℕ → Type 0) (about : Setup) where
-  pub quiet_owes : (x y : Past) (v : Known) (p : Point) (joins : List Request) → PastOk allows about x → NodeOk about x v.view.node v → Shows about.terms y.core y.queue → IsNode y.core v.view.node → point y.core v.view.node ≡ p → is_quiet p ≡ true → y.queue.order ≡ x.queue.order → y.queue.ends ≡ x.queue.ends → Joins y v joins → Owes good allows about y v v.view.count joins [] v.line
+  pub quiet_owes : (x y : Past) (v : Known) (p : Point) (joins : List Request) → PastOk allows about x → NodeOk about x v.view.node v → Shows about.terms y.core y.queue → IsNode y.core v.view.node → point y.core v.view.node ≡ p → is_quiet p ≡ true → y.queue.order ≡ x.queue.order → y.queue.ends ≡ x.queue.ends → Joins y v joins → Owes good allows about y v v.view.count joins [] v.own.line
   quiet_owes x y v p joins f ok s node is quiet order ends j = record {
     kept = subst (AreAllowed allows about.terms.opening.bytes) (sym ends) f.kept;
     lawful = λ z. absurd (quiet_unleaving p quiet (ap is_leaving (sym is) ∙ z.leaves));
@@ -79,10 +79,10 @@ module _ (good : List ℕ → Type 0) (allows : List ℕ → List ℕ → Type 0
     after k = next allows about r.may_open.nodes.few r.past r.fine k r.past.joined r.past.early r.past.late
 
     abbrev pub view_after : {e : Event} {t : Answer} {d : Core} → Step r.past.core e t d → Known
-    view_after k = whole (after k) v v.view.count v.view.joined [] v.line
+    view_after k = whole (after k) v v.view.count v.view.joined [] v.own.line
 
     pub quiet_turned : {e : Event} {t : Answer} {d : Core} (k : Step r.past.core e t d) → node_of e ≡ v.view.node → (p : Point) → point d v.view.node ≡ p → is_quiet p ≡ true → IsNode d v.view.node → (after k).queue.order ≡ r.past.queue.order → (after k).queue.ends ≡ r.past.queue.ends → (words : List ℕ) (homes : Homes) → Laid d words homes
         → Turned good allows about s r me v at r.past (via_none good allows about r.past v r.fine) (after k) (view_after k) words homes
     quiet_turned {e} {t} {d} k is p here quiet node order ends words homes laid =
-        turned good allows about s r me v at r.past (via_none good allows about r.past v r.fine) k is r.past.joined r.past.early r.past.late (grows_none r.past (after k) (node_of e) refl refl refl) v.view.count v.view.joined [] v.line
+        turned good allows about s r me v at r.past (via_none good allows about r.past v r.fine) k is r.past.joined r.past.early r.past.late (grows_none r.past (after k) (node_of e) refl refl refl) v.view.count v.view.joined [] v.own.line
         (quiet_owes r.past (after k) v p v.view.joined r.fine (mine_ok good allows about s r me v at) (on allows about r.may_open.nodes.few r.past r.fine k).shows node here quiet order ends (joins_same about r.past (after k) v (mine_ok good allows about s r me v at) refl)) words homes laid

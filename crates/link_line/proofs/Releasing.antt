@@ -38,13 +38,13 @@ use Rattle.link_core.proofs.Close.{close_passed}
 use Rattle.link_core.proofs.Found.{found}
 use Rattle.link_core.proofs.Orders.{get_request, request_got, last_is}
 use Rattle.link_core.proofs.Short.{short}
-use Rattle.link_line.specs.declared.known.Known.{Known}
-use Rattle.link_line.specs.declared.parcel.Parcel.{Parcel}
-use Rattle.link_line.specs.declared.rule.Setup.{Setup}
+use Rattle.link_line.specs.Known.{Known}
+use Rattle.shared_line.specs.declared.rule.Parcel.{Parcel}
+use Rattle.shared_line.specs.declared.rule.Setup.{Setup}
 use Rattle.link_line.specs.Links.{At, Past, NodeOk, PastOk, Passing, Laid, Homes, MayServe, serves, is_leaving, is_shut_by, state_of, state_at, state_in_release}
 use Rattle.link_line.specs.Steps.{Ended, GoesOut, IsLeft, Carries, end_of, next_end, after_release, left_in}
 use Rattle.link_line.proofs.Going.{next, on, leaving_lined, map_get}
-use Rattle.link_line.proofs.Laying.{St, Rule, mine_ok, is_node}
+use Rattle.link_line.specs.Laws.Nodes.{St, Rule, mine_ok, is_node}
 use Rattle.link_line.proofs.Quiet.{is_quiet}
 use Rattle.link_line.proofs.Turning.{whole, grows_none, joins_same, Owes, Via, via_none, Turned, turned, own_at}
 
@@ -124,10 +124,6 @@ end_quiet Own = refl
 end_quiet Closing = refl
 end_quiet Refused = refl
 
-none_from : (g : ℕ → ℕ) (places : List ℕ) → map g places ≡ [] → places ≡ []
-none_from g [] e = refl
-none_from g (p ∷ ps) e = let z : g p ∷ map g ps ≡ [] = e in cc
-
 pub leaving_state : (p : Point) (r : Reason) (ps : List ℕ) → is_leaving p ≡ true → state_at p r ps ≡ state_in_release r ps
 leaving_state (Leaving e) r ps a = refl
 leaving_state (Marking e) r ps a = refl
@@ -162,7 +158,7 @@ pub record Holds (good : List ℕ → Type 0) (allows : List ℕ → List ℕ �
   pub home : x.core.home ≡ x0.core.home
   pub entries : x.core.entries ≡ x0.core.entries
   pub lined : has_line (point x.core v.view.node) ≡ true
-  pub passed : (seat x.core v.view.node).passed ≡ v.seat.passed
+  pub passed : (seat x.core v.view.node).passed ≡ v.own.seat.passed
   pub state : v.view.state ≡ state_in_release (seat x.core v.view.node).reason (seat x.core v.view.node).passed
   pub ends : v.view.ends ≡ x.queue.ends
   pub bytes : z.bytes ≡ x.core.bytes
@@ -188,8 +184,8 @@ module _ (good : List ℕ → Type 0) (allows : List ℕ → List ℕ → Type 0
   abbrev pub sh : Shows about.terms x.core x.queue
   sh = h.via.fine.shown
 
-  pub places : st.passed ≡ map (asker x.queue.order) v.passed
-  places = h.passed ∙ ok.passes.places ∙ ap (λ (q : Queue). map (asker q.order) v.passed) (sym h.via.queue)
+  pub places : st.passed ≡ map (asker x.queue.order) v.own.passed
+  places = h.passed ∙ ok.passes.places ∙ ap (λ (q : Queue). map (asker q.order) v.own.passed) (sym h.via.queue)
 
   carried : IsCarried about.terms x.core x.queue.order x.queue.ends n st.reason st.passed
   carried = (found sh).carried n node h.lined
@@ -218,16 +214,16 @@ module _ (good : List ℕ → Type 0) (allows : List ℕ → List ℕ → Type 0
       same_order = order ∙ ap (λ (q : Queue). q.order) h.via.queue
 
       -- the places that were passed stay those of their nodes' last requests
-      passing : (passed : List ℕ) → passed ≡ v.passed → (seat d n).passed ≡ st.passed → length v.view.ends ≤ length after.queue.ends → ((seat d n).point ≡ Freeing → length v.view.ends < length after.queue.ends) → Passing after.queue.order (view_after passed)
+      passing : (passed : List ℕ) → passed ≡ v.own.passed → (seat d n).passed ≡ st.passed → length v.view.ends ≤ length after.queue.ends → ((seat d n).point ≡ Freeing → length v.view.ends < length after.queue.ends) → Passing after.queue.order (view_after passed)
       passing passed e same longer ended = record {
-        places = same ∙ places ∙ ap (λ (o : List Request). map (asker o) v.passed) (sym order) ∙ ap (map (asker after.queue.order)) (sym e);
+        places = same ∙ places ∙ ap (λ (o : List Request). map (asker o) v.own.passed) (sym order) ∙ ap (map (asker after.queue.order)) (sym e);
         last = λ i p a. last i p a;
         known = λ i p a. (last i p a).known;
         within = λ i p a. let l = ok.passes.within i p (was i p a) in omega arith;
         ended = λ f i p a. let l = ok.passes.within i p (was i p a) in let m = ended f in omega arith;
       }
         where
-          was : (i p : ℕ) → At passed i p → At v.passed i p
+          was : (i p : ℕ) → At passed i p → At v.own.passed i p
           was i p a = subst (λ (ps : List ℕ). At ps i p) e a
 
           last : (i p : ℕ) → At passed i p → IsLast after.queue.order (asker after.queue.order p) p
@@ -236,8 +232,8 @@ module _ (good : List ℕ → Type 0) (allows : List ℕ → List ℕ → Type 0
       -- the turn has ended
       module _ (ends : after.queue.ends ≡ x.queue.ends ++ end_by x.core st.reason st.passed ∷ []) where
         pub ends_are : after.queue.ends ≡ v.view.ends ++ next_end v z ∷ []
-        ends_are = ends ∙ ap (λ (q : End). x.queue.ends ++ q ∷ []) (end_is about.terms x.core x.queue.order x.queue.ends n st.reason st.passed v.passed (asker x.queue.order) z places carried h.bytes h.mask h.shut)
-            ∙ ap (λ (es : List End). es ++ end_of v.passed (is_closed es) z ∷ []) (sym h.ends)
+        ends_are = ends ∙ ap (λ (q : End). x.queue.ends ++ q ∷ []) (end_is about.terms x.core x.queue.order x.queue.ends n st.reason st.passed v.own.passed (asker x.queue.order) z places carried h.bytes h.mask h.shut)
+            ∙ ap (λ (es : List End). es ++ end_of v.own.passed (is_closed es) z ∷ []) (sym h.ends)
 
         pub longer : length after.queue.ends ≡ length x.queue.ends + 1
         longer = ap (λ (es : List End). length es) ends ∙ length-append x.queue.ends (end_by x.core st.reason st.passed ∷ [])
@@ -249,7 +245,7 @@ module _ (good : List ℕ → Type 0) (allows : List ℕ → List ℕ → Type 0
         kept = subst (AreAllowed allows about.terms.opening.bytes) (sym ends) (allowed-append allows about.terms.opening.bytes x.queue.ends (end_by x.core st.reason st.passed ∷ []) h.via.fine.kept
             (end_may allows about.terms x.core x.queue.order x.queue.ends n st.reason st.passed carried h.may))
 
-        own_last : v.passed ≡ [] → IsLast after.queue.order n (length v.view.ends)
+        own_last : v.own.passed ≡ [] → IsLast after.queue.order n (length v.view.ends)
         own_last none = subst (λ (w : List Request × List ℕ × ℕ). IsLast w.0 (last_or n w.1) w.2) (λ i. (sym order i, (places ∙ ap (map (asker x.queue.order)) none) i, ap (λ (es : List End). length es) (sym h.ends) i)) ((found sh).turn n node h.lined)
 
         pub ended : (passed : List ℕ) → Ended v (view_after passed) z
@@ -260,7 +256,7 @@ module _ (good : List ℕ → Type 0) (allows : List ℕ → List ℕ → Type 0
           own_turn = λ none. own_at good allows about after v v.view.count (length v.view.ends) shows counts (own_last none);
         }
 
-        own_cleared : v.passed ≡ [] → (p : Point) → point d n ≡ p → ((w : Entry) → is_clear p w ≡ true) → Has after.queue.clear (record { node = n; number = v.view.count })
+        own_cleared : v.own.passed ≡ [] → (p : Point) → point d n ≡ p → ((w : Entry) → is_clear p w ≡ true) → Has after.queue.clear (record { node = n; number = v.view.count })
         own_cleared none p here clear =
             ap (has after.queue.clear) (sym (last_is about.terms.lease after.queue.order after.queue.ends n (length v.view.ends) shows.legal (own_last none) ∙ (λ i. record { node = n; number = counts i })))
             ∙ shows.matches.clears n (length v.view.ends) after_node (own_last none) ∙ ap (λ (q : Point). is_clear q (entry d n)) here ∙ clear (entry d n)
@@ -298,15 +294,15 @@ module _ (good : List ℕ → Type 0) (allows : List ℕ → List ℕ → Type 0
             | inr more ↦ omega arith
           ]
 
-          out_passing : Passing after.queue.order (view_after v.passed)
-          out_passing = passing v.passed refl (ap (λ (s : Seat). s.passed) own_seat ∙ close_passed st.passed p st.reason) (let l = view_longer in omega arith) (λ _. let l = view_longer in omega arith)
+          out_passing : Passing after.queue.order (view_after v.own.passed)
+          out_passing = passing v.own.passed refl (ap (λ (s : Seat). s.passed) own_seat ∙ close_passed st.passed p st.reason) (let l = view_longer in omega arith) (λ _. let l = view_longer in omega arith)
 
-          out_left : point d n ≡ Freeing → (i x p : ℕ) → At (seat d n).passed i x → At v.passed i p → (entry d x).done ≡ true → (entry d x).link ≡ 0 → p + 1 < length after.queue.order
+          out_left : point d n ≡ Freeing → (i x p : ℕ) → At (seat d n).passed i x → At v.own.passed i p → (entry d x).done ≡ true → (entry d x).link ≡ 0 → p + 1 < length after.queue.order
           out_left fr i x p a b dn un =
-              let same : x ≡ asker after.queue.order p = map_get (asker after.queue.order) v.passed i p x b (subst (λ (ps : List ℕ). At ps i x) out_passing.places a) in
+              let same : x ≡ asker after.queue.order p = map_get (asker after.queue.order) v.own.passed i p x b (subst (λ (ps : List ℕ). At ps i x) out_passing.places a) in
               left_behind x p (subst (λ (m : ℕ). IsNode d m) (sym same) (shows.matches.nodes p (out_passing.last i p b).known)) (out_passing.ended fr i p b) dn un
 
-          out_owes : Owes good allows about after v v.view.count v.view.joined v.passed z
+          out_owes : Owes good allows about after v v.view.count v.view.joined v.own.passed z
           out_owes = record {
             kept = kept;
             lawful = λ m. absurd (never (leaving_lined (point d n) m.leaves) unlined);
@@ -319,25 +315,25 @@ module _ (good : List ℕ → Type 0) (allows : List ℕ → List ℕ → Type 0
             passes = out_passing;
           }
 
-          pub out_turned : (words : List ℕ) (homes : Homes) → Laid d words homes → Done v.passed words homes
-          out_turned words homes laid = turned good allows about s r me v at x h.via k is x.joined x.early x.late (grows_none x after (node_of e) refl refl refl) v.view.count v.view.joined v.passed z out_owes words homes laid
+          pub out_turned : (words : List ℕ) (homes : Homes) → Laid d words homes → Done v.own.passed words homes
+          out_turned words homes laid = turned good allows about s r me v at x h.via k is x.joined x.early x.late (grows_none x after (node_of e) refl refl refl) v.view.count v.view.joined v.own.passed z out_owes words homes laid
 
-          seated : seat d n ≡ seat_with (map (asker x.queue.order) v.passed) p st.reason
+          seated : seat d n ≡ seat_with (map (asker x.queue.order) v.own.passed) p st.reason
           seated = own_seat ∙ ap (λ (ps : List ℕ). seat_with ps p st.reason) places
 
-          pub goes_out : p ≡ point_at_end st.reason → ((m : ℕ) → d.place ≢ Hand m) → GoesOut v (view_after v.passed) z
+          pub goes_out : p ≡ point_at_end st.reason → ((m : ℕ) → d.place ≢ Hand m) → GoesOut v (view_after v.own.passed) z
           goes_out e nowhere = record {
-            point = ap (λ (s : Seat). s.point) seated ∙ ap (λ (p : Point). (seat_with (map (asker x.queue.order) v.passed) p st.reason).point) e ∙ out_point (asker x.queue.order) st.reason v.passed z.closed h.shut;
-            state = ap state_of seated ∙ ap (λ (p : Point). state_of (seat_with (map (asker x.queue.order) v.passed) p st.reason)) e ∙ out_state (asker x.queue.order) st.reason v.passed z.closed h.shut;
+            point = ap (λ (s : Seat). s.point) seated ∙ ap (λ (p : Point). (seat_with (map (asker x.queue.order) v.own.passed) p st.reason).point) e ∙ out_point (asker x.queue.order) st.reason v.own.passed z.closed h.shut;
+            state = ap state_of seated ∙ ap (λ (p : Point). state_of (seat_with (map (asker x.queue.order) v.own.passed) p st.reason)) e ∙ out_state (asker x.queue.order) st.reason v.own.passed z.closed h.shut;
             passed = refl;
             unmarked = turn_unmarked shows nowhere;
             clear = λ none. own_cleared none (point_at_end st.reason) (ap (λ (s : Seat). s.point) seated ∙ ap (λ (ps : List ℕ). (seat_with (map (asker x.queue.order) ps) p st.reason).point) none ∙ e) (end_clear st.reason);
           }
 
-          pub is_left : (v.passed ≡ [] → p ≡ Left) → ((m : ℕ) → d.place ≢ Hand m) → IsShort (view_after v.passed).view → IsLeft v (view_after v.passed) z
+          pub is_left : (v.own.passed ≡ [] → p ≡ Left) → ((m : ℕ) → d.place ≢ Hand m) → IsShort (view_after v.own.passed).view → IsLeft v (view_after v.own.passed) z
           is_left e nowhere short = record {
-            point = ap (λ (s : Seat). s.point) seated ∙ left_point (asker x.queue.order) st.reason v.passed z.closed p e;
-            state = ap state_of seated ∙ left_state (asker x.queue.order) st.reason v.passed z.closed p h.shut e;
+            point = ap (λ (s : Seat). s.point) seated ∙ left_point (asker x.queue.order) st.reason v.own.passed z.closed p e;
+            state = ap state_of seated ∙ left_state (asker x.queue.order) st.reason v.own.passed z.closed p h.shut e;
             passed = refl;
             unmarked = turn_unmarked shows nowhere;
             short = short;
@@ -345,7 +341,7 @@ module _ (good : List ℕ → Type 0) (allows : List ℕ → List ℕ → Type 0
 
       -- the line stays in hand
       module _ (ends : after.queue.ends ≡ x.queue.ends) (p : Point) (leaving : is_leaving p ≡ true) (own_seat : seat d n ≡ record st { point = p }) (bytes : d.bytes ≡ x.core.bytes) (closed : d.closed ≡ x.core.closed) (mask : d.mask ≡ x.core.mask) (turns : d.left ≡ x.core.left) where
-        stays_owes : Owes good allows about after v v.view.count v.view.joined v.passed z
+        stays_owes : Owes good allows about after v v.view.count v.view.joined v.own.passed z
         stays_owes = record {
           kept = subst (AreAllowed allows about.terms.opening.bytes) (sym ends) h.via.fine.kept;
           lawful = λ m. let w : MayServe (record st { point = p }) = subst MayServe own_seat m in subst (λ (q : List End × Line64). allows (bytes_after about.terms.opening.bytes q.0) q.1.bytes) (λ i. (sym ends i, sym bytes i)) (h.may w.passed w.serves);
@@ -361,13 +357,13 @@ module _ (good : List ℕ → Type 0) (allows : List ℕ → List ℕ → Type 0
             shut = h.shut ∙ ap (λ (s : Seat). is_shut_by s.reason) (sym own_seat);
           };
           left = λ f. let w : is_leaving Freeing ≡ true = ap is_leaving (sym f) ∙ ap (λ (s : Seat). is_leaving s.point) own_seat ∙ leaving in cc;
-          passes = passing v.passed refl (ap (λ (s : Seat). s.passed) own_seat) (let l = ap (λ (es : List End). length es) (ends ∙ sym h.ends) in omega arith) (λ f. let w : is_leaving Freeing ≡ true = ap is_leaving (sym f) ∙ ap (λ (s : Seat). is_leaving s.point) own_seat ∙ leaving in cc);
+          passes = passing v.own.passed refl (ap (λ (s : Seat). s.passed) own_seat) (let l = ap (λ (es : List End). length es) (ends ∙ sym h.ends) in omega arith) (λ f. let w : is_leaving Freeing ≡ true = ap is_leaving (sym f) ∙ ap (λ (s : Seat). is_leaving s.point) own_seat ∙ leaving in cc);
         }
 
-        pub stays_turned : (words : List ℕ) (homes : Homes) → Laid d words homes → Done v.passed words homes
-        stays_turned words homes laid = turned good allows about s r me v at x h.via k is x.joined x.early x.late (grows_none x after (node_of e) refl refl refl) v.view.count v.view.joined v.passed z stays_owes words homes laid
+        pub stays_turned : (words : List ℕ) (homes : Homes) → Laid d words homes → Done v.own.passed words homes
+        stays_turned words homes laid = turned good allows about s r me v at x h.via k is x.joined x.early x.late (grows_none x after (node_of e) refl refl refl) v.view.count v.view.joined v.own.passed z stays_owes words homes laid
 
-        pub carries_on : Carries v (view_after v.passed) z p
+        pub carries_on : Carries v (view_after v.own.passed) z p
         carries_on = record {
           point_is = ap (λ (s : Seat). s.point) own_seat;
           state = ap state_of own_seat ∙ leaving_state p st.reason st.passed leaving ∙ sym h.state;
@@ -378,10 +374,10 @@ module _ (good : List ℕ → Type 0) (allows : List ℕ → List ℕ → Type 0
         }
 
   -- a release has passed fewer nodes than there are
-  pub few_passed : (length v.passed < about.terms.nodes) × (length v.passed + 1 ≡ about.terms.nodes → x.core.home ≡ last_or n st.passed)
+  pub few_passed : (length v.own.passed < about.terms.nodes) × (length v.own.passed + 1 ≡ about.terms.nodes → x.core.home ≡ last_or n st.passed)
   few_passed =
       let k = short sh.matches in
-      let l : length st.passed ≡ length v.passed = ap (λ (ps : List ℕ). length ps) places ∙ length-map v.passed (asker x.queue.order) in
+      let l : length st.passed ≡ length v.own.passed = ap (λ (ps : List ℕ). length ps) places ∙ length-map v.own.passed (asker x.queue.order) in
       let c = sh.matches.size in
       let a = k.passed n node in
       (omega arith, λ e. k.home n node h.lined (omega arith))
@@ -403,7 +399,7 @@ module _ (good : List ℕ → Type 0) (allows : List ℕ → List ℕ → Type 0
         )
 
 -- in mid-release the line is as the view has it
-pub holds_so : (good : List ℕ → Type 0) (allows : List ℕ → List ℕ → Type 0) (about : Setup) (s : St good allows about) (r : Rule good allows about s) (me : ℕ) (v : Known) → get_elem? s.views me ≡ some (v ∷ []) → is_leaving v.seat.point ≡ true → Holds good allows about r.past v v.line r.past
+pub holds_so : (good : List ℕ → Type 0) (allows : List ℕ → List ℕ → Type 0) (about : Setup) (s : St good allows about) (r : Rule good allows about s) (me : ℕ) (v : Known) → get_elem? s.views me ≡ some (v ∷ []) → is_leaving v.own.seat.point ≡ true → Holds good allows about r.past v v.own.line r.past
 holds_so good allows about s r me v at leaving =
     let ok : NodeOk about r.past v.view.node v = mine_ok good allows about s r me v at in
     let node = is_node good allows about s r me v at in
@@ -412,10 +408,10 @@ holds_so good allows about s r me v at leaving =
       via = via_none good allows about r.past v r.fine;
       home = refl;
       entries = refl;
-      lined = ap (λ (s : Seat). has_line s.point) (sym ok.stands.seat) ∙ leaving_lined v.seat.point leaving;
+      lined = ap (λ (s : Seat). has_line s.point) (sym ok.stands.seat) ∙ leaving_lined v.own.seat.point leaving;
       passed = ap (λ (s : Seat). s.passed) (sym ok.stands.seat);
-      state = ok.stands.state ∙ leaving_state v.seat.point v.seat.reason v.seat.passed leaving ∙ ap (λ (s : Seat). state_in_release s.reason s.passed) ok.stands.seat;
-      ends = ok.stands.holds (leaving_lined v.seat.point leaving);
+      state = ok.stands.state ∙ leaving_state v.own.seat.point v.own.seat.reason v.own.seat.passed leaving ∙ ap (λ (s : Seat). state_in_release s.reason s.passed) ok.stands.seat;
+      ends = ok.stands.holds (leaving_lined v.own.seat.point leaving);
       bytes = c.bytes;
       closed = c.closed;
       turns = c.turns;

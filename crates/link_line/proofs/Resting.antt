@@ -19,16 +19,17 @@ use Rattle.link_core.specs.Promise.{Says}
 use Rattle.link_core.specs.declared.told.Told.TheVariants as told
 use Rattle.link_core.proofs.Orders.{last_place}
 use Rattle.link_core.proofs.Steady.{after_is}
-use Rattle.link_line.specs.declared.known.Known.{Known}
-use Rattle.link_line.specs.declared.parcel.Parcel.{Parcel}
-use Rattle.link_line.specs.declared.rule.Setup.{Setup}
+use Rattle.link_line.specs.Known.{Known}
+use Rattle.shared_line.specs.declared.rule.Parcel.{Parcel}
+use Rattle.shared_line.specs.declared.rule.Setup.{Setup}
 use Rattle.link_line.specs.Words.{entry_at, pack}
 use Rattle.link_line.specs.Links.{Past, NodeOk, PastOk, state_of}
 use Rattle.link_line.specs.Steps.{Contents, readied, looked, is_free}
 use Rattle.link_line.proofs.Going.{on, wide}
-use Rattle.link_line.proofs.Histories.{at_point}
+use Rattle.link_line.specs.Laws.Histories.{at_point}
 use Rattle.link_line.proofs.Packed.{pack_empty, done_is, freed_is, link_is}
-use Rattle.link_line.proofs.Laying.{St, Rule, mine_ok, is_node, entry_laid, same_laid, in_slot}
+use Rattle.link_line.specs.Laws.Nodes.{St, Rule, mine_ok, is_node}
+use Rattle.link_line.proofs.Laying.{entry_laid, same_laid, in_slot}
 use Rattle.link_line.proofs.Turning.{goes_step}
 use Rattle.link_line.proofs.Quiet.{is_quiet, after, view_after, quiet_turned}
 
@@ -40,7 +41,7 @@ module _ (good : List ℕ → Type 0) (allows : List ℕ → List ℕ → Type 0
     node : IsNode r.past.core v.view.node
     node = is_node good allows about s r me v at
 
-    here : (p : Point) → v.seat.point ≡ p → point r.past.core v.view.node ≡ p
+    here : (p : Point) → v.own.seat.point ≡ p → point r.past.core v.view.node ≡ p
     here p e = at_point allows about r.past r.fine v.view.node v node ok ∙ e
 
     inside : IsWide r.past.core
@@ -55,7 +56,7 @@ module _ (good : List ℕ → Type 0) (allows : List ℕ → List ℕ → Type 0
     abbrev word : ℕ
     word = entry_at v.view.node
 
-    resets : (v.seat.point ≡ Idle) ⊎ (v.seat.point ≡ Shut) → (w : List Known) × (a : Act Parcel) × Valid s.homes carried a × Rule good allows about (stepped s word 0 me carried w a) × readied allows (step slots word 0 0 none) (v ∷ [], carried) 0 (w, carried_after carried a)
+    resets : (v.own.seat.point ≡ Idle) ⊎ (v.own.seat.point ≡ Shut) → (w : List Known) × (a : Act Parcel) × Valid s.homes carried a × Rule good allows about (stepped s word 0 me carried w a) × readied allows (step slots word 0 0 none) (v ∷ [], carried) 0 (w, carried_after carried a)
     resets rest =
         let k = row.reset v.view.node node (elim rest [ inl i ↦ inl (here Idle i) | inr i ↦ inr (here Shut i) ]) in
         let y : Past = after good allows about s r me v at k in
@@ -98,12 +99,12 @@ module _ (good : List ℕ → Type 0) (allows : List ℕ → List ℕ → Type 0
     abbrev Looks : Type 0
     Looks = (w : List Known) × (a : Act Parcel) × Valid s.homes carried a × Rule good allows about (stepped s word (slice_index s.words word) me carried w a) × looked allows (step slots word 0 0 none) (v ∷ [], carried) (slice_index s.words word) (w, carried_after carried a)
 
-    module _ (rest : (v.seat.point ≡ Left) ⊎ (v.seat.point ≡ Rolled)) where
+    module _ (rest : (v.own.seat.point ≡ Left) ⊎ (v.own.seat.point ≡ Rolled)) where
       at_core : (point r.past.core v.view.node ≡ Left) ⊎ (point r.past.core v.view.node ≡ Rolled)
       at_core = elim rest [ inl i ↦ inl (here Left i) | inr i ↦ inr (here Rolled i) ]
 
-      clear_as : is_free v.seat.point (slice_index s.words word) ≡ is_clear (point r.past.core v.view.node) (entry r.past.core v.view.node)
-      clear_as = free_is v.seat.point rest ∙ ap (λ (p : Point). is_clear p (entry r.past.core v.view.node)) (sym (here v.seat.point refl))
+      clear_as : is_free v.own.seat.point (slice_index s.words word) ≡ is_clear (point r.past.core v.view.node) (entry r.past.core v.view.node)
+      clear_as = free_is v.own.seat.point rest ∙ ap (λ (p : Point). is_clear p (entry r.past.core v.view.node)) (sym (here v.own.seat.point refl))
 
       looks_free : is_clear (point r.past.core v.view.node) (entry r.past.core v.view.node) ≡ true → Looks
       looks_free fr =
@@ -135,7 +136,7 @@ module _ (good : List ℕ → Type 0) (allows : List ℕ → List ℕ → Type 0
           let y : Past = after good allows about s r me v at k in
           let step' = on allows about r.may_open.nodes.few r.past r.fine k in
           let is = after_is step' in
-          let t = quiet_turned good allows about s r me v at k refl v.seat.point (here v.seat.point refl) (quiet_rest v.seat.point rest) node (ap (λ (q : Queue). q.order) is) (ap (λ (q : Queue). q.ends) is) (set s.words word (slice_index s.words word)) s.homes
+          let t = quiet_turned good allows about s r me v at k refl v.own.seat.point (here v.own.seat.point refl) (quiet_rest v.own.seat.point rest) node (ap (λ (q : Queue). q.order) is) (ap (λ (q : Queue). q.ends) is) (set s.words word (slice_index s.words word)) s.homes
           (same_laid r.past.core y.core s.words s.homes s.homes v.view.node r.laid node few refl refl refl r.laid.deep r.laid.slot) in (
             view_after good allows about s r me v at k ∷ [],
             keeps,
@@ -147,16 +148,16 @@ module _ (good : List ℕ → Type 0) (allows : List ℕ → List ℕ → Type 0
               record {
                 count = refl;
                 clear = λ yes'. let z = sym yes' ∙ clear_as ∙ un in cc;
-                unclear = λ _. (here v.seat.point refl, ap state_of (sym ok.stands.seat) ∙ sym ok.stands.state, unclear y (view_after good allows about s r me v at k) t.fine t.own step'.says);
+                unclear = λ _. (here v.own.seat.point refl, ap state_of (sym ok.stands.seat) ∙ sym ok.stands.state, unclear y (view_after good allows about s r me v at k) t.fine t.own step'.says);
               },
             ),
           )
 
-  pub resets_next : (v.seat.point ≡ Idle) ⊎ (v.seat.point ≡ Shut) → (me slots i : ℕ) (m : Contents) → m.0 ≡ v ∷ [] → i ≡ entry_at v.view.node → Allows (Rule good allows about) slots me m i (λ _. 0) (λ _. readied allows (step slots i 0 0 none) m 0)
+  pub resets_next : (v.own.seat.point ≡ Idle) ⊎ (v.own.seat.point ≡ Shut) → (me slots i : ℕ) (m : Contents) → m.0 ≡ v ∷ [] → i ≡ entry_at v.view.node → Allows (Rule good allows about) slots me m i (λ _. 0) (λ _. readied allows (step slots i 0 0 none) m 0)
   resets_next rest me slots i m is word = subst (λ (z : ℕ × Contents). Allows (Rule good allows about) slots me z.1 z.0 (λ _. 0) (λ _. readied allows (step slots z.0 0 0 none) z.1 0)) (λ j. (sym word j, (sym is j, m.1)))
       (λ s r deep at small. resets me slots m.1 s r at rest)
 
-  pub looks_next : (v.seat.point ≡ Left) ⊎ (v.seat.point ≡ Rolled) → (me slots i : ℕ) (m : Contents) → m.0 ≡ v ∷ [] → i ≡ entry_at v.view.node → Allows (Rule good allows about) slots me m i (λ k. k) (looked allows (step slots i 0 0 none) m)
+  pub looks_next : (v.own.seat.point ≡ Left) ⊎ (v.own.seat.point ≡ Rolled) → (me slots i : ℕ) (m : Contents) → m.0 ≡ v ∷ [] → i ≡ entry_at v.view.node → Allows (Rule good allows about) slots me m i (λ k. k) (looked allows (step slots i 0 0 none) m)
   looks_next rest me slots i m is word = subst (λ (z : ℕ × Contents). Allows (Rule good allows about) slots me z.1 z.0 (λ k. k) (looked allows (step slots z.0 0 0 none) z.1)) (λ j. (sym word j, (sym is j, m.1)))
       (λ s r deep at small. elim (cases_Bool (is_clear (point r.past.core v.view.node) (entry r.past.core v.view.node))) [
         | inl t ↦ looks_free me slots m.1 s r at rest t

@@ -1,7 +1,5 @@
 -- Steps one after another, as one.
-use Rattle.std.proofs.Common.{◌≡◌, ℕ, ◌+◌, List, sym, subst, arith}
-use Rattle.qolb_model.specs.Views.{Extends}
-use Rattle.qolb_model.specs.Sound.{Continues}
+use Rattle.std.proofs.Common.{ℕ, ◌+◌, List, arith}
 use Rattle.qolb_model.proofs.Agreeing.{extends_trans}
 use Rattle.qolb_model.proofs.Going.{extends_self}
 use Rattle.link_line.specs.Steps.{Contents, Alone, sole, GoesOn}
@@ -16,13 +14,4 @@ goes_trans allows a b c i j f g = record {
   extends = extends_trans (sole a.0).view (sole b.0).view (sole c.0).view f.extends g.extends;
   continues = λ u before. g.continues u (f.continues u before);
   counted = omega (arith, f.counted, g.counted);
-}
-
--- what the slot has is no matter
-pub put_on : {allows : List ℕ → List ℕ → Type 0} {a b c : Contents} {n : ℕ} → b.0 ≡ a.0 → GoesOn allows b c n → GoesOn allows a c n
-put_on {allows} {a} {b} {c} {n} same goes = record {
-  alone = goes.alone;
-  extends = subst (λ es. Extends (sole es).view (sole c.0).view) same goes.extends;
-  continues = λ u before. goes.continues u (subst (λ es. Continues allows u (sole es).view) (sym same) before);
-  counted = subst (λ es. (sole c.0).steps ≡ (sole es).steps + n) same goes.counted;
 }

@@ -25,22 +25,21 @@ use Rattle.link_core.specs.Steps.{Step, node_of, seat_at_arrival}
 use Rattle.link_core.specs.Places.{asker, IsLast}
 use Rattle.link_core.specs.Shown.{has_line, is_rolled, Shows}
 use Rattle.link_core.proofs.Orders.{get_request, last_is}
-use Rattle.link_line.specs.declared.known.Known.{Known}
-use Rattle.link_line.specs.declared.parcel.Parcel.{Parcel}
-use Rattle.link_line.specs.declared.rule.Setup.{Setup}
+use Rattle.link_line.specs.Known.{Known}
+use Rattle.shared_line.specs.declared.rule.Parcel.{Parcel}
+use Rattle.shared_line.specs.declared.rule.Setup.{Setup}
 use Rattle.link_line.specs.Links.{At, Past, NodeOk, Passing, IsInHand, PastOk, Laid, Homes, MayServe, is_leaving, state_of}
-use Rattle.link_line.specs.Steps.{GoesOn, point_at_arrival}
-use Rattle.link_line.proofs.Histories.{joined_clear, continues}
+use Rattle.link_line.specs.Steps.{GoesOn}
+use Rattle.link_line.specs.Laws.Histories.{joined_clear, continues}
 use Rattle.link_line.proofs.Going.{SetsGrow, next, on, fine_next, others_next, marks_next}
-use Rattle.link_line.proofs.Laying.{St, Rule, rule_step, low, mine_ok}
+use Rattle.link_line.specs.Laws.Nodes.{St, Rule, low, mine_ok}
+use Rattle.link_line.proofs.Laying.{rule_step}
 
 -- the view of a node that learns all that there is
 abbrev pub whole : Past → Known → ℕ → List Request → List ℕ → Parcel → Known
 whole y v count joined passed line = record {
   view = record v.view { count = count; state = state_of (seat y.core v.view.node); order = y.queue.order; ends = y.queue.ends; clear = y.queue.clear; joined = joined; marked = y.queue.marked };
-  seat = seat y.core v.view.node;
-  passed = passed;
-  line = line;
+  own = record { seat = seat y.core v.view.node; passed = passed; line = line };
   steps = v.steps + 1;
 }
 
@@ -93,7 +92,7 @@ joins_push about x y v own ok e = record {
 }
 
 -- nothing is passed
-pub passes_none : (order : List Request) (w : Known) → w.seat.passed ≡ [] → w.passed ≡ [] → Passing order w
+pub passes_none : (order : List Request) (w : Known) → w.own.seat.passed ≡ [] → w.own.passed ≡ [] → Passing order w
 passes_none order w e f = record {
   places = e ∙ ap (λ (ps : List ℕ). map (asker order) ps) (sym f);
   last = λ i p at. none i p at;
@@ -102,7 +101,7 @@ passes_none order w e f = record {
   ended = λ _ i p at. none i p at;
 }
   where
-    none : {A : Type 0} (i p : ℕ) → At w.passed i p → A
+    none : {A : Type 0} (i p : ℕ) → At w.own.passed i p → A
     none i p at = let z : None ≡ Some p = sym (ap (λ (ps : List ℕ). slice_get ps i) f) ∙ at in cc z
 
 -- one counted step
@@ -113,10 +112,6 @@ goes_step allows v w before after c n = record {
   continues = λ u b. record { extends = extends_trans u v.view w.view b.extends c.extends; history = c.history; kept = c.kept; freed_clear = c.freed_clear; own_past = c.own_past };
   counted = n;
 }
-
-pub arrival_point : (n : ℕ) (b : Bool) → (seat_at_arrival n b).point ≡ point_at_arrival n b
-arrival_point n true = refl
-arrival_point n false = refl
 
 pub arrival_lined : (n : ℕ) (b : Bool) → has_line (seat_at_arrival n b).point ≡ true
 arrival_lined n true = refl

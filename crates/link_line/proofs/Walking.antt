@@ -1,5 +1,5 @@
 -- A walk over withdrawn requests.
-use Rattle.std.proofs.Common.{◌≡◌, ◌≢◌, ℕ, zero, suc, ◌+◌, ◌-◌, ◌*◌, ◌≤◌, ◌<◌, inl, inr, ⊎_elim, Bool, length, List, [], ◌∷◌, ◌++◌, sym, refl, ap, ◌∙◌, subst, Some, None, arith, replicate, append-nil, append_assoc, length-append}
+use Rattle.std.proofs.Common.{◌≡◌, ◌≢◌, ℕ, zero, suc, ◌+◌, ◌-◌, ◌*◌, ◌≤◌, ◌<◌, inl, inr, ⊎_elim, Bool, length, List, [], ◌∷◌, ◌++◌, sym, refl, ap, ◌∙◌, subst, Some, arith, replicate, append_assoc, length-append}
 use Rattle.std.proofs.lemmas.List.{length-replicate}
 use Rattle.qolb_model.specs.declared.answer.PortState.{PortState}
 use Rattle.qolb_model.specs.declared.request.Request.{Request}
@@ -12,17 +12,18 @@ use Rattle.qolb_model.specs.Requests.{Lacks}
 use Rattle.qolb_model.specs.Ends.{is_closed}
 use Rattle.qolb_model.specs.Histories.{turn_of}
 use Rattle.qolb_model.specs.Views.{Extends}
-use Rattle.qolb_model.proofs.Lists.{element_at, push_cases, same_some}
+use Rattle.qolb_model.proofs.Lists.{element_at, push_cases}
 use Rattle.qolb_model.proofs.Prefixes.{prefix_get}
 use Rattle.link_core.specs.declared.point.Point.TheVariants.{Leaving, Freeing}
-use Rattle.link_line.specs.declared.known.Known.{Known}
-use Rattle.link_line.specs.declared.parcel.Parcel.{Parcel}
+use Rattle.link_line.specs.Known.{Known}
+use Rattle.shared_line.specs.declared.rule.Parcel.{Parcel}
 use Rattle.link_line.specs.declared.release.Handed.{Handed}
 use Rattle.link_line.specs.declared.release.Handed.TheVariants as handed
 use Rattle.link_line.specs.Links.{At}
-use Rattle.link_line.specs.Steps.{LinkSeat, known_of, after_release, left_in, end_of, next_end, point_by, MayLetGo, Ended, IsOneLeft, Passes, GoesOn, SameSeat, HasSlot, HasNoSlot}
+use Rattle.shared_line.specs.Steps.{SameSeat, HasSlot, HasNoSlot}
+use Rattle.link_line.specs.Steps.{LinkSeat, known_of, after_release, left_in, end_of, next_end, point_by, Ended, IsOneLeft, Passes, GoesOn}
 use Rattle.link_line.specs.Releases.{HandsOn, with_line, WalksOn, AreNodesAt, FreesAll}
-use Rattle.link_line.proofs.Stepping.{goes_none, goes_trans}
+use Rattle.link_line.proofs.Stepping.{goes_trans}
 
 -- a walk that began at v has passed the requests of these nodes
 pub record Walked (v : Known) (nodes : List ℕ) (w : Known) : Type 0 where
@@ -30,14 +31,14 @@ pub record Walked (v : Known) (nodes : List ℕ) (w : Known) : Type 0 where
   pub state : w.view.state ≡ v.view.state
   pub count : w.view.count ≡ v.view.count
   pub ends : w.view.ends ≡ v.view.ends ++ replicate (length nodes) Gone
-  pub run : (i p : ℕ) → At w.passed i p → p ≡ length v.view.ends + i
-  pub made : AreNodesAt w.view.order w.passed nodes
-  pub few : length w.passed + 1 ≤ v.view.terms.nodes
+  pub run : (i p : ℕ) → At w.own.passed i p → p ≡ length v.view.ends + i
+  pub made : AreNodesAt w.view.order w.own.passed nodes
+  pub few : length w.own.passed + 1 ≤ v.view.terms.nodes
 
 -- it stands at the withdrawn request of one more node
 pub record StandsAt (nodes : List ℕ) (node : ℕ) (w : Known) : Type 0 where
-  pub point : w.seat.point ≡ Leaving node
-  pub many : length w.passed ≡ length nodes + 1
+  pub point : w.own.seat.point ≡ Leaving node
+  pub many : length w.own.passed ≡ length nodes + 1
   pub request : Request
   pub at : At w.view.order (length w.view.ends) request
   pub made_by : request.node ≡ node
@@ -45,27 +46,11 @@ pub record StandsAt (nodes : List ℕ) (node : ℕ) (w : Known) : Type 0 where
 
 -- the line is away
 pub record IsAway (nodes : List ℕ) (w : Known) : Type 0 where
-  pub point : w.seat.point ≡ Freeing
-  pub many : length w.passed ≡ length nodes
-  pub some : w.passed ≢ []
+  pub point : w.own.seat.point ≡ Freeing
+  pub many : length w.own.passed ≡ length nodes
+  pub some : w.own.passed ≢ []
   pub known : length w.view.ends ≤ length w.view.order
   pub unmarked : (r : Request) → turn_of w.view.order w.view.ends ≡ Some r → Lacks w.view.marked r
-
--- so it begins
-walk_begins : (v : Known) → v.passed ≡ length v.view.ends ∷ [] → 2 ≤ v.view.terms.nodes → Walked v [] v
-walk_begins v passed two = record {
-  terms = refl;
-  state = refl;
-  count = refl;
-  ends = sym (append-nil v.view.ends);
-  run = λ i p at. by (length v.view.ends) i p (subst (λ ps. At ps i p) passed at);
-  made = record { each = λ k p n at none. absurd (let h : None ≡ Some n = none in cc h) };
-  few = omega (arith, ap length passed, two);
-}
-  where
-    by : (f i p : ℕ) → At (f ∷ []) i p → p ≡ f + i
-    by f zero p at = omega (arith, same_some at)
-    by f (suc i) p at = absurd (let h : None ≡ Some p = at in cc h)
 
 -- who has passed one ends a withdrawn request next
 ends_gone : (ps : List ℕ) (closed : Bool) (y : Parcel) (k : ℕ) → length ps ≡ k + 1 → end_of ps closed y ≡ Gone
@@ -81,25 +66,25 @@ frees_after state (p ∷ ps) some = refl
 
 -- what letting the line go at an entry does to the places
 record Grows (w x : Known) (first : ℕ) (most : ℕ) : Type 0 where
-  run : (i p : ℕ) → At x.passed i p → p ≡ first + i
-  front : (i p : ℕ) → i < length w.passed → At x.passed i p → At w.passed i p
-  few : length x.passed + 1 ≤ most
+  run : (i p : ℕ) → At x.own.passed i p → p ≡ first + i
+  front : (i p : ℕ) → i < length w.own.passed → At x.own.passed i p → At w.own.passed i p
+  few : length x.own.passed + 1 ≤ most
 
 module _ (v w x : Known) (nodes : List ℕ) (k : Walked v nodes w) where
-  grows_none : x.passed ≡ w.passed → Grows w x (length v.view.ends) v.view.terms.nodes
+  grows_none : x.own.passed ≡ w.own.passed → Grows w x (length v.view.ends) v.view.terms.nodes
   grows_none same = record {
     run = λ i p at. k.run i p (subst (λ ps. At ps i p) same at);
     front = λ i p lt at. subst (λ ps. At ps i p) same at;
     few = omega (arith, ap length same, k.few);
   }
 
-  grows_more : (next : ℕ) (y : Parcel) → length w.passed ≡ length nodes + 1 → length x.view.ends ≡ length v.view.ends + (length nodes + 1) → x.view.terms.nodes ≡ v.view.terms.nodes → Passes (with_line w y) x next → Grows w x (length v.view.ends) v.view.terms.nodes
+  grows_more : (next : ℕ) (y : Parcel) → length w.own.passed ≡ length nodes + 1 → length x.view.ends ≡ length v.view.ends + (length nodes + 1) → x.view.terms.nodes ≡ v.view.terms.nodes → Passes (with_line w y) x next → Grows w x (length v.view.ends) v.view.terms.nodes
   grows_more next y many long n h = record {
-    run = λ i p at. elim (push_cases w.passed (length x.view.ends) i p (subst (λ ps. At ps i p) h.passed at)) [
+    run = λ i p at. elim (push_cases w.own.passed (length x.view.ends) i p (subst (λ ps. At ps i p) h.passed at)) [
       | inl old ↦ k.run i p old.1
       | inr last ↦ omega (arith, last.0, last.1, many, long)
     ];
-    front = λ i p lt at. elim (push_cases w.passed (length x.view.ends) i p (subst (λ ps. At ps i p) h.passed at)) [
+    front = λ i p lt at. elim (push_cases w.own.passed (length x.view.ends) i p (subst (λ ps. At ps i p) h.passed at)) [
       | inl old ↦ old.1
       | inr last ↦ absurd (omega (arith, last.0, lt))
     ];
@@ -113,7 +98,7 @@ replicate-push (suc n) e = ap (λ es. e ∷ es) (replicate-push n e)
 -- one more withdrawn request ends, at which the walk stood
 module _ (v w x : Known) (nodes : List ℕ) (node : ℕ) (y : Parcel) (k : Walked v nodes w) (s : StandsAt nodes node w) (e : Ended w x y) (more : Extends w.view x.view) where
   gone : next_end w y ≡ Gone
-  gone = ends_gone w.passed (is_closed w.view.ends) y (length nodes) s.many
+  gone = ends_gone w.own.passed (is_closed w.view.ends) y (length nodes) s.many
 
   pushed : length (nodes ++ node ∷ []) ≡ suc (length nodes)
   pushed = omega (arith, length-append nodes (node ∷ []))
@@ -148,10 +133,10 @@ module _ (v w x : Known) (nodes : List ℕ) (node : ℕ) (y : Parcel) (k : Walke
 -- when the line is away and the passed requests are freed, the walk is over
 pub walk_over : (v w x : Known) (nodes : List ℕ) → Walked v nodes w → IsAway nodes w → FreesAll w x → WalksOn v x
 walk_over v w x nodes k h f =
-    let last = nonempty w.passed h.some in
+    let last = nonempty w.own.passed h.some in
     let many : length nodes ≡ suc last.0 = sym h.many ∙ last.1 in
     let ends : x.view.ends ≡ v.view.ends ++ replicate (suc last.0) Gone = f.ends ∙ (k.ends ∙ ap (λ n. v.view.ends ++ replicate n Gone) many) in
-    let long : length x.view.ends ≡ length v.view.ends + length w.passed = ap length ends ∙ omega (arith, last.1, length-append v.view.ends (replicate (suc last.0) Gone), length-replicate (suc last.0) Gone) in
+    let long : length x.view.ends ≡ length v.view.ends + length w.own.passed = ap length ends ∙ omega (arith, last.1, length-append v.view.ends (replicate (suc last.0) Gone), length-replicate (suc last.0) Gone) in
     record {
       point = f.point ∙ ap point_by k.state;
       state = f.state ∙ k.state;
@@ -171,11 +156,11 @@ walk_over v w x nodes k h f =
     nonempty [] h = absurd (h refl)
     nonempty (x ∷ xs) h = (length xs, omega arith)
 
-    passed_at : (v w : Known) (nodes : List ℕ) (p : ℕ) → Walked v nodes w → length v.view.ends ≤ p → p < length v.view.ends + length w.passed → (i : ℕ) × At w.passed i p
+    passed_at : (v w : Known) (nodes : List ℕ) (p : ℕ) → Walked v nodes w → length v.view.ends ≤ p → p < length v.view.ends + length w.own.passed → (i : ℕ) × At w.own.passed i p
     passed_at v w nodes p k low high =
         let i = p - length v.view.ends in
-        let one = element_at w.passed i (omega (arith, low, high)) in
-        (i, subst (At w.passed i) (k.run i one.0 one.1 ∙ omega (arith, low)) one.1)
+        let one = element_at w.own.passed i (omega (arith, low, high)) in
+        (i, subst (At w.own.passed i) (k.run i one.0 one.1 ∙ omega (arith, low)) one.1)
 
 -- it put an end for each node that it passed
 pub walked_long : (v w x : Known) (nodes : List ℕ) → Walked v nodes w → FreesAll w x → length x.view.ends ≡ length v.view.ends + length nodes
@@ -186,7 +171,7 @@ walked_long v w x nodes k f = ap length (f.ends ∙ k.ends) ∙ omega (arith, le
 abbrev pub StandsBy : LinkSeat → List ℕ → LinkSeat → ℕ → Handed → Type 0
 StandsBy s nodes t taken handed.On = HasNoSlot t × IsAway nodes (known_of t) × (taken + length nodes + 6 ≤ 4 * (known_of s).view.terms.nodes) × (3 * length nodes ≤ taken + 2) × (taken ≤ 3 * length nodes)
 StandsBy s nodes t taken handed.Left = HasNoSlot t × IsAway nodes (known_of t) × (taken + length nodes + 6 ≤ 4 * (known_of s).view.terms.nodes) × (3 * length nodes ≤ taken + 2) × (taken ≤ 3 * length nodes)
-StandsBy s nodes t taken (handed.Passed node) = (t.me.1 ≡ s.me.1) × StandsAt nodes node (known_of t) × ((known_of t).line ≡ (known_of s).line) × (taken ≡ 3 * length nodes)
+StandsBy s nodes t taken (handed.Passed node) = (t.me.1 ≡ s.me.1) × StandsAt nodes node (known_of t) × ((known_of t).own.line ≡ (known_of s).own.line) × (taken ≡ 3 * length nodes)
 
 -- what a walk that began at the seat s has done so far
 pub record IsWalking (allows : List ℕ → List ℕ → Type 0) (s : LinkSeat) (before : ℕ) (nodes : List ℕ) (result : Handed) (t : LinkSeat) (steps : ℕ) : Type 0 where
@@ -197,23 +182,8 @@ pub record IsWalking (allows : List ℕ → List ℕ → Type 0) (s : LinkSeat) 
   pub walked : Walked (known_of s) nodes (known_of t)
   pub stands : StandsBy s nodes t taken result
 
-pub walking_begins : (allows : List ℕ → List ℕ → Type 0) (s : LinkSeat) (before first : ℕ) → s.me.0 ≡ known_of s ∷ [] → (known_of s).seat.point ≡ Leaving first → first ≤ MOST_NODES → (known_of s).passed ≡ length (known_of s).view.ends ∷ []
-    → (r : Request) × At (known_of s).view.order (length (known_of s).view.ends) r × (r.node ≡ first) → 2 ≤ (known_of s).view.terms.nodes → IsWalking allows s before [] (handed.Passed first) s before
-walking_begins allows s before first alone point high passed made two = record {
-  same = (refl, refl);
-  taken = 0;
-  counted = omega arith;
-  goes_on = goes_none allows s.me alone;
-  walked = walk_begins (known_of s) passed two;
-  stands = (refl, record { point = point; many = omega (arith, ap length passed); request = made.0; at = made.1; made_by = made.2; high = high }, refl, refl);
-}
-
--- the line may be let go at the entry where the walk stands
-pub walk_may : (allows : List ℕ → List ℕ → Type 0) (s t : LinkSeat) (nodes : List ℕ) (taken node : ℕ) → StandsBy s nodes t taken (handed.Passed node) → HasSlot s (known_of s).line → (y : Parcel) × HasSlot t y × MayLetGo allows (known_of t) y node
-walk_may allows s t nodes taken node b slot = ((known_of s).line, b.0 ∙ slot, inr (b.1.point, sym b.2))
-
 -- and what the walk has done when it is let go
-module _ (allows : List ℕ → List ℕ → Type 0) (s t u : LinkSeat) (nodes : List ℕ) (taken node : ℕ) (n : ℕ) (k : Walked (known_of s) nodes (known_of t)) (b : StandsBy s nodes t taken (handed.Passed node)) (slot : HasSlot s (known_of s).line) (state : (known_of s).view.state ≡ left_by (known_of s).line.closed)
+module _ (allows : List ℕ → List ℕ → Type 0) (s t u : LinkSeat) (nodes : List ℕ) (taken node : ℕ) (n : ℕ) (k : Walked (known_of s) nodes (known_of t)) (b : StandsBy s nodes t taken (handed.Passed node)) (slot : HasSlot s (known_of s).own.line) (state : (known_of s).view.state ≡ left_by (known_of s).own.line.closed)
     (went : GoesOn allows t.me u.me n) where
   out_state : (ps : List ℕ) (closed : Bool) → ps ≢ [] → left_in ps closed ≡ left_by closed
   out_state [] closed some = absurd (some refl)
@@ -222,18 +192,18 @@ module _ (allows : List ℕ → List ℕ → Type 0) (s t u : LinkSeat) (nodes :
   longer : length (nodes ++ node ∷ []) ≡ length nodes + 1
   longer = length-append nodes (node ∷ [])
 
-  some : (known_of t).passed ≢ []
-  some = some_passed (known_of t).passed (length nodes) b.1.many
+  some : (known_of t).own.passed ≢ []
+  some = some_passed (known_of t).own.passed (length nodes) b.1.many
 
   -- the line is away, and as many are passed as before
-  module _ (e : Ended (known_of t) (known_of u) (known_of s).line) (same : (known_of u).passed ≡ (known_of t).passed) (left : PortState) (at : (known_of u).seat.point ≡ after_release left (known_of t).passed) (is : (known_of u).view.state ≡ left_by (known_of s).line.closed)
+  module _ (e : Ended (known_of t) (known_of u) (known_of s).own.line) (same : (known_of u).own.passed ≡ (known_of t).own.passed) (left : PortState) (at : (known_of u).own.seat.point ≡ after_release left (known_of t).own.passed) (is : (known_of u).view.state ≡ left_by (known_of s).own.line.closed)
       (unmarked : (r : Request) → turn_of (known_of u).view.order (known_of u).view.ends ≡ Some r → Lacks (known_of u).view.marked r) where
     out_walked : Walked (known_of s) (nodes ++ node ∷ []) (known_of u)
-    out_walked = walked_on (known_of s) (known_of t) (known_of u) nodes node (known_of s).line k b.1 e went.extends (is ∙ sym state) (grows_none (known_of s) (known_of t) (known_of u) nodes k same)
+    out_walked = walked_on (known_of s) (known_of t) (known_of u) nodes node (known_of s).own.line k b.1 e went.extends (is ∙ sym state) (grows_none (known_of s) (known_of t) (known_of u) nodes k same)
 
     out_away : IsAway (nodes ++ node ∷ []) (known_of u)
     out_away = record {
-      point = at ∙ frees_after left (known_of t).passed some;
+      point = at ∙ frees_after left (known_of t).own.passed some;
       many = omega (arith, ap length same, b.1.many, longer);
       some = λ none. some (sym same ∙ none);
       known = e.known;
@@ -243,33 +213,33 @@ module _ (allows : List ℕ → List ℕ → Type 0) (s t u : LinkSeat) (nodes :
   steps_out : n ≤ 3 → IsOneLeft (known_of t) → taken + n + length (nodes ++ node ∷ []) + 6 ≤ 4 * (known_of s).view.terms.nodes
   steps_out most one = omega (arith, most, one, b.3, b.1.many, longer, ap (λ (z : Terms). z.nodes) k.terms)
 
-  walks_out : HandsOn t (known_of s).line u n handed.On → Walked (known_of s) (nodes ++ node ∷ []) (known_of u) × StandsBy s (nodes ++ node ∷ []) u (taken + n) handed.On
+  walks_out : HandsOn t (known_of s).own.line u n handed.On → Walked (known_of s) (nodes ++ node ∷ []) (known_of u) × StandsBy s (nodes ++ node ∷ []) u (taken + n) handed.On
   walks_out h = (
-    out_walked h.1 h.2.passed (left_by (known_of s).line.closed) h.2.point h.2.state h.2.unmarked,
+    out_walked h.1 h.2.passed (left_by (known_of s).own.line.closed) h.2.point h.2.state h.2.unmarked,
     (
       h.0,
-      out_away h.1 h.2.passed (left_by (known_of s).line.closed) h.2.point h.2.state h.2.unmarked,
+      out_away h.1 h.2.passed (left_by (known_of s).own.line.closed) h.2.point h.2.state h.2.unmarked,
       ⊎_elim (λ one. omega (arith, one, k.few, b.3, b.1.many, longer)) (λ more. steps_out (omega (arith, more.0)) more.1) h.3,
       ⊎_elim (λ one. omega (arith, one, b.3, longer)) (λ more. omega (arith, more.0, b.3, longer)) h.3,
       ⊎_elim (λ one. omega (arith, one, b.3, longer)) (λ more. omega (arith, more.0, b.3, longer)) h.3,
     ),
   )
 
-  walks_left : HandsOn t (known_of s).line u n handed.Left → Walked (known_of s) (nodes ++ node ∷ []) (known_of u) × StandsBy s (nodes ++ node ∷ []) u (taken + n) handed.Left
-  walks_left h = let closed = h.2.state ∙ out_state (known_of t).passed (known_of s).line.closed some in (
-    out_walked h.1 h.2.passed (left_in (known_of t).passed (known_of s).line.closed) h.2.point closed h.2.unmarked,
-    (h.0, out_away h.1 h.2.passed (left_in (known_of t).passed (known_of s).line.closed) h.2.point closed h.2.unmarked, steps_out (omega (arith, h.3)) h.4, omega (arith, h.3, b.3, longer), omega (arith, h.3, b.3, longer)),
+  walks_left : HandsOn t (known_of s).own.line u n handed.Left → Walked (known_of s) (nodes ++ node ∷ []) (known_of u) × StandsBy s (nodes ++ node ∷ []) u (taken + n) handed.Left
+  walks_left h = let closed = h.2.state ∙ out_state (known_of t).own.passed (known_of s).own.line.closed some in (
+    out_walked h.1 h.2.passed (left_in (known_of t).own.passed (known_of s).own.line.closed) h.2.point closed h.2.unmarked,
+    (h.0, out_away h.1 h.2.passed (left_in (known_of t).own.passed (known_of s).own.line.closed) h.2.point closed h.2.unmarked, steps_out (omega (arith, h.3)) h.4, omega (arith, h.3, b.3, longer), omega (arith, h.3, b.3, longer)),
   )
 
-  walks_passed : (to : ℕ) → HandsOn t (known_of s).line u n (handed.Passed to) → Walked (known_of s) (nodes ++ node ∷ []) (known_of u) × StandsBy s (nodes ++ node ∷ []) u (taken + n) (handed.Passed to)
+  walks_passed : (to : ℕ) → HandsOn t (known_of s).own.line u n (handed.Passed to) → Walked (known_of s) (nodes ++ node ∷ []) (known_of u) × StandsBy s (nodes ++ node ∷ []) u (taken + n) (handed.Passed to)
   walks_passed to h = (
-    walked_on (known_of s) (known_of t) (known_of u) nodes node (known_of s).line k b.1 h.1 went.extends (h.2.state ∙ sym state)
-        (grows_more (known_of s) (known_of t) (known_of u) nodes k to (known_of s).line b.1.many (ends_long (known_of s) (known_of t) (known_of u) nodes node (known_of s).line k b.1 h.1 went.extends) (ap (λ (z : Terms). z.nodes) (went.extends.terms ∙ k.terms)) h.2),
+    walked_on (known_of s) (known_of t) (known_of u) nodes node (known_of s).own.line k b.1 h.1 went.extends (h.2.state ∙ sym state)
+        (grows_more (known_of s) (known_of t) (known_of u) nodes k to (known_of s).own.line b.1.many (ends_long (known_of s) (known_of t) (known_of u) nodes node (known_of s).own.line k b.1 h.1 went.extends) (ap (λ (z : Terms). z.nodes) (went.extends.terms ∙ k.terms)) h.2),
     (
       h.0 ∙ sym slot,
       record {
         point = h.2.point;
-        many = omega (arith, ap length h.2.passed, length-append (known_of t).passed (length (known_of u).view.ends ∷ []), b.1.many, longer);
+        many = omega (arith, ap length h.2.passed, length-append (known_of t).own.passed (length (known_of u).view.ends ∷ []), b.1.many, longer);
         request = h.2.request;
         at = h.2.at;
         made_by = h.2.node;
@@ -280,16 +250,16 @@ module _ (allows : List ℕ → List ℕ → Type 0) (s t u : LinkSeat) (nodes :
     ),
   )
 
-  pub walks : (result : Handed) → HandsOn t (known_of s).line u n result → Walked (known_of s) (nodes ++ node ∷ []) (known_of u) × StandsBy s (nodes ++ node ∷ []) u (taken + n) result
+  pub walks : (result : Handed) → HandsOn t (known_of s).own.line u n result → Walked (known_of s) (nodes ++ node ∷ []) (known_of u) × StandsBy s (nodes ++ node ∷ []) u (taken + n) result
   walks handed.On h = walks_out h
   walks handed.Left h = walks_left h
   walks (handed.Passed to) h = walks_passed to h
 
 -- so one more turn of the loop keeps it
-pub walking_on : (allows : List ℕ → List ℕ → Type 0) (s t u : LinkSeat) (before : ℕ) (nodes : List ℕ) (node steps later n : ℕ) (result : Handed) → IsWalking allows s before nodes (handed.Passed node) t steps → HasSlot s (known_of s).line → (known_of s).view.state ≡ left_by (known_of s).line.closed
+pub walking_on : (allows : List ℕ → List ℕ → Type 0) (s t u : LinkSeat) (before : ℕ) (nodes : List ℕ) (node steps later n : ℕ) (result : Handed) → IsWalking allows s before nodes (handed.Passed node) t steps → HasSlot s (known_of s).own.line → (known_of s).view.state ≡ left_by (known_of s).own.line.closed
     → SameSeat t u → later ≡ steps + n → GoesOn allows t.me u.me n → ((y : Parcel) → HasSlot t y → HandsOn t y u n result) → IsWalking allows s before (nodes ++ node ∷ []) result u later
 walking_on allows s t u before nodes node steps later n result k slot state same is went hands =
-    let on = walks allows s t u nodes k.taken node n k.walked k.stands slot state went result (hands (known_of s).line (k.stands.0 ∙ slot)) in
+    let on = walks allows s t u nodes k.taken node n k.walked k.stands slot state went result (hands (known_of s).own.line (k.stands.0 ∙ slot)) in
     record {
       same = (same.0 ∙ k.same.0, same.1 ∙ k.same.1);
       taken = k.taken + n;

@@ -1,9 +1,7 @@
 pub mod Words
+pub mod Known
+pub mod Stances
 pub mod Links
 pub mod Steps
-pub mod Joins
-pub mod Ports
-pub mod Line
-pub mod Opened
-pub mod Finish
 pub mod Releases
+pub mod Laws

@@ -1,5 +1,5 @@
 -- The rule of the list's table: its words and its slot are those of a core, which shows one queue of the line.
-use Rattle.std.specs.Prelude.{◌≡◌, ◌⊎◌, ℕ, zero, suc, ◌+◌, ◌<◌, ◌≤◌, Bool, true, false, List, [], ◌∷◌, map, length, slice_index, slice_get, Some, None}
+use Rattle.std.specs.Prelude.{◌≡◌, ◌⊎◌, ℕ, ◌+◌, ◌<◌, ◌≤◌, Bool, true, false, List, [], ◌∷◌, map, length, slice_index, slice_get, Some}
 use mathlib.Core.List.{IsPrefix}
 use mathlib.Core.Option.{some}
 use mathlib.Core.Option as maybe
@@ -11,11 +11,11 @@ use Rattle.qolb_model.specs.declared.request.Request.{Request}
 use Rattle.qolb_model.specs.declared.end.End.{End}
 use Rattle.qolb_model.specs.declared.view.View.{View}
 use Rattle.qolb_model.specs.EndKinds.{is_gone}
-use Rattle.qolb_model.specs.Entries.{AreMembers, each_from}
+use Rattle.qolb_model.specs.Entries.{AreMembers}
 use Rattle.qolb_model.specs.Ends.{bytes_after}
 use Rattle.qolb_model.specs.Histories.{Clears}
 use Rattle.qolb_model.specs.Kept.{AreAllowed}
-use Rattle.qolb_model.specs.Opening.{new_view, MayOpen}
+use Rattle.qolb_model.specs.Opening.{MayOpen}
 use Rattle.qolb_model.specs.PortStates.{left_by}
 use Rattle.qolb_model.specs.Queue.{Queue}
 use Rattle.qolb_model.specs.Requests.{Has, Lacks, has, count_of, last_of}
@@ -29,31 +29,19 @@ use Rattle.link_core.specs.declared.place.Place.{Place}
 use Rattle.link_core.specs.declared.place.Place.TheVariants.{Home, Mailbox, Hand}
 use Rattle.link_core.specs.declared.state.State.{State as Core}
 use Rattle.link_core.specs.declared.state.TheConstants.{PLACES}
-use Rattle.link_core.specs.State.{unused, entry, seat, point, IsNode, no_mask}
+use Rattle.link_core.specs.State.{entry, seat, point, IsNode, no_mask}
 use Rattle.link_core.specs.Steps.{turns_after}
 use Rattle.link_core.specs.Places.{asker, IsLast}
 use Rattle.link_core.specs.Shown.{has_line, Shows}
-use Rattle.link_line.specs.declared.parcel.Parcel.{Parcel}
-use Rattle.link_line.specs.declared.known.Known.{Known}
-use Rattle.link_line.specs.declared.rule.Setup.{Setup}
+use Rattle.shared_line.specs.declared.rule.Parcel.{Parcel}
+use Rattle.shared_line.specs.declared.rule.Setup.{Setup}
+use Rattle.shared_line.specs.Entries.{node_of}
+use Rattle.link_line.specs.Known.{Known}
 use Rattle.link_line.specs.Words.{home_at, entry_at, word_count, pack}
 
 -- the member of the list at the place
 abbrev pub At : {A : Type 0} → List A → ℕ → A → Type 0
 At xs p x = slice_get xs p ≡ Some x
-
-abbrev pub no_line : Parcel
-no_line = record { bytes = record { bytes = [] }; mask = no_mask; turns_left = None; closed = false }
-
-abbrev pub newcomer : Setup → ℕ → Known
-newcomer about n = record { view = new_view about.label about.terms n; seat = unused; passed = []; line = no_line; steps = 0 }
-
-abbrev pub newcomers : Setup → List Known
-newcomers about = each_from (newcomer about) 0 about.terms.nodes
-
--- the node of what the table knows of one
-abbrev pub node_of : Known → ℕ
-node_of e = e.view.node
 
 -- in a release, with the line in hand
 abbrev pub is_leaving : Point → Bool
@@ -150,20 +138,20 @@ pub record IsInHand (c : Core) (n : ℕ) (s : Seat) (line : Parcel) : Type 0 whe
 -- where it is in its call, and the line that it has: what a holder has written is not in the core yet; and where its release has left the
 -- line with a node that it passed, it knows the request behind
 pub record Standing (c : Core) (ends : List End) (n : ℕ) (e : Known) : Type 0 where
-  pub seat : e.seat ≡ seat c n
-  pub state : e.view.state ≡ state_of e.seat
-  pub holds : has_line e.seat.point ≡ true → e.view.ends ≡ ends
-  pub unwritten : e.seat.point ≡ Holding → c.mask ≡ no_mask
-  pub carries : is_leaving e.seat.point ≡ true → IsInHand c n e.seat e.line
-  pub left : e.seat.point ≡ Freeing → (i x p : ℕ) → At e.seat.passed i x → At e.passed i p → (entry c x).done ≡ true → (entry c x).link ≡ 0 → p + 1 < length e.view.order
+  pub seat : e.own.seat ≡ seat c n
+  pub state : e.view.state ≡ state_of e.own.seat
+  pub holds : has_line e.own.seat.point ≡ true → e.view.ends ≡ ends
+  pub unwritten : e.own.seat.point ≡ Holding → c.mask ≡ no_mask
+  pub carries : is_leaving e.own.seat.point ≡ true → IsInHand c n e.own.seat e.own.line
+  pub left : e.own.seat.point ≡ Freeing → (i x p : ℕ) → At e.own.seat.passed i x → At e.own.passed i p → (entry c x).done ≡ true → (entry c x).link ≡ 0 → p + 1 < length e.view.order
 
 -- the places of the requests that it has passed are those of their nodes' last ones
 pub record Passing (order : List Request) (e : Known) : Type 0 where
-  pub places : e.seat.passed ≡ map (asker order) e.passed
-  pub last : (i p : ℕ) → At e.passed i p → IsLast order (asker order p) p
-  pub known : (i p : ℕ) → At e.passed i p → p < length e.view.order
-  pub within : (i p : ℕ) → At e.passed i p → p ≤ length e.view.ends
-  pub ended : e.seat.point ≡ Freeing → (i p : ℕ) → At e.passed i p → p < length e.view.ends
+  pub places : e.own.seat.passed ≡ map (asker order) e.own.passed
+  pub last : (i p : ℕ) → At e.own.passed i p → IsLast order (asker order p) p
+  pub known : (i p : ℕ) → At e.own.passed i p → p < length e.view.order
+  pub within : (i p : ℕ) → At e.own.passed i p → p ≤ length e.view.ends
+  pub ended : e.own.seat.point ≡ Freeing → (i p : ℕ) → At e.own.passed i p → p < length e.view.ends
 
 -- all of it
 pub record NodeOk (about : Setup) (x : Past) (n : ℕ) (e : Known) : Type 0 where

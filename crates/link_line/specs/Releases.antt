@@ -12,21 +12,18 @@ use Rattle.qolb_model.specs.Views.{own}
 use Rattle.qolb_model.specs.LettingGo.{LetsGo, EndsTurn, IsShort}
 use Rattle.link_core.specs.declared.point.Point.{Point}
 use Rattle.link_core.specs.declared.point.Point.TheVariants.{Idle, Left, Rolled, Shut}
-use Rattle.link_line.specs.declared.known.Known.{Known}
-use Rattle.link_line.specs.declared.parcel.Parcel.{Parcel}
+use Rattle.shared_line.specs.declared.rule.Parcel.{Parcel}
+use Rattle.shared_line.specs.Steps.{HasSlot, HasNoSlot, own_end}
+use Rattle.link_line.specs.Known.{Known}
+use Rattle.link_line.specs.Stances.{steps_to_ask}
 use Rattle.link_line.specs.declared.release.Handed.{Handed}
 use Rattle.link_line.specs.declared.release.Handed.TheVariants as handed
 use Rattle.link_line.specs.Links.{At}
-use Rattle.link_line.specs.Steps.{LinkSeat, known_of, HasSlot, HasNoSlot, own_end, point_by, IsReady, IsOneLeft, Ended, GoesOut, IsLeft, Passes}
+use Rattle.link_line.specs.Steps.{LinkSeat, known_of, point_by, IsReady, IsOneLeft, Ended, GoesOut, IsLeft, Passes}
 
 -- no call has taken more word steps before its line is away
 abbrev pub AreFew : ℕ → Type 0
 AreFew steps = steps ≤ 4 * MOST_NODES
-
--- A release that put new_ends - old_ends ends took four word steps for each, less one to three: home, done, grant and freed for each
--- withdrawn request that it passed, and for the last end home; or home and done; or home, done and grant.
-abbrev pub TakesFourEach : ℕ → ℕ → ℕ → Type 0
-TakesFourEach old_ends new_ends steps = (4 * new_ends ≤ 4 * old_ends + steps + 3) × (steps + 1 + 4 * old_ends ≤ 4 * new_ends)
 
 -- how many word steps it takes to find out whether a node may ask, and to make it ready
 abbrev pub steps_to_renew : Option ℕ → ℕ
@@ -40,20 +37,14 @@ rest_of shows.Rolled = Rolled
 rest_of shows.Shut = Shut
 rest_of _ = Idle
 
--- how many word steps a node takes to make a request, by its port's state
-abbrev pub steps_to_ask : PortState → ℕ
-steps_to_ask shows.Left = 3
-steps_to_ask shows.Rolled = 3
-steps_to_ask _ = 2
-
 -- the node may ask, after all but the last of those steps; or its last request is not clear, so it may not
 abbrev pub IsRenewed : PortState → Known → Known → Option ℕ → Type 0
 IsRenewed state v w (Some steps) = IsReady v w × (steps ≤ 2) × (steps + 1 ≡ steps_to_ask state)
-IsRenewed state v w None = ((state ≡ shows.Left) ⊎ (state ≡ shows.Rolled)) × (w.seat.point ≡ v.seat.point) × (w.view.state ≡ v.view.state) × (w.view.count ≡ v.view.count) × Lacks w.view.clear (own w.view)
+IsRenewed state v w None = ((state ≡ shows.Left) ⊎ (state ≡ shows.Rolled)) × (w.own.seat.point ≡ v.own.seat.point) × (w.view.state ≡ v.view.state) × (w.view.count ≡ v.view.count) × Lacks w.view.clear (own w.view)
 
 -- the node with the line y in its hand
 abbrev pub with_line : Known → Parcel → Known
-with_line v y = record v { line = y }
+with_line v y = record v { own = record v.own { line = y } }
 
 -- What became of the line y, which was let go at an entry, in so many word steps: it is away, at home or the next request's; or it is left
 -- there, for a late linker; or the next request is withdrawn, and the line is still in hand. More than one step is taken only where
@@ -65,13 +56,13 @@ HandsOn s y t steps (handed.Passed next) = HasSlot t y × Ended (known_of s) (kn
 
 -- the release of the line y is over, and has left the port in this state
 pub record LetsLineGo (v : Known) (y : Parcel) (state : PortState) (w : Known) : Type 0 where
-  pub point : w.seat.point ≡ point_by state
+  pub point : w.own.seat.point ≡ point_by state
   pub state_is : w.view.state ≡ state
   pub ends_turn : EndsTurn v.view (own_end (is_closed v.view.ends) y) (left_by y.closed) w.view
 
 -- a release that had passed the request at its turn, and none before, is over
 pub record WalksOn (v w : Known) : Type 0 where
-  pub point : w.seat.point ≡ point_by v.view.state
+  pub point : w.own.seat.point ≡ point_by v.view.state
   pub state : w.view.state ≡ v.view.state
   pub count : w.view.count ≡ v.view.count
   pub passed : ℕ
@@ -85,12 +76,12 @@ pub record AreNodesAt (order : List Request) (places nodes : List ℕ) : Type 0 
 -- all requests that the node had passed are freed, and clear unless the line was left behind the last; its own is clear; and nothing else
 -- has changed
 pub record FreesAll (v w : Known) : Type 0 where
-  pub point : w.seat.point ≡ point_by v.view.state
+  pub point : w.own.seat.point ≡ point_by v.view.state
   pub state : w.view.state ≡ v.view.state
   pub count : w.view.count ≡ v.view.count
   pub order : w.view.order ≡ v.view.order
   pub ends : w.view.ends ≡ v.view.ends
   pub marked : w.view.marked ≡ v.view.marked
-  pub freed : (k p : ℕ) (r : Request) → At v.passed k p → At v.view.order p r → Has w.view.freed r
-  pub clear : (k p : ℕ) (r : Request) → At v.passed k p → At v.view.order p r → Has w.view.clear r ⊎ ((p + 1 ≡ length w.view.ends) × IsShort w.view)
+  pub freed : (k p : ℕ) (r : Request) → At v.own.passed k p → At v.view.order p r → Has w.view.freed r
+  pub clear : (k p : ℕ) (r : Request) → At v.own.passed k p → At v.view.order p r → Has w.view.clear r ⊎ ((p + 1 ≡ length w.view.ends) × IsShort w.view)
   pub own_clear : Has w.view.clear (own w.view)

@@ -1,5 +1,5 @@
 -- The words of the table: where they lie, and what an entry word says.
-use Rattle.std.specs.Prelude.{ℕ, ◌+◌, ◌*◌, ◌/◌, ◌%◌, ◌==◌, Bool, true, false}
+use Rattle.std.specs.Prelude.{◌≡◌, ℕ, ◌+◌, ◌*◌, ◌/◌, ◌%◌, ◌<◌, ◌==◌, Bool, true, false, List, slice_index}
 use Rattle.qolb_model.specs.declared.terms.TheConstants.{MOST_NODES}
 use Rattle.link_core.specs.declared.entry.Entry.{Entry}
 use Rattle.link_line.specs.declared.words.TheConstants.{ENTRY_STRIDE, GRANTED, ROLLED, DONE, FREED, LINK}
@@ -36,3 +36,7 @@ is_freed w = (w / 8 % 2) == 1
 
 abbrev pub link_of : ℕ → ℕ
 link_of w = w / LINK
+
+-- where nobody has asked each word is 0
+abbrev pub AreBlank : List ℕ → Type 0
+AreBlank words = (i : ℕ) → i < word_count → slice_index words i ≡ 0

@@ -1,22 +1,14 @@
 //! A queued line over atomic words: nodes stand in a list, and the younger of two neighbours makes the link.
 #![tactic(auto)]
 
-mod calls;
-mod finish;
-mod joins;
-mod known;
-mod line;
-mod meeting;
-mod open;
-mod parcel;
+mod asking;
+mod own;
 mod plays;
-mod port;
+mod queue;
 mod release;
 mod rule;
-mod slot;
 mod steps;
-mod sync;
 mod words;
 
-pub use line::LinkLine;
-pub use port::Port;
+pub use own::LinkOwn;
+pub use rule::{LinkLine, Links, Port};

@@ -1,11 +1,10 @@
 //! What each step tells.
 ghost use Rattle.link_line.specs.Steps.{readied, prepended, linked, loaded, looked, homed, marked, granted, rolled, freed};
 
-use crate::known::Known;
-use crate::parcel::Parcel;
+use crate::rule::Entries;
 use atomic_table::Play;
 use qolb_model::Keep;
-use std::collections::LinkedList;
+use shared_line::Parcel;
 use std::marker::PhantomData;
 
 /// The own entry is cleared.
@@ -13,7 +12,7 @@ pub(crate) struct Reset<K> {
     law: PhantomData<K>,
 }
 
-impl<K: Keep> Play<Parcel, LinkedList<Known>> for Reset<K> {
+impl<K: Keep> Play<Parcel, Entries> for Reset<K> {
     ghost then = { readied K.allows };
 }
 
@@ -22,7 +21,7 @@ pub(crate) struct Prepend<K> {
     law: PhantomData<K>,
 }
 
-impl<K: Keep> Play<Parcel, LinkedList<Known>> for Prepend<K> {
+impl<K: Keep> Play<Parcel, Entries> for Prepend<K> {
     ghost then = { prepended K.allows };
 }
 
@@ -31,7 +30,7 @@ pub(crate) struct Link<K> {
     law: PhantomData<K>,
 }
 
-impl<K: Keep> Play<Parcel, LinkedList<Known>> for Link<K> {
+impl<K: Keep> Play<Parcel, Entries> for Link<K> {
     ghost then = { linked K.allows };
 }
 
@@ -40,7 +39,7 @@ pub(crate) struct Load<K> {
     law: PhantomData<K>,
 }
 
-impl<K: Keep> Play<Parcel, LinkedList<Known>> for Load<K> {
+impl<K: Keep> Play<Parcel, Entries> for Load<K> {
     ghost then = { loaded K.allows };
 }
 
@@ -49,7 +48,7 @@ pub(crate) struct Look<K> {
     law: PhantomData<K>,
 }
 
-impl<K: Keep> Play<Parcel, LinkedList<Known>> for Look<K> {
+impl<K: Keep> Play<Parcel, Entries> for Look<K> {
     ghost then = { looked K.allows };
 }
 
@@ -58,7 +57,7 @@ pub(crate) struct Home<K> {
     law: PhantomData<K>,
 }
 
-impl<K: Keep> Play<Parcel, LinkedList<Known>> for Home<K> {
+impl<K: Keep> Play<Parcel, Entries> for Home<K> {
     ghost then = { homed K.allows };
 }
 
@@ -67,7 +66,7 @@ pub(crate) struct Done<K> {
     law: PhantomData<K>,
 }
 
-impl<K: Keep> Play<Parcel, LinkedList<Known>> for Done<K> {
+impl<K: Keep> Play<Parcel, Entries> for Done<K> {
     ghost then = { marked K.allows };
 }
 
@@ -76,7 +75,7 @@ pub(crate) struct Grant<K> {
     law: PhantomData<K>,
 }
 
-impl<K: Keep> Play<Parcel, LinkedList<Known>> for Grant<K> {
+impl<K: Keep> Play<Parcel, Entries> for Grant<K> {
     ghost then = { granted K.allows };
 }
 
@@ -85,7 +84,7 @@ pub(crate) struct Roll<K> {
     law: PhantomData<K>,
 }
 
-impl<K: Keep> Play<Parcel, LinkedList<Known>> for Roll<K> {
+impl<K: Keep> Play<Parcel, Entries> for Roll<K> {
     ghost then = { rolled K.allows };
 }
 
@@ -94,6 +93,6 @@ pub(crate) struct Free<K> {
     law: PhantomData<K>,
 }
 
-impl<K: Keep> Play<Parcel, LinkedList<Known>> for Free<K> {
+impl<K: Keep> Play<Parcel, Entries> for Free<K> {
     ghost then = { freed K.allows };
 }

@@ -1,21 +1,21 @@
 //! How a line is let go.
-ghost use Rattle.std.specs.Prelude.{◌≡◌, ◌≢◌, ℕ, ◌+◌, ◌*◌, ◌≤◌, [], ◌∷◌, length, true};
+ghost use Rattle.std.specs.Prelude.{◌≡◌, ◌≢◌, ℕ, ◌+◌, ◌*◌, ◌≤◌, [], ◌∷◌, length};
 ghost use Rattle.qolb_model.specs.declared.request.Request.{Request};
 ghost use Rattle.qolb_model.specs.declared.terms.TheConstants.{MOST_NODES};
 ghost use Rattle.qolb_model.specs.PortStates as states;
-ghost use Rattle.link_core.specs.declared.point.Point.TheVariants.{Idle, Leaving, Freeing, Left, Rolled, Shut};
+ghost use Rattle.link_core.specs.declared.point.Point.TheVariants.{Leaving, Freeing};
+ghost use Rattle.shared_line.specs.declared.rule.Parcel.{Parcel};
+ghost use Rattle.shared_line.specs.Steps.{SameSeat, HasSlot, HasNoSlot};
 ghost use Rattle.link_line.specs.Links.{At};
-ghost use Rattle.link_line.specs.Steps.{SameSeat, IsSeatOf, IsAt, HasSlot, HasNoSlot, IsOwnNode, Alone, known_of, GoesOn, Comes, MayLetGo};
-ghost use Rattle.link_line.specs.Releases.{AreFew, IsRenewed, steps_to_renew, rest_of, HandsOn, TakesFourEach, LetsLineGo, WalksOn, AreNodesAt, FreesAll};
-ghost use Rattle.link_line.specs.Ports.{Arrived};
-ghost use Rattle.link_line.specs.declared.parcel.Parcel.{Parcel};
+ghost use Rattle.link_line.specs.Stances.{lets_go_in};
+ghost use Rattle.link_line.specs.Steps.{IsSeatOf, IsAt, IsOwnNode, Alone, known_of, GoesOn, MayLetGo};
+ghost use Rattle.link_line.specs.Releases.{AreFew, HandsOn, LetsLineGo, WalksOn, AreNodesAt, FreesAll};
 
-use crate::parcel::Parcel;
 use crate::rule::{Ground, LinkSeat};
-use crate::slot::take;
-use crate::steps::{done, free, grant, home, look_left, look_rolled, reset};
+use crate::steps::{done, free, grant, home};
 use arrayvec::ArrayVec;
 use qolb_model::{Keep, MOST_NODES, PortState};
+use shared_line::Released;
 
 /// The most requests that a release passes: those of all nodes but its own.
 const MOST_PASSED: usize = MOST_NODES as usize - 1;
@@ -31,132 +31,43 @@ pub(crate) enum Handed {
     Passed(u64),
 }
 
-/// Makes a node ready to ask, and returns how many word steps that took. A last request that is not clear keeps it from asking: then
-/// `None`, after one step.
-#[inline]
-pub(crate) fn renew<K: Keep>(
-    ground: &Ground<K>,
-    seat: &mut LinkSeat,
-    node: u64,
-    state: PortState,
-) -> Option<u64>
-    requires table { IsSeatOf ground.now.table_id seat.old }
-    requires alone { Alone seat.old.me }
-    requires point { (known_of seat.old).seat.point ≡ rest_of state }
-    requires may_ask { states.may_ask state ≡ true }
-    requires own { IsOwnNode node seat.old }
-    ensures same { SameSeat seat.old seat.new }
-    ensures slot { seat.new.me.1 ≡ seat.old.me.1 }
-    ensures goes_on { GoesOn K.allows seat.old.me seat.new.me (steps_to_renew result) }
-    ensures renewed { IsRenewed state (known_of seat.old) (known_of seat.new) result }
-{
-    // By comparisons, rarest last: as a `match` on all states this is a table of jumps, which each round would go through.
-    let looks = if state == PortState::Left {
-        if !look_left(ground, seat, node) {
-            return None;
-        }
-        1
-    } else if state == PortState::Rolled {
-        if !look_rolled(ground, seat, node) {
-            return None;
-        }
-        1
-    } else {
-        0
-    };
-    reset(ground, seat, node);
-    Some(looks + 1)
-}
-
-/// Takes in the line that has come to its turn, and returns the state that the port is then in: it holds. A closed line is passed on
-/// at once, in so many more steps.
-#[inline]
-pub(crate) fn arrive<K: Keep>(
-    ground: &Ground<K>,
-    seat: &mut LinkSeat,
-    parcel: &mut Parcel,
-    steps: &mut u64,
-    node: u64,
-) -> PortState
-    requires table { IsSeatOf ground.now.table_id seat.old }
-    requires alone { Alone seat.old.me }
-    requires own { IsOwnNode node seat.old }
-    requires nodes { (1 ≤ (known_of seat.old).view.terms.nodes) × ((known_of seat.old).view.terms.nodes ≤ MOST_NODES) }
-    requires few { steps.old ≤ 3 }
-    requires comes { (y : Parcel) × HasSlot seat.old y × Comes (known_of seat.old) y }
-    ensures same { SameSeat seat.old seat.new }
-    ensures goes_on { (n : ℕ) × (steps.new ≡ steps.old + n) × GoesOn K.allows seat.old.me seat.new.me n }
-    ensures count { (known_of seat.new).view.count ≡ (known_of seat.old).view.count }
-    ensures arrived { Arrived seat.new parcel.new steps.old steps.new result }
-{
-    take(ground, seat, parcel);
-    if parcel.closed {
-        let (state, taken) = pass_on(ground, seat, *steps, node);
-        *steps = taken;
-        state
-    } else {
-        PortState::Holding
-    }
-}
-
-/// Passes a closed line on, after so many steps. Returns the state that the port is then in, and how many steps there are now.
-///
-/// The number of steps goes in and comes back by value, as in `walk`: a reference to it, which a call that is not inlined would get, would
-/// keep the whole port in memory.
-#[cold]
-#[inline(never)]
-fn pass_on<K: Keep>(
-    ground: &Ground<K>,
-    seat: &mut LinkSeat,
-    steps: u64,
-    node: u64,
-) -> (PortState, u64)
-    requires table { IsSeatOf ground.now.table_id seat.old }
-    requires alone { Alone seat.old.me }
-    requires own { IsOwnNode node seat.old }
-    requires nodes { (1 ≤ (known_of seat.old).view.terms.nodes) × ((known_of seat.old).view.terms.nodes ≤ MOST_NODES) }
-    requires few { steps ≤ 3 }
-    requires comes { (y : Parcel) × HasSlot seat.old y × Comes (known_of seat.old) y × (y.closed ≡ true) }
-    ensures same { SameSeat seat.old seat.new }
-    ensures goes_on { (n : ℕ) × (result.1 ≡ steps + n) × GoesOn K.allows seat.old.me seat.new.me n }
-    ensures count { (known_of seat.new).view.count ≡ (known_of seat.old).view.count }
-    ensures arrived { (y : Parcel) → Arrived seat.new y steps result.1 result.0 }
-    ensures not_held { result.0 ≢ PortState.Holding }
-{
-    let mut steps = steps;
-    let state = release(ground, seat, true, &mut steps, node);
-    (state, steps)
-}
-
-/// Lets the line go that lies in the slot, closed or not, and returns the state that the port is then in.
+/// Lets the line go that lies in the slot, closed or not.
 #[inline]
 pub(crate) fn release<K: Keep>(
     ground: &Ground<K>,
     seat: &mut LinkSeat,
-    closed: bool,
-    steps: &mut u64,
     node: u64,
-) -> PortState
+    closed: bool,
+) -> Released
     requires table { IsSeatOf ground.now.table_id seat.old }
     requires alone { Alone seat.old.me }
     requires own { IsOwnNode node seat.old }
-    requires none_passed { (known_of seat.old).passed ≡ [] }
+    requires none_passed { (known_of seat.old).own.passed ≡ [] }
     requires nodes { (1 ≤ (known_of seat.old).view.terms.nodes) × ((known_of seat.old).view.terms.nodes ≤ MOST_NODES) }
-    requires few { steps.old ≤ 3 }
     requires parcel { (y : Parcel) × HasSlot seat.old y × MayLetGo K.allows (known_of seat.old) y node × (y.closed ≡ closed) }
     ensures same { SameSeat seat.old seat.new }
     ensures slot { HasNoSlot seat.new }
-    ensures goes_on { (n : ℕ) × (steps.new ≡ steps.old + n) × GoesOn K.allows seat.old.me seat.new.me n }
-    ensures lets_go { (y : Parcel) → HasSlot seat.old y → LetsLineGo (known_of seat.old) y result (known_of seat.new) }
-    ensures counted { (n : ℕ) × (steps.new ≡ steps.old + n) × TakesFourEach (length (known_of seat.old).view.ends) (length (known_of seat.new).view.ends) n }
-    ensures bound { steps.new + 3 ≤ steps.old + 4 * (known_of seat.old).view.terms.nodes }
+    ensures goes_on { GoesOn K.allows seat.old.me seat.new.me result.steps }
+    ensures lets_go { (y : Parcel) → HasSlot seat.old y → LetsLineGo (known_of seat.old) y result.state (known_of seat.new) }
+    ensures counted { lets_go_in (length (known_of seat.old).view.ends) (length (known_of seat.new).view.ends) result.steps }
+    ensures bound { result.steps + 3 ≤ 4 * (known_of seat.old).view.terms.nodes }
 {
-    match hand_on(ground, seat, steps, node) {
-        Handed::On => left_by(closed),
-        Handed::Left => PortState::Left,
+    let mut steps = 0;
+    match hand_on(ground, seat, &mut steps, node) {
+        Handed::On => Released {
+            state: left_by(closed),
+            steps,
+        },
+        Handed::Left => Released {
+            state: PortState::Left,
+            steps,
+        },
         Handed::Passed(next) => {
-            *steps = walk(ground, seat, *steps, next);
-            left_by(closed)
+            let steps = walk(ground, seat, steps, next);
+            Released {
+                state: left_by(closed),
+                steps,
+            }
         }
     }
 }
@@ -200,12 +111,12 @@ fn walk<K: Keep>(ground: &Ground<K>, seat: &mut LinkSeat, steps: u64, first: u64
     requires table { IsSeatOf ground.now.table_id seat.old }
     requires ready { IsAt (Leaving first) seat.old }
     requires high { first ≤ MOST_NODES }
-    requires passed { (known_of seat.old).passed ≡ length (known_of seat.old).view.ends ∷ [] }
+    requires passed { (known_of seat.old).own.passed ≡ length (known_of seat.old).view.ends ∷ [] }
     requires first { (r : Request) × At (known_of seat.old).view.order (length (known_of seat.old).view.ends) r × (r.node ≡ first) }
     requires nodes { (2 ≤ (known_of seat.old).view.terms.nodes) × ((known_of seat.old).view.terms.nodes ≤ MOST_NODES) }
     requires few { steps ≤ 6 }
-    requires parcel { HasSlot seat.old (known_of seat.old).line }
-    requires state { (known_of seat.old).view.state ≡ states.left_by (known_of seat.old).line.closed }
+    requires parcel { HasSlot seat.old (known_of seat.old).own.line }
+    requires state { (known_of seat.old).view.state ≡ states.left_by (known_of seat.old).own.line.closed }
     ensures same { SameSeat seat.old seat.new }
     ensures slot { HasNoSlot seat.new }
     ensures goes_on { (n : ℕ) × (result ≡ steps + n) × GoesOn K.allows seat.old.me seat.new.me n }
@@ -229,9 +140,9 @@ fn walk<K: Keep>(ground: &Ground<K>, seat: &mut LinkSeat, steps: u64, first: u64
 fn free_passed<K: Keep>(ground: &Ground<K>, seat: &mut LinkSeat, nodes: &[u64])
     requires table { IsSeatOf ground.now.table_id seat.old }
     requires ready { IsAt Freeing seat.old }
-    requires some { (known_of seat.old).passed ≢ [] }
-    requires many { length nodes.now ≡ length (known_of seat.old).passed }
-    requires nodes { AreNodesAt (known_of seat.old).view.order (known_of seat.old).passed nodes.now }
+    requires some { (known_of seat.old).own.passed ≢ [] }
+    requires many { length nodes.now ≡ length (known_of seat.old).own.passed }
+    requires nodes { AreNodesAt (known_of seat.old).view.order (known_of seat.old).own.passed nodes.now }
     ensures same { SameSeat seat.old seat.new }
     ensures slot { seat.new.me.1 ≡ seat.old.me.1 }
     ensures goes_on { GoesOn K.allows seat.old.me seat.new.me (length nodes.now) }

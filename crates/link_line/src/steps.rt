@@ -6,8 +6,9 @@ ghost use Rattle.qolb_model.specs.Asking.{Asks, IsJoined};
 ghost use Rattle.qolb_model.specs.Linking.{Links};
 ghost use Rattle.link_core.specs.declared.point.Point.TheVariants.{Idle, Ready, Linking, Queued, Marking, Granting, Freeing, Left, Rolled, Shut};
 ghost use Rattle.link_line.specs.Links.{At};
-ghost use Rattle.link_line.specs.Steps.{Alone, SameSeat, IsSeatOf, IsAt, HasSlot, HasNoSlot, IsOwnNode, known_of, GoesOn, IsReady, LinksTo, IsEarly, Comes, IsRolled, IsStill, MayLetGo, Carries, IsOneLeft, Ended, GoesOut, IsLeft, Passes, Frees};
-ghost use Rattle.link_line.specs.declared.parcel.Parcel.{Parcel};
+ghost use Rattle.shared_line.specs.declared.rule.Parcel.{Parcel};
+ghost use Rattle.shared_line.specs.Steps.{SameSeat, HasSlot, HasNoSlot};
+ghost use Rattle.link_line.specs.Steps.{Alone, IsSeatOf, IsAt, IsOwnNode, known_of, GoesOn, IsReady, LinksTo, IsEarly, Comes, IsRolled, IsStill, MayLetGo, Carries, IsOneLeft, Ended, GoesOut, IsLeft, Passes, Frees};
 
 use crate::plays::{Done, Free, Grant, Home, Link, Load, Look, Prepend, Reset, Roll};
 use crate::rule::{Ground, LinkSeat};
@@ -148,11 +149,11 @@ pub(crate) fn done<K: Keep>(ground: &Ground<K>, seat: &mut LinkSeat, at: u64) ->
     requires table { IsSeatOf ground.now.table_id seat.old }
     requires ready { IsAt (Marking at) seat.old }
     requires high { at ≤ MOST_NODES }
-    requires parcel { HasSlot seat.old (known_of seat.old).line }
+    requires parcel { HasSlot seat.old (known_of seat.old).own.line }
     ensures same { SameSeat seat.old seat.new }
     ensures goes_on { GoesOn K.allows seat.old.me seat.new.me 1 }
-    ensures left { result ≡ 0 → HasNoSlot seat.new × Ended (known_of seat.old) (known_of seat.new) (known_of seat.old).line × IsLeft (known_of seat.old) (known_of seat.new) (known_of seat.old).line }
-    ensures on { result ≢ 0 → (seat.new.me.1 ≡ seat.old.me.1) × (result ≤ MOST_NODES) × Carries (known_of seat.old) (known_of seat.new) (known_of seat.old).line (Granting result) }
+    ensures left { result ≡ 0 → HasNoSlot seat.new × Ended (known_of seat.old) (known_of seat.new) (known_of seat.old).own.line × IsLeft (known_of seat.old) (known_of seat.new) (known_of seat.old).own.line }
+    ensures on { result ≢ 0 → (seat.new.me.1 ≡ seat.old.me.1) × (result ≤ MOST_NODES) × Carries (known_of seat.old) (known_of seat.new) (known_of seat.old).own.line (Granting result) }
 {
     link_of(ground.fetch_add::<Done<K>>(seat, entry_word(at), DONE))
 }
@@ -162,11 +163,11 @@ pub(crate) fn grant<K: Keep>(ground: &Ground<K>, seat: &mut LinkSeat, next: u64)
     requires table { IsSeatOf ground.now.table_id seat.old }
     requires ready { IsAt (Granting next) seat.old }
     requires high { next ≤ MOST_NODES }
-    requires parcel { HasSlot seat.old (known_of seat.old).line }
+    requires parcel { HasSlot seat.old (known_of seat.old).own.line }
     ensures same { SameSeat seat.old seat.new }
     ensures goes_on { GoesOn K.allows seat.old.me seat.new.me 1 }
-    ensures ended { Ended (known_of seat.old) (known_of seat.new) (known_of seat.old).line }
-    ensures out { result ≡ false → HasNoSlot seat.new × GoesOut (known_of seat.old) (known_of seat.new) (known_of seat.old).line }
+    ensures ended { Ended (known_of seat.old) (known_of seat.new) (known_of seat.old).own.line }
+    ensures out { result ≡ false → HasNoSlot seat.new × GoesOut (known_of seat.old) (known_of seat.new) (known_of seat.old).own.line }
     ensures passes { result ≡ true → (seat.new.me.1 ≡ seat.old.me.1) × Passes (known_of seat.old) (known_of seat.new) next }
 {
     is_rolled(ground.fetch_add::<Grant<K>>(seat, entry_word(next), GRANTED))
@@ -177,11 +178,11 @@ pub(crate) fn free<K: Keep>(ground: &Ground<K>, seat: &mut LinkSeat, node: u64)
     requires table { IsSeatOf ground.now.table_id seat.old }
     requires ready { IsAt Freeing seat.old }
     requires high { node ≤ MOST_NODES }
-    requires next { (p : ℕ) × (ps : List ℕ) × (r : Request) × ((known_of seat.old).passed ≡ p ∷ ps) × At (known_of seat.old).view.order p r × (r.node ≡ node) }
+    requires next { (p : ℕ) × (ps : List ℕ) × (r : Request) × ((known_of seat.old).own.passed ≡ p ∷ ps) × At (known_of seat.old).view.order p r × (r.node ≡ node) }
     ensures same { SameSeat seat.old seat.new }
     ensures slot { seat.new.me.1 ≡ seat.old.me.1 }
     ensures goes_on { GoesOn K.allows seat.old.me seat.new.me 1 }
-    ensures frees { (p : ℕ) (ps : List ℕ) (r : Request) → (known_of seat.old).passed ≡ p ∷ ps → At (known_of seat.old).view.order p r → Frees (known_of seat.old) p ps r (known_of seat.new) }
+    ensures frees { (p : ℕ) (ps : List ℕ) (r : Request) → (known_of seat.old).own.passed ≡ p ∷ ps → At (known_of seat.old).view.order p r → Frees (known_of seat.old) p ps r (known_of seat.new) }
 {
     ground.fetch_add::<Free<K>>(seat, entry_word(node), FREED);
 }

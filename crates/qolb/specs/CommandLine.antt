@@ -8,8 +8,8 @@ use Rattle.clap.specs.declared.builder.value_parser.ValueParser.TheVariants as p
 use Rattle.qolb_script.specs.declared.job.WorkKind.TheVariants.{Board, Bank}
 use Rattle.qolb_run.specs.declared.replay.Kind.{Kind}
 use Rattle.qolb_run.specs.declared.replay.Kind.TheVariants as kind
-use Rattle.qolb_run.specs.declared.work.Lines.{Lines}
-use Rattle.qolb_run.specs.declared.work.Lines.TheVariants as lines
+use Rattle.locks.specs.declared.Lines.{Lines}
+use Rattle.locks.specs.declared.Lines.TheVariants as lines
 use Rattle.qolb_draw.specs.declared.draw.Form.{Form}
 use Rattle.qolb_draw.specs.declared.draw.Form.TheVariants as form
 use Rattle.qolb.specs.declared.command_line.Wish.{Wish}
@@ -81,7 +81,7 @@ the_command names = with_subcommand (any_answer names) draw_command.top
 -- the kind of this name
 abbrev pub kind_of_name : Option Text → Kind
 kind_of_name None = kind.Plain
-kind_of_name (Some name) = if bytes_eq name (codes "ring") then kind.Ring else if bytes_eq name (codes "link") then kind.Link else kind.Plain
+kind_of_name (Some name) = if bytes_eq name (codes "ring") then kind.Shared lines.Ring else if bytes_eq name (codes "link") then kind.Shared lines.Link else kind.Plain
 
 abbrev pub lines_of_name : Option Text → Lines
 lines_of_name None = lines.Link

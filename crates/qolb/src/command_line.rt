@@ -210,8 +210,8 @@ fn kind_named(name: Option<&str>) -> Kind
     ensures { result ≡ spec.kind_of_name (option_map (λ n. n.now) name.entry) }
 {
     match name {
-        Some("ring") => Kind::Ring,
-        Some("link") => Kind::Link,
+        Some("ring") => Kind::Shared(Lines::Ring),
+        Some("link") => Kind::Shared(Lines::Link),
         _ => Kind::Plain,
     }
 }

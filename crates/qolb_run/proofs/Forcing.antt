@@ -21,10 +21,10 @@ use Rattle.qolb_script.specs.declared.reply_text.Said.{Said}
 use Rattle.qolb_script.specs.declared.reply_text.Said.TheVariants as said
 use Rattle.qolb_script.specs.Commands.{node_of}
 use Rattle.qolb_script.specs.Reply.{is_allowed, is_queued, is_holding, answered, after_allowed, said_of, after_command}
-use Rattle.qolb_run.specs.Stances.{stance_of}
+use Rattle.line_threads.specs.Stances.{stance_of}
 use Rattle.qolb_run.specs.Calls.{Promises, Calls, AnswersByPort, all_allowed}
 use Rattle.qolb_run.proofs.Allowed.{queued_state, holding_state}
-use Rattle.qolb_run.proofs.Rounds.{get_of}
+use Rattle.line_threads.proofs.Rounds.{get_of}
 
 -- what a state allows it allows by what is seen of it
 may_ask_seen : (x : PortState) → may_ask x ≡ may_ask (seen x)

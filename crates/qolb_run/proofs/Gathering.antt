@@ -12,6 +12,7 @@ use Rattle.qolb_script.specs.declared.schedule.TheConstants.{MOST_COMMANDS}
 use Rattle.qolb_model.specs.declared.terms.Terms.{Terms}
 use Rattle.qolb_model.specs.declared.view.View.{View}
 use Rattle.qolb_model.specs.Opening.{AreNew}
+use Rattle.line_threads.specs.Places.{AllAt}
 use Rattle.qolb_run.specs.JustOpened.{AreJustOpened}
 use Rattle.qolb_run.specs.Jobs.{jobs_of}
 use Rattle.qolb_run.specs.Workers.{AreBack, AreDone, AreFresh, MayBeGone}
@@ -62,9 +63,10 @@ each_pushed P (z ∷ xs) x all own (suc k) y at = each_pushed (λ n. P (suc n)) 
 
 -- what threads gave back, each by its place
 pub back_at : {Site Hand : Type 0} (has_done : Site → ℕ → Hand → List Job → Type 0) (site : Site) (jobs : List Job) (o : Option (Vec (Option Hand) Global))
-    → IfSome o (λ all. (k : ℕ) (back : Option Hand) → slice_get all.items k ≡ Some back → IfSome back (λ hand. has_done site (k + 1) hand (jobs_of (k + 1) jobs))) → IfSome o (λ all. AreBack has_done site jobs all.items)
+    → IfSome o (λ all. AllAt (λ k (back : Option Hand). IfSome back (λ hand. has_done site (k + 1) hand (jobs_of (k + 1) jobs))) all.items) → IfSome o (λ all. AreBack has_done site jobs all.items)
 back_at has_done site jobs None each = tt
-back_at has_done site jobs (Some all) each = λ k hand at. each k (Some hand) at
+back_at {Site} {Hand} has_done site jobs (Some all) each = λ k hand at.
+    subst (λ (back : Option Hand). IfSome back (λ hand. has_done site (k + 1) hand (jobs_of (k + 1) jobs))) (get_or_from_slice_get all.items k (Some hand) (Some hand) at) (each k (Some hand) (slice_get_within all.items k (Some hand) at))
 
 -- ports as they were opened
 get_map : {P V : Type 0} (view : P → V) (ports : List P) (k : ℕ) (port : P) → slice_get ports k ≡ Some port → slice_get (map view ports) k ≡ Some (view port)

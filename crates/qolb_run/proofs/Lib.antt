@@ -3,9 +3,7 @@ pub mod Allowed
 pub mod Tallying
 pub mod Replayed
 pub mod StepsRun
-pub mod Rounds
 pub mod Forcing
-pub mod Acquiring
 pub mod Shares
 pub mod BoardTurns
 pub mod Turns
@@ -13,7 +11,6 @@ pub mod Merging
 pub mod Working
 pub mod Refusing
 pub mod Gathering
-pub mod Joined
 pub mod Summing
 pub mod Banking
 pub mod Reported

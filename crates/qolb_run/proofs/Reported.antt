@@ -11,7 +11,7 @@ use Rattle.qolb_script.specs.WorkScript.{WorkScript}
 use Rattle.qolb_run.specs.declared.replay.ReplayError.{ReplayError}
 use Rattle.qolb_run.specs.declared.report.TaskError.{TaskError}
 use Rattle.qolb_run.specs.declared.report.TaskError.TheVariants.{Replay}
-use Rattle.qolb_run.specs.declared.work.Lines.{Lines}
+use Rattle.locks.specs.declared.Lines.{Lines}
 use Rattle.qolb_run.specs.declared.task.Task.TheVariants.{Work}
 use Rattle.qolb_run.specs.Reports.{IsReportOf}
 use Rattle.qolb_run.specs.BankWork.{IsBankedOver}

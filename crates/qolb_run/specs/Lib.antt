@@ -1,9 +1,11 @@
+pub use Rattle.line_threads.specs.Acquiring
+pub use Rattle.line_threads.specs.Places
+pub use Rattle.line_threads.specs.Stances
+pub use Rattle.line_threads.specs.Meetings
 pub mod Tallies
 pub mod Outcome
 pub mod StepRuns
-pub mod Stances
 pub mod Calls
-pub mod Acquiring
 pub mod Jobs
 pub mod JustOpened
 pub mod Workers
@@ -12,4 +14,3 @@ pub mod BoardWork
 pub mod Reports
 pub mod BankRuns
 pub mod BankWork
-pub mod Meetings

@@ -1,5 +1,5 @@
 -- How a task with some bytes for its script ends.
-use Rattle.std.specs.Prelude.{◌≡◌, ◌<◌, ◌≤◌, ◌⊎◌, ℕ, List, length, Ok, Err}
+use Rattle.std.specs.Prelude.{◌≡◌, ◌≢◌, ◌<◌, ◌≤◌, ◌⊎◌, ℕ, List, length, Ok, Err}
 use Rattle.qolb_run.specs.declared.replay.ReplayError.{ReplayError}
 use Rattle.qolb_run.specs.declared.replay.ReplayError.TheVariants as error
 use Rattle.qolb_run.specs.declared.input.TheConstants.{MOST_BYTES}
@@ -66,6 +66,10 @@ MayFail task input error.Read = Unit {0}
 MayFail task input error.Long = MOST_BYTES < length input
 MayFail task input (error.Script fault) = (length input ≤ MOST_BYTES) × HasFault task input fault
 MayFail task input error.Write = IsAnswered task input
+
+-- why a schedule, whose bytes are not too many, has no reply: memory was refused, or the bytes are no schedule
+abbrev pub HasNoReply : List ℕ → ReplayError → Type 0
+HasNoReply input why = (why ≡ error.Memory) ⊎ ((fault : ScriptError) × (why ≡ error.Script fault) × (reply_to input ≡ Err fault) × (fault ≢ script.Memory))
 
 -- when a task may end without an answer: with an error as of a replay; or, with work, because one of its workers gave up
 abbrev pub MayEnd : Task → List ℕ → TaskError → Type 0

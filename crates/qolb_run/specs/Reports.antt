@@ -15,7 +15,8 @@ pub record IsDoneInTurn (work : WorkScript) (report : Report) : Type 0 where
   pub interleaves : IsInterleaving work.jobs sequence
   pub report_is : report ≡ report_of (after_jobs empty_board sequence)
 
--- of a board: so it was, as if one owner had done all jobs in turn; and so what was stored was taken or is left, each put was stored or found the board full, and each take had a task or found none
+-- of a board: it is as if one owner had done all jobs in turn. So what was stored was taken or is left, each put was stored or found the
+-- board full, and each take had a task or found none
 pub record IsOfBoard (work : WorkScript) (stored full taken empty left : ℕ) : Type 0 where
   pub of_board : work.kind ≡ kind.Board
   pub in_turn : IsDoneInTurn work (Board stored full taken empty left)

@@ -4,11 +4,11 @@ ghost use Rattle.qolb_model.specs.OneOwner.{opened};
 ghost use Rattle.qolb_model.specs.Opening.{AreNew, MayOpen};
 ghost use Rattle.qolb_model.specs.Whole.{AreWhole};
 ghost use Rattle.qolb_script.specs.Commands.{node_of};
-ghost use Rattle.qolb_run.specs.Stances.{stance_of};
+ghost use Rattle.line_threads.specs.Stances.{stance_of};
 ghost use Rattle.qolb_run.specs.Calls.{Calls, AnswersByPort};
 
 use crate::line::{ReplayLine, allows};
-use crate::meetings::meet_others;
+use line_threads::meet_others;
 use qolb_model::{Free, LineSync, PortState};
 use qolb_script::{Command, Said};
 use std::marker::Model;
@@ -31,7 +31,7 @@ where
 {
     ghost use Rattle.std.specs.Prelude.{List, map, All};
     ghost use Rattle.qolb_model.specs.Whole.{Stance};
-    ghost use Rattle.qolb_run.specs.Stances.{stance_of};
+    ghost use Rattle.line_threads.specs.Stances.{stance_of};
 
     ghost Value = { List Stance };
 

@@ -10,17 +10,16 @@ ghost use Rattle.qolb_model.specs.Whole.{Stance, AreWhole};
 ghost use Rattle.qolb_run.specs.Tallies.{AreLinesOf};
 ghost use Rattle.qolb_run.specs.declared.replay.ReplayError.TheVariants.{Memory, Write};
 ghost use Rattle.qolb_run.specs.declared.task.Task.TheVariants as task;
-ghost use Rattle.qolb_run.specs.Outcome.{IsReply, MayFail, as_replay_error, script_error};
+ghost use Rattle.qolb_run.specs.Outcome.{IsReply, MayFail, HasNoReply, as_replay_error, script_error};
 
 use crate::by_ports::PortedLine;
 use crate::input::{InputError, read_all};
 use crate::line::ReplayLine;
 use crate::tally::TalliedLine;
 use line_lanes::Line64;
-use link_line::LinkLine;
+use locks::{Lines, OverLines, over_lines};
 use qolb_model::{Free, OpenLine, PlainLine, Terms};
 use qolb_script::{Fault, Schedule, ScriptError, Watched, push_said, read_schedule};
-use ring_line::RingLine;
 use std::alloc::{AllocError, Allocator, Global};
 use std::io::{Read, Write};
 use thiserror::Error;
@@ -30,10 +29,8 @@ use thiserror::Error;
 pub enum Kind {
     /// The plain reference, with one owner.
     Plain,
-    /// Rings, whose nodes call through ports of their own. The port that acts meets each other one before and after its call.
-    Ring,
-    /// Lists with reversed links, in the same way.
-    Link,
+    /// Lines that nodes share, each through a port of its own. The port that acts meets each other one before and after its call.
+    Shared(Lines),
 }
 
 /// Why a schedule could not be replayed.
@@ -113,11 +110,20 @@ pub fn run_schedule<R: Read, W: Write>(
     ensures written { OnOk result (has_failed writer.new ≡ false) }
     ensures memory { result ≢ Err (ReplayError.Script ScriptError.Memory) }
 {
-    match kind {
-        Kind::Plain => run_plain(alloc, reader, writer),
-        Kind::Ring => run_schedule_over::<RingLine<Free>, R, W>(alloc, reader, writer),
-        Kind::Link => run_schedule_over::<LinkLine<Free>, R, W>(alloc, reader, writer),
-    }
+    let input = read_all(alloc, reader)?;
+    let text = match kind {
+        Kind::Plain => answered_plainly(&alloc, input.as_slice())?,
+        Kind::Shared(lines) => over_lines(
+            lines,
+            Answering {
+                alloc: &alloc,
+                shared: alloc,
+                input: input.as_slice(),
+            },
+        )?,
+    };
+    writer.write_all(text.as_slice())?;
+    Ok(())
 }
 
 /// The same by lines that nodes share, of this type.
@@ -142,26 +148,6 @@ where
     Ok(())
 }
 
-/// The same by plain lines.
-fn run_plain<R: Read, W: Write>(
-    alloc: Global,
-    reader: &mut Watched<R>,
-    writer: &mut Watched<W>,
-) -> Result<(), ReplayError>
-    ensures ok { OnOk result (IfSome (R.remaining (inner_of reader.old)) (λ input. (text : List ℕ) × IsReply input text × Appends (W.contents (inner_of writer.old)) (W.contents (inner_of writer.new)) text)) }
-    ensures refused { IfErr result (λ error. IfSome (R.remaining (inner_of reader.old)) (λ input. (kind : Kind) → MayFail (task.Replay kind) input error)) }
-    ensures unwritten { IfErr result (λ error. error ≢ ReplayError.Write → writer.new ≡ writer.old) }
-    ensures read_fault { (result ≡ Err ReplayError.Read) ↔ (has_failed reader.new ≡ true) }
-    ensures write_fault { result ≡ Err ReplayError.Write → has_failed writer.new ≡ true }
-    ensures written { OnOk result (has_failed writer.new ≡ false) }
-    ensures memory { result ≢ Err (ReplayError.Script ScriptError.Memory) }
-{
-    let input = read_all(alloc, reader)?;
-    let text = answered_plainly(&alloc, input.as_slice())?;
-    writer.write_all(text.as_slice())?;
-    Ok(())
-}
-
 /// What the lines of a schedule are opened with.
 fn terms_for<A: Allocator>(schedule: &Schedule<A>) -> Terms
     ensures { result ≡ terms_of schedule.now }
@@ -179,7 +165,7 @@ fn answered_plainly<'a, A: Allocator>(
     input: &[u8],
 ) -> Result<Vec<u8, &'a A>, ReplayError>
     ensures ok { IfOk result (λ text. reply_to input.now ≡ Ok text.items) }
-    ensures refused { IfErr result (λ error. (error ≡ ReplayError.Memory) ⊎ ((fault : ScriptError) × (error ≡ ReplayError.Script fault) × (reply_to input.now ≡ Err fault) × (fault ≢ ScriptError.Memory))) }
+    ensures refused { IfErr result (HasNoReply input.now) }
 {
     let schedule = read_schedule(alloc, input)?;
     let lines = open_lines(alloc, &terms_for(&schedule), schedule.lines())?;
@@ -196,11 +182,32 @@ fn answered_over<'a, A: Allocator, L: OpenLine<Free> + Drop>(
 where
     L::Port: Drop,
     ensures ok { IfOk result (λ text. reply_to input.now ≡ Ok text.items) }
-    ensures refused { IfErr result (λ error. (error ≡ ReplayError.Memory) ⊎ ((fault : ScriptError) × (error ≡ ReplayError.Script fault) × (reply_to input.now ≡ Err fault) × (fault ≢ ScriptError.Memory))) }
+    ensures refused { IfErr result (HasNoReply input.now) }
 {
     let schedule = read_schedule(alloc, input)?;
     let lines = open_ported::<&A, L>(alloc, shared, &terms_for(&schedule), schedule.lines())?;
     Ok(reply(alloc, &schedule, lines)?)
+}
+
+/// Answers this input over lines of some type, which lie in memory of `shared`.
+#[derive(Drop)]
+struct Answering<'a, 'b, A: Allocator> {
+    alloc: &'a A,
+    shared: Global,
+    input: &'b [u8],
+}
+
+impl<'a, A: Allocator> OverLines<Free> for Answering<'a, '_, A> {
+    type Back = Result<Vec<u8, &'a A>, ReplayError>;
+
+    ghost done = { λ work result. (IfOk result (λ text. reply_to work.input.now ≡ Ok text.items)) × (IfErr result (HasNoReply work.input.now)) };
+
+    fn over<L: OpenLine<Free> + Sync + Drop>(self) -> Result<Vec<u8, &'a A>, ReplayError>
+    where
+        L::Port: Send + Drop,
+    {
+        answered_over::<A, L>(self.alloc, self.shared, self.input)
+    }
 }
 
 /// The reply of a schedule, by these lines, of which nothing was said yet.

@@ -19,7 +19,8 @@ use qolb_script::{Said, ScriptError, Steps, Watched, push_ranked, push_said, rea
 use std::alloc::{AllocError, Allocator};
 use std::io::{Read, Write};
 
-/// Runs the step script that the reader gives on a core of reversed links, and writes what each event told; and the rank after it, if that is wished.
+/// Runs the step script that the reader gives on a core of reversed links, and writes what each event told; with the core's rank after it,
+/// if that is wished.
 ///
 /// The whole input is read first, and the reply is built whole before its first byte is written: with every error but `Write`
 /// nothing was written.

@@ -1,6 +1,6 @@
 //! What a script is for.
 use crate::replay::Kind;
-use crate::work::Lines;
+use locks::Lines;
 use qolb_script::WorkKind;
 
 /// What is written of each event of a step script.

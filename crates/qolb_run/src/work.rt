@@ -7,10 +7,11 @@ ghost use Rattle.qolb_run.specs.BankWork.{IsBankedOver};
 
 use crate::bank::run_bank;
 use crate::board::run_board;
-use crate::gate::Gate;
 use line_accounts::AccountLaw;
 use line_board::BoardLaw;
+use line_threads::Gate;
 use link_line::LinkLine;
+use locks::Lines;
 use qolb_model::OpenLine;
 use qolb_script::{Report, Work, WorkKind};
 use ring_line::RingLine;
@@ -19,22 +20,14 @@ use std::sync::Wait;
 use std::thread::Threads;
 use thiserror::Error;
 
-/// What represents the lines that workers share.
-#[derive(Clone, Copy, Debug, PartialEq, Eq)]
-pub enum Lines {
-    /// Rings: lines by tickets and cells.
-    Ring,
-    /// Lists: lines by a home word and reversed links.
-    Link,
-}
-
 /// Why there is no report of the work.
 #[derive(Clone, Copy, Debug, PartialEq, Eq, Error)]
 pub enum RunError {
     /// A growth of memory was refused, or a thread could not be started.
     #[error("out of memory")]
     Memory,
-    /// This worker gave up, and none before it: the gate refused it `MOST_REFUSALS` times before one job.
+    /// This worker gave up, and none before it: the gate refused it `MOST_REFUSALS` times before one job, or it was told that its line is
+    /// closed.
     #[error("stalled {0}")]
     Stalled(u64),
 }

@@ -6,13 +6,12 @@ ghost use Rattle.qolb_model.specs.declared.terms.TheConstants.{MOST_NODES};
 ghost use Rattle.qolb_run.specs.Jobs.{jobs_of};
 ghost use Rattle.qolb_run.specs.Workers.{AreBack, AreFresh, MayBeGone};
 
-use crate::gate::{Gate, passes};
-use crate::together;
 use crate::work::RunError;
+use line_threads::{Gate, MOST_REFUSALS, together};
 use qolb_script::{Job, Work};
 use std::alloc::Global;
 use std::sync::Wait;
-use std::thread::Threads;
+use std::thread::{Threads, yield_now};
 
 /// How often a worker looks for its turn at a line, before it withdraws and tries again.
 pub(crate) const PATIENCE: u64 = 64;
@@ -48,9 +47,7 @@ where
 {
     type Back = Option<S::Hand>;
 
-    ghost fits = { λ site hand. Unit {0} };
-
-    ghost fits_place = { λ jobs site place hand. S.has_done site (place + 1) hand [] × All (S.takes site) jobs.work.now.jobs };
+    ghost fits = { λ jobs site place hand. S.has_done site (place + 1) hand [] × All (S.takes site) jobs.work.now.jobs };
 
     ghost done = { λ jobs site place back. IfSome back (λ hand. S.has_done site (place + 1) hand (jobs_of (place + 1) jobs.work.now.jobs)) };
 
@@ -107,6 +104,17 @@ where
     }
     let _ = gate.may(number, at);
     Some(hand)
+}
+
+/// Asks until the worker may go on. `false` where it was refused `MOST_REFUSALS` times.
+fn passes<G: Gate>(gate: &G, worker: u64, at: u64) -> bool {
+    for _ in 0..MOST_REFUSALS {
+        if gate.may(worker, at) {
+            return true;
+        }
+        yield_now();
+    }
+    false
 }
 
 /// What all workers have in hand, gathered into the room that there is; or the first that gave up.

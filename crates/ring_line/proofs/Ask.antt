@@ -17,31 +17,29 @@ use Rattle.qolb_model.proofs.Lists.{slice_get-push, push_cases, at_longer}
 use Rattle.qolb_model.proofs.Prefixes.{prefix_length, prefix_append, prefix_more}
 use Rattle.qolb_model.proofs.Requests.{count_of-push_same, has_left, has_last, has_push, lacks_from, same_place, has_prefix}
 use Rattle.qolb_model.proofs.Histories.{legal_ask}
-use Rattle.ring_line.specs.declared.entry.Point.TheVariants.{Idle, Queued}
-use Rattle.ring_line.specs.declared.entry.Entry.{Entry}
-use Rattle.ring_line.specs.declared.rule.Setup.{Setup}
+use Rattle.ring_line.specs.declared.own.Point.TheVariants.{Idle, Queued}
+use Rattle.shared_line.specs.declared.rule.Setup.{Setup}
 use Rattle.ring_line.specs.Words.{ticket_at, cell_at, node_at, cell_of}
-use Rattle.ring_line.specs.Ring.{At, Past, NodeOk, PastOk, Shown, RingRule, has_line, lets_go}
-use Rattle.ring_line.specs.Steps.{sole, Contents, Asked, asked}
-use Rattle.ring_line.proofs.Nodes.{others_ask, knows_whole, hand_none, passes_none, freed_so}
-use Rattle.ring_line.proofs.Histories.{continues}
+use Rattle.ring_line.specs.Ring.{RingEntry, At, Past, NodeOk, PastOk, Shown, RingRule, has_line, lets_go}
+use Rattle.ring_line.specs.Steps.{sole, Contents, Draws, drawn}
+use Rattle.ring_line.specs.Laws.Nodes.{knows_whole, hand_none}
+use Rattle.ring_line.proofs.Nodes.{others_ask, passes_none, freed_so}
+use Rattle.ring_line.specs.Laws.Histories.{continues}
 use Rattle.ring_line.proofs.Keeping.{Homes, rule_step, mine_ok, mine_low}
 use Rattle.ring_line.proofs.Turning.{goes_step}
 use Rattle.qolb_model.proofs.Clearing.{clears_ended, clears_later}
 
-module _ (good : List ℕ → Type 0) (allows : List ℕ → List ℕ → Type 0) (about : Setup) (v : Entry) (idle : v.point ≡ Idle) where
+module _ (good : List ℕ → Type 0) (allows : List ℕ → List ℕ → Type 0) (about : Setup) (v : RingEntry) (idle : v.own.point ≡ Idle) where
   abbrev new : Past → Request
   new x = next_of v.view.node x.order
 
   abbrev ask_past : Past → Past
   ask_past x = record x { order = x.order ++ new x ∷ [] }
 
-  abbrev ask_entry : Past → Entry
+  abbrev ask_entry : Past → RingEntry
   ask_entry x = record {
     view = record v.view { count = count_of v.view.node x.order + 1; state = shows.Queued; order = x.order ++ new x ∷ []; ends = x.ends; clear = x.clear; joined = v.view.joined ++ new x ∷ [] };
-    point = Queued;
-    place = length x.order;
-    passed = v.passed;
+    own = record v.own { point = Queued; place = length x.order };
     steps = v.steps + 1;
   }
 
@@ -118,7 +116,7 @@ module _ (good : List ℕ → Type 0) (allows : List ℕ → List ℕ → Type 0
     home = h.home;
   }
 
-  pub asks_next : (me slots : ℕ) (m : Contents) → m.0 ≡ v ∷ [] → Allows (RingRule good allows about) slots me m ticket_at (λ n. (n + 1) % 2 ^ 64) (asked allows (step slots ticket_at 1 0 none) m)
+  pub asks_next : (me slots : ℕ) (m : Contents) → m.0 ≡ v ∷ [] → Allows (RingRule good allows about) slots me m ticket_at (λ n. (n + 1) % 2 ^ 64) (drawn allows (step slots ticket_at 1 0 none) m)
   asks_next me slots m is s r deep at small = (
     ask_entry r.past ∷ [],
     keeps,
@@ -128,7 +126,7 @@ module _ (good : List ℕ → Type 0) (allows : List ℕ → List ℕ → Type 0
     (
       refl,
       goes_step allows m v (ask_entry r.past) m.1 is learns refl,
-      subst (λ u. Asked (sole u) (slice_index s.words ticket_at) (ask_entry r.past)) (sym is) record {
+      subst (λ u. Draws (sole u) (slice_index s.words ticket_at) (ask_entry r.past)) (sym is) record {
         state = refl;
         point = refl;
         cell = ap cell_of r.shown.ticket ∙ mod-mod-pow (length r.past.order) 56 8;

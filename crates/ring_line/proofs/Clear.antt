@@ -4,34 +4,34 @@ use mathlib.Core.Option.{none, some}
 use lib.ListN.{get_elem?}
 use Rattle.atomic_table.specs.Table.{step, keeps, Allows}
 use Rattle.ring_line.specs.declared.words.TheConstants.{CELLS}
-use Rattle.ring_line.specs.declared.entry.Point.TheVariants.{Idle, Holding, Passing, Rolled}
-use Rattle.ring_line.specs.declared.entry.Entry.{Entry}
-use Rattle.ring_line.specs.declared.rule.Setup.{Setup}
+use Rattle.ring_line.specs.declared.own.Point.TheVariants.{Idle, Holding, Passing, Rolled}
+use Rattle.shared_line.specs.declared.rule.Setup.{Setup}
 use Rattle.ring_line.specs.Words.{ticket_at, cell_at, node_at, cell_of}
-use Rattle.ring_line.specs.Ring.{Past, Walks, NodeOk, Shown, RingRule, has_line, lets_go, is_kept}
+use Rattle.ring_line.specs.Ring.{RingEntry, Past, Walks, NodeOk, Shown, RingRule, has_line, lets_go, is_kept}
 use Rattle.ring_line.specs.Steps.{sole, Contents, cleared, after_clear}
 use Rattle.qolb_model.proofs.Prefixes.{prefix_self}
-use Rattle.ring_line.proofs.Nodes.{clash_at, passed_goes, none_passed, others_hand}
+use Rattle.ring_line.specs.Laws.Nodes.{clash_at, passed_goes}
+use Rattle.ring_line.proofs.Nodes.{none_passed, others_hand}
 use Rattle.ring_line.proofs.Keeping.{Homes, rule_step, mine_ok, mine_low}
 use Rattle.ring_line.proofs.Taking.{cells_apart}
 
-module _ (good : List ℕ → Type 0) (allows : List ℕ → List ℕ → Type 0) (about : Setup) (v : Entry) (passing : (v.point ≡ Holding) ⊎ (v.point ≡ Passing)) where
-  abbrev cleared_entry : Entry
+module _ (good : List ℕ → Type 0) (allows : List ℕ → List ℕ → Type 0) (about : Setup) (v : RingEntry) (passing : (v.own.point ≡ Holding) ⊎ (v.own.point ≡ Passing)) where
+  abbrev cleared_entry : RingEntry
   cleared_entry = after_clear v
 
   abbrev cleared_past : Past → Past
   cleared_past x = record x { cleared = true }
 
-  has_it : has_line v.point ≡ true
+  has_it : has_line v.own.point ≡ true
   has_it = ⊎_elim (λ e. ap has_line e) (λ e. ap has_line e) passing
 
-  keeps_it : is_kept v.point ≡ true
+  keeps_it : is_kept v.own.point ≡ true
   keeps_it = ⊎_elim (λ e. ap is_kept e) (λ e. ap is_kept e) passing
 
-  not_idle : v.point ≢ Idle
+  not_idle : v.own.point ≢ Idle
   not_idle e = clash_at has_line Idle has_it e refl
 
-  not_rolled : v.point ≢ Rolled
+  not_rolled : v.own.point ≢ Rolled
   not_rolled e = clash_at has_line Rolled has_it e refl
 
   cleared_node : (x : Past) → NodeOk about x v.view.node v → NodeOk about (cleared_past x) v.view.node cleared_entry

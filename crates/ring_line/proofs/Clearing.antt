@@ -5,9 +5,9 @@ use Rattle.qolb_model.specs.Requests.{Has, Lacks}
 use Rattle.qolb_model.specs.Histories.{more}
 use Rattle.qolb_model.proofs.Requests.{has_left}
 use Rattle.qolb_model.proofs.Lists.{at_none}
-use Rattle.ring_line.specs.declared.entry.Point.{Point}
-use Rattle.ring_line.specs.declared.entry.Point.TheVariants.{Idle, Freeing}
-use Rattle.ring_line.specs.declared.rule.Setup.{Setup}
+use Rattle.ring_line.specs.declared.own.Point.{Point}
+use Rattle.ring_line.specs.declared.own.Point.TheVariants.{Idle, Freeing}
+use Rattle.shared_line.specs.declared.rule.Setup.{Setup}
 use Rattle.ring_line.specs.Ring.{At, Past, PastOk, has_line, lets_go}
 use Rattle.ring_line.specs.Steps.{after_walk}
 

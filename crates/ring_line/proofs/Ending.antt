@@ -13,8 +13,8 @@ use Rattle.qolb_model.specs.PortStates.{left_by}
 use Rattle.qolb_model.proofs.Lists.{push_cases}
 use Rattle.qolb_model.proofs.Histories.{legal_end, bytes_after-append}
 use Rattle.qolb_model.proofs.Writes.{allowed-append}
-use Rattle.ring_line.specs.declared.rule.Setup.{Setup}
-use Rattle.ring_line.specs.declared.rule.Parcel.{Parcel}
+use Rattle.shared_line.specs.declared.rule.Setup.{Setup}
+use Rattle.shared_line.specs.declared.rule.Parcel.{Parcel}
 use Rattle.ring_line.specs.Ring.{At, Past, PastOk}
 use Rattle.ring_line.specs.Steps.{end_of}
 use Rattle.qolb_model.proofs.Clearing.{clears_later}

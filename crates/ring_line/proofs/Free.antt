@@ -15,38 +15,38 @@ use Rattle.qolb_model.proofs.Requests.{has_left, has_last, has_push, lacks_from,
 use Rattle.qolb_model.proofs.Lists.{never, at_same}
 use Rattle.qolb_model.specs.declared.terms.TheConstants.{MOST_NODES}
 use Rattle.qolb_model.proofs.Updates.{put, put_here, put_else}
-use Rattle.ring_line.specs.declared.entry.Point.TheVariants.{Idle, Queued, Holding, Freeing, Rolled}
-use Rattle.ring_line.specs.declared.entry.Entry.{Entry}
-use Rattle.ring_line.specs.declared.rule.Setup.{Setup}
+use Rattle.ring_line.specs.declared.own.Point.TheVariants.{Idle, Queued, Holding, Freeing, Rolled}
+use Rattle.shared_line.specs.declared.rule.Setup.{Setup}
 use Rattle.ring_line.specs.Words.{ticket_at, cell_at, node_at, cell_of}
-use Rattle.ring_line.specs.Ring.{At, Past, HasPassed, NodeOk, PastOk, Shown, RingRule, has_line, is_kept}
+use Rattle.ring_line.specs.Ring.{RingEntry, RingState, At, Past, HasPassed, NodeOk, PastOk, Shown, RingRule, has_line, is_kept}
 use Rattle.ring_line.specs.Steps.{sole, Contents, after_walk, Frees, freed}
-use Rattle.ring_line.proofs.Nodes.{clash_at, passed_goes, placed_at, others_clear, others_free, hand_none}
-use Rattle.ring_line.proofs.Histories.{continues}
-use Rattle.ring_line.proofs.Keeping.{St, Homes, rule_step, mine_ok}
+use Rattle.ring_line.specs.Laws.Nodes.{clash_at, passed_goes, placed_at, hand_none}
+use Rattle.ring_line.proofs.Nodes.{others_clear, others_free}
+use Rattle.ring_line.specs.Laws.Histories.{continues}
+use Rattle.ring_line.proofs.Keeping.{Homes, rule_step, mine_ok}
 use Rattle.ring_line.proofs.Clearing.{not_after, no_line_after, goes_after, clear_with, more_clear, still_unclear, fine_clear, fine_flags}
 use Rattle.ring_line.proofs.Turning.{goes_step}
 
-module _ (good : List ℕ → Type 0) (allows : List ℕ → List ℕ → Type 0) (about : Setup) (v : Entry) (freeing : v.point ≡ Freeing) (q : ℕ) (ps : List ℕ) (whole : v.passed ≡ q ∷ ps) (r : Request) (known : At v.view.order q r) where
-  abbrev Rule : St → Type 0
+module _ (good : List ℕ → Type 0) (allows : List ℕ → List ℕ → Type 0) (about : Setup) (v : RingEntry) (freeing : v.own.point ≡ Freeing) (q : ℕ) (ps : List ℕ) (whole : v.own.passed ≡ q ∷ ps) (r : Request) (known : At v.view.order q r) where
+  abbrev Rule : RingState → Type 0
   Rule = RingRule good allows about
 
   abbrev free_past : Past → Past
   free_past x = record x { clear = clear_with (own v.view) ps (x.clear ++ r ∷ []); flags = put x.flags r.node 1 }
 
-  abbrev free_entry : Past → Entry
-  free_entry x = record v { view = record v.view { clear = clear_with (own v.view) ps (x.clear ++ r ∷ []); freed = v.view.freed ++ r ∷ [] }; point = after_walk ps; passed = ps; steps = v.steps + 1 }
+  abbrev free_entry : Past → RingEntry
+  free_entry x = record v { view = record v.view { clear = clear_with (own v.view) ps (x.clear ++ r ∷ []); freed = v.view.freed ++ r ∷ [] }; own = record v.own { point = after_walk ps; passed = ps }; steps = v.steps + 1 }
 
-  not_idle : v.point ≢ Idle
+  not_idle : v.own.point ≢ Idle
   not_idle e = let f = freeing in cc
 
-  not_rolled : v.point ≢ Rolled
+  not_rolled : v.own.point ≢ Rolled
   not_rolled e = let f = freeing in cc
 
-  first : At v.passed 0 q
+  first : At v.own.passed 0 q
   first = subst (λ (l : List ℕ). At l 0 q) (sym whole) refl
 
-  later : (i p : ℕ) → At ps i p → At v.passed (suc i) p
+  later : (i p : ℕ) → At ps i p → At v.own.passed (suc i) p
   later i p at = subst (λ (l : List ℕ). At l (suc i) p) (sym whole) at
 
   module _ (x : Past) (f : PastOk good allows about x) (ok : NodeOk about x v.view.node v) where
@@ -62,10 +62,10 @@ module _ (good : List ℕ → Type 0) (allows : List ℕ → List ℕ → Type 0
     ended : q < length x.ends
     ended = ok.passes.freeing freeing 0 q first
 
-    placed : At x.order v.place (own v.view)
+    placed : At x.order v.own.place (own v.view)
     placed = placed_at about x v.view.node v ok (ok.stance.asked not_idle)
 
-    unmarked : x.marks v.place ≡ 0
+    unmarked : x.marks v.own.place ≡ 0
     unmarked = ok.marks.unmarked (ap is_kept freeing)
 
     -- the passed request is of another node
@@ -133,7 +133,7 @@ module _ (good : List ℕ → Type 0) (allows : List ℕ → List ℕ → Type 0
         own_kept (p ∷ l) e = own_unclear
 
         apart : (i p : ℕ) → At ps i p → p ≢ q
-        apart i p at e = let s = ok.passes.once (suc i) 0 p (later i p at) (subst (At v.passed 0) (sym e) first) in omega arith
+        apart i p at e = let s = ok.passes.once (suc i) 0 p (later i p at) (subst (At v.own.passed 0) (sym e) first) in omega arith
 
     free_fine : PastOk good allows about (free_past x)
     free_fine = go ps
@@ -142,17 +142,17 @@ module _ (good : List ℕ → Type 0) (allows : List ℕ → List ℕ → Type 0
         one = fine_flags good allows about (record x { clear = x.clear ++ r ∷ [] }) (put x.flags r.node 1) (fine_clear good allows about x q r f ended asked unclear)
 
         go : (l : List ℕ) → PastOk good allows about (record x { clear = clear_with (own v.view) l (x.clear ++ r ∷ []); flags = put x.flags r.node 1 })
-        go [] = fine_clear good allows about (record x { clear = x.clear ++ r ∷ []; flags = put x.flags r.node 1 }) v.place (own v.view) one (ok.stance.freeing freeing) placed own_unclear
+        go [] = fine_clear good allows about (record x { clear = x.clear ++ r ∷ []; flags = put x.flags r.node 1 }) v.own.place (own v.view) one (ok.stance.freeing freeing) placed own_unclear
         go (p ∷ l) = one
 
-    free_others : (n : ℕ) (u : Entry) → n ≢ v.view.node → NodeOk about x n u → NodeOk about (free_past x) n u
+    free_others : (n : ℕ) (u : RingEntry) → n ≢ v.view.node → NodeOk about x n u → NodeOk about (free_past x) n u
     free_others n u ne k = go ps
       where
         one : NodeOk about (record x { clear = x.clear ++ r ∷ []; flags = put x.flags r.node 1 }) n u
         one = others_free about x n u k v.view.node q r asked it.passer_is it.marked unclear ne f.legal
 
         go : (l : List ℕ) → NodeOk about (record x { clear = clear_with (own v.view) l (x.clear ++ r ∷ []); flags = put x.flags r.node 1 }) n u
-        go [] = others_clear about (record x { clear = x.clear ++ r ∷ []; flags = put x.flags r.node 1 }) n u one (own v.view) v.place (λ e. ne (sym e)) placed unmarked f.legal
+        go [] = others_clear about (record x { clear = x.clear ++ r ∷ []; flags = put x.flags r.node 1 }) n u one (own v.view) v.own.place (λ e. ne (sym e)) placed unmarked f.legal
         go (p ∷ l) = one
 
     free_shown : (words : List ℕ) (homes : Homes) (i : ℕ) → i ≡ node_at r.node → r.node ≤ MOST_NODES → Shown good allows about x words homes → Shown good allows about (free_past x) (set words i 1) homes
@@ -204,7 +204,7 @@ module _ (good : List ℕ → Type 0) (allows : List ℕ → List ℕ → Type 0
     (
       refl,
       goes_step allows m v (free_entry t.past) m.1 is (learns_free t.past t.fine ok) refl,
-      subst (λ u. (q' : ℕ) (ps' : List ℕ) (r' : Request) → (sole u).passed ≡ q' ∷ ps' → At (sole u).view.order q' r' → Frees (sole u) ps' r' (free_entry t.past)) (sym is) told,
+      subst (λ u. (q' : ℕ) (ps' : List ℕ) (r' : Request) → (sole u).own.passed ≡ q' ∷ ps' → At (sole u).view.order q' r' → Frees (sole u) ps' r' (free_entry t.past)) (sym is) told,
     ),
   )
     where
@@ -214,7 +214,7 @@ module _ (good : List ℕ → Type 0) (allows : List ℕ → List ℕ → Type 0
       ok : NodeOk about t.past v.view.node v
       ok = mine_ok good allows about s t me v at'
 
-      told : (q' : ℕ) (ps' : List ℕ) (r' : Request) → v.passed ≡ q' ∷ ps' → At v.view.order q' r' → Frees v ps' r' (free_entry t.past)
+      told : (q' : ℕ) (ps' : List ℕ) (r' : Request) → v.own.passed ≡ q' ∷ ps' → At v.view.order q' r' → Frees v ps' r' (free_entry t.past)
       told q' ps' r' e k =
           let both : q ∷ ps ≡ q' ∷ ps' = sym whole ∙ e in
           let same_q : q ≡ q' = cc in let same_ps : ps ≡ ps' = cc in

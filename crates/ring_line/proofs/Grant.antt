@@ -23,16 +23,16 @@ use Rattle.qolb_model.specs.declared.terms.TheConstants.{MOST_NODES}
 use Rattle.qolb_model.proofs.Prefixes.{prefix_more}
 use Rattle.qolb_model.proofs.Updates.{put, put_here, put_else}
 use Rattle.ring_line.specs.declared.words.TheConstants.{CELLS, WITHDRAWN}
-use Rattle.ring_line.specs.declared.entry.Point.TheVariants.{Idle, Queued, Holding, Passing, Cleared, Rolled}
-use Rattle.ring_line.specs.declared.entry.Entry.{Entry}
-use Rattle.ring_line.specs.declared.rule.Setup.{Setup}
-use Rattle.ring_line.specs.declared.rule.Parcel.{Parcel}
+use Rattle.ring_line.specs.declared.own.Point.TheVariants.{Idle, Queued, Holding, Passing, Cleared, Rolled}
+use Rattle.shared_line.specs.declared.rule.Setup.{Setup}
+use Rattle.shared_line.specs.declared.rule.Parcel.{Parcel}
 use Rattle.ring_line.specs.Words.{ticket_at, cell_at, node_at, cell_of, withdrawn_by}
-use Rattle.ring_line.specs.Ring.{At, Past, HasPassed, Walks, NodeOk, PastOk, Shown, RingRule, has_line, lets_go, is_kept, is_cleared}
-use Rattle.ring_line.specs.Steps.{Contents, next_end, after_walk, Carries, Ended, GoesHome, Passes, granted}
-use Rattle.ring_line.proofs.Nodes.{passed_goes, placed_at, others_end, others_clear, others_hand, knows_whole, hand_none, freed_so}
-use Rattle.ring_line.proofs.Histories.{marked_at, continues}
-use Rattle.ring_line.proofs.Keeping.{St, Homes, rule_step, mine_ok, mine_low, blank}
+use Rattle.ring_line.specs.Ring.{RingEntry, RingState, At, Past, HasPassed, Walks, NodeOk, PastOk, Shown, RingRule, has_line, lets_go, is_kept, is_cleared}
+use Rattle.ring_line.specs.Steps.{Contents, next_end, after_walk, CarriesNext, Ended, GoesHome, Passes, granted}
+use Rattle.ring_line.specs.Laws.Nodes.{passed_goes, placed_at, knows_whole, hand_none}
+use Rattle.ring_line.proofs.Nodes.{others_end, others_clear, others_hand, freed_so}
+use Rattle.ring_line.specs.Laws.Histories.{marked_at, continues}
+use Rattle.ring_line.proofs.Keeping.{Homes, rule_step, mine_ok, mine_low, blank}
 use Rattle.ring_line.proofs.Taking.{cells_apart}
 use Rattle.ring_line.proofs.Clearing.{not_after, no_line_after, goes_after, clear_with, more_clear, still_unclear, fine_clear}
 use Rattle.ring_line.proofs.Ending.{not_holding, own_not_gone, passed_gone, fine_end, fine_home}
@@ -56,8 +56,8 @@ elem_within [] p x e = absurd (some-ne-none x (sym e))
 elem_within (y ∷ ys) zero x e = omega arith
 elem_within (y ∷ ys) (suc p) x e = let h = elem_within ys p x e in omega arith
 
-module _ (good : List ℕ → Type 0) (allows : List ℕ → List ℕ → Type 0) (about : Setup) (goes : (a b : List ℕ) → good a → allows a b → good b) (v : Entry) (cleared : v.point ≡ Cleared) (y : Parcel) (carries : Carries allows v y) where
-  abbrev Rule : St → Type 0
+module _ (good : List ℕ → Type 0) (allows : List ℕ → List ℕ → Type 0) (about : Setup) (goes : (a b : List ℕ) → good a → allows a b → good b) (v : RingEntry) (cleared : v.own.point ≡ Cleared) (y : Parcel) (carries : CarriesNext allows v y) where
+  abbrev Rule : RingState → Type 0
   Rule = RingRule good allows about
 
   abbrev e : End
@@ -66,19 +66,19 @@ module _ (good : List ℕ → Type 0) (allows : List ℕ → List ℕ → Type 0
   abbrev walk_past : Past → Past
   walk_past x = record x { ends = x.ends ++ e ∷ []; cleared = false; passer = put x.passer (length (x.ends ++ e ∷ [])) v.view.node }
 
-  abbrev walk_entry : Past → Entry
-  walk_entry x = record v { view = record v.view { state = left_by y.closed; order = x.order; ends = x.ends ++ e ∷ []; clear = x.clear }; point = Passing; passed = v.passed ++ length (x.ends ++ e ∷ []) ∷ []; steps = v.steps + 1 }
+  abbrev walk_entry : Past → RingEntry
+  walk_entry x = record v { view = record v.view { state = left_by y.closed; order = x.order; ends = x.ends ++ e ∷ []; clear = x.clear }; own = record v.own { point = Passing; passed = v.own.passed ++ length (x.ends ++ e ∷ []) ∷ [] }; steps = v.steps + 1 }
 
   abbrev home_past : Past → Past
-  home_past x = record x { ends = x.ends ++ e ∷ []; clear = clear_with (own v.view) v.passed x.clear; hand = 0; cleared = false }
+  home_past x = record x { ends = x.ends ++ e ∷ []; clear = clear_with (own v.view) v.own.passed x.clear; hand = 0; cleared = false }
 
-  abbrev home_entry : Past → Entry
-  home_entry x = record v { view = record v.view { state = left_by y.closed; order = x.order; ends = x.ends ++ e ∷ []; clear = clear_with (own v.view) v.passed x.clear }; point = after_walk v.passed; steps = v.steps + 1 }
+  abbrev home_entry : Past → RingEntry
+  home_entry x = record v { view = record v.view { state = left_by y.closed; order = x.order; ends = x.ends ++ e ∷ []; clear = clear_with (own v.view) v.own.passed x.clear }; own = record v.own { point = after_walk v.own.passed }; steps = v.steps + 1 }
 
-  not_idle : v.point ≢ Idle
+  not_idle : v.own.point ≢ Idle
   not_idle i = let d = cleared in cc
 
-  not_rolled : v.point ≢ Rolled
+  not_rolled : v.own.point ≢ Rolled
   not_rolled i = let d = cleared in cc
 
   module _ (x : Past) (f : PastOk good allows about x) (ok : NodeOk about x v.view.node v) where
@@ -97,16 +97,16 @@ module _ (good : List ℕ → Type 0) (allows : List ℕ → List ℕ → Type 0
     walks : Walks (length x.ends) x.marks v
     walks = ok.passes.walking (ap lets_go cleared) (ap has_line cleared)
 
-    unmarked : x.marks v.place ≡ 0
+    unmarked : x.marks v.own.place ≡ 0
     unmarked = ok.marks.unmarked (ap is_kept cleared)
 
     unclear : Lacks x.clear (own v.view)
     unclear = ok.marks.unclear (ap is_kept cleared)
 
-    placed : At x.order v.place (own v.view)
+    placed : At x.order v.own.place (own v.view)
     placed = placed_at about x v.view.node v ok (ok.stance.asked not_idle)
 
-    below : v.place < length (x.ends ++ e ∷ [])
+    below : v.own.place < length (x.ends ++ e ∷ [])
     below = ⊎_elim (λ z. let a = z.0 in let l = longer in omega arith) (λ z. let a = z.0 in let l = longer in omega arith) walks
 
     -- the request at its turn
@@ -115,10 +115,10 @@ module _ (good : List ℕ → Type 0) (allows : List ℕ → List ℕ → Type 0
 
     -- the end is Gone exactly where that request is marked
     gone : is_gone e ≡ true → 0 < x.marks (length x.ends)
-    gone g = ⊎_elim (λ z. absurd (never g (own_not_gone v.passed (is_closed v.view.ends) y z.1))) (λ z. z.1) walks
+    gone g = ⊎_elim (λ z. absurd (never g (own_not_gone v.own.passed (is_closed v.view.ends) y z.1))) (λ z. z.1) walks
 
     marked : 0 < x.marks (length x.ends) → is_gone e ≡ true
-    marked h = ⊎_elim (λ z. let w : x.marks (length x.ends) ≡ 0 = ap x.marks (sym z.0) ∙ unmarked in absurd (omega arith)) (λ z. passed_gone v.passed (is_closed v.view.ends) y z.2) walks
+    marked h = ⊎_elim (λ z. let w : x.marks (length x.ends) ≡ 0 = ap x.marks (sym z.0) ∙ unmarked in absurd (omega arith)) (λ z. passed_gone v.own.passed (is_closed v.view.ends) y z.2) walks
 
     allowed : AreAllowed allows (bytes_after about.terms.opening.bytes x.ends) (e ∷ [])
     allowed = subst (λ b. AreAllowed allows b (e ∷ [])) (λ j. bytes_after (ok.who.terms j).opening.bytes (ends j)) carries.allowed
@@ -140,7 +140,7 @@ module _ (good : List ℕ → Type 0) (allows : List ℕ → List ℕ → Type 0
       ended_fine passer = fine_end good allows about goes x e passer f (λ z. let h = hand in omega arith) (slice_get_within x.order (length x.ends) turn.0 turn.1)
           follows allowed gone marked
 
-      ended_others : (passer : ℕ → ℕ) → ((p : ℕ) → p ≤ length x.ends → passer p ≡ x.passer p) → (n : ℕ) (u : Entry) → n ≢ v.view.node → NodeOk about x n u → NodeOk about (record x { ends = x.ends ++ e ∷ []; cleared = false; passer = passer }) n u
+      ended_others : (passer : ℕ → ℕ) → ((p : ℕ) → p ≤ length x.ends → passer p ≡ x.passer p) → (n : ℕ) (u : RingEntry) → n ≢ v.view.node → NodeOk about x n u → NodeOk about (record x { ends = x.ends ++ e ∷ []; cleared = false; passer = passer }) n u
       ended_others passer passes n u ne k = others_end about x n u k v.view.node turn.0 e passer turn.1 turn.2 marked ne hand passes
 
       -- the cell behind the granted one
@@ -224,16 +224,16 @@ module _ (good : List ℕ → Type 0) (allows : List ℕ → List ℕ → Type 0
             holder = λ i. absurd (not_holding y.closed i);
           };
           passes = record {
-            walking = λ _ _. inr (below, rolled, some_list v.passed (length (x.ends ++ e ∷ [])));
+            walking = λ _ _. inr (below, rolled, some_list v.own.passed (length (x.ends ++ e ∷ [])));
             freeing = λ i. cc;
             passed = λ i p at. ⊎_elim
                 (λ z. let h = ok.passes.passed i p z.1 in passed_goes v.view.node p v (walk_entry x) (length x.ends) (length (x.ends ++ e ∷ [])) x.clear x.clear x.marks x.marks x.passer (put x.passer (length (x.ends ++ e ∷ [])) v.view.node) h refl (put_else x.passer (length (x.ends ++ e ∷ [])) v.view.node p (λ q. let w = h.within in let l = longer in omega arith)) (let l = longer in omega arith) h.marked ok.knows.orders h.unclear)
                 (λ z. subst (HasPassed (length (x.ends ++ e ∷ [])) x.clear x.marks (put x.passer (length (x.ends ++ e ∷ [])) v.view.node) v.view.node (walk_entry x)) (sym z.1) new_passed)
-                (push_cases v.passed (length (x.ends ++ e ∷ [])) i p at);
+                (push_cases v.own.passed (length (x.ends ++ e ∷ [])) i p at);
             once = λ i j p a b. ⊎_elim
-                (λ z. ⊎_elim (λ w. ok.passes.once i j p z.1 w.1) (λ w. absurd (old i p z.1 w.1)) (push_cases v.passed (length (x.ends ++ e ∷ [])) j p b))
-                (λ z. ⊎_elim (λ w. absurd (old j p w.1 z.1)) (λ w. z.0 ∙ sym w.0) (push_cases v.passed (length (x.ends ++ e ∷ [])) j p b))
-                (push_cases v.passed (length (x.ends ++ e ∷ [])) i p a);
+                (λ z. ⊎_elim (λ w. ok.passes.once i j p z.1 w.1) (λ w. absurd (old i p z.1 w.1)) (push_cases v.own.passed (length (x.ends ++ e ∷ [])) j p b))
+                (λ z. ⊎_elim (λ w. absurd (old j p w.1 z.1)) (λ w. z.0 ∙ sym w.0) (push_cases v.own.passed (length (x.ends ++ e ∷ [])) j p b))
+                (push_cases v.own.passed (length (x.ends ++ e ∷ [])) i p a);
           };
           marks = record {
             unmarked = λ _. unmarked;
@@ -250,10 +250,10 @@ module _ (good : List ℕ → Type 0) (allows : List ℕ → List ℕ → Type 0
           joins = ok.joins;
         }
           where
-            old : (i p : ℕ) → At v.passed i p → p ≡ length (x.ends ++ e ∷ []) → ⊥
+            old : (i p : ℕ) → At v.own.passed i p → p ≡ length (x.ends ++ e ∷ []) → ⊥
             old i p at q = let h = (ok.passes.passed i p at).within in let l = longer in omega arith
 
-        walk_others : (n : ℕ) (u : Entry) → n ≢ v.view.node → NodeOk about x n u → NodeOk about (walk_past x) n u
+        walk_others : (n : ℕ) (u : RingEntry) → n ≢ v.view.node → NodeOk about x n u → NodeOk about (walk_past x) n u
         walk_others n u ne k = ended_others (put x.passer (length (x.ends ++ e ∷ [])) v.view.node) (λ p le. put_else x.passer (length (x.ends ++ e ∷ [])) v.view.node p (λ q. let l = longer in omega arith)) n u ne k
 
         walk_fine : PastOk good allows about (walk_past x)
@@ -264,8 +264,8 @@ module _ (good : List ℕ → Type 0) (allows : List ℕ → List ℕ → Type 0
 
       -- the next request is not withdrawn
       module _ (free : x.marks (length (x.ends ++ e ∷ [])) ≡ 0) where
-        more : (r : Request) → Has x.clear r → Has (clear_with (own v.view) v.passed x.clear) r
-        more r h = more_clear (own v.view) v.passed x.clear r h
+        more : (r : Request) → Has x.clear r → Has (clear_with (own v.view) v.own.passed x.clear) r
+        more r h = more_clear (own v.view) v.own.passed x.clear r h
 
         own_clear : (l : List ℕ) → after_walk l ≡ Idle → Has (clear_with (own v.view) l x.clear) (own v.view)
         own_clear [] i = has_last x.clear (own v.view)
@@ -278,41 +278,41 @@ module _ (good : List ℕ → Type 0) (allows : List ℕ → List ℕ → Type 0
         home_node : NodeOk about (home_past x) v.view.node (home_entry x)
         home_node = record {
           who = record { node = refl; label = ok.who.label; terms = ok.who.terms };
-          knows = knows_whole x.order (x.ends ++ e ∷ []) (clear_with (own v.view) v.passed x.clear) v.view.node (home_entry x).view refl refl refl ok.knows.counts (λ r h. more r (freed_so about x v.view.node v ok r h));
+          knows = knows_whole x.order (x.ends ++ e ∷ []) (clear_with (own v.view) v.own.passed x.clear) v.view.node (home_entry x).view refl refl refl ok.knows.counts (λ r h. more r (freed_so about x v.view.node v ok r h));
           stance = record {
             asked = λ _. ok.stance.asked not_idle;
             placed = λ _. placed;
             last_open = λ p r at mine h. ok.stance.last_open p r at mine (let l = longer in omega arith);
-            idle = λ i _. (below, own_clear v.passed i);
-            queued = λ i. absurd (not_after v.passed Queued (λ z. cc) (λ z. cc) i);
-            holding = λ i. absurd (not_after v.passed Holding (λ z. cc) (λ z. cc) i);
+            idle = λ i _. (below, own_clear v.own.passed i);
+            queued = λ i. absurd (not_after v.own.passed Queued (λ z. cc) (λ z. cc) i);
+            holding = λ i. absurd (not_after v.own.passed Holding (λ z. cc) (λ z. cc) i);
             freeing = λ _. below;
             waits = λ _ h. absurd (let b = below in omega arith);
           };
-          hand = hand_none (x.ends ++ e ∷ []) 0 false v.view.node (home_entry x) (no_line_after v.passed) (λ z. omega arith) (not_holding y.closed);
+          hand = hand_none (x.ends ++ e ∷ []) 0 false v.view.node (home_entry x) (no_line_after v.own.passed) (λ z. omega arith) (not_holding y.closed);
           passes = record {
-            walking = λ _ l. absurd (never l (no_line_after v.passed));
+            walking = λ _ l. absurd (never l (no_line_after v.own.passed));
             freeing = λ _ i p at. let h = (ok.passes.passed i p at).within in let l = longer in omega arith;
-            passed = λ i p at. let h = ok.passes.passed i p at in passed_goes v.view.node p v (home_entry x) (length x.ends) (length (x.ends ++ e ∷ [])) x.clear (clear_with (own v.view) v.passed x.clear) x.marks x.marks x.passer x.passer h (goes_after v.passed i p at) refl (let l = longer in omega arith) h.marked ok.knows.orders (still_unclear (own v.view) v.passed x.clear h.request i p at h.unclear);
+            passed = λ i p at. let h = ok.passes.passed i p at in passed_goes v.view.node p v (home_entry x) (length x.ends) (length (x.ends ++ e ∷ [])) x.clear (clear_with (own v.view) v.own.passed x.clear) x.marks x.marks x.passer x.passer h (goes_after v.own.passed i p at) refl (let l = longer in omega arith) h.marked ok.knows.orders (still_unclear (own v.view) v.own.passed x.clear h.request i p at h.unclear);
             once = ok.passes.once;
           };
           marks = record {
             unmarked = λ _. unmarked;
-            unclear = λ k. own_kept v.passed k;
-            rolled = λ i. absurd (not_after v.passed Rolled (λ z. cc) (λ z. cc) i);
+            unclear = λ k. own_kept v.own.passed k;
+            rolled = λ i. absurd (not_after v.own.passed Rolled (λ z. cc) (λ z. cc) i);
             known = ok.marks.known;
             last = λ p r at mine h lacks. absurd (not_rolled (ok.marks.last p r at mine h (lacks_from x.clear r (λ was. never (more r was) lacks))).0);
             all = ok.marks.all;
           };
           flag = record {
-            rolled = λ i. absurd (not_after v.passed Rolled (λ z. cc) (λ z. cc) i);
+            rolled = λ i. absurd (not_after v.own.passed Rolled (λ z. cc) (λ z. cc) i);
             not_rolled = λ _. ok.flag.not_rolled not_rolled;
           };
           joins = ok.joins;
         }
 
-        home_others : (n : ℕ) (u : Entry) → 0 < n → n ≢ v.view.node → NodeOk about x n u → NodeOk about (home_past x) n u
-        home_others n u above ne k = others_hand about (record x { ends = x.ends ++ e ∷ []; cleared = false; clear = clear_with (own v.view) v.passed x.clear }) n u (go v.passed) 0 false (λ q. ne (sym q ∙ hand)) (λ q. absurd (some_node q))
+        home_others : (n : ℕ) (u : RingEntry) → 0 < n → n ≢ v.view.node → NodeOk about x n u → NodeOk about (home_past x) n u
+        home_others n u above ne k = others_hand about (record x { ends = x.ends ++ e ∷ []; cleared = false; clear = clear_with (own v.view) v.own.passed x.clear }) n u (go v.own.passed) 0 false (λ q. ne (sym q ∙ hand)) (λ q. absurd (some_node q))
           where
             one : NodeOk about (record x { ends = x.ends ++ e ∷ []; cleared = false }) n u
             one = ended_others x.passer (λ p le. refl) n u ne k
@@ -322,28 +322,28 @@ module _ (good : List ℕ → Type 0) (allows : List ℕ → List ℕ → Type 0
             some_node q = omega arith
 
             go : (l : List ℕ) → NodeOk about (record x { ends = x.ends ++ e ∷ []; cleared = false; clear = clear_with (own v.view) l x.clear }) n u
-            go [] = others_clear about (record x { ends = x.ends ++ e ∷ []; cleared = false }) n u one (own v.view) v.place (λ q. ne (sym q)) placed unmarked (ended_fine x.passer).legal
+            go [] = others_clear about (record x { ends = x.ends ++ e ∷ []; cleared = false }) n u one (own v.view) v.own.place (λ q. ne (sym q)) placed unmarked (ended_fine x.passer).legal
             go (p ∷ l) = one
 
         home_fine : PastOk good allows about (home_past x)
-        home_fine = fine_home good allows about (record x { ends = x.ends ++ e ∷ []; cleared = false; clear = clear_with (own v.view) v.passed x.clear }) (go v.passed) free settled
+        home_fine = fine_home good allows about (record x { ends = x.ends ++ e ∷ []; cleared = false; clear = clear_with (own v.view) v.own.passed x.clear }) (go v.own.passed) free settled
           where
             one : PastOk good allows about (record x { ends = x.ends ++ e ∷ []; cleared = false })
             one = ended_fine x.passer
 
             go : (l : List ℕ) → PastOk good allows about (record x { ends = x.ends ++ e ∷ []; cleared = false; clear = clear_with (own v.view) l x.clear })
-            go [] = fine_clear good allows about (record x { ends = x.ends ++ e ∷ []; cleared = false }) v.place (own v.view) one below placed unclear
+            go [] = fine_clear good allows about (record x { ends = x.ends ++ e ∷ []; cleared = false }) v.own.place (own v.view) one below placed unclear
             go (p ∷ l) = one
 
             -- what ended just now is the own request, or a withdrawn one
-            settled : (p : ℕ) (r : Request) (end : End) → p + 1 ≡ length (x.ends ++ e ∷ []) → At x.order p r → At (x.ends ++ e ∷ []) p end → is_gone end ≡ false → Has (clear_with (own v.view) v.passed x.clear) r
+            settled : (p : ℕ) (r : Request) (end : End) → p + 1 ≡ length (x.ends ++ e ∷ []) → At x.order p r → At (x.ends ++ e ∷ []) p end → is_gone end ≡ false → Has (clear_with (own v.view) v.own.passed x.clear) r
             settled p r end last at en kind = let here : p ≡ length x.ends = (let l = longer in omega arith) in
                 let same : end ≡ e = ⊎_elim (λ z. absurd (let a = z.0 in omega arith)) (λ z. z.1) (push_cases x.ends e p end en) in
-                ⊎_elim (λ z. subst (Has (clear_with (own v.view) v.passed x.clear)) (at_same x.order (length x.ends) (own v.view) r (subst (λ q. At x.order q (own v.view)) z.0 placed) (subst (λ q. At x.order q r) here at)) (own_clear v.passed (ap after_walk z.1)))
+                ⊎_elim (λ z. subst (Has (clear_with (own v.view) v.own.passed x.clear)) (at_same x.order (length x.ends) (own v.view) r (subst (λ q. At x.order q (own v.view)) z.0 placed) (subst (λ q. At x.order q r) here at)) (own_clear v.own.passed (ap after_walk z.1)))
                 (λ z. absurd (never (ap is_gone same ∙ marked z.1) kind)) walks
 
         learns_home : Continues allows v.view (home_entry x).view
-        learns_home = continues good allows about x (home_past x) home_fine v.view.node v.view.node v (home_entry x) ok home_node refl ok.knows.orders (prefix_more v.view.ends x.ends (e ∷ []) ok.knows.endings) (wider v.passed) (λ q h. h) (λ q h. h) (λ q h. h)
+        learns_home = continues good allows about x (home_past x) home_fine v.view.node v.view.node v (home_entry x) ok home_node refl ok.knows.orders (prefix_more v.view.ends x.ends (e ∷ []) ok.knows.endings) (wider v.own.passed) (λ q h. h) (λ q h. h) (λ q h. h)
           where
             wider : (l : List ℕ) → IsPrefix v.view.clear (clear_with (own v.view) l x.clear)
             wider [] = prefix_more v.view.clear x.clear (own v.view ∷ []) ok.knows.clears
@@ -354,14 +354,14 @@ module _ (good : List ℕ → Type 0) (allows : List ℕ → List ℕ → Type 0
           point = refl;
           passed = refl;
           unmarked = λ r at. lacks_from v.view.marked r (λ h. let m = marked_at good allows about x f v.view.node v ok (length (x.ends ++ e ∷ [])) r at h in omega arith);
-          clear = λ empty. own_clear v.passed (ap after_walk empty);
+          clear = λ empty. own_clear v.own.passed (ap after_walk empty);
         }
 
-  own_turn_of : (x : Past) (ok : NodeOk about x v.view.node v) → v.passed ≡ [] → At x.order (length v.view.ends) (own v.view)
+  own_turn_of : (x : Past) (ok : NodeOk about x v.view.node v) → v.own.passed ≡ [] → At x.order (length v.view.ends) (own v.view)
   own_turn_of x ok empty = ⊎_elim (λ z. subst (λ q. At x.order q (own v.view)) (z.0 ∙ ap length (sym (ok.hand.holds (ap has_line cleared)).0)) (placed_at about x v.view.node v ok (ok.stance.asked not_idle)))
       (λ z. absurd (z.2 empty)) (ok.passes.walking (ap lets_go cleared) (ap has_line cleared))
 
-  module _ (s : St) (r : Rule s) (me i : ℕ) (at : get_elem? s.views me ≡ some (v ∷ [])) (word : i ≡ cell_at (cell_of (length v.view.ends + 1))) where
+  module _ (s : RingState) (r : Rule s) (me i : ℕ) (at : get_elem? s.views me ≡ some (v ∷ [])) (word : i ≡ cell_at (cell_of (length v.view.ends + 1))) where
     ok : NodeOk about r.past v.view.node v
     ok = mine_ok good allows about s r me v at
 
@@ -395,7 +395,7 @@ module _ (good : List ℕ → Type 0) (allows : List ℕ → List ℕ → Type 0
       at = k.1;
       node = k.2 ∙ (let w = seen in let d : r.past.marks (length (r.past.ends ++ e ∷ [])) ≡ withdrawn_by (slice_index s.words i) = omega arith in d);
       high = subst (λ (t : Terms). k.0.node ≤ t.nodes) (sym ok.who.terms) (r.fine.nodes (length (r.past.ends ++ e ∷ [])) k.0 k.1).1;
-      few = subst (λ (t : Terms). length (v.passed ++ length (r.past.ends ++ e ∷ []) ∷ []) + 1 ≤ t.nodes) (sym ok.who.terms)
+      few = subst (λ (t : Terms). length (v.own.passed ++ length (r.past.ends ++ e ∷ []) ∷ []) + 1 ≤ t.nodes) (sym ok.who.terms)
           (few_passed good allows about (record { words = set s.words i 0; homes = s.homes; views = set s.views me (walk_entry r.past ∷ []) }) (walks_rule rolled 0) me (walk_entry r.past) (set_here s.views me (walk_entry r.past ∷ []) (elem_within s.views me (v ∷ []) at)) refl);
       nodes = subst (λ (t : Terms). t.nodes ≤ MOST_NODES) (sym ok.who.terms) r.may_open.nodes.few;
     }

@@ -1,9 +1,7 @@
 pub mod Turning
 pub mod Walking
 pub mod Releasing
-pub mod Calling
 pub mod Nodes
-pub mod Histories
 pub mod Keeping
 pub mod Ask
 pub mod Taking
@@ -13,11 +11,6 @@ pub mod Clear
 pub mod Reset
 pub mod Clearing
 pub mod Free
-pub mod Finishing
 pub mod Passed
 pub mod Ending
 pub mod Grant
-pub mod Seats
-pub mod Splitting
-pub mod Meets
-pub mod Lasting

@@ -8,31 +8,30 @@ use lib.Seq.{set-get_or}
 use Rattle.atomic_table.specs.Table.{step, keeps, takes, Allows}
 use Rattle.qolb_model.specs.declared.answer.PortState.TheVariants as shows
 use Rattle.qolb_model.specs.Sound.{Continues}
-use Rattle.ring_line.specs.declared.entry.Point.TheVariants.{Queued}
-use Rattle.ring_line.specs.declared.entry.Entry.{Entry}
-use Rattle.ring_line.specs.declared.rule.Setup.{Setup}
+use Rattle.ring_line.specs.declared.own.Point.TheVariants.{Queued}
+use Rattle.shared_line.specs.declared.rule.Setup.{Setup}
 use Rattle.ring_line.specs.Words.{cell_at, cell_of}
-use Rattle.ring_line.specs.Ring.{NodeOk, RingRule, has_line, lets_go, is_kept}
+use Rattle.ring_line.specs.Ring.{RingEntry, RingState, NodeOk, RingRule, has_line, lets_go, is_kept}
 use Rattle.ring_line.specs.Steps.{sole, Contents, IsEarly, Comes, loaded}
-use Rattle.ring_line.proofs.Nodes.{fresh, fresh_ok}
-use Rattle.ring_line.proofs.Histories.{not_withdrawn, continues}
-use Rattle.ring_line.proofs.Keeping.{St, rule_step, mine_ok, few_open}
+use Rattle.ring_line.proofs.Nodes.{learned, learned_ok}
+use Rattle.ring_line.specs.Laws.Histories.{not_withdrawn, continues}
+use Rattle.ring_line.proofs.Keeping.{rule_step, mine_ok, few_open}
 use Rattle.ring_line.proofs.Taking.{take_entry, asked_at, home, finds_grant, finds_blank, takes_rule, comes, learns_take}
-use Rattle.ring_line.proofs.Turning.{goes_step}
+use Rattle.ring_line.proofs.Turning.{goes_step, same_count}
 
-module _ (good : List ℕ → Type 0) (allows : List ℕ → List ℕ → Type 0) (about : Setup) (v : Entry) (queued : v.point ≡ Queued) where
-  abbrev Rule : St → Type 0
+module _ (good : List ℕ → Type 0) (allows : List ℕ → List ℕ → Type 0) (about : Setup) (v : RingEntry) (queued : v.own.point ≡ Queued) where
+  abbrev Rule : RingState → Type 0
   Rule = RingRule good allows about
 
-  module _ (s : St) (r : Rule s) (me i : ℕ) (at : get_elem? s.views me ≡ some (v ∷ [])) (word : i ≡ cell_at (cell_of v.place)) where
+  module _ (s : RingState) (r : Rule s) (me i : ℕ) (at : get_elem? s.views me ≡ some (v ∷ [])) (word : i ≡ cell_at (cell_of v.own.place)) where
     ok : NodeOk about r.past v.view.node v
     ok = mine_ok good allows about s r me v at
 
-    abbrev wait_entry : Entry
-    wait_entry = fresh about r.past v.view.node v ok shows.Queued
+    abbrev wait_entry : RingEntry
+    wait_entry = learned about r.past v.view.node v ok shows.Queued
 
     wait_ok : NodeOk about r.past v.view.node wait_entry
-    wait_ok = fresh_ok about r.past v.view.node v ok shows.Queued (λ e. cc) (ap lets_go queued) (ap has_line queued) (λ _. refl)
+    wait_ok = learned_ok about r.past v.view.node v ok shows.Queued (λ e. cc) (ap lets_go queued) (ap has_line queued) (λ _. refl)
 
     waits_rule : Rule record { words = set s.words i (slice_index s.words i); homes = s.homes; views = set s.views me (wait_entry ∷ []) }
     waits_rule = subst (λ ws. Rule record { words = ws; homes = s.homes; views = set s.views me (wait_entry ∷ []) }) (sym (set-get_or s.words i 0))
@@ -41,20 +40,19 @@ module _ (good : List ℕ → Type 0) (allows : List ℕ → List ℕ → Type 0
     learns_wait : Continues allows v.view wait_entry.view
     learns_wait = continues good allows about r.past r.past r.fine v.view.node v.view.node v wait_entry ok wait_ok refl ok.knows.orders ok.knows.endings ok.knows.clears (λ q h. h) (λ q h. h) (λ q h. h)
 
-    early : v.place ≢ length r.past.ends → IsEarly v wait_entry
+    early : v.own.place ≢ length r.past.ends → IsEarly (cell_of v.own.place) wait_entry
     early later = record {
-      point = queued;
-      unmarked = not_withdrawn good allows about r.past r.fine v.view.node v ok (ap is_kept queued);
-      state = refl;
-      count = refl;
-      place = refl;
-      placed = asked_at good allows about v queued r.past ok;
-      early = let w = ok.stance.queued queued in omega arith;
-      near = few_open good allows about s r v.view.terms ok.who.terms;
+      stands = (queued, refl);
+      queued = record {
+        state = refl;
+        waits = (v.own.place, (let w = ok.stance.queued queued in omega arith), asked_at good allows about v queued r.past ok);
+        near = few_open good allows about s r v.view.terms ok.who.terms;
+        unmarked = not_withdrawn good allows about r.past r.fine v.view.node v ok (ap is_kept queued);
+      };
     }
 
-  pub loads_next : (me slots i : ℕ) (m : Contents) → m.0 ≡ v ∷ [] → i ≡ cell_at (cell_of v.place) → Allows Rule slots me m i (λ n. n) (loaded allows (step slots i 0 0 none) m)
-  loads_next me slots i m is word s r deep at small = let at' : get_elem? s.views me ≡ some (v ∷ []) = at ∙ ap some is in dite (ℕ_discrete v.place (length r.past.ends))
+  pub loads_next : (me slots i : ℕ) (m : Contents) → m.0 ≡ v ∷ [] → i ≡ cell_at (cell_of v.own.place) → Allows Rule slots me m i (λ n. n) (loaded allows (step slots i 0 0 none) m)
+  loads_next me slots i m is word s r deep at small = let at' : get_elem? s.views me ≡ some (v ∷ []) = at ∙ ap some is in dite (ℕ_discrete v.own.place (length r.past.ends))
       (λ here. let y = home good allows about v queued s r me i at' word here in (
         take_entry good allows about v queued r.past ∷ [],
         takes 0 y.0,
@@ -62,8 +60,9 @@ module _ (good : List ℕ → Type 0) (allows : List ℕ → List ℕ → Type 0
         takes_rule good allows about v queued s r me i at' word here (slice_index s.words i),
         (
           goes_step allows m v (take_entry good allows about v queued r.past) ((0, y.0) ∷ m.1) is (learns_take good allows about v queued s r me i at' word here) refl,
+          same_count m v (take_entry good allows about v queued r.past) is refl,
           (λ z. absurd (finds_grant good allows about v queued s r me i at' word here z)),
-          (λ _. (y.0, refl, subst (λ u. Comes (sole u) (take_entry good allows about v queued r.past) y.0) (sym is) (comes good allows about v queued s r me i at' word here))),
+          (λ _. (y.0, refl, subst (λ u. Comes (cell_of (sole u).own.place) (take_entry good allows about v queued r.past) y.0) (sym is) (comes good allows about v queued s r me i at' word here))),
         ),
       ))
       (λ later. (
@@ -73,7 +72,8 @@ module _ (good : List ℕ → Type 0) (allows : List ℕ → List ℕ → Type 0
         waits_rule s r me i at' word,
         (
           goes_step allows m v (wait_entry s r me i at' word) m.1 is (learns_wait s r me i at' word) refl,
-          (λ _. (refl, subst (λ u. IsEarly (sole u) (wait_entry s r me i at' word)) (sym is) (early s r me i at' word later))),
+          same_count m v (wait_entry s r me i at' word) is refl,
+          (λ _. (refl, subst (λ u. IsEarly (cell_of (sole u).own.place) (wait_entry s r me i at' word)) (sym is) (early s r me i at' word later))),
           (λ ne. absurd (ne (finds_blank good allows about v queued s r me i at' word later))),
         ),
       ))

@@ -1,9 +1,7 @@
--- What stays true of one node, and of the seats' entries, over a step of another.
+-- What stays true of one node over a step of another.
 use Rattle.std.proofs.Common.{◌≡◌, ◌≢◌, ◌⊎◌, ℕ, ◌+◌, ◌<◌, ◌≤◌, List, [], ◌∷◌, ◌++◌, length, Bool, true, false, if◌then◌else◌, sym, refl, ap, ◌∙◌, subst, inl, inr, ⊎_elim, arith, length-append}
 use mathlib.Core.Logic.{dite}
-use mathlib.Core.List.{IsPrefix}
 use native.Mathlib.Decide.{ℕ_discrete}
-use Rattle.std.proofs.lemmas.Option.{slice_get_within}
 use Rattle.qolb_model.specs.declared.answer.PortState.{PortState}
 use Rattle.qolb_model.specs.declared.answer.PortState.TheVariants as shows
 use Rattle.qolb_model.specs.declared.request.Request.{Request}
@@ -16,46 +14,23 @@ use Rattle.qolb_model.proofs.Lists.{never, push_cases, at_same, at_none, at_long
 use Rattle.qolb_model.proofs.Prefixes.{prefix_get, prefix_self, prefix_more}
 use Rattle.qolb_model.proofs.Requests.{count_of-push_other, has_left, has_last, same_place, has_prefix, has_push_else, lacks_push, lacked_push}
 use Rattle.qolb_model.proofs.Updates.{put, put_here, put_else}
-use Rattle.ring_line.specs.declared.entry.Point.{Point}
-use Rattle.ring_line.specs.declared.entry.Point.TheVariants.{Idle, Queued, Rolled}
-use Rattle.ring_line.specs.declared.entry.Entry.{Entry}
-use Rattle.ring_line.specs.declared.rule.Setup.{Setup}
+use Rattle.ring_line.specs.declared.own.Point.TheVariants.{Queued, Rolled}
+use Rattle.shared_line.specs.declared.rule.Setup.{Setup}
 use Rattle.qolb_model.specs.PortStates.{may_ask}
-use Rattle.qolb_model.specs.Requests.{count_of}
-use Rattle.ring_line.specs.Ring.{At, has_line, lets_go, is_kept, Past, HasPassed, Knowing, Hand, Walking, NodeOk}
+use Rattle.ring_line.specs.Ring.{RingEntry, At, has_line, lets_go, is_kept, Past, Knowing, Walking, NodeOk}
 use Rattle.qolb_model.specs.declared.view.View.{View}
-
--- what two points can't share
-pub clash_at : {q : Point} → (f : Point → Bool) (a : Point) → f q ≡ true → q ≡ a → f a ≡ false → ⊥
-clash_at f a k e no_a = never k (ap f e ∙ no_a)
-
--- a node whose request is not clear has asked
-pub kept_asked : (q : Point) → is_kept q ≡ true → q ≢ Idle
-kept_asked q k e = clash_at is_kept Idle k e refl
-
--- what was passed stays so, as long as the release goes on
-pub passed_goes : (n p : ℕ) (v w : Entry) (ended ended' : ℕ) (clear clear' : List Request) (marks marks' passer passer' : ℕ → ℕ) (h : HasPassed ended clear marks passer n v p) → lets_go w.point ≡ true → passer' p ≡ passer p → ended ≤ ended' → 0 < marks' p → IsPrefix v.view.order w.view.order
-    → Lacks clear' h.request → HasPassed ended' clear' marks' passer' n w p
-passed_goes n p v w ended ended' clear clear' marks marks' passer passer' h going same longer marked orders unclear = record {
-  in_release = going;
-  passer_is = same ∙ h.passer_is;
-  within = let a = h.within in omega arith;
-  marked = marked;
-  request = h.request;
-  at = prefix_get v.view.order w.view.order p h.request orders h.at;
-  unclear = unclear;
-}
+use Rattle.ring_line.specs.Laws.Nodes.{clash_at, kept_asked, passed_goes, hand_none, knows_whole, placed_at}
 
 -- outside a release nothing is passed
-module _ {n : ℕ} {v : Entry} {ended : ℕ} {clear : List Request} {marks passer : ℕ → ℕ} (ok : Walking ended clear marks passer n v) (idle : lets_go v.point ≡ false) where
-  pub none_passed : v.passed ≡ []
-  none_passed = go v.passed refl
+module _ {n : ℕ} {v : RingEntry} {ended : ℕ} {clear : List Request} {marks passer : ℕ → ℕ} (ok : Walking ended clear marks passer n v) (idle : lets_go v.own.point ≡ false) where
+  pub none_passed : v.own.passed ≡ []
+  none_passed = go v.own.passed refl
     where
-      go : (l : List ℕ) → v.passed ≡ l → v.passed ≡ []
+      go : (l : List ℕ) → v.own.passed ≡ l → v.own.passed ≡ []
       go [] e = e
       go (p ∷ ps) e = absurd (never (ok.passed 0 p (subst (λ (z : List ℕ). At z 0 p) (sym e) refl)).in_release idle)
 
-  pub passes_none : (w : Entry) (ended' : ℕ) (clear' : List Request) (marks' passer' : ℕ → ℕ) → w.passed ≡ v.passed → lets_go w.point ≡ false → Walking ended' clear' marks' passer' n w
+  pub passes_none : (w : RingEntry) (ended' : ℕ) (clear' : List Request) (marks' passer' : ℕ → ℕ) → w.own.passed ≡ v.own.passed → lets_go w.own.point ≡ false → Walking ended' clear' marks' passer' n w
   passes_none w ended' clear' marks' passer' same idle' = record {
     walking = λ going. absurd (never going idle');
     freeing = λ e i p at. absurd (none i p at);
@@ -63,23 +38,8 @@ module _ {n : ℕ} {v : Entry} {ended : ℕ} {clear : List Request} {marks passe
     once = λ i j p at. absurd (none i p at);
   }
     where
-      none : (i p : ℕ) → At w.passed i p → ⊥
+      none : (i p : ℕ) → At w.own.passed i p → ⊥
       none i p at = at_none i p (subst (λ (z : List ℕ). At z i p) (same ∙ none_passed) at)
-
--- the node does not have the line
-pub hand_none : (ends : List End) (hand : ℕ) (cleared : Bool) (n : ℕ) (w : Entry) → has_line w.point ≡ false → hand ≢ n → w.view.state ≢ shows.Holding → Hand ends hand cleared n w
-hand_none ends hand cleared n w none other idle = record { holds = λ e. absurd (never e none); lacks = λ _. other; holder = λ e. absurd (idle e) }
-
--- it knows the whole history
-pub knows_whole : (order : List Request) (ends : List End) (clear : List Request) (n : ℕ) (w : View) → w.order ≡ order → w.ends ≡ ends → w.clear ≡ clear → count_of n order ≡ w.count → ((r : Request) → Has w.freed r → Has clear r) → Knowing order ends clear n w
-knows_whole order ends clear n w a b c count freed = record {
-  orders = subst (IsPrefix w.order) a (prefix_self w.order);
-  endings = subst (IsPrefix w.ends) b (prefix_self w.ends);
-  clears = subst (IsPrefix w.clear) c (prefix_self w.clear);
-  counts = count;
-  own_ends = λ p r end _ _ en _. subst (λ es. p < length es) (sym b) (slice_get_within ends p end en);
-  freed_clear = λ r h. subst (λ rs. Has rs r) (sym c) (freed r h);
-}
 
 -- and goes on knowing, where another request is clear
 pub knows_clear : (order : List Request) (ends : List End) (clear : List Request) (n : ℕ) (w : View) (q : Request) → Knowing order ends clear n w → Knowing order ends (clear ++ q ∷ []) n w
@@ -92,11 +52,7 @@ knows_clear order ends clear n w q k = record {
   freed_clear = k.freed_clear;
 }
 
-module _ (about : Setup) (x : Past) (n : ℕ) (v : Entry) (ok : NodeOk about x n v) where
-  -- the node's last request stands in the order
-  pub placed_at : 0 < v.view.count → At x.order v.place (own v.view)
-  placed_at c = prefix_get v.view.order x.order v.place (own v.view) ok.knows.orders (ok.stance.placed c)
-
+module _ (about : Setup) (x : Past) (n : ℕ) (v : RingEntry) (ok : NodeOk about x n v) where
   -- what it had freed is clear
   pub freed_so : (r : Request) → Has v.view.freed r → Has x.clear r
   freed_so r h = has_prefix v.view.clear x.clear r ok.knows.clears (ok.knows.freed_clear r h)
@@ -195,15 +151,15 @@ module _ (about : Setup) (x : Past) (n : ℕ) (v : Entry) (ok : NodeOk about x n
       longer : length (x.ends ++ e ∷ []) ≡ length x.ends + 1
       longer = length-append x.ends (e ∷ [])
 
-      no_line : has_line v.point ≡ true → ⊥
+      no_line : has_line v.own.point ≡ true → ⊥
       no_line l = other (sym (ok.hand.holds l).1 ∙ had)
 
       -- a request of n at its turn is withdrawn
       marked_turn : (r : Request) → At x.order (length x.ends) r → r.node ≡ n → 0 < x.marks (length x.ends)
       marked_turn r at mine = ⊎_elim (λ own_end. absurd (other (sym mine ∙ ap (λ (q : Request). q.node) (at_same x.order (length x.ends) r t at turn) ∙ own_end))) (λ h. h) whose
 
-      not_turn : v.point ≡ Queued → v.place ≢ length x.ends
-      not_turn i z = let k = marked_turn (own v.view) (subst (λ q. At x.order q (own v.view)) z (placed_at (ok.stance.asked (λ idle. cc)))) ok.who.node in
+      not_turn : v.own.point ≡ Queued → v.own.place ≢ length x.ends
+      not_turn i z = let k = marked_turn (own v.view) (subst (λ q. At x.order q (own v.view)) z (placed_at about x n v ok (ok.stance.asked (λ idle. cc)))) ok.who.node in
           let w : x.marks (length x.ends) ≡ 0 = ap x.marks (sym z) ∙ ok.marks.unmarked (ap is_kept i) in omega arith
 
   -- another node's request, which is not withdrawn, goes on the clear list
@@ -250,7 +206,7 @@ module _ (about : Setup) (x : Past) (n : ℕ) (v : Entry) (ok : NodeOk about x n
       once = ok.passes.once;
     };
     marks = record {
-      unmarked = λ k. own_place (ok.stance.asked (kept_asked v.point k)) ∙ ok.marks.unmarked k;
+      unmarked = λ k. own_place (ok.stance.asked (kept_asked v.own.point k)) ∙ ok.marks.unmarked k;
       unclear = ok.marks.unclear;
       rolled = λ i. own_place (ok.stance.asked (λ e. cc)) ∙ ok.marks.rolled i;
       known = λ p s at is h. ok.marks.known p s at is (subst (λ z. 0 < z) (place_else p s at is) h);
@@ -268,8 +224,8 @@ module _ (about : Setup) (x : Past) (n : ℕ) (v : Entry) (ok : NodeOk about x n
       place_else : (p : ℕ) (s : Request) → At x.order p s → s.node ≡ n → put x.marks q m p ≡ x.marks p
       place_else p s at is = put_else x.marks q m p (λ e. other (sym is ∙ ap (λ (z : Request). z.node) (at_same x.order q s r (subst (λ k. At x.order k s) e at) asked) ∙ mine))
 
-      own_place : 0 < v.view.count → put x.marks q m v.place ≡ x.marks v.place
-      own_place c = place_else v.place (own v.view) (placed_at c) ok.who.node
+      own_place : 0 < v.view.count → put x.marks q m v.own.place ≡ x.marks v.own.place
+      own_place c = place_else v.own.place (own v.view) (placed_at about x n v ok c) ok.who.node
 
   -- the release of m frees the node of the request r, at the place q, which it passed
   pub others_free : (m q : ℕ) (r : Request) → At x.order q r → x.passer q ≡ m → 0 < x.marks q → Lacks x.clear r → n ≢ m → IsLegal about.terms.lease x.order x.ends → NodeOk about (record x { clear = x.clear ++ r ∷ []; flags = put x.flags r.node 1 }) n v
@@ -302,11 +258,11 @@ module _ (about : Setup) (x : Past) (n : ℕ) (v : Entry) (ok : NodeOk about x n
     joins = ok.joins;
   }
     where
-      last : r.node ≡ n → (v.point ≡ Rolled) × (v.place ≡ q)
+      last : r.node ≡ n → (v.own.point ≡ Rolled) × (v.own.place ≡ q)
       last e = ok.marks.last q r asked e marked unclear
 
-      is_own : v.point ≡ Rolled → n ≡ r.node → r ≡ own v.view
-      is_own i e = at_same x.order q r (own v.view) asked (subst (λ k. At x.order k (own v.view)) (last (sym e)).1 (placed_at (ok.stance.asked (λ z. cc))))
+      is_own : v.own.point ≡ Rolled → n ≡ r.node → r ≡ own v.view
+      is_own i e = at_same x.order q r (own v.view) asked (subst (λ k. At x.order k (own v.view)) (last (sym e)).1 (placed_at about x n v ok (ok.stance.asked (λ z. cc))))
 
   -- another node clears its own word
   pub others_reset : (m : ℕ) → n ≢ m → NodeOk about (record x { flags = put x.flags m 0 }) n v
@@ -322,16 +278,16 @@ module _ (about : Setup) (x : Past) (n : ℕ) (v : Entry) (ok : NodeOk about x n
   }
 
   -- the node learns the whole history by a step, and stands where it stood
-  abbrev pub fresh : PortState → Entry
-  fresh state = record v { view = record v.view { state = state; order = x.order; ends = x.ends; clear = x.clear }; steps = v.steps + 1 }
+  abbrev pub learned : PortState → RingEntry
+  learned state = record v { view = record v.view { state = state; order = x.order; ends = x.ends; clear = x.clear }; steps = v.steps + 1 }
 
-  pub fresh_ok : (state : PortState) → state ≢ shows.Holding → lets_go v.point ≡ false → has_line v.point ≡ false → (is_kept v.point ≡ true → may_ask state ≡ false) → NodeOk about x n (fresh state)
-  fresh_ok state idle resting without waits = record {
+  pub learned_ok : (state : PortState) → state ≢ shows.Holding → lets_go v.own.point ≡ false → has_line v.own.point ≡ false → (is_kept v.own.point ≡ true → may_ask state ≡ false) → NodeOk about x n (learned state)
+  learned_ok state idle resting without waits = record {
     who = record { node = ok.who.node; label = ok.who.label; terms = ok.who.terms };
-    knows = knows_whole x.order x.ends x.clear n (fresh state).view refl refl refl ok.knows.counts freed_so;
+    knows = knows_whole x.order x.ends x.clear n (learned state).view refl refl refl ok.knows.counts freed_so;
     stance = record {
       asked = ok.stance.asked;
-      placed = placed_at;
+      placed = placed_at about x n v ok;
       last_open = ok.stance.last_open;
       idle = λ i c. let h = ok.stance.idle i c in (h.0, has_prefix v.view.clear x.clear (own v.view) ok.knows.clears h.1);
       queued = ok.stance.queued;
@@ -339,8 +295,8 @@ module _ (about : Setup) (x : Past) (n : ℕ) (v : Entry) (ok : NodeOk about x n
       freeing = ok.stance.freeing;
       waits = λ k _. waits k;
     };
-    hand = hand_none x.ends x.hand x.cleared n (fresh state) without (ok.hand.lacks without) idle;
-    passes = passes_none ok.passes resting (fresh state) (length x.ends) x.clear x.marks x.passer refl resting;
+    hand = hand_none x.ends x.hand x.cleared n (learned state) without (ok.hand.lacks without) idle;
+    passes = passes_none ok.passes resting (learned state) (length x.ends) x.clear x.marks x.passer refl resting;
     marks = record { unmarked = ok.marks.unmarked; unclear = ok.marks.unclear; rolled = ok.marks.rolled; known = ok.marks.known; last = ok.marks.last; all = ok.marks.all };
     flag = record { rolled = ok.flag.rolled; not_rolled = ok.flag.not_rolled };
     joins = ok.joins;

@@ -13,15 +13,15 @@ use Rattle.qolb_model.proofs.Requests.{same_place, has_prefix}
 use Rattle.qolb_model.proofs.Lists.{never, at_same}
 use Rattle.qolb_model.specs.declared.terms.TheConstants.{MOST_NODES}
 use Rattle.qolb_model.proofs.Updates.{put, put_here, put_else}
-use Rattle.ring_line.specs.declared.entry.Point.TheVariants.{Rolled}
-use Rattle.ring_line.specs.declared.entry.Entry.{Entry}
-use Rattle.ring_line.specs.declared.rule.Setup.{Setup}
+use Rattle.ring_line.specs.declared.own.Point.TheVariants.{Rolled}
+use Rattle.shared_line.specs.declared.rule.Setup.{Setup}
 use Rattle.ring_line.specs.Words.{ticket_at, cell_at, node_at, cell_of}
-use Rattle.ring_line.specs.Ring.{At, Past, NodeOk, PastOk, Shown, RingRule, has_line, lets_go, is_kept}
+use Rattle.ring_line.specs.Ring.{RingEntry, RingState, At, Past, NodeOk, PastOk, Shown, RingRule, has_line, lets_go, is_kept}
 use Rattle.ring_line.specs.Steps.{sole, Contents, IsStill, loaded_node, reset, after_reset}
-use Rattle.ring_line.proofs.Nodes.{clash_at, placed_at, others_reset, fresh, fresh_ok, hand_none, passes_none}
-use Rattle.ring_line.proofs.Histories.{continues}
-use Rattle.ring_line.proofs.Keeping.{St, Homes, rule_step, mine_ok, mine_low}
+use Rattle.ring_line.specs.Laws.Nodes.{clash_at, placed_at, hand_none}
+use Rattle.ring_line.proofs.Nodes.{others_reset, learned, learned_ok, passes_none}
+use Rattle.ring_line.specs.Laws.Histories.{continues}
+use Rattle.ring_line.proofs.Keeping.{Homes, rule_step, mine_ok, mine_low}
 use Rattle.ring_line.proofs.Turning.{goes_step}
 use Rattle.qolb_model.proofs.Clearing.{clears_ended}
 
@@ -29,19 +29,19 @@ use Rattle.qolb_model.proofs.Clearing.{clears_ended}
 abbrev word_of : Bool → ℕ
 word_of b = if b then 1 else 0
 
-module _ (good : List ℕ → Type 0) (allows : List ℕ → List ℕ → Type 0) (about : Setup) (v : Entry) (rolled : v.point ≡ Rolled) where
-  abbrev Rule : St → Type 0
+module _ (good : List ℕ → Type 0) (allows : List ℕ → List ℕ → Type 0) (about : Setup) (v : RingEntry) (rolled : v.own.point ≡ Rolled) where
+  abbrev Rule : RingState → Type 0
   Rule = RingRule good allows about
 
-  module _ (s : St) (r : Rule s) (me i : ℕ) (at : get_elem? s.views me ≡ some (v ∷ [])) (word : i ≡ node_at v.view.node) where
+  module _ (s : RingState) (r : Rule s) (me i : ℕ) (at : get_elem? s.views me ≡ some (v ∷ [])) (word : i ≡ node_at v.view.node) where
     ok : NodeOk about r.past v.view.node v
     ok = mine_ok good allows about s r me v at
 
-    abbrev still_entry : Entry
-    still_entry = fresh about r.past v.view.node v ok v.view.state
+    abbrev still_entry : RingEntry
+    still_entry = learned about r.past v.view.node v ok v.view.state
 
     still_ok : NodeOk about r.past v.view.node still_entry
-    still_ok = fresh_ok about r.past v.view.node v ok v.view.state (λ e. clash_at has_line Rolled (ok.hand.holder e).0 rolled refl) (ap lets_go rolled) (ap has_line rolled) (λ k. absurd (clash_at is_kept Rolled k rolled refl))
+    still_ok = learned_ok about r.past v.view.node v ok v.view.state (λ e. clash_at has_line Rolled (ok.hand.holder e).0 rolled refl) (ap lets_go rolled) (ap has_line rolled) (λ k. absurd (clash_at is_kept Rolled k rolled refl))
 
     still_rule : Rule record { words = set s.words i (slice_index s.words i); homes = s.homes; views = set s.views me (still_entry ∷ []) }
     still_rule = subst (λ ws. Rule record { words = ws; homes = s.homes; views = set s.views me (still_entry ∷ []) }) (sym (set-get_or s.words i 0))
@@ -87,7 +87,7 @@ module _ (good : List ℕ → Type 0) (allows : List ℕ → List ℕ → Type 0
   )
 
   module _ (clear : Has v.view.clear (own v.view)) where
-    abbrev reset_entry : Entry
+    abbrev reset_entry : RingEntry
     reset_entry = after_reset v
 
     abbrev reset_past : Past → Past
@@ -126,9 +126,9 @@ module _ (good : List ℕ → Type 0) (allows : List ℕ → List ℕ → Type 0
       joins = ok.joins;
     }
       where
-        ended : 0 < v.view.count → v.place < length x.ends
+        ended : 0 < v.view.count → v.own.place < length x.ends
         ended c = let o = clears_ended f.cleared (own v.view) (has_prefix v.view.clear x.clear (own v.view) ok.knows.clears clear) in
-            subst (λ q. q < length x.ends) (same_place x.order f.legal.numbered o.0 v.place (own v.view) o.2 (placed_at about x v.view.node v ok c)) o.1
+            subst (λ q. q < length x.ends) (same_place x.order f.legal.numbered o.0 v.own.place (own v.view) o.2 (placed_at about x v.view.node v ok c)) o.1
 
     reset_shown : (x : Past) (words : List ℕ) (homes : Homes) (i : ℕ) → i ≡ node_at v.view.node → 0 < v.view.node → v.view.node ≤ MOST_NODES → Shown good allows about x words homes → Shown good allows about (reset_past x) (set words i 0) homes
     reset_shown x words homes i is low high h = record {

@@ -16,41 +16,41 @@ use Rattle.qolb_model.specs.declared.terms.TheConstants.{MOST_NODES}
 use Rattle.qolb_model.proofs.Lists.{at_same}
 use Rattle.qolb_model.proofs.Updates.{put, put_here, put_else}
 use Rattle.ring_line.specs.declared.words.TheConstants.{CELLS, WITHDRAWN}
-use Rattle.ring_line.specs.declared.entry.Point.TheVariants.{Queued, Rolled}
-use Rattle.ring_line.specs.declared.entry.Entry.{Entry}
-use Rattle.ring_line.specs.declared.rule.Setup.{Setup}
+use Rattle.ring_line.specs.declared.own.Point.TheVariants.{Queued, Rolled}
+use Rattle.shared_line.specs.declared.rule.Setup.{Setup}
 use Rattle.ring_line.specs.Words.{ticket_at, cell_at, node_at, cell_of}
-use Rattle.ring_line.specs.Ring.{At, Past, NodeOk, PastOk, Shown, RingRule, has_line, lets_go, is_kept}
+use Rattle.ring_line.specs.Ring.{RingEntry, RingState, At, Past, NodeOk, PastOk, Shown, RingRule, has_line, lets_go, is_kept}
 use Rattle.ring_line.specs.Steps.{sole, Contents, IsRolled, Comes, rolled}
-use Rattle.ring_line.proofs.Nodes.{others_roll, knows_whole, hand_none, passes_none, freed_so}
-use Rattle.ring_line.proofs.Histories.{continues}
-use Rattle.ring_line.proofs.Keeping.{St, Homes, rule_step, mine_ok, mine_low, few_open}
+use Rattle.ring_line.specs.Laws.Nodes.{knows_whole, hand_none}
+use Rattle.ring_line.proofs.Nodes.{others_roll, passes_none, freed_so}
+use Rattle.ring_line.specs.Laws.Histories.{continues}
+use Rattle.ring_line.proofs.Keeping.{Homes, rule_step, mine_ok, mine_low, few_open}
 use Rattle.ring_line.proofs.Taking.{take_entry, asked_at, near, home, finds_grant, finds_blank, takes_rule, comes, learns_take}
-use Rattle.ring_line.proofs.Turning.{goes_step}
+use Rattle.ring_line.proofs.Turning.{goes_step, same_count}
 
-module _ (good : List ℕ → Type 0) (allows : List ℕ → List ℕ → Type 0) (about : Setup) (v : Entry) (queued : v.point ≡ Queued) where
-  abbrev Rule : St → Type 0
+module _ (good : List ℕ → Type 0) (allows : List ℕ → List ℕ → Type 0) (about : Setup) (v : RingEntry) (queued : v.own.point ≡ Queued) where
+  abbrev Rule : RingState → Type 0
   Rule = RingRule good allows about
 
   abbrev roll_past : Past → Past
-  roll_past x = record x { marks = put x.marks v.place v.view.node }
+  roll_past x = record x { marks = put x.marks v.own.place v.view.node }
 
-  abbrev roll_entry : Past → Entry
-  roll_entry x = record v { view = record v.view { state = shows.Rolled; order = x.order; ends = x.ends; clear = x.clear; marked = v.view.marked ++ own v.view ∷ [] }; point = Rolled; steps = v.steps + 1 }
+  abbrev roll_entry : Past → RingEntry
+  roll_entry x = record v { view = record v.view { state = shows.Rolled; order = x.order; ends = x.ends; clear = x.clear; marked = v.view.marked ++ own v.view ∷ [] }; own = record v.own { point = Rolled }; steps = v.steps + 1 }
 
-  module _ (x : Past) (fine : PastOk good allows about x) (ok : NodeOk about x v.view.node v) (low : 0 < v.view.node) (later : length x.ends < v.place) where
-    here : put x.marks v.place v.view.node v.place ≡ v.view.node
-    here = put_here x.marks v.place v.view.node
+  module _ (x : Past) (fine : PastOk good allows about x) (ok : NodeOk about x v.view.node v) (low : 0 < v.view.node) (later : length x.ends < v.own.place) where
+    here : put x.marks v.own.place v.view.node v.own.place ≡ v.view.node
+    here = put_here x.marks v.own.place v.view.node
 
-    elsewhere : (p : ℕ) → p ≢ v.place → put x.marks v.place v.view.node p ≡ x.marks p
-    elsewhere p ne = put_else x.marks v.place v.view.node p ne
+    elsewhere : (p : ℕ) → p ≢ v.own.place → put x.marks v.own.place v.view.node p ≡ x.marks p
+    elsewhere p ne = put_else x.marks v.own.place v.view.node p ne
 
-    placed : At x.order v.place (own v.view)
+    placed : At x.order v.own.place (own v.view)
     placed = asked_at good allows about v queued x ok
 
     -- marks only grow
-    more : (p : ℕ) → 0 < x.marks p → 0 < put x.marks v.place v.view.node p
-    more p h = dite (ℕ_discrete p v.place) (λ e. subst (λ k. 0 < k) (sym (ap (put x.marks v.place v.view.node) e ∙ here)) low) (λ ne. subst (λ k. 0 < k) (sym (elsewhere p ne)) h)
+    more : (p : ℕ) → 0 < x.marks p → 0 < put x.marks v.own.place v.view.node p
+    more p h = dite (ℕ_discrete p v.own.place) (λ e. subst (λ k. 0 < k) (sym (ap (put x.marks v.own.place v.view.node) e ∙ here)) low) (λ ne. subst (λ k. 0 < k) (sym (elsewhere p ne)) h)
 
     roll_node : NodeOk about (roll_past x) v.view.node (roll_entry x)
     roll_node = record {
@@ -67,17 +67,17 @@ module _ (good : List ℕ → Type 0) (allows : List ℕ → List ℕ → Type 0
         waits = λ e. cc;
       };
       hand = hand_none x.ends x.hand x.cleared v.view.node (roll_entry x) refl (ok.hand.lacks (ap has_line queued)) (λ e. cc);
-      passes = passes_none ok.passes (ap lets_go queued) (roll_entry x) (length x.ends) x.clear (put x.marks v.place v.view.node) x.passer refl refl;
+      passes = passes_none ok.passes (ap lets_go queued) (roll_entry x) (length x.ends) x.clear (put x.marks v.own.place v.view.node) x.passer refl refl;
       marks = record {
         unmarked = λ e. cc;
         unclear = λ e. cc;
         rolled = λ _. here;
-        known = λ p r at mine h. dite (ℕ_discrete p v.place)
-            (λ e. subst (Has (v.view.marked ++ own v.view ∷ [])) (at_same x.order v.place (own v.view) r placed (subst (λ q. At x.order q r) e at)) (has_last v.view.marked (own v.view)))
+        known = λ p r at mine h. dite (ℕ_discrete p v.own.place)
+            (λ e. subst (Has (v.view.marked ++ own v.view ∷ [])) (at_same x.order v.own.place (own v.view) r placed (subst (λ q. At x.order q r) e at)) (has_last v.view.marked (own v.view)))
             (λ ne. has_left v.view.marked (own v.view ∷ []) r (ok.marks.known p r at mine (subst (λ q. 0 < q) (elsewhere p ne) h)));
-        last = λ p r at mine h lacks. dite (ℕ_discrete p v.place) (λ e. (refl, sym e))
+        last = λ p r at mine h lacks. dite (ℕ_discrete p v.own.place) (λ e. (refl, sym e))
             (λ ne. let k = (ok.marks.last p r at mine (subst (λ q. 0 < q) (elsewhere p ne) h) lacks).0 in let q = queued in absurd (cc));
-        all = λ r h. ⊎_elim (λ z. let k = ok.marks.all r z in (k.0, k.1, more k.0 k.2)) (λ z. (v.place, subst (At x.order v.place) (sym z) placed, subst (λ q. 0 < q) (sym here) low)) (has_push v.view.marked (own v.view) r h);
+        all = λ r h. ⊎_elim (λ z. let k = ok.marks.all r z in (k.0, k.1, more k.0 k.2)) (λ z. (v.own.place, subst (At x.order v.own.place) (sym z) placed, subst (λ q. 0 < q) (sym here) low)) (has_push v.view.marked (own v.view) r h);
       };
       flag = record {
         rolled = λ _. ok.flag.not_rolled (λ e. let q = queued in cc) ∙ ap (λ b. if b then 1 else 0) (sym (ok.marks.unclear (ap is_kept queued)));
@@ -96,42 +96,42 @@ module _ (good : List ℕ → Type 0) (allows : List ℕ → List ℕ → Type 0
       cleared = fine.cleared;
       nobody = λ h. let k = fine.nobody h in (k.0, elsewhere (length x.ends) (λ e. omega arith) ∙ k.1);
       settled = fine.settled;
-      marked = λ p h. dite (ℕ_discrete p v.place)
-          (λ e. (own v.view, subst (λ q. At x.order q (own v.view)) (sym e) placed, sym (ap (put x.marks v.place v.view.node) e ∙ here)))
+      marked = λ p h. dite (ℕ_discrete p v.own.place)
+          (λ e. (own v.view, subst (λ q. At x.order q (own v.view)) (sym e) placed, sym (ap (put x.marks v.own.place v.view.node) e ∙ here)))
           (λ ne. let s = elsewhere p ne in let k = fine.marked p (subst (λ q. 0 < q) s h) in (k.0, k.1, k.2 ∙ sym s));
       gone = λ p e en. let h = slice_get_within x.ends p e en in let s = elsewhere p (λ q. omega arith) in let g = fine.gone p e en in
           ((λ z. subst (λ q. 0 < q) (sym s) (g.0 z)), (λ z. g.1 (subst (λ q. 0 < q) s z)));
     }
 
-    roll_shown : (words : List ℕ) (homes : Homes) (i d : ℕ) → i ≡ cell_at (cell_of v.place) → v.place < length x.ends + CELLS → d ≡ WITHDRAWN * v.view.node → v.view.node ≤ MOST_NODES → slice_index words i ≡ 0 → Shown good allows about x words homes
+    roll_shown : (words : List ℕ) (homes : Homes) (i d : ℕ) → i ≡ cell_at (cell_of v.own.place) → v.own.place < length x.ends + CELLS → d ≡ WITHDRAWN * v.view.node → v.view.node ≤ MOST_NODES → slice_index words i ≡ 0 → Shown good allows about x words homes
         → Shown good allows about (roll_past x) (set words i ((slice_index words i + d) % 2 ^ 64)) homes
-    roll_shown words homes i d is close add high blank h = let new : ℕ = (slice_index words i + d) % 2 ^ 64 in let small : cell_of v.place < CELLS = mod-lt v.place (omega arith) in record {
+    roll_shown words homes i d is close add high blank h = let new : ℕ = (slice_index words i + d) % 2 ^ 64 in let small : cell_of v.own.place < CELLS = mod-lt v.own.place (omega arith) in record {
       wide = length-set words i new ∙ h.wide;
       deep = h.deep;
       ticket = get_or-set_other words i ticket_at new 0 (λ q. omega arith) ∙ h.ticket;
       cleared = λ e. get_or-set_other words i (cell_at (cell_of (length x.ends))) new 0 (λ q. apart (length x.ends) (omega arith) (omega arith) (λ z. omega arith) (omega arith)) ∙ h.cleared e;
       granted = λ e. get_or-set_other words i (cell_at (cell_of (length x.ends))) new 0 (λ q. apart (length x.ends) (omega arith) (omega arith) (λ z. omega arith) (omega arith)) ∙ h.granted e;
-      later = λ k a b. dite (ℕ_discrete (length x.ends + k) v.place)
-          (λ e. ap (λ q. get_or (set words i new) q 0) (ap (λ q. cell_at (cell_of q)) e ∙ sym is) ∙ get_or-set_same words i new 0 (let w = h.wide in omega arith) ∙ sum ∙ ap (λ q. WITHDRAWN * q) (sym here ∙ ap (put x.marks v.place v.view.node) (sym e)))
+      later = λ k a b. dite (ℕ_discrete (length x.ends + k) v.own.place)
+          (λ e. ap (λ q. get_or (set words i new) q 0) (ap (λ q. cell_at (cell_of q)) e ∙ sym is) ∙ get_or-set_same words i new 0 (let w = h.wide in omega arith) ∙ sum ∙ ap (λ q. WITHDRAWN * q) (sym here ∙ ap (put x.marks v.own.place v.view.node) (sym e)))
           (λ ne. get_or-set_other words i (cell_at (cell_of (length x.ends + k))) new 0 (λ q. apart (length x.ends + k) (omega arith) (omega arith) ne (omega arith)) ∙ h.later k a b ∙ ap (λ q. WITHDRAWN * q) (sym (elsewhere (length x.ends + k) ne)));
       flags = λ n a b. get_or-set_other words i (node_at n) new 0 (λ q. omega arith) ∙ h.flags n a b;
       home = h.home;
     }
       where
-        apart : (p : ℕ) → length x.ends ≤ p → p < length x.ends + CELLS → p ≢ v.place → cell_of p ≢ cell_of v.place
-        apart p a b ne e = dite (dec_le p v.place) (λ l. ne (one_turn p v.place CELLS l (omega arith) e)) (λ g. ne (sym (one_turn v.place p CELLS (omega arith) (omega arith) (sym e))))
+        apart : (p : ℕ) → length x.ends ≤ p → p < length x.ends + CELLS → p ≢ v.own.place → cell_of p ≢ cell_of v.own.place
+        apart p a b ne e = dite (dec_le p v.own.place) (λ l. ne (one_turn p v.own.place CELLS l (omega arith) e)) (λ g. ne (sym (one_turn v.own.place p CELLS (omega arith) (omega arith) (sym e))))
 
         sum : (slice_index words i + d) % 2 ^ 64 ≡ WITHDRAWN * v.view.node
         sum = omega arith
 
-  module _ (s : St) (r : Rule s) (me i d : ℕ) (at : get_elem? s.views me ≡ some (v ∷ [])) (word : i ≡ cell_at (cell_of v.place)) (add : d ≡ WITHDRAWN * v.view.node) (later : v.place ≢ length r.past.ends) where
+  module _ (s : RingState) (r : Rule s) (me i d : ℕ) (at : get_elem? s.views me ≡ some (v ∷ [])) (word : i ≡ cell_at (cell_of v.own.place)) (add : d ≡ WITHDRAWN * v.view.node) (later : v.own.place ≢ length r.past.ends) where
     ok : NodeOk about r.past v.view.node v
     ok = mine_ok good allows about s r me v at
 
     low : 0 < v.view.node
     low = (mine_low good allows about s r me v at).0
 
-    behind : length r.past.ends < v.place
+    behind : length r.past.ends < v.own.place
     behind = let q = ok.stance.queued queued in omega arith
 
     blank : slice_index s.words i ≡ 0
@@ -141,26 +141,25 @@ module _ (good : List ℕ → Type 0) (allows : List ℕ → List ℕ → Type 0
     rolls_rule = let h = (mine_low good allows about s r me v at).1 in let f = r.may_open.nodes.few in
         rule_step good allows about s r me v (roll_entry r.past) (roll_past r.past) (set s.words i ((slice_index s.words i + d) % 2 ^ 64)) s.homes at refl (roll_fine r.past r.fine ok low behind)
         (roll_shown r.past r.fine ok low behind s.words s.homes i d word (near good allows about v queued s r me i at word) add (omega arith) blank r.shown) (roll_node r.past r.fine ok low behind)
-        (λ n a b ne. others_roll about r.past n (r.who n) (r.each n a b) v.view.node v.place (own v.view) (asked_at good allows about v queued r.past ok) refl low ne)
+        (λ n a b ne. others_roll about r.past n (r.who n) (r.each n a b) v.view.node v.own.place (own v.view) (asked_at good allows about v queued r.past ok) refl low ne)
 
     learns_roll : Continues allows v.view (roll_entry r.past).view
     learns_roll = continues good allows about r.past (roll_past r.past) (roll_fine r.past r.fine ok low behind) v.view.node v.view.node v (roll_entry r.past) ok (roll_node r.past r.fine ok low behind) refl
         ok.knows.orders ok.knows.endings ok.knows.clears (λ q h. h) (λ q h. has_left v.view.marked (own v.view ∷ []) q h) (λ q h. h)
 
-    is_rolled : IsRolled v (roll_entry r.past)
+    is_rolled : IsRolled (cell_of v.own.place) (roll_entry r.past)
     is_rolled = record {
-      point = refl;
-      state = refl;
-      count = refl;
-      place = refl;
-      placed = asked_at good allows about v queued r.past ok;
-      early = behind;
-      near = few_open good allows about s r v.view.terms ok.who.terms;
-      marked = has_last v.view.marked (own v.view);
+      stands = refl;
+      withdrawn = record {
+        state = refl;
+        waits = (v.own.place, behind, asked_at good allows about v queued r.past ok);
+        near = few_open good allows about s r v.view.terms ok.who.terms;
+        marked = has_last v.view.marked (own v.view);
+      };
     }
 
-  pub rolls_next : (me slots i d : ℕ) (m : Contents) → m.0 ≡ v ∷ [] → i ≡ cell_at (cell_of v.place) → d ≡ WITHDRAWN * v.view.node → Allows Rule slots me m i (λ n. (n + d) % 2 ^ 64) (rolled allows (step slots i d 0 none) m)
-  rolls_next me slots i d m is word add s r deep at small = let at' : get_elem? s.views me ≡ some (v ∷ []) = at ∙ ap some is in dite (ℕ_discrete v.place (length r.past.ends))
+  pub rolls_next : (me slots i d : ℕ) (m : Contents) → m.0 ≡ v ∷ [] → i ≡ cell_at (cell_of v.own.place) → d ≡ WITHDRAWN * v.view.node → Allows Rule slots me m i (λ n. (n + d) % 2 ^ 64) (rolled allows (step slots i d 0 none) m)
+  rolls_next me slots i d m is word add s r deep at small = let at' : get_elem? s.views me ≡ some (v ∷ []) = at ∙ ap some is in dite (ℕ_discrete v.own.place (length r.past.ends))
       (λ here. let y = home good allows about v queued s r me i at' word here in (
         take_entry good allows about v queued r.past ∷ [],
         takes 0 y.0,
@@ -168,8 +167,9 @@ module _ (good : List ℕ → Type 0) (allows : List ℕ → List ℕ → Type 0
         takes_rule good allows about v queued s r me i at' word here ((slice_index s.words i + d) % 2 ^ 64),
         (
           goes_step allows m v (take_entry good allows about v queued r.past) ((0, y.0) ∷ m.1) is (learns_take good allows about v queued s r me i at' word here) refl,
+          same_count m v (take_entry good allows about v queued r.past) is refl,
           (λ z. absurd (finds_grant good allows about v queued s r me i at' word here z)),
-          (λ _. (y.0, refl, subst (λ u. Comes (sole u) (take_entry good allows about v queued r.past) y.0) (sym is) (comes good allows about v queued s r me i at' word here))),
+          (λ _. (y.0, refl, subst (λ u. Comes (cell_of (sole u).own.place) (take_entry good allows about v queued r.past) y.0) (sym is) (comes good allows about v queued s r me i at' word here))),
         ),
       ))
       (λ later. (
@@ -179,7 +179,8 @@ module _ (good : List ℕ → Type 0) (allows : List ℕ → List ℕ → Type 0
         rolls_rule s r me i d at' word add later,
         (
           goes_step allows m v (roll_entry r.past) m.1 is (learns_roll s r me i d at' word add later) refl,
-          (λ _. (refl, subst (λ u. IsRolled (sole u) (roll_entry r.past)) (sym is) (is_rolled s r me i d at' word add later))),
+          same_count m v (roll_entry r.past) is refl,
+          (λ _. (refl, subst (λ u. IsRolled (cell_of (sole u).own.place) (roll_entry r.past)) (sym is) (is_rolled s r me i d at' word add later))),
           (λ ne. absurd (ne (blank s r me i d at' word add later))),
         ),
       ))

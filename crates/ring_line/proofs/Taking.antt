@@ -16,17 +16,18 @@ use Rattle.qolb_model.specs.Sound.{Continues}
 use Rattle.qolb_model.proofs.Agreed.{length-bytes_after}
 use Rattle.qolb_model.proofs.Lists.{at_same}
 use Rattle.ring_line.specs.declared.words.TheConstants.{CELLS, WITHDRAWN}
-use Rattle.ring_line.specs.declared.entry.Point.{Point}
-use Rattle.ring_line.specs.declared.entry.Point.TheVariants.{Idle, Queued, Holding, Passing, Cleared, Freeing, Rolled}
-use Rattle.ring_line.specs.declared.entry.Entry.{Entry}
-use Rattle.ring_line.specs.declared.rule.Setup.{Setup}
-use Rattle.ring_line.specs.declared.rule.Parcel.{Parcel}
+use Rattle.ring_line.specs.declared.own.Point.{Point}
+use Rattle.ring_line.specs.declared.own.Point.TheVariants.{Idle, Queued, Holding, Passing, Cleared, Freeing, Rolled}
+use Rattle.shared_line.specs.declared.rule.Setup.{Setup}
+use Rattle.shared_line.specs.declared.rule.Parcel.{Parcel}
 use Rattle.ring_line.specs.Words.{ticket_at, cell_at, node_at, cell_of}
-use Rattle.ring_line.specs.Ring.{At, Past, NodeOk, PastOk, Shown, RingRule, has_line, lets_go, is_kept}
+use Rattle.ring_line.specs.Ring.{RingEntry, RingState, At, Past, NodeOk, PastOk, Shown, RingRule, has_line, lets_go, is_kept}
+use Rattle.ring_line.specs.Stances.{holding}
 use Rattle.ring_line.specs.Steps.{Comes}
-use Rattle.ring_line.proofs.Nodes.{clash_at, placed_at, none_passed, others_hand, knows_whole, passes_none, freed_so}
-use Rattle.ring_line.proofs.Histories.{not_withdrawn, continues}
-use Rattle.ring_line.proofs.Keeping.{St, rule_step, mine_ok, mine_low, window}
+use Rattle.ring_line.specs.Laws.Nodes.{clash_at, placed_at, knows_whole}
+use Rattle.ring_line.proofs.Nodes.{none_passed, others_hand, passes_none, freed_so}
+use Rattle.ring_line.specs.Laws.Histories.{not_withdrawn, continues}
+use Rattle.ring_line.proofs.Keeping.{rule_step, mine_ok, mine_low, window}
 use Rattle.qolb_model.proofs.Leases.{open_has_turns}
 
 -- the cells behind one are others
@@ -34,13 +35,13 @@ pub cells_apart : (m k : ℕ) → 0 < k → k < CELLS → cell_of (m + k) ≢ ce
 cells_apart m k a b e = let f = one_turn m (m + k) CELLS (omega arith) (omega arith) (sym e) in omega arith
 
 -- a node that has the line is at the turn of its own request, or of a withdrawn one
-pub at_turn : (about : Setup) (x : Past) (n : ℕ) (v : Entry) → NodeOk about x n v → has_line v.point ≡ true → (v.place ≡ length x.ends) ⊎ (0 < x.marks (length x.ends))
-at_turn about x n v ok l = go v.point refl
+pub at_turn : (about : Setup) (x : Past) (n : ℕ) (v : RingEntry) → NodeOk about x n v → has_line v.own.point ≡ true → (v.own.place ≡ length x.ends) ⊎ (0 < x.marks (length x.ends))
+at_turn about x n v ok l = go v.own.point refl
   where
-    walks : lets_go v.point ≡ true → (v.place ≡ length x.ends) ⊎ (0 < x.marks (length x.ends))
+    walks : lets_go v.own.point ≡ true → (v.own.place ≡ length x.ends) ⊎ (0 < x.marks (length x.ends))
     walks g = ⊎_elim (λ z. inl z.0) (λ z. inr z.1) (ok.passes.walking g l)
 
-    go : (q : Point) → v.point ≡ q → (v.place ≡ length x.ends) ⊎ (0 < x.marks (length x.ends))
+    go : (q : Point) → v.own.point ≡ q → (v.own.place ≡ length x.ends) ⊎ (0 < x.marks (length x.ends))
     go Idle e = absurd (clash_at has_line Idle l e refl)
     go Queued e = absurd (clash_at has_line Queued l e refl)
     go Holding e = inl (ok.stance.holding e)
@@ -49,23 +50,23 @@ at_turn about x n v ok l = go v.point refl
     go Freeing e = absurd (clash_at has_line Freeing l e refl)
     go Rolled e = absurd (clash_at has_line Rolled l e refl)
 
-module _ (good : List ℕ → Type 0) (allows : List ℕ → List ℕ → Type 0) (about : Setup) (v : Entry) (queued : v.point ≡ Queued) where
-  abbrev Rule : St → Type 0
+module _ (good : List ℕ → Type 0) (allows : List ℕ → List ℕ → Type 0) (about : Setup) (v : RingEntry) (queued : v.own.point ≡ Queued) where
+  abbrev Rule : RingState → Type 0
   Rule = RingRule good allows about
 
-  abbrev pub take_entry : Past → Entry
-  take_entry x = record v { view = record v.view { state = shows.Holding; order = x.order; ends = x.ends; clear = x.clear }; point = Holding; steps = v.steps + 1 }
+  abbrev pub take_entry : Past → RingEntry
+  take_entry x = record v { view = record v.view { state = shows.Holding; order = x.order; ends = x.ends; clear = x.clear }; own = record v.own { point = Holding }; steps = v.steps + 1 }
 
   abbrev pub take_past : Past → Past
   take_past x = record x { hand = v.view.node; cleared = false }
 
-  pub asked_at : (x : Past) → NodeOk about x v.view.node v → At x.order v.place (own v.view)
+  pub asked_at : (x : Past) → NodeOk about x v.view.node v → At x.order v.own.place (own v.view)
   asked_at x ok = placed_at about x v.view.node v ok (ok.stance.asked (λ e. let q = queued in cc))
 
-  pub nothing_passed : (x : Past) → NodeOk about x v.view.node v → v.passed ≡ []
+  pub nothing_passed : (x : Past) → NodeOk about x v.view.node v → v.own.passed ≡ []
   nothing_passed x ok = none_passed ok.passes (ap lets_go queued)
 
-  take_node : (x : Past) → v.place ≡ length x.ends → NodeOk about x v.view.node v → NodeOk about (take_past x) v.view.node (take_entry x)
+  take_node : (x : Past) → v.own.place ≡ length x.ends → NodeOk about x v.view.node v → NodeOk about (take_past x) v.view.node (take_entry x)
   take_node x here ok = record {
     who = record { node = refl; label = ok.who.label; terms = ok.who.terms };
     knows = knows_whole x.order x.ends x.clear v.view.node (take_entry x).view refl refl refl ok.knows.counts (freed_so about x v.view.node v ok);
@@ -101,36 +102,36 @@ module _ (good : List ℕ → Type 0) (allows : List ℕ → List ℕ → Type 0
   }
 
   -- nobody has the line where the request at its turn waits
-  pub at_home : (x : Past) → PastOk good allows about x → ((n : ℕ) → 0 < n → n ≤ about.terms.nodes → (u : Entry) × NodeOk about x n u) → NodeOk about x v.view.node v → v.place ≡ length x.ends → x.hand ≡ 0
-  at_home x f each ok here = dite (ℕ_discrete x.hand 0) (λ e. e) (λ ne. let k = each x.hand (omega arith) f.within in absurd (go k.0 k.1 (has_line k.0.point) refl))
+  pub at_home : (x : Past) → PastOk good allows about x → ((n : ℕ) → 0 < n → n ≤ about.terms.nodes → (u : RingEntry) × NodeOk about x n u) → NodeOk about x v.view.node v → v.own.place ≡ length x.ends → x.hand ≡ 0
+  at_home x f each ok here = dite (ℕ_discrete x.hand 0) (λ e. e) (λ ne. let k = each x.hand (omega arith) f.within in absurd (go k.0 k.1 (has_line k.0.own.point) refl))
     where
       turn : At x.order (length x.ends) (own v.view)
       turn = subst (λ q. At x.order q (own v.view)) here (asked_at x ok)
 
-      other : (u : Entry) → NodeOk about x x.hand u → has_line u.point ≡ true → u.place ≡ length x.ends → ⊥
+      other : (u : RingEntry) → NodeOk about x x.hand u → has_line u.own.point ≡ true → u.own.place ≡ length x.ends → ⊥
       other u k l there = ok.hand.lacks (ap has_line queued) (sym k.who.node ∙ ap (λ (q : Request). q.node) (at_same x.order (length x.ends) (own u.view) (own v.view)
           (subst (λ q. At x.order q (own u.view)) there (placed_at about x x.hand u k (k.stance.asked (λ i. clash_at has_line Idle l i refl)))) turn) ∙ ok.who.node)
 
-      go : (u : Entry) → NodeOk about x x.hand u → (b : Bool) → has_line u.point ≡ b → ⊥
+      go : (u : RingEntry) → NodeOk about x x.hand u → (b : Bool) → has_line u.own.point ≡ b → ⊥
       go u k false e = k.hand.lacks e refl
       go u k true e = ⊎_elim (λ z. other u k e z) (λ z. let m : x.marks (length x.ends) ≡ 0 = ap x.marks (sym here) ∙ ok.marks.unmarked (ap is_kept queued) in omega arith) (at_turn about x x.hand u k e)
 
   -- the state s, whose seat `me` has the entry v alone, at the word i of its cell
-  module _ (s : St) (r : Rule s) (me i : ℕ) (at : get_elem? s.views me ≡ some (v ∷ [])) (word : i ≡ cell_at (cell_of v.place)) where
+  module _ (s : RingState) (r : Rule s) (me i : ℕ) (at : get_elem? s.views me ≡ some (v ∷ [])) (word : i ≡ cell_at (cell_of v.own.place)) where
     ok : NodeOk about r.past v.view.node v
     ok = mine_ok good allows about s r me v at
 
-    pub near : v.place < length r.past.ends + CELLS
-    near = let few = r.may_open.nodes.few in let high = slice_get_within r.past.order v.place (own v.view) (asked_at r.past ok) in let all = window good allows about s r in omega arith
+    pub near : v.own.place < length r.past.ends + CELLS
+    near = let few = r.may_open.nodes.few in let high = slice_get_within r.past.order v.own.place (own v.view) (asked_at r.past ok) in let all = window good allows about s r in omega arith
 
     -- where the request is not at its turn, its cell is blank
-    pub finds_blank : v.place ≢ length r.past.ends → slice_index s.words i ≡ 0
+    pub finds_blank : v.own.place ≢ length r.past.ends → slice_index s.words i ≡ 0
     finds_blank later = let l = ok.stance.queued queued in let b = near in
-        let k : length r.past.ends + (v.place - length r.past.ends) ≡ v.place = omega arith in
-        let m : WITHDRAWN * r.past.marks v.place ≡ 0 = ap (λ q. WITHDRAWN * q) (ok.marks.unmarked (ap is_kept queued)) in
-        ap (slice_index s.words) (word ∙ ap (λ q. cell_at (cell_of q)) (sym k)) ∙ r.shown.later (v.place - length r.past.ends) (omega arith) (omega arith) ∙ ap (λ q. WITHDRAWN * r.past.marks q) k ∙ m
+        let k : length r.past.ends + (v.own.place - length r.past.ends) ≡ v.own.place = omega arith in
+        let m : WITHDRAWN * r.past.marks v.own.place ≡ 0 = ap (λ q. WITHDRAWN * q) (ok.marks.unmarked (ap is_kept queued)) in
+        ap (slice_index s.words) (word ∙ ap (λ q. cell_at (cell_of q)) (sym k)) ∙ r.shown.later (v.own.place - length r.past.ends) (omega arith) (omega arith) ∙ ap (λ q. WITHDRAWN * r.past.marks q) k ∙ m
 
-    module _ (here : v.place ≡ length r.past.ends) where
+    module _ (here : v.own.place ≡ length r.past.ends) where
       hand : r.past.hand ≡ 0
       hand = at_home r.past r.fine (λ n a b. (r.who n, r.each n a b)) ok here
 
@@ -174,14 +175,10 @@ module _ (good : List ℕ → Type 0) (allows : List ℕ → List ℕ → Type 0
       takes_rule z = rule_step good allows about s r me v (take_entry r.past) (take_past r.past) (set s.words i z) (set s.homes 0 none) at refl take_fine (take_shown z) (take_node r.past here ok)
           (λ n a b ne. others_hand about r.past n (r.who n) (r.each n a b) v.view.node false (λ e. let h = hand in omega arith) (λ e. ne (sym e)))
 
-      pub comes : Comes v (take_entry r.past) home.0
+      pub comes : Comes (cell_of v.own.place) (take_entry r.past) home.0
       comes = record {
-        point = refl;
+        has = record { holds = λ _. held; refuses = λ _. held };
         state = refl;
-        count = refl;
-        place = refl;
-        here = here;
-        passed = nothing_passed r.past ok;
         turn = subst (λ q. At r.past.order q (own v.view)) here (asked_at r.past ok);
         unmarked = not_withdrawn good allows about r.past r.fine v.view.node v ok (ap is_kept queued);
         clear = λ p q e before a b kind. r.fine.settled hand p q e before a b kind;
@@ -191,6 +188,9 @@ module _ (good : List ℕ → Type 0) (allows : List ℕ → List ℕ → Type 0
         some_left = λ unclosed left. open_has_turns about.terms.lease r.past.order r.past.ends r.may_open.lease r.fine.legal unclosed (sym home.4 ∙ left);
         line = ap length home.2 ∙ length-bytes_after about.terms.opening.bytes r.past.ends r.line;
       }
+        where
+          held : holding (cell_of v.own.place) (length r.past.ends) (take_entry r.past).own
+          held = (refl, nothing_passed r.past ok, ap cell_of here)
 
       pub learns_take : Continues allows v.view (take_entry r.past).view
       learns_take = continues good allows about r.past (take_past r.past) take_fine v.view.node v.view.node v (take_entry r.past) ok (take_node r.past here ok) refl ok.knows.orders ok.knows.endings ok.knows.clears (λ q h. h) (λ q h. h) (λ q h. h)

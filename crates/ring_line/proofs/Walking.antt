@@ -20,34 +20,34 @@ use Rattle.qolb_model.proofs.Lists.{element_at, drop_with, push_cases, same_some
 use Rattle.qolb_model.proofs.Prefixes.{prefix_get}
 use Rattle.qolb_model.proofs.Histories.{bytes_after-append, is_closed-append}
 use Rattle.qolb_model.proofs.Writes.{bytes_after-passed}
+use Rattle.shared_line.specs.Steps.{SameSeat, HasSlot, HasNoSlot}
 use Rattle.ring_line.specs.Words.{cell_of, withdrawn_by}
 use Rattle.qolb_model.specs.declared.terms.TheConstants.{MOST_NODES}
-use Rattle.ring_line.specs.declared.entry.Point.TheVariants.{Passing, Freeing}
-use Rattle.ring_line.specs.declared.entry.Entry.{Entry}
-use Rattle.ring_line.specs.declared.rule.Parcel.{Parcel}
-use Rattle.ring_line.specs.Ring.{At}
-use Rattle.ring_line.specs.Steps.{RingSeat, entry_of, sole, after_walk, end_of, next_end, Carries, Ended, GoesHome, Passes, Frees, GoesOn, SameSeat, HasSlot, HasNoSlot, turn_cell, after_clear}
+use Rattle.ring_line.specs.declared.own.Point.TheVariants.{Passing, Freeing}
+use Rattle.shared_line.specs.declared.rule.Parcel.{Parcel}
+use Rattle.ring_line.specs.Ring.{RingEntry, At}
+use Rattle.ring_line.specs.Steps.{RingSeat, entry_of, sole, after_walk, end_of, next_end, CarriesNext, Ended, GoesHome, Passes, Frees, GoesOn, turn_cell, after_clear}
 use Rattle.ring_line.specs.Releases.{IsBare, WalksOn, AreNodesAt, FreesAll}
 use Rattle.ring_line.proofs.Turning.{goes_trans, goes_clear}
 use Rattle.qolb_model.proofs.Requests.{has_prefix}
 
 -- the first of the requests that were passed are freed
-pub record FreesFirst (v : Entry) (i : ℕ) (w : Entry) : Type 0 where
-  pub point : w.point ≡ after_walk (drop i v.passed)
-  pub passed : w.passed ≡ drop i v.passed
+pub record FreesFirst (v : RingEntry) (i : ℕ) (w : RingEntry) : Type 0 where
+  pub point : w.own.point ≡ after_walk (drop i v.own.passed)
+  pub passed : w.own.passed ≡ drop i v.own.passed
   pub state : w.view.state ≡ v.view.state
   pub count : w.view.count ≡ v.view.count
   pub order : w.view.order ≡ v.view.order
   pub ends : w.view.ends ≡ v.view.ends
   pub marked : w.view.marked ≡ v.view.marked
-  pub freed : (k p : ℕ) (r : Request) → k < i → At v.passed k p → At v.view.order p r → Has w.view.freed r
-  pub clear : (k p : ℕ) (r : Request) → k < i → At v.passed k p → At v.view.order p r → Has w.view.clear r
-  pub own_clear : drop i v.passed ≡ [] → Has w.view.clear (own w.view)
+  pub freed : (k p : ℕ) (r : Request) → k < i → At v.own.passed k p → At v.view.order p r → Has w.view.freed r
+  pub clear : (k p : ℕ) (r : Request) → k < i → At v.own.passed k p → At v.view.order p r → Has w.view.clear r
+  pub own_clear : drop i v.own.passed ≡ [] → Has w.view.clear (own w.view)
 
 -- at first none is
-pub frees_none : (v : Entry) → v.point ≡ Freeing → v.passed ≢ [] → FreesFirst v 0 v
+pub frees_none : (v : RingEntry) → v.own.point ≡ Freeing → v.own.passed ≢ [] → FreesFirst v 0 v
 frees_none v p some = record {
-  point = p ∙ by v.passed some;
+  point = p ∙ by v.own.passed some;
   passed = refl;
   state = refl;
   count = refl;
@@ -64,22 +64,22 @@ frees_none v p some = record {
     by (q ∷ ps) n = refl
 
 -- the node that is freed next
-pub frees_which : (v w : Entry) (nodes : List ℕ) (i node : ℕ) → FreesFirst v i w → length nodes ≡ length v.passed → AreNodesAt v.view.order v.passed nodes → At nodes i node
-    → (w.point ≡ Freeing) × (node ≤ MOST_NODES) × ((q : ℕ) × (ps : List ℕ) × (r : Request) × (w.passed ≡ q ∷ ps) × At w.view.order q r × (r.node ≡ node))
+pub frees_which : (v w : RingEntry) (nodes : List ℕ) (i node : ℕ) → FreesFirst v i w → length nodes ≡ length v.own.passed → AreNodesAt v.view.order v.own.passed nodes → At nodes i node
+    → (w.own.point ≡ Freeing) × (node ≤ MOST_NODES) × ((q : ℕ) × (ps : List ℕ) × (r : Request) × (w.own.passed ≡ q ∷ ps) × At w.view.order q r × (r.node ≡ node))
 frees_which v w nodes i node f many are is =
-    let here = element_at v.passed i (omega (arith, many, slice_get_within nodes i node is)) in
-    let cut : drop i v.passed ≡ here.0 ∷ drop (i + 1) v.passed = drop_with v.passed i here.0 here.1 in
+    let here = element_at v.own.passed i (omega (arith, many, slice_get_within nodes i node is)) in
+    let cut : drop i v.own.passed ≡ here.0 ∷ drop (i + 1) v.own.passed = drop_with v.own.passed i here.0 here.1 in
     let made = are.each i here.0 node here.1 is in
-    (f.point ∙ ap after_walk cut, made.3, (here.0, drop (i + 1) v.passed, made.0, f.passed ∙ cut, subst (λ o. At o here.0 made.0) (sym f.order) made.1, made.2))
+    (f.point ∙ ap after_walk cut, made.3, (here.0, drop (i + 1) v.own.passed, made.0, f.passed ∙ cut, subst (λ o. At o here.0 made.0) (sym f.order) made.1, made.2))
 
 -- and one more is freed
-pub frees_next : (v w x : Entry) (nodes : List ℕ) (i node : ℕ) → FreesFirst v i w → length nodes ≡ length v.passed → AreNodesAt v.view.order v.passed nodes → At nodes i node → Extends w.view x.view
-    → ((q : ℕ) (ps : List ℕ) (r : Request) → w.passed ≡ q ∷ ps → At w.view.order q r → Frees w ps r x) → FreesFirst v (i + 1) x
+pub frees_next : (v w x : RingEntry) (nodes : List ℕ) (i node : ℕ) → FreesFirst v i w → length nodes ≡ length v.own.passed → AreNodesAt v.view.order v.own.passed nodes → At nodes i node → Extends w.view x.view
+    → ((q : ℕ) (ps : List ℕ) (r : Request) → w.own.passed ≡ q ∷ ps → At w.view.order q r → Frees w ps r x) → FreesFirst v (i + 1) x
 frees_next v w x nodes i node f many are is more frees =
-    let here = element_at v.passed i (omega (arith, many, slice_get_within nodes i node is)) in
-    let cut : drop i v.passed ≡ here.0 ∷ drop (i + 1) v.passed = drop_with v.passed i here.0 here.1 in
+    let here = element_at v.own.passed i (omega (arith, many, slice_get_within nodes i node is)) in
+    let cut : drop i v.own.passed ≡ here.0 ∷ drop (i + 1) v.own.passed = drop_with v.own.passed i here.0 here.1 in
     let made = are.each i here.0 node here.1 is in
-    let one = frees here.0 (drop (i + 1) v.passed) made.0 (f.passed ∙ cut) (subst (λ o. At o here.0 made.0) (sym f.order) made.1) in
+    let one = frees here.0 (drop (i + 1) v.own.passed) made.0 (f.passed ∙ cut) (subst (λ o. At o here.0 made.0) (sym f.order) made.1) in
     record {
       point = one.point;
       passed = one.passed;
@@ -90,11 +90,11 @@ frees_next v w x nodes i node f many are is more frees =
       marked = one.marked ∙ f.marked;
       freed = λ k p r lt at on. elim (upto k i (omega (arith, lt))) [
         | inl early ↦ more.freed r (f.freed k p r early at on)
-        | inr last ↦ subst (Has x.view.freed) (same v.view.order v.passed i k here.0 p made.0 r last here.1 at made.1 on) one.freed
+        | inr last ↦ subst (Has x.view.freed) (same v.view.order v.own.passed i k here.0 p made.0 r last here.1 at made.1 on) one.freed
       ];
       clear = λ k p r lt at on. elim (upto k i (omega (arith, lt))) [
         | inl early ↦ has_prefix w.view.clear x.view.clear r more.clear (f.clear k p r early at on)
-        | inr last ↦ subst (Has x.view.clear) (same v.view.order v.passed i k here.0 p made.0 r last here.1 at made.1 on) one.clear
+        | inr last ↦ subst (Has x.view.clear) (same v.view.order v.own.passed i k here.0 p made.0 r last here.1 at made.1 on) one.clear
       ];
       own_clear = one.own_clear;
     }
@@ -114,16 +114,16 @@ frees_next v w x nodes i node f many are is more frees =
         same_some (sym c ∙ (ap (slice_get order) places_same ∙ d))
 
 -- until all are
-pub frees_all : (v w : Entry) (i : ℕ) → FreesFirst v i w → length v.passed ≤ i → FreesAll v w
-frees_all v w i f le = let none : drop i v.passed ≡ [] = past i v.passed le in record {
+pub frees_all : (v w : RingEntry) (i : ℕ) → FreesFirst v i w → length v.own.passed ≤ i → FreesAll v w
+frees_all v w i f le = let none : drop i v.own.passed ≡ [] = past i v.own.passed le in record {
   point = f.point ∙ ap after_walk none;
   state = f.state;
   count = f.count;
   order = f.order;
   ends = f.ends;
   marked = f.marked;
-  freed = λ k p r at on. f.freed k p r (omega (arith, le, slice_get_within v.passed k p at)) at on;
-  clear = λ k p r at on. f.clear k p r (omega (arith, le, slice_get_within v.passed k p at)) at on;
+  freed = λ k p r at on. f.freed k p r (omega (arith, le, slice_get_within v.own.passed k p at)) at on;
+  clear = λ k p r at on. f.clear k p r (omega (arith, le, slice_get_within v.own.passed k p at)) at on;
   own_clear = f.own_clear none;
 }
   where
@@ -138,16 +138,16 @@ pub record IsFreeing (allows : List ℕ → List ℕ → Type 0) (s : RingSeat) 
   pub same : SameSeat s t
   pub carried : t.me.1 ≡ s.me.1
   pub goes_on : GoesOn allows s.me t.me i
-  pub within : i ≤ length (entry_of s).passed
+  pub within : i ≤ length (entry_of s).own.passed
   pub frees : FreesFirst (entry_of s) i (entry_of t)
 
-pub freeing_which : {allows : List ℕ → List ℕ → Type 0} (s t : RingSeat) (nodes : List ℕ) (i : ℕ) → IsFreeing allows s i t → length nodes ≡ length (entry_of s).passed → AreNodesAt (entry_of s).view.order (entry_of s).passed nodes → i < length nodes
-    → ((entry_of t).point ≡ Freeing) × (get_or nodes i 0 ≤ MOST_NODES) × ((q : ℕ) × (ps : List ℕ) × (r : Request) × ((entry_of t).passed ≡ q ∷ ps) × At (entry_of t).view.order q r × (r.node ≡ get_or nodes i 0))
+pub freeing_which : {allows : List ℕ → List ℕ → Type 0} (s t : RingSeat) (nodes : List ℕ) (i : ℕ) → IsFreeing allows s i t → length nodes ≡ length (entry_of s).own.passed → AreNodesAt (entry_of s).view.order (entry_of s).own.passed nodes → i < length nodes
+    → ((entry_of t).own.point ≡ Freeing) × (get_or nodes i 0 ≤ MOST_NODES) × ((q : ℕ) × (ps : List ℕ) × (r : Request) × ((entry_of t).own.passed ≡ q ∷ ps) × At (entry_of t).view.order q r × (r.node ≡ get_or nodes i 0))
 freeing_which s t nodes i f many are lt = frees_which (entry_of s) (entry_of t) nodes i (get_or nodes i 0) f.frees many are (slice_get-get_or nodes i 0 lt)
 
-pub freeing_next : (allows : List ℕ → List ℕ → Type 0) (s t u : RingSeat) (nodes : List ℕ) (i : ℕ) → IsFreeing allows s i t → length nodes ≡ length (entry_of s).passed → AreNodesAt (entry_of s).view.order (entry_of s).passed nodes → i < length nodes
+pub freeing_next : (allows : List ℕ → List ℕ → Type 0) (s t u : RingSeat) (nodes : List ℕ) (i : ℕ) → IsFreeing allows s i t → length nodes ≡ length (entry_of s).own.passed → AreNodesAt (entry_of s).view.order (entry_of s).own.passed nodes → i < length nodes
     → SameSeat t u → u.me.1 ≡ t.me.1 → GoesOn allows t.me u.me 1
-    → ((q : ℕ) (ps : List ℕ) (r : Request) → (entry_of t).passed ≡ q ∷ ps → At (entry_of t).view.order q r → Frees (entry_of t) ps r (entry_of u)) → IsFreeing allows s (i + 1) u
+    → ((q : ℕ) (ps : List ℕ) (r : Request) → (entry_of t).own.passed ≡ q ∷ ps → At (entry_of t).view.order q r → Frees (entry_of t) ps r (entry_of u)) → IsFreeing allows s (i + 1) u
 freeing_next allows s t u nodes i f many are lt same slot went frees = record {
   same = (same.0 ∙ f.same.0, same.1 ∙ f.same.1);
   carried = slot ∙ f.carried;
@@ -156,38 +156,38 @@ freeing_next allows s t u nodes i f many are lt same slot went frees = record {
   frees = frees_next (entry_of s) (entry_of t) (entry_of u) nodes i (get_or nodes i 0) f.frees many are (slice_get-get_or nodes i 0 lt) went.extends frees;
 }
 
-pub freed_steps : (allows : List ℕ → List ℕ → Type 0) (s t : RingSeat) (nodes : List ℕ) (i : ℕ) → IsFreeing allows s i t → length nodes ≡ length (entry_of s).passed → length nodes ≤ i → GoesOn allows s.me t.me (length nodes)
+pub freed_steps : (allows : List ℕ → List ℕ → Type 0) (s t : RingSeat) (nodes : List ℕ) (i : ℕ) → IsFreeing allows s i t → length nodes ≡ length (entry_of s).own.passed → length nodes ≤ i → GoesOn allows s.me t.me (length nodes)
 freed_steps allows s t nodes i f many all = let is : i ≡ length nodes = omega (arith, many, f.within) in subst (GoesOn allows s.me t.me) is f.goes_on
 
 -- a walk that began at v has passed the requests of these nodes
-pub record Walked (v : Entry) (nodes : List ℕ) (w : Entry) : Type 0 where
+pub record Walked (v : RingEntry) (nodes : List ℕ) (w : RingEntry) : Type 0 where
   pub terms : w.view.terms ≡ v.view.terms
   pub state : w.view.state ≡ v.view.state
   pub count : w.view.count ≡ v.view.count
   pub ends : w.view.ends ≡ v.view.ends ++ replicate (length nodes) Gone
-  pub run : (i p : ℕ) → At w.passed i p → p ≡ length v.view.ends + i
-  pub made : AreNodesAt w.view.order w.passed nodes
-  pub few : length w.passed + 1 ≤ v.view.terms.nodes
+  pub run : (i p : ℕ) → At w.own.passed i p → p ≡ length v.view.ends + i
+  pub made : AreNodesAt w.view.order w.own.passed nodes
+  pub few : length w.own.passed + 1 ≤ v.view.terms.nodes
 
 -- it stands at one more withdrawn request, that of the node which the last grant found
-pub record StandsAt (nodes : List ℕ) (found : ℕ) (w : Entry) : Type 0 where
-  pub point : w.point ≡ Passing
-  pub many : length w.passed ≡ length nodes + 1
+pub record StandsAt (nodes : List ℕ) (found : ℕ) (w : RingEntry) : Type 0 where
+  pub point : w.own.point ≡ Passing
+  pub many : length w.own.passed ≡ length nodes + 1
   pub request : Request
   pub at : At w.view.order (length w.view.ends) request
   pub node : request.node ≡ withdrawn_by found
   pub high : request.node ≤ w.view.terms.nodes
 
 -- the line is home
-pub record IsHome (nodes : List ℕ) (w : Entry) : Type 0 where
-  pub point : w.point ≡ Freeing
-  pub many : length w.passed ≡ length nodes
-  pub some : w.passed ≢ []
+pub record IsHome (nodes : List ℕ) (w : RingEntry) : Type 0 where
+  pub point : w.own.point ≡ Freeing
+  pub many : length w.own.passed ≡ length nodes
+  pub some : w.own.passed ≢ []
   pub known : length w.view.ends ≤ length w.view.order
   pub unmarked : (r : Request) → turn_of w.view.order w.view.ends ≡ Some r → Lacks w.view.marked r
 
 -- so it begins
-pub walk_begins : (v : Entry) → v.passed ≡ length v.view.ends ∷ [] → 2 ≤ v.view.terms.nodes → Walked v [] v
+pub walk_begins : (v : RingEntry) → v.own.passed ≡ length v.view.ends ∷ [] → 2 ≤ v.view.terms.nodes → Walked v [] v
 walk_begins v passed two = record {
   terms = refl;
   state = refl;
@@ -202,7 +202,7 @@ walk_begins v passed two = record {
     by f zero p at = omega (arith, same_some at)
     by f (suc i) p at = absurd (let h : None ≡ Some p = at in cc h)
 
-pub stands_first : (v : Entry) (found : ℕ) → v.point ≡ Passing → v.passed ≡ length v.view.ends ∷ [] → (r : Request) × At v.view.order (length v.view.ends) r × (r.node ≡ withdrawn_by found) × (r.node ≤ v.view.terms.nodes) → StandsAt [] found v
+pub stands_first : (v : RingEntry) (found : ℕ) → v.own.point ≡ Passing → v.own.passed ≡ length v.view.ends ∷ [] → (r : Request) × At v.view.order (length v.view.ends) r × (r.node ≡ withdrawn_by found) × (r.node ≤ v.view.terms.nodes) → StandsAt [] found v
 stands_first v found passing passed first = record { point = passing; many = omega (arith, ap length passed); request = first.0; at = first.1; node = first.2; high = first.3 }
 
 -- who has passed one ends a withdrawn request next
@@ -210,9 +210,9 @@ ends_gone : (ps : List ℕ) (closed : Bool) (y : Parcel) (k : ℕ) → length ps
 ends_gone [] closed y k e = absurd (omega (arith, e))
 ends_gone (p ∷ ps) closed y k e = refl
 
-pub carries_gone : (allows : List ℕ → List ℕ → Type 0) (v w : Entry) (nodes : List ℕ) (found : ℕ) (y : Parcel) → Walked v nodes w → StandsAt nodes found w → IsBare v y → Carries allows (after_clear w) y
+pub carries_gone : (allows : List ℕ → List ℕ → Type 0) (v w : RingEntry) (nodes : List ℕ) (found : ℕ) (y : Parcel) → Walked v nodes w → StandsAt nodes found w → IsBare v y → CarriesNext allows (after_clear w) y
 carries_gone allows v w nodes found y k s b =
-    let gone : next_end (after_clear w) y ≡ Gone = ends_gone w.passed (is_closed w.view.ends) y (length nodes) s.many in
+    let gone : next_end (after_clear w) y ≡ Gone = ends_gone w.own.passed (is_closed w.view.ends) y (length nodes) s.many in
     let bytes : bytes_after w.view.terms.opening.bytes w.view.ends ≡ y.bytes.bytes = (λ i. bytes_after (k.terms i).opening.bytes (k.ends i)) ∙ (bytes_after-append v.view.terms.opening.bytes v.view.ends (replicate (length nodes) Gone) ∙ (bytes_after-passed (bytes_after v.view.terms.opening.bytes v.view.ends) (length nodes) ∙ b.bytes)) in
     let left : turns_left w.view.terms.lease w.view.ends ≡ y.turns_left = (λ i. turns_left (k.terms i).lease (k.ends i)) ∙ (turns_left-same v.view.terms.lease v.view.ends (replicate (length nodes) Gone) (served-gone (length nodes)) ∙ b.turns) in
     let closed : is_closed w.view.ends ≡ y.closed = ap is_closed k.ends ∙ (is_closed-append v.view.ends (replicate (length nodes) Gone) ∙ (ap (λ c. is_closed v.view.ends || c) (is_closed-passed (length nodes)) ∙ (or-false (is_closed v.view.ends) ∙ b.closed))) in
@@ -233,12 +233,12 @@ carries_gone allows v w nodes found y k s b =
     is_closed-passed (suc n) = is_closed-passed n
 
 -- what a grant that passes one or goes home does to the places
-record Grows (w x : Entry) (first : ℕ) : Type 0 where
-  run : (i p : ℕ) → At x.passed i p → p ≡ first + i
-  front : (i p : ℕ) → i < length w.passed → At x.passed i p → At w.passed i p
-  few : length x.passed + 1 ≤ w.view.terms.nodes
+record Grows (w x : RingEntry) (first : ℕ) : Type 0 where
+  run : (i p : ℕ) → At x.own.passed i p → p ≡ first + i
+  front : (i p : ℕ) → i < length w.own.passed → At x.own.passed i p → At w.own.passed i p
+  few : length x.own.passed + 1 ≤ w.view.terms.nodes
 
-grows : (v w x : Entry) (nodes : List ℕ) (found next : ℕ) (y : Parcel) → Walked v nodes w → StandsAt nodes found w → length x.view.ends ≡ length v.view.ends + (length nodes + 1) → x.view.terms.nodes ≡ w.view.terms.nodes
+grows : (v w x : RingEntry) (nodes : List ℕ) (found next : ℕ) (y : Parcel) → Walked v nodes w → StandsAt nodes found w → length x.view.ends ≡ length v.view.ends + (length nodes + 1) → x.view.terms.nodes ≡ w.view.terms.nodes
     → (next ≡ 0 → GoesHome (after_clear w) x) → (next ≢ 0 → Passes (after_clear w) next x) → Grows w x (length v.view.ends)
 grows v w x nodes found zero y k s many n home passes = let h = home refl in record {
   run = λ i p at. k.run i p (subst (λ ps. At ps i p) h.passed at);
@@ -246,11 +246,11 @@ grows v w x nodes found zero y k s many n home passes = let h = home refl in rec
   few = omega (arith, ap length h.passed, k.few, ap (λ (t : Terms). t.nodes) k.terms);
 }
 grows v w x nodes found (suc next) y k s many n home passes = let h = passes (λ e. let f : suc next ≡ 0 = e in omega (arith, f)) in record {
-  run = λ i p at. elim (push_cases w.passed (length x.view.ends) i p (subst (λ ps. At ps i p) h.passed at)) [
+  run = λ i p at. elim (push_cases w.own.passed (length x.view.ends) i p (subst (λ ps. At ps i p) h.passed at)) [
     | inl old ↦ k.run i p old.1
     | inr last ↦ omega (arith, last.0, last.1, s.many, many)
   ];
-  front = λ i p lt at. elim (push_cases w.passed (length x.view.ends) i p (subst (λ ps. At ps i p) h.passed at)) [
+  front = λ i p lt at. elim (push_cases w.own.passed (length x.view.ends) i p (subst (λ ps. At ps i p) h.passed at)) [
     | inl old ↦ old.1
     | inr last ↦ absurd (omega (arith, last.0, lt))
   ];
@@ -262,10 +262,10 @@ replicate-push zero e = refl
 replicate-push (suc n) e = ap (λ es. e ∷ es) (replicate-push n e)
 
 -- a grant ends one more withdrawn request
-pub walked_on : (v w x : Entry) (nodes : List ℕ) (found next : ℕ) (y : Parcel) → v.view.terms.nodes ≤ MOST_NODES → Walked v nodes w → StandsAt nodes found w → Ended (after_clear w) x y → Extends w.view x.view → x.view.state ≡ w.view.state
+pub walked_on : (v w x : RingEntry) (nodes : List ℕ) (found next : ℕ) (y : Parcel) → v.view.terms.nodes ≤ MOST_NODES → Walked v nodes w → StandsAt nodes found w → Ended (after_clear w) x y → Extends w.view x.view → x.view.state ≡ w.view.state
     → (next ≡ 0 → GoesHome (after_clear w) x) → (next ≢ 0 → Passes (after_clear w) next x) → Walked v (nodes ++ withdrawn_by found ∷ []) x
 walked_on v w x nodes found next y low k s e more stays home passes =
-    let gone : next_end (after_clear w) y ≡ Gone = ends_gone w.passed (is_closed w.view.ends) y (length nodes) s.many in
+    let gone : next_end (after_clear w) y ≡ Gone = ends_gone w.own.passed (is_closed w.view.ends) y (length nodes) s.many in
     let pushed : length (nodes ++ withdrawn_by found ∷ []) ≡ suc (length nodes) = omega (arith, length-append nodes (withdrawn_by found ∷ [])) in
     let ends : x.view.ends ≡ v.view.ends ++ replicate (length (nodes ++ withdrawn_by found ∷ [])) Gone =
     e.ends ∙ ((λ i. k.ends i ++ gone i ∷ []) ∙ (append_assoc v.view.ends (replicate (length nodes) Gone) (Gone ∷ []) ∙ (ap (λ es. v.view.ends ++ es) (replicate-push (length nodes) Gone) ∙ ap (λ n. v.view.ends ++ replicate n Gone) (sym pushed)))) in
@@ -289,19 +289,19 @@ walked_on v w x nodes found next y low k s e more stays home passes =
       few = omega (arith, g.few, ap (λ (t : Terms). t.nodes) k.terms);
     }
 
-pub stands_next : (w x : Entry) (nodes : List ℕ) (found next : ℕ) → StandsAt nodes found w → Passes (after_clear w) next x → StandsAt (nodes ++ withdrawn_by found ∷ []) next x
+pub stands_next : (w x : RingEntry) (nodes : List ℕ) (found next : ℕ) → StandsAt nodes found w → Passes (after_clear w) next x → StandsAt (nodes ++ withdrawn_by found ∷ []) next x
 stands_next w x nodes found next s p = record {
   point = p.point;
-  many = omega (arith, ap length p.passed, length-append w.passed (length x.view.ends ∷ []), length-append nodes (withdrawn_by found ∷ []), s.many);
+  many = omega (arith, ap length p.passed, length-append w.own.passed (length x.view.ends ∷ []), length-append nodes (withdrawn_by found ∷ []), s.many);
   request = p.request;
   at = p.at;
   node = p.node;
   high = p.high;
 }
 
-pub is_home : (w x : Entry) (nodes : List ℕ) (found : ℕ) (y : Parcel) → StandsAt nodes found w → Ended (after_clear w) x y → GoesHome (after_clear w) x → IsHome (nodes ++ withdrawn_by found ∷ []) x
+pub is_home : (w x : RingEntry) (nodes : List ℕ) (found : ℕ) (y : Parcel) → StandsAt nodes found w → Ended (after_clear w) x y → GoesHome (after_clear w) x → IsHome (nodes ++ withdrawn_by found ∷ []) x
 is_home w x nodes found y s e h = record {
-  point = h.point ∙ by w.passed (length nodes) s.many;
+  point = h.point ∙ by w.own.passed (length nodes) s.many;
   many = omega (arith, ap length h.passed, length-append nodes (withdrawn_by found ∷ []), s.many);
   some = λ none. absurd (omega (arith, s.many, ap length (sym h.passed ∙ none)));
   known = e.known;
@@ -313,12 +313,12 @@ is_home w x nodes found y s e h = record {
     by (p ∷ ps) k e = refl
 
 -- when the line is home and the passed requests are freed, the walk is over
-pub walk_over : (v w x : Entry) (nodes : List ℕ) → Walked v nodes w → IsHome nodes w → FreesAll w x → WalksOn v x
+pub walk_over : (v w x : RingEntry) (nodes : List ℕ) → Walked v nodes w → IsHome nodes w → FreesAll w x → WalksOn v x
 walk_over v w x nodes k h f =
-    let last = nonempty w.passed h.some in
+    let last = nonempty w.own.passed h.some in
     let many : length nodes ≡ suc last.0 = sym h.many ∙ last.1 in
     let ends : x.view.ends ≡ v.view.ends ++ replicate (suc last.0) Gone = f.ends ∙ (k.ends ∙ ap (λ n. v.view.ends ++ replicate n Gone) many) in
-    let long : length x.view.ends ≡ length v.view.ends + length w.passed = ap length ends ∙ omega (arith, last.1, length-append v.view.ends (replicate (suc last.0) Gone), length-replicate (suc last.0) Gone) in
+    let long : length x.view.ends ≡ length v.view.ends + length w.own.passed = ap length ends ∙ omega (arith, last.1, length-append v.view.ends (replicate (suc last.0) Gone), length-replicate (suc last.0) Gone) in
     record {
       point = f.point;
       state = f.state ∙ k.state;
@@ -338,11 +338,11 @@ walk_over v w x nodes k h f =
     nonempty [] h = absurd (h refl)
     nonempty (x ∷ xs) h = (length xs, omega arith)
 
-    passed_at : (v w : Entry) (nodes : List ℕ) (p : ℕ) → Walked v nodes w → length v.view.ends ≤ p → p < length v.view.ends + length w.passed → (i : ℕ) × At w.passed i p
+    passed_at : (v w : RingEntry) (nodes : List ℕ) (p : ℕ) → Walked v nodes w → length v.view.ends ≤ p → p < length v.view.ends + length w.own.passed → (i : ℕ) × At w.own.passed i p
     passed_at v w nodes p k low high =
         let i = p - length v.view.ends in
-        let one = element_at w.passed i (omega (arith, low, high)) in
-        (i, subst (At w.passed i) (k.run i one.0 one.1 ∙ omega (arith, low)) one.1)
+        let one = element_at w.own.passed i (omega (arith, low, high)) in
+        (i, subst (At w.own.passed i) (k.run i one.0 one.1 ∙ omega (arith, low)) one.1)
 
 -- what a walk that began at the seat s has done so far
 pub record IsWalking (allows : List ℕ → List ℕ → Type 0) (s : RingSeat) (nodes : List ℕ) (cell found : ℕ) (t : RingSeat) : Type 0 where
@@ -365,11 +365,11 @@ cleared_slot t d e = ap (λ m. m.1) e
 
 -- what the next grant asks
 pub walk_carries : (allows : List ℕ → List ℕ → Type 0) (s t d : RingSeat) (nodes : List ℕ) (cell found : ℕ) (y : Parcel) → IsWalking allows s nodes cell found t → found ≢ 0 → IsCleared t d → HasSlot s y → IsBare (entry_of s) y
-    → HasSlot d y × Carries allows (entry_of d) y
+    → HasSlot d y × CarriesNext allows (entry_of d) y
 walk_carries allows s t d nodes cell found y k more cleared slot bare =
     let here = k.stands more in (
       cleared_slot t d cleared ∙ (here.0 ∙ slot),
-      subst (λ e. Carries allows e y) (sym (cleared_entry t d cleared)) (carries_gone allows (entry_of s) (entry_of t) nodes found y k.walked here.1 bare),
+      subst (λ e. CarriesNext allows e y) (sym (cleared_entry t d cleared)) (carries_gone allows (entry_of s) (entry_of t) nodes found y k.walked here.1 bare),
     )
 
 -- and what the walk has done after it

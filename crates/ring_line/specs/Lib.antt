@@ -1,7 +1,6 @@
 pub mod Words
+pub mod Stances
 pub mod Ring
 pub mod Steps
 pub mod Releases
-pub mod Ports
-pub mod Line
-pub mod Finish
+pub mod Laws

@@ -17,34 +17,30 @@ use Rattle.qolb_model.specs.PortStates.{may_ask}
 use Rattle.qolb_model.specs.Leases.{turns_left}
 use Rattle.qolb_model.specs.Views.{own}
 use Rattle.qolb_model.specs.Kept.{AreAllowed}
-use Rattle.qolb_model.specs.Opening.{new_view, MayOpen}
-use Rattle.qolb_model.specs.Entries.{AreMembers, each_from}
+use Rattle.qolb_model.specs.Opening.{MayOpen}
+use Rattle.qolb_model.specs.Entries.{AreMembers}
 use Rattle.qolb_model.specs.declared.terms.TheConstants.{MOST_NODES}
 use Rattle.ring_line.specs.declared.words.TheConstants.{CELLS, WITHDRAWN}
-use Rattle.ring_line.specs.declared.entry.Point.{Point}
-use Rattle.ring_line.specs.declared.entry.Point.TheVariants.{Idle, Queued, Holding, Passing, Cleared, Freeing, Rolled}
-use Rattle.ring_line.specs.declared.entry.Entry.{Entry}
-use Rattle.ring_line.specs.declared.rule.Setup.{Setup}
-use Rattle.ring_line.specs.declared.rule.Parcel.{Parcel}
+use Rattle.ring_line.specs.declared.own.Point.{Point}
+use Rattle.ring_line.specs.declared.own.Point.TheVariants.{Idle, Queued, Holding, Passing, Cleared, Freeing, Rolled}
+use Rattle.shared_line.specs.declared.rule.Entry.{Entry}
+use Rattle.shared_line.specs.declared.rule.Setup.{Setup}
+use Rattle.shared_line.specs.declared.rule.Parcel.{Parcel}
+use Rattle.shared_line.specs.Entries.{node_of}
+use Rattle.ring_line.specs.declared.own.RingOwn.{RingOwn}
 use Rattle.ring_line.specs.Words.{word_count, ticket_at, node_at, cell_at, cell_of}
 
 -- the member of the list at the place
 abbrev pub At : {A : Type 0} → List A → ℕ → A → Type 0
 At xs p x = slice_get xs p ≡ Some x
 
-abbrev pub newcomer : Setup → ℕ → Entry
-newcomer about n = record { view = new_view about.label about.terms n; point = Idle; place = 0; passed = []; steps = 0 }
+-- what the rule knows of a node
+abbrev pub RingEntry : Type 0
+RingEntry = Entry RingOwn
 
--- the nodes n+1 .. n+k
-abbrev pub newcomers_from : Setup → ℕ → ℕ → List Entry
-newcomers_from about n k = each_from (newcomer about) n k
-
--- the node of an entry
-abbrev pub node_of : Entry → ℕ
-node_of e = e.view.node
-
-abbrev pub newcomers : Setup → List Entry
-newcomers about = newcomers_from about 0 about.terms.nodes
+-- a state of the table
+abbrev pub RingState : Type 0
+RingState = State Parcel (List RingEntry)
 
 -- the node has the line
 abbrev pub has_line : Point → Bool
@@ -101,8 +97,8 @@ pub record Past : Type 0 where
 
 -- The node has passed the request at the place p and has not freed its node. (Each request has one passer, so the lists of different
 -- releases share no place.)
-pub record HasPassed (ended : ℕ) (clear : List Request) (marks passer : ℕ → ℕ) (n : ℕ) (e : Entry) (p : ℕ) : Type 0 where
-  pub in_release : lets_go e.point ≡ true
+pub record HasPassed (ended : ℕ) (clear : List Request) (marks passer : ℕ → ℕ) (n : ℕ) (e : RingEntry) (p : ℕ) : Type 0 where
+  pub in_release : lets_go e.own.point ≡ true
   pub passer_is : passer p ≡ n
   pub within : p ≤ ended
   pub marked : 0 < marks p
@@ -111,8 +107,8 @@ pub record HasPassed (ended : ℕ) (clear : List Request) (marks passer : ℕ �
   pub unclear : Lacks clear request
 
 -- in a release with the line, the request at its turn is the node's own and nothing was passed, or it is withdrawn and passed
-abbrev pub Walks : ℕ → (ℕ → ℕ) → Entry → Type 0
-Walks ended marks e = ((e.place ≡ ended) × (e.passed ≡ [])) ⊎ ((e.place < ended) × (0 < marks ended) × (e.passed ≢ []))
+abbrev pub Walks : ℕ → (ℕ → ℕ) → RingEntry → Type 0
+Walks ended marks e = ((e.own.place ≡ ended) × (e.own.passed ≡ [])) ⊎ ((e.own.place < ended) × (0 < marks ended) × (e.own.passed ≢ []))
 
 -- who it is
 pub record Identity (about : Setup) (n : ℕ) (v : View) : Type 0 where
@@ -130,42 +126,42 @@ pub record Knowing (order : List Request) (ends : List End) (clear : List Reques
   pub freed_clear : (r : Request) → Has v.freed r → Has v.clear r
 
 -- where its last request stands: no other one of it is open
-pub record Stance (order : List Request) (ended n : ℕ) (e : Entry) : Type 0 where
-  pub asked : e.point ≢ Idle → 0 < e.view.count
-  pub placed : 0 < e.view.count → At e.view.order e.place (own e.view)
-  pub last_open : (p : ℕ) (r : Request) → At order p r → r.node ≡ n → ended ≤ p → (0 < e.view.count) × (p ≡ e.place)
-  pub idle : e.point ≡ Idle → 0 < e.view.count → (e.place < ended) × Has e.view.clear (own e.view)
-  pub queued : e.point ≡ Queued → ended ≤ e.place
-  pub holding : e.point ≡ Holding → e.place ≡ ended
-  pub freeing : e.point ≡ Freeing → e.place < ended
-  pub waits : is_kept e.point ≡ true → ended ≤ e.place → may_ask e.view.state ≡ false
+pub record Stance (order : List Request) (ended n : ℕ) (e : RingEntry) : Type 0 where
+  pub asked : e.own.point ≢ Idle → 0 < e.view.count
+  pub placed : 0 < e.view.count → At e.view.order e.own.place (own e.view)
+  pub last_open : (p : ℕ) (r : Request) → At order p r → r.node ≡ n → ended ≤ p → (0 < e.view.count) × (p ≡ e.own.place)
+  pub idle : e.own.point ≡ Idle → 0 < e.view.count → (e.own.place < ended) × Has e.view.clear (own e.view)
+  pub queued : e.own.point ≡ Queued → ended ≤ e.own.place
+  pub holding : e.own.point ≡ Holding → e.own.place ≡ ended
+  pub freeing : e.own.point ≡ Freeing → e.own.place < ended
+  pub waits : is_kept e.own.point ≡ true → ended ≤ e.own.place → may_ask e.view.state ≡ false
 
 -- whether it has the line
-pub record Hand (ends : List End) (hand : ℕ) (cleared : Bool) (n : ℕ) (e : Entry) : Type 0 where
-  pub holds : has_line e.point ≡ true → (e.view.ends ≡ ends) × (hand ≡ n) × (cleared ≡ is_cleared e.point)
-  pub lacks : has_line e.point ≡ false → hand ≢ n
-  pub holder : e.view.state ≡ shows.Holding → (has_line e.point ≡ true) × (e.place ≡ length ends)
+pub record Hand (ends : List End) (hand : ℕ) (cleared : Bool) (n : ℕ) (e : RingEntry) : Type 0 where
+  pub holds : has_line e.own.point ≡ true → (e.view.ends ≡ ends) × (hand ≡ n) × (cleared ≡ is_cleared e.own.point)
+  pub lacks : has_line e.own.point ≡ false → hand ≢ n
+  pub holder : e.view.state ≡ shows.Holding → (has_line e.own.point ≡ true) × (e.own.place ≡ length ends)
 
 -- the requests that its release passed
-pub record Walking (ended : ℕ) (clear : List Request) (marks passer : ℕ → ℕ) (n : ℕ) (e : Entry) : Type 0 where
-  pub walking : lets_go e.point ≡ true → has_line e.point ≡ true → Walks ended marks e
-  pub freeing : e.point ≡ Freeing → (i p : ℕ) → At e.passed i p → p < ended
-  pub passed : (i p : ℕ) → At e.passed i p → HasPassed ended clear marks passer n e p
-  pub once : (i j p : ℕ) → At e.passed i p → At e.passed j p → i ≡ j
+pub record Walking (ended : ℕ) (clear : List Request) (marks passer : ℕ → ℕ) (n : ℕ) (e : RingEntry) : Type 0 where
+  pub walking : lets_go e.own.point ≡ true → has_line e.own.point ≡ true → Walks ended marks e
+  pub freeing : e.own.point ≡ Freeing → (i p : ℕ) → At e.own.passed i p → p < ended
+  pub passed : (i p : ℕ) → At e.own.passed i p → HasPassed ended clear marks passer n e p
+  pub once : (i j p : ℕ) → At e.own.passed i p → At e.own.passed j p → i ≡ j
 
 -- which of its requests are withdrawn: one that is not clear is its last
-pub record Marking (order clear : List Request) (marks : ℕ → ℕ) (n : ℕ) (e : Entry) : Type 0 where
-  pub unmarked : is_kept e.point ≡ true → marks e.place ≡ 0
-  pub unclear : is_kept e.point ≡ true → Lacks clear (own e.view)
-  pub rolled : e.point ≡ Rolled → marks e.place ≡ n
+pub record Marking (order clear : List Request) (marks : ℕ → ℕ) (n : ℕ) (e : RingEntry) : Type 0 where
+  pub unmarked : is_kept e.own.point ≡ true → marks e.own.place ≡ 0
+  pub unclear : is_kept e.own.point ≡ true → Lacks clear (own e.view)
+  pub rolled : e.own.point ≡ Rolled → marks e.own.place ≡ n
   pub known : (p : ℕ) (r : Request) → At order p r → r.node ≡ n → 0 < marks p → Has e.view.marked r
-  pub last : (p : ℕ) (r : Request) → At order p r → r.node ≡ n → 0 < marks p → Lacks clear r → (e.point ≡ Rolled) × (e.place ≡ p)
+  pub last : (p : ℕ) (r : Request) → At order p r → r.node ≡ n → 0 < marks p → Lacks clear r → (e.own.point ≡ Rolled) × (e.own.place ≡ p)
   pub all : (r : Request) → Has e.view.marked r → (p : ℕ) × At order p r × (0 < marks p)
 
 -- its own word
-pub record Flag (clear : List Request) (flags : ℕ → ℕ) (n : ℕ) (e : Entry) : Type 0 where
-  pub rolled : e.point ≡ Rolled → flags n ≡ (if has clear (own e.view) then 1 else 0)
-  pub not_rolled : e.point ≢ Rolled → flags n ≡ 0
+pub record Flag (clear : List Request) (flags : ℕ → ℕ) (n : ℕ) (e : RingEntry) : Type 0 where
+  pub rolled : e.own.point ≡ Rolled → flags n ≡ (if has clear (own e.view) then 1 else 0)
+  pub not_rolled : e.own.point ≢ Rolled → flags n ≡ 0
 
 -- the requests that it knows to be joined
 pub record Joining (order : List Request) (n : ℕ) (joined : List Request) : Type 0 where
@@ -173,7 +169,7 @@ pub record Joining (order : List Request) (n : ℕ) (joined : List Request) : Ty
   pub all : (r : Request) → Has joined r → Has order r
 
 -- all of it
-pub record NodeOk (about : Setup) (x : Past) (n : ℕ) (e : Entry) : Type 0 where
+pub record NodeOk (about : Setup) (x : Past) (n : ℕ) (e : RingEntry) : Type 0 where
   pub who : Identity about n e.view
   pub knows : Knowing x.order x.ends x.clear n e.view
   pub stance : Stance x.order (length x.ends) n e
@@ -209,9 +205,9 @@ module _ (good : List ℕ → Type 0) (allows : List ℕ → List ℕ → Type 0
     pub flags : (n : ℕ) → 0 < n → n ≤ MOST_NODES → slice_index words (node_at n) ≡ x.flags n
     pub home : x.hand ≡ 0 → (y : Parcel) × (get_elem? homes 0 ≡ some (some y)) × (y.bytes.bytes ≡ bytes_after about.terms.opening.bytes x.ends) × (y.closed ≡ is_closed x.ends) × (y.turns_left ≡ turns_left about.terms.lease x.ends)
 
-  pub record RingRule (s : State Parcel (List Entry)) : Type 0 where
+  pub record RingRule (s : RingState) : Type 0 where
     pub past : Past
-    pub who : ℕ → Entry
+    pub who : ℕ → RingEntry
     pub owner : ℕ → ℕ × ℕ
     pub may_open : MayOpen about.terms
     pub line : length about.terms.opening.bytes ≡ 64

@@ -1,5 +1,5 @@
 -- Where the words of a table lie: the ticket, a word for each node, and the cells, each apart from the others.
-use Rattle.std.specs.Prelude.{ℕ, ◌+◌, ◌*◌, ◌/◌, ◌%◌}
+use Rattle.std.specs.Prelude.{◌≡◌, ◌≢◌, ℕ, ◌+◌, ◌*◌, ◌/◌, ◌%◌, ◌<◌, List, slice_index}
 use Rattle.qolb_model.specs.declared.terms.TheConstants.{MOST_NODES}
 use Rattle.ring_line.specs.declared.words.TheConstants.{CELLS, NODE_STRIDE, CELL_STRIDE, WITHDRAWN}
 
@@ -22,3 +22,7 @@ cell_of ticket = ticket % CELLS
 -- the node that withdrew at a cell with this word
 abbrev pub withdrawn_by : ℕ → ℕ
 withdrawn_by word = word / WITHDRAWN
+
+-- nobody has asked: the first cell is granted, and all else is blank
+abbrev pub AreFirst : List ℕ → Type 0
+AreFirst words = (slice_index words (cell_at 0) ≡ 1) × ((i : ℕ) → i < word_count → i ≢ cell_at 0 → slice_index words i ≡ 0)

@@ -1,21 +1,14 @@
-//! A queued line over atomic words: nodes draw tickets, and each waits at a cell of its own.
+//! The queue of a line over atomic words: nodes draw tickets, and each waits at a cell of its own.
 #![tactic(auto)]
 
-mod calls;
-mod entry;
-mod finish;
-mod line;
-mod meeting;
-mod open;
+mod own;
 mod plays;
-mod port;
+mod queue;
 mod release;
 mod rule;
-mod slot;
 mod steps;
-mod sync;
 mod words;
 
-pub use line::RingLine;
-pub use port::Port;
+pub use own::RingOwn;
+pub use rule::{Port, Ring, RingLine};
 pub use words::CELLS;

@@ -1,22 +1,23 @@
-//! What each step tells, and how seats are cut and joined.
-ghost use Rattle.std.specs.Prelude.{[], ◌++◌};
-ghost use Rattle.qolb_model.specs.Entries.{front, behind};
-ghost use Rattle.ring_line.specs.Steps.{asked, loaded, rolled, cleared, granted, freed, loaded_node, reset, met, parked};
+//! What each step tells.
+ghost use Rattle.ring_line.specs.Steps.{drawn, loaded, rolled, cleared, granted, freed, loaded_node, reset};
 
-use crate::entry::Entry;
-use crate::rule::Parcel;
-use atomic_table::{Join, Play, Split};
+use crate::own::RingOwn;
+use atomic_table::Play;
 use qolb_model::Keep;
+use shared_line::{Entry, Parcel};
 use std::collections::LinkedList;
 use std::marker::PhantomData;
 
+/// The entries of a seat.
+type Entries = LinkedList<Entry<RingOwn>>;
+
 /// A ticket is drawn.
-pub(crate) struct Ask<K> {
+pub(crate) struct Draw<K> {
     law: PhantomData<K>,
 }
 
-impl<K: Keep> Play<Parcel, LinkedList<Entry>> for Ask<K> {
-    ghost then = { asked K.allows };
+impl<K: Keep> Play<Parcel, Entries> for Draw<K> {
+    ghost then = { drawn K.allows };
 }
 
 /// The own cell is read.
@@ -24,7 +25,7 @@ pub(crate) struct Load<K> {
     law: PhantomData<K>,
 }
 
-impl<K: Keep> Play<Parcel, LinkedList<Entry>> for Load<K> {
+impl<K: Keep> Play<Parcel, Entries> for Load<K> {
     ghost then = { loaded K.allows };
 }
 
@@ -33,14 +34,14 @@ pub(crate) struct Roll<K> {
     law: PhantomData<K>,
 }
 
-impl<K: Keep> Play<Parcel, LinkedList<Entry>> for Roll<K> {
+impl<K: Keep> Play<Parcel, Entries> for Roll<K> {
     ghost then = { rolled K.allows };
 }
 
 /// The cell at its turn is cleared.
 pub(crate) struct Clear;
 
-impl Play<Parcel, LinkedList<Entry>> for Clear {
+impl Play<Parcel, Entries> for Clear {
     ghost then = { cleared };
 }
 
@@ -49,7 +50,7 @@ pub(crate) struct Grant<K> {
     law: PhantomData<K>,
 }
 
-impl<K: Keep> Play<Parcel, LinkedList<Entry>> for Grant<K> {
+impl<K: Keep> Play<Parcel, Entries> for Grant<K> {
     ghost then = { granted K.allows };
 }
 
@@ -58,7 +59,7 @@ pub(crate) struct Free<K> {
     law: PhantomData<K>,
 }
 
-impl<K: Keep> Play<Parcel, LinkedList<Entry>> for Free<K> {
+impl<K: Keep> Play<Parcel, Entries> for Free<K> {
     ghost then = { freed K.allows };
 }
 
@@ -67,56 +68,13 @@ pub(crate) struct LoadNode<K> {
     law: PhantomData<K>,
 }
 
-impl<K: Keep> Play<Parcel, LinkedList<Entry>> for LoadNode<K> {
+impl<K: Keep> Play<Parcel, Entries> for LoadNode<K> {
     ghost then = { loaded_node K.allows };
 }
 
 /// The own node's word is cleared.
 pub(crate) struct Reset;
 
-impl Play<Parcel, LinkedList<Entry>> for Reset {
+impl Play<Parcel, Entries> for Reset {
     ghost then = { reset };
-}
-
-/// Two ports, in one seat, compare what they know.
-pub(crate) struct Meet<K> {
-    law: PhantomData<K>,
-}
-
-impl<K: Keep> Play<Parcel, LinkedList<Entry>> for Meet<K> {
-    ghost then = { met K.allows };
-}
-
-/// A holder's slot goes home, for a moment.
-pub(crate) struct Park;
-
-impl Play<Parcel, LinkedList<Entry>> for Park {
-    ghost then = { parked };
-}
-
-/// The first entry stays, and the others go to a new seat.
-pub(crate) struct Cut;
-
-impl Split<LinkedList<Entry>> for Cut {
-    ghost left = { front };
-
-    ghost right = { behind };
-}
-
-/// A new seat has no entry.
-pub(crate) struct Blank;
-
-impl Split<LinkedList<Entry>> for Blank {
-    ghost left = { λ es. es };
-
-    ghost right = { λ es. [] };
-}
-
-/// One seat takes in the entries of another.
-pub(crate) struct Glue;
-
-impl Join<LinkedList<Entry>> for Glue {
-    ghost both = { λ es fs. es ++ fs };
-
-    ghost spent = { [] };
 }

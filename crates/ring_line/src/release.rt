@@ -1,19 +1,17 @@
 //! How a line is let go.
-ghost use Rattle.std.specs.Prelude.{◌≡◌, ◌≢◌, ℕ, ◌+◌, ◌*◌, ◌≤◌, [], ◌∷◌, length, true};
+ghost use Rattle.std.specs.Prelude.{◌≡◌, ◌≢◌, ◌+◌, ◌*◌, ◌≤◌, [], ◌∷◌, length};
 ghost use Rattle.qolb_model.specs.declared.request.Request.{Request};
 ghost use Rattle.qolb_model.specs.declared.terms.TheConstants.{MOST_NODES};
+ghost use Rattle.qolb_model.specs.PortStates.{left_by};
+ghost use Rattle.shared_line.specs.declared.rule.Parcel.{Parcel};
+ghost use Rattle.shared_line.specs.Steps.{SameSeat, IsSeatOf, HasSlot, HasNoSlot};
 ghost use Rattle.ring_line.specs.Words as layout;
 ghost use Rattle.ring_line.specs.Ring.{At};
-ghost use Rattle.ring_line.specs.Steps.{SameSeat, IsSeatOf, IsAt, HasSlot, HasNoSlot, IsOwnNode, own_cell, turn_cell, Alone, entry_of, GoesOn, Comes, Carries};
-ghost use Rattle.qolb_model.specs.PortStates.{left_by};
-ghost use Rattle.ring_line.specs.Releases.{IsRenewed, steps_to_renew, IsBare, LetsLineGo, WalksOn, IsPassedOn, AreNodesAt, FreesAll};
-ghost use Rattle.ring_line.specs.Ports.{Arrived};
-ghost use Rattle.ring_line.specs.declared.entry.Entry.{Entry};
-ghost use Rattle.ring_line.specs.declared.rule.Parcel.{Parcel};
-ghost use Rattle.ring_line.specs.declared.entry.Point.TheVariants.{Idle, Holding, Passing, Freeing, Rolled};
+ghost use Rattle.ring_line.specs.Steps.{IsAt, IsOwnNode, turn_cell, entry_of, GoesOn, CarriesNext};
+ghost use Rattle.ring_line.specs.Releases.{IsRenewed, steps_to_renew, IsBare, LetsLineGo, WalksOn, AreNodesAt, FreesAll};
+ghost use Rattle.ring_line.specs.declared.own.Point.TheVariants.{Idle, Holding, Passing, Freeing, Rolled};
 
-use crate::rule::{Ground, Parcel, RingSeat};
-use crate::slot::take;
+use crate::rule::{Ground, RingSeat};
 use crate::steps::{clear, free, grant, load_node, reset};
 use crate::words::{cell_after, is_freed, is_withdrawn, withdrawn_by};
 use arrayvec::ArrayVec;
@@ -31,7 +29,7 @@ pub(crate) fn renew<K: Keep>(
     node: u64,
     state: PortState,
 ) -> Option<u64>
-    requires table { IsSeatOf ground.now.table_id seat.old }
+    requires table { IsSeatOf layout.word_count ground.now.table_id seat.old }
     requires rolled { state ≡ PortState.Rolled → IsAt Rolled seat.old }
     requires idle { state ≢ PortState.Rolled → IsAt Idle seat.old }
     requires own { IsOwnNode node seat.old }
@@ -50,63 +48,15 @@ pub(crate) fn renew<K: Keep>(
     Some(2)
 }
 
-/// Takes in the line that has come to its turn, and returns the state that the port is then in: it holds. A closed line is passed on
-/// at once, in so many more steps.
-#[inline]
-pub(crate) fn arrive<K: Keep>(
-    ground: &Ground<K>,
-    seat: &mut RingSeat,
-    parcel: &mut Parcel,
-    steps: &mut u64,
-    cell: u64,
-) -> PortState
-    requires table { IsSeatOf ground.now.table_id seat.old }
-    requires alone { Alone seat.old.me }
-    requires cell { cell ≡ own_cell seat.old }
-    requires nodes { (1 ≤ (entry_of seat.old).view.terms.nodes) × ((entry_of seat.old).view.terms.nodes ≤ MOST_NODES) }
-    requires few { steps.old ≤ 4 }
-    requires comes { (v : Entry) × (y : Parcel) × HasSlot seat.old y × Comes v (entry_of seat.old) y }
-    ensures same { SameSeat seat.old seat.new }
-    ensures goes_on { (n : ℕ) × (steps.new ≡ steps.old + n) × GoesOn K.allows seat.old.me seat.new.me n }
-    ensures count { (entry_of seat.new).view.count ≡ (entry_of seat.old).view.count }
-    ensures arrived { Arrived seat.new parcel.new cell steps.old steps.new result }
-{
-    take(ground, seat, parcel);
-    if parcel.closed {
-        *steps += pass_on(ground, seat, cell);
-        PortState::Shut
-    } else {
-        PortState::Holding
-    }
-}
-
-/// Passes a closed line on, and returns how many word steps that took.
-#[cold]
-#[inline(never)]
-fn pass_on<K: Keep>(ground: &Ground<K>, seat: &mut RingSeat, cell: u64) -> u64
-    requires table { IsSeatOf ground.now.table_id seat.old }
-    requires alone { Alone seat.old.me }
-    requires cell { cell ≡ own_cell seat.old }
-    requires nodes { 1 ≤ (entry_of seat.old).view.terms.nodes }
-    requires comes { (v : Entry) × (y : Parcel) × HasSlot seat.old y × Comes v (entry_of seat.old) y × (y.closed ≡ true) }
-    ensures same { SameSeat seat.old seat.new }
-    ensures slot { HasNoSlot seat.new }
-    ensures goes_on { GoesOn K.allows seat.old.me seat.new.me result }
-    ensures told { IsPassedOn (entry_of seat.old) (entry_of seat.new) }
-    ensures bound { result + 1 ≤ 3 * (entry_of seat.old).view.terms.nodes }
-{
-    release(ground, seat, cell)
-}
-
 /// Lets the line go that lies in the slot, and returns how many word steps that took.
 #[inline]
 pub(crate) fn release<K: Keep>(ground: &Ground<K>, seat: &mut RingSeat, cell: u64) -> u64
-    requires table { IsSeatOf ground.now.table_id seat.old }
+    requires table { IsSeatOf layout.word_count ground.now.table_id seat.old }
     requires ready { IsAt Holding seat.old }
-    requires none_passed { (entry_of seat.old).passed ≡ [] }
+    requires none_passed { (entry_of seat.old).own.passed ≡ [] }
     requires cell { cell ≡ turn_cell seat.old }
     requires nodes { 1 ≤ (entry_of seat.old).view.terms.nodes }
-    requires parcel { (y : Parcel) × HasSlot seat.old y × Carries K.allows (entry_of seat.old) y }
+    requires parcel { (y : Parcel) × HasSlot seat.old y × CarriesNext K.allows (entry_of seat.old) y }
     ensures same { SameSeat seat.old seat.new }
     ensures slot { HasNoSlot seat.new }
     ensures goes_on { GoesOn K.allows seat.old.me seat.new.me result }
@@ -130,11 +80,11 @@ pub(crate) fn release<K: Keep>(ground: &Ground<K>, seat: &mut RingSeat, cell: u6
 #[cold]
 #[inline(never)]
 fn walk<K: Keep>(ground: &Ground<K>, seat: &mut RingSeat, cell: u64, found: u64) -> u64
-    requires table { IsSeatOf ground.now.table_id seat.old }
+    requires table { IsSeatOf layout.word_count ground.now.table_id seat.old }
     requires ready { IsAt Passing seat.old }
     requires cell { cell ≡ turn_cell seat.old }
     requires found { found ≢ 0 }
-    requires passed { (entry_of seat.old).passed ≡ length (entry_of seat.old).view.ends ∷ [] }
+    requires passed { (entry_of seat.old).own.passed ≡ length (entry_of seat.old).view.ends ∷ [] }
     requires first { (r : Request) × At (entry_of seat.old).view.order (length (entry_of seat.old).view.ends) r × (r.node ≡ layout.withdrawn_by found) × (r.node ≤ (entry_of seat.old).view.terms.nodes) }
     requires nodes { (2 ≤ (entry_of seat.old).view.terms.nodes) × ((entry_of seat.old).view.terms.nodes ≤ MOST_NODES) }
     requires parcel { (y : Parcel) × HasSlot seat.old y × IsBare (entry_of seat.old) y × ((entry_of seat.old).view.state ≡ left_by y.closed) }
@@ -161,11 +111,11 @@ fn walk<K: Keep>(ground: &Ground<K>, seat: &mut RingSeat, cell: u64, found: u64)
 
 /// Frees the nodes of all requests that were passed, in their order.
 fn free_passed<K: Keep>(ground: &Ground<K>, seat: &mut RingSeat, nodes: &[u64])
-    requires table { IsSeatOf ground.now.table_id seat.old }
+    requires table { IsSeatOf layout.word_count ground.now.table_id seat.old }
     requires ready { IsAt Freeing seat.old }
-    requires some { (entry_of seat.old).passed ≢ [] }
-    requires many { length nodes.now ≡ length (entry_of seat.old).passed }
-    requires nodes { AreNodesAt (entry_of seat.old).view.order (entry_of seat.old).passed nodes.now }
+    requires some { (entry_of seat.old).own.passed ≢ [] }
+    requires many { length nodes.now ≡ length (entry_of seat.old).own.passed }
+    requires nodes { AreNodesAt (entry_of seat.old).view.order (entry_of seat.old).own.passed nodes.now }
     ensures same { SameSeat seat.old seat.new }
     ensures slot { seat.new.me.1 ≡ seat.old.me.1 }
     ensures goes_on { GoesOn K.allows seat.old.me seat.new.me (length nodes.now) }

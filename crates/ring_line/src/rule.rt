@@ -1,43 +1,63 @@
-//! The table of a line: a ticket, cells and a word for each node, and one slot, which has the line.
-use crate::entry::Entry;
-use atomic_table::{Seat, Shared, TableRule};
-use line_lanes::{Line64, Mask};
-use qolb_model::{Keep, Terms};
-use std::collections::LinkedList;
-use std::marker::PhantomData;
+//! The queue of a ring: how its nodes stand, and its rule.
+ghost use Rattle.ring_line.specs.Stances as stances;
+ghost use Rattle.ring_line.specs.Laws.Standing as standing;
 
-/// What the table is told when it is made.
-#[derive(Drop)]
-pub struct Setup {
-    pub label: u64,
-    pub terms: Terms,
-}
+use crate::own::RingOwn;
+use qolb_model::Keep;
+use shared_line::{LineSeat, Ruled, Shape};
 
-/// The line, with the mask of what its holder has written in this turn, how many turns are left of its lease, and whether it is closed.
+/// The discipline of a ring: nodes queue by tickets, and each waits at a cell of its own.
 ///
-/// The bytes stand first and the flag last, so that the bytes are copied from an even place.
-#[derive(Clone, Copy)]
-pub struct Parcel {
-    pub bytes: Line64,
-    pub mask: Mask,
-    pub turns_left: Option<u64>,
-    pub closed: bool,
+/// Between any two steps on its words there is one history of the line: an order of requests, and the ends of the first of them. Where
+/// nobody has the line it lies in the slot as those ends leave it, and the cell of the request at its turn is granted; the cells behind
+/// are blank, or name the node that withdrew there. Each port knows a beginning of this history, and each node has at most one open
+/// request, so there are always more cells than open requests.
+pub struct Ring;
+
+impl Shape for Ring {
+    type Own = RingOwn;
+
+    ghost fresh = { stances.fresh };
+
+    ghost rests = { stances.rests };
+
+    ghost holding = { stances.holding };
+
+    ghost refused = { stances.refused };
+
+    ghost may_show = { stances.may_show };
+
+    ghost asks_in = { stances.asks_in };
+
+    ghost lets_go_in = { stances.lets_go_in };
+
+    ghost most = { stances.most };
+
+    ghost starts_idle = { standing.starts_idle };
+
+    ghost rests_shown = { standing.rests_shown };
+
+    ghost holding_shown = { standing.holding_shown };
+
+    ghost most_some = { standing.most_some };
+
+    ghost most_fits = { standing.most_fits };
 }
 
-/// The rule of a table whose line is under the law `K`: the invariant of all its interleavings.
-pub struct Ring<K> {
-    law: PhantomData<K>,
-}
-
-impl<K: Keep> TableRule<Parcel, LinkedList<Entry>, Setup> for Ring<K> {
-    ghost use Rattle.ring_line.specs.Ring.{RingRule, newcomers};
+impl<K: Keep> Ruled<K> for Ring {
+    ghost use Rattle.ring_line.specs.Ring.{RingRule};
 
     ghost holds = { RingRule K.good K.allows };
-
-    ghost first = { newcomers };
 }
 
-pub type Ground<K> = Shared<Parcel, LinkedList<Entry>, Setup, Ring<K>>;
+/// A line that nodes queue at by tickets.
+pub type RingLine<K> = shared_line::Line<K, Ring>;
 
-/// A seat of the table: a port has one.
-pub type RingSeat = Seat<Parcel, LinkedList<Entry>>;
+/// A node's end of such a line.
+pub type Port = shared_line::Port<Ring>;
+
+/// The table of a ring, as all its nodes see it.
+pub(crate) type Ground<K> = shared_line::Ground<K, Ring>;
+
+/// A seat of that table.
+pub(crate) type RingSeat = LineSeat<RingOwn>;

@@ -4,13 +4,15 @@ ghost use Rattle.qolb_model.specs.declared.request.Request.{Request};
 ghost use Rattle.qolb_model.specs.Requests.{Has};
 ghost use Rattle.qolb_model.specs.Views.{own};
 ghost use Rattle.qolb_model.specs.declared.terms.TheConstants.{MOST_NODES};
+ghost use Rattle.shared_line.specs.declared.rule.Parcel.{Parcel};
+ghost use Rattle.shared_line.specs.Steps.{SameSeat, IsSeatOf, HasSlot, HasNoSlot};
+ghost use Rattle.ring_line.specs.Words.{word_count};
 ghost use Rattle.ring_line.specs.Ring.{At};
-ghost use Rattle.ring_line.specs.Steps.{SameSeat, IsSeatOf, IsAt, HasSlot, HasNoSlot, IsOwnNode, own_cell, turn_cell, entry_of, GoesOn, Asked, IsEarly, Comes, IsRolled, IsStill, Carries, Ended, GoesHome, Passes, Frees, after_clear, after_reset};
-ghost use Rattle.ring_line.specs.declared.rule.Parcel.{Parcel};
-ghost use Rattle.ring_line.specs.declared.entry.Point.TheVariants.{Idle, Queued, Holding, Passing, Cleared, Freeing, Rolled};
+ghost use Rattle.ring_line.specs.Steps.{IsAt, IsOwnNode, own_cell, turn_cell, entry_of, GoesOn, Draws, IsEarly, Comes, IsRolled, IsStill, CarriesNext, Ended, GoesHome, Passes, Frees, after_clear, after_reset};
+ghost use Rattle.ring_line.specs.declared.own.Point.TheVariants.{Idle, Queued, Holding, Passing, Cleared, Freeing, Rolled};
 
-use crate::plays::{Ask, Clear, Free, Grant, Load, LoadNode, Reset, Roll};
-use crate::rule::{Ground, Parcel, RingSeat};
+use crate::plays::{Clear, Draw, Free, Grant, Load, LoadNode, Reset, Roll};
+use crate::rule::{Ground, RingSeat};
 use crate::words::{
     GRANTED, TICKET, WITHDRAWN, cell_after, cell_of, cell_word, is_granted, node_word,
 };
@@ -19,50 +21,52 @@ use qolb_model::Keep;
 /// Draws a ticket, and returns its cell.
 ///
 /// This is where a request takes effect (its linearization point): it puts the request into the order, and a grant puts its end.
-pub(crate) fn ask<K: Keep>(ground: &Ground<K>, seat: &mut RingSeat) -> u64
-    requires table { IsSeatOf ground.now.table_id seat.old }
+pub(crate) fn draw<K: Keep>(ground: &Ground<K>, seat: &mut RingSeat) -> u64
+    requires table { IsSeatOf word_count ground.now.table_id seat.old }
     requires ready { IsAt Idle seat.old }
     ensures same { SameSeat seat.old seat.new }
     ensures slot { seat.new.me.1 ≡ seat.old.me.1 }
     ensures goes_on { GoesOn K.allows seat.old.me seat.new.me 1 }
     ensures cell { result ≡ own_cell seat.new }
-    ensures asked { Asked (entry_of seat.old) result (entry_of seat.new) }
+    ensures draws { Draws (entry_of seat.old) result (entry_of seat.new) }
 {
-    cell_of(ground.fetch_add::<Ask<K>>(seat, TICKET, 1))
+    cell_of(ground.fetch_add::<Draw<K>>(seat, TICKET, 1))
 }
 
 /// Loads the own cell: whether it is granted.
 pub(crate) fn load<K: Keep>(ground: &Ground<K>, seat: &mut RingSeat, cell: u64) -> bool
-    requires table { IsSeatOf ground.now.table_id seat.old }
+    requires table { IsSeatOf word_count ground.now.table_id seat.old }
     requires ready { IsAt Queued seat.old }
     requires slot { HasNoSlot seat.old }
     requires cell { cell ≡ own_cell seat.old }
     ensures same { SameSeat seat.old seat.new }
     ensures goes_on { GoesOn K.allows seat.old.me seat.new.me 1 }
-    ensures waits { result ≡ false → HasNoSlot seat.new × IsEarly (entry_of seat.old) (entry_of seat.new) }
-    ensures comes { result ≡ true → (y : Parcel) × HasSlot seat.new y × Comes (entry_of seat.old) (entry_of seat.new) y }
+    ensures count { (entry_of seat.new).view.count ≡ (entry_of seat.old).view.count }
+    ensures waits { result ≡ false → HasNoSlot seat.new × IsEarly cell (entry_of seat.new) }
+    ensures comes { result ≡ true → (y : Parcel) × HasSlot seat.new y × Comes cell (entry_of seat.new) y }
 {
     is_granted(ground.load::<Load<K>>(seat, cell_word(cell)))
 }
 
 /// Withdraws the request, unless the own cell is granted: whether it is.
 pub(crate) fn roll<K: Keep>(ground: &Ground<K>, seat: &mut RingSeat, cell: u64, node: u64) -> bool
-    requires table { IsSeatOf ground.now.table_id seat.old }
+    requires table { IsSeatOf word_count ground.now.table_id seat.old }
     requires ready { IsAt Queued seat.old }
     requires slot { HasNoSlot seat.old }
     requires cell { cell ≡ own_cell seat.old }
     requires own { IsOwnNode node seat.old }
     ensures same { SameSeat seat.old seat.new }
     ensures goes_on { GoesOn K.allows seat.old.me seat.new.me 1 }
-    ensures withdrawn { result ≡ false → HasNoSlot seat.new × IsRolled (entry_of seat.old) (entry_of seat.new) }
-    ensures comes { result ≡ true → (y : Parcel) × HasSlot seat.new y × Comes (entry_of seat.old) (entry_of seat.new) y }
+    ensures count { (entry_of seat.new).view.count ≡ (entry_of seat.old).view.count }
+    ensures withdrawn { result ≡ false → HasNoSlot seat.new × IsRolled cell (entry_of seat.new) }
+    ensures comes { result ≡ true → (y : Parcel) × HasSlot seat.new y × Comes cell (entry_of seat.new) y }
 {
     is_granted(ground.fetch_add::<Roll<K>>(seat, cell_word(cell), WITHDRAWN * node))
 }
 
 /// Clears the cell at its turn.
 pub(crate) fn clear<K: Keep>(ground: &Ground<K>, seat: &mut RingSeat, cell: u64)
-    requires table { IsSeatOf ground.now.table_id seat.old }
+    requires table { IsSeatOf word_count ground.now.table_id seat.old }
     requires ready { IsAt Holding seat.old ⊎ IsAt Passing seat.old }
     requires cell { cell ≡ turn_cell seat.old }
     ensures same { SameSeat seat.old seat.new }
@@ -74,10 +78,10 @@ pub(crate) fn clear<K: Keep>(ground: &Ground<K>, seat: &mut RingSeat, cell: u64)
 /// Ends the request at its turn, and grants the next cell. Returns what that cell was: 0 where the line is now at home,
 /// else with the number of the node that withdrew there, whose request is passed.
 pub(crate) fn grant<K: Keep>(ground: &Ground<K>, seat: &mut RingSeat, cell: u64) -> u64
-    requires table { IsSeatOf ground.now.table_id seat.old }
+    requires table { IsSeatOf word_count ground.now.table_id seat.old }
     requires ready { IsAt Cleared seat.old }
     requires cell { cell ≡ turn_cell seat.old }
-    requires parcel { (y : Parcel) × HasSlot seat.old y × Carries K.allows (entry_of seat.old) y }
+    requires parcel { (y : Parcel) × HasSlot seat.old y × CarriesNext K.allows (entry_of seat.old) y }
     ensures same { SameSeat seat.old seat.new }
     ensures goes_on { GoesOn K.allows seat.old.me seat.new.me 1 }
     ensures ended { (y : Parcel) → HasSlot seat.old y → Ended (entry_of seat.old) (entry_of seat.new) y }
@@ -89,21 +93,21 @@ pub(crate) fn grant<K: Keep>(ground: &Ground<K>, seat: &mut RingSeat, cell: u64)
 
 /// Frees the node of the first request that was passed and is not freed yet.
 pub(crate) fn free<K: Keep>(ground: &Ground<K>, seat: &mut RingSeat, node: u64)
-    requires table { IsSeatOf ground.now.table_id seat.old }
+    requires table { IsSeatOf word_count ground.now.table_id seat.old }
     requires ready { IsAt Freeing seat.old }
     requires high { node ≤ MOST_NODES }
-    requires next { (q : ℕ) × (ps : List ℕ) × (r : Request) × ((entry_of seat.old).passed ≡ q ∷ ps) × At (entry_of seat.old).view.order q r × (r.node ≡ node) }
+    requires next { (q : ℕ) × (ps : List ℕ) × (r : Request) × ((entry_of seat.old).own.passed ≡ q ∷ ps) × At (entry_of seat.old).view.order q r × (r.node ≡ node) }
     ensures same { SameSeat seat.old seat.new }
     ensures slot { seat.new.me.1 ≡ seat.old.me.1 }
     ensures goes_on { GoesOn K.allows seat.old.me seat.new.me 1 }
-    ensures frees { (q : ℕ) (ps : List ℕ) (r : Request) → (entry_of seat.old).passed ≡ q ∷ ps → At (entry_of seat.old).view.order q r → Frees (entry_of seat.old) ps r (entry_of seat.new) }
+    ensures frees { (q : ℕ) (ps : List ℕ) (r : Request) → (entry_of seat.old).own.passed ≡ q ∷ ps → At (entry_of seat.old).view.order q r → Frees (entry_of seat.old) ps r (entry_of seat.new) }
 {
     ground.store::<Free<K>>(seat, node_word(node), 1);
 }
 
 /// Loads the own node's word: not 0 where the withdrawn request was passed and its node freed.
 pub(crate) fn load_node<K: Keep>(ground: &Ground<K>, seat: &mut RingSeat, node: u64) -> u64
-    requires table { IsSeatOf ground.now.table_id seat.old }
+    requires table { IsSeatOf word_count ground.now.table_id seat.old }
     requires ready { IsAt Rolled seat.old }
     requires own { IsOwnNode node seat.old }
     ensures same { SameSeat seat.old seat.new }
@@ -116,7 +120,7 @@ pub(crate) fn load_node<K: Keep>(ground: &Ground<K>, seat: &mut RingSeat, node: 
 
 /// Clears the own node's word.
 pub(crate) fn reset<K: Keep>(ground: &Ground<K>, seat: &mut RingSeat, node: u64)
-    requires table { IsSeatOf ground.now.table_id seat.old }
+    requires table { IsSeatOf word_count ground.now.table_id seat.old }
     requires ready { IsAt Rolled seat.old }
     requires clear { Has (entry_of seat.old).view.clear (own (entry_of seat.old).view) }
     requires own { IsOwnNode node seat.old }

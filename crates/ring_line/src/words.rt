@@ -1,10 +1,11 @@
 //! Where the words of a table lie, and what they say. Those that nodes poll stand apart, so that they share no cache line.
-ghost use Rattle.std.specs.Prelude.{◌≡◌, ◌≢◌, ◌+◌, ◌<◌, ◌≤◌, MatchBool};
+ghost use Rattle.std.specs.Prelude.{◌≡◌, ◌≢◌, ◌+◌, ◌<◌, ◌≤◌, length, MatchBool, IfOk};
 ghost use Rattle.qolb_model.specs.declared.terms.TheConstants.{MOST_NODES};
 ghost use Rattle.ring_line.specs.declared.words.TheConstants.{CELLS};
 ghost use Rattle.ring_line.specs.Words as layout;
 
 use qolb_model::MOST_NODES;
+use std::alloc::{AllocError, Global};
 
 /// How many cells there are. There are more than nodes, so a cell is cleared before it is drawn again; and they divide 2^64, so
 /// that the tickets may wrap.
@@ -96,4 +97,15 @@ pub(crate) fn withdrawn_by(word: u64) -> u64
     ensures { result ≡ layout.withdrawn_by word }
 {
     word / WITHDRAWN
+}
+
+/// The words of a line that nobody has asked for: cell 0 is granted.
+pub(crate) fn first_words(alloc: Global, count: usize) -> Result<Vec<u64>, AllocError>
+    requires { count ≡ layout.word_count }
+    ensures wide { IfOk result (λ words. length words.items ≡ layout.word_count) }
+    ensures first { IfOk result (λ words. layout.AreFirst words.items) }
+{
+    let mut words = vec![in alloc; 0u64; count]?;
+    words[cell_word(0)] = 1;
+    Ok(words)
 }

@@ -1,10 +1,16 @@
 use super::*;
+use link_line::LinkLine;
 use linked_list_allocator::LocalHeap;
+use ring_line::RingLine;
 use std::alloc::Global;
 use std::io;
 use std::test::Fail;
 
-const KINDS: [Kind; 3] = [Kind::Plain, Kind::Ring, Kind::Link];
+const KINDS: [Kind; 3] = [
+    Kind::Plain,
+    Kind::Shared(Lines::Ring),
+    Kind::Shared(Lines::Link),
+];
 
 /// What a replay of the script writes.
 fn reply_to(alloc: Global, script: &str, kind: Kind) -> Result<String, Fail> {
@@ -328,12 +334,12 @@ fn heaps_refused(shared: Global, kind: Kind) -> Result<Option<u32>, Fail> {
         let lent = &heap;
         let answer = match kind {
             Kind::Plain => answered_plainly(&lent, HAND_OVER.as_bytes()),
-            Kind::Ring => answered_over::<&LocalHeap, RingLine<Free>>(
+            Kind::Shared(Lines::Ring) => answered_over::<&LocalHeap, RingLine<Free>>(
                 &lent,
                 shared,
                 HAND_OVER.as_bytes(),
             ),
-            Kind::Link => answered_over::<&LocalHeap, LinkLine<Free>>(
+            Kind::Shared(Lines::Link) => answered_over::<&LocalHeap, LinkLine<Free>>(
                 &lent,
                 shared,
                 HAND_OVER.as_bytes(),

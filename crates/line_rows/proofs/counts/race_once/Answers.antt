@@ -1,6 +1,5 @@
 use Rattle.std.proofs.Common.{ap, ◌∙◌}
 use Rattle.qolb_model.specs.PortStates.{may_ask}
-use Rattle.qolb_run.proofs.Joined.{all_at}
 use Rattle.line_rows.specs.declared.counts.Racer.{Racer}
 use Rattle.line_rows.specs.Ports.{MayAskFor}
 use Rattle.line_rows.proofs.NewPorts.{of_last, of_front}
@@ -10,11 +9,11 @@ pub returns-clause-first : goal.returns-clause-first
 returns-clause-first g c =
     let first = of_last (λ (racer : Racer g.row.L-Port.Denot). MayAskFor g.L.LineSync.belongs g.L.LineSync.view c.args.line.now racer.port) c.pop.new.self.items c.pop-2.new.self.items c.in_ok-first.first c.in_ok-first.ensures.items
     (of_front (λ (racer : Racer g.row.L-Port.Denot). MayAskFor g.L.LineSync.belongs g.L.LineSync.view c.args.line.now racer.port) c.in_ok-back.back.items c.pop.new.self.items c.in_ok-second.second c.in_ok-second.ensures.items
-    (all_at (λ (racer : Racer g.row.L-Port.Denot). MayAskFor g.L.LineSync.belongs g.L.LineSync.view c.args.line.now racer.port) c.in_ok-back.back.items c.in_ok-back.ensures.done)) in
+    c.in_ok-back.ensures.done) in
     (c.meet.ensures.belongs_a, ap may_ask c.meet.ensures.tell.meets_a.state ∙ first.1)
 
 pub returns-clause-second : goal.returns-clause-second
 returns-clause-second g c =
     let second = of_last (λ (racer : Racer g.row.L-Port.Denot). MayAskFor g.L.LineSync.belongs g.L.LineSync.view c.args.line.now racer.port) c.in_ok-back.back.items c.pop.new.self.items c.in_ok-second.second c.in_ok-second.ensures.items
-    (all_at (λ (racer : Racer g.row.L-Port.Denot). MayAskFor g.L.LineSync.belongs g.L.LineSync.view c.args.line.now racer.port) c.in_ok-back.back.items c.in_ok-back.ensures.done) in
+    c.in_ok-back.ensures.done in
     (c.meet.ensures.belongs_b, ap may_ask c.meet.ensures.tell.meets_b.state ∙ second.1)

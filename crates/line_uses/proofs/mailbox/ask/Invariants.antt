@@ -2,10 +2,10 @@ use Rattle.std.proofs.Common.{◌≡◌, ◌+◌}
 use Rattle.qolb_model.specs.declared.answer.PortState.TheVariants.{Queued}
 use Rattle.line_uses.proofs.mailbox.ask.Given as goal
 
-abbrev pub invariant-loop-look : goal.invariant-loop-look
-invariant-loop-look g l = record {
+abbrev pub invariant-loop : goal.invariant-loop
+invariant-loop g l = record {
   belongs : g.L.LineSync.belongs l.line l.port;
   state : (g.L.LineSync.view l.port).state ≡ Queued;
   count : (g.L.LineSync.view l.port).count ≡ (g.L.LineSync.view l.fn.port).count + 1;
-  looks : g.L.LineSync.looks l.port ≡ g.L.LineSync.looks l.fn.port + l._look;
+  looks : g.L.LineSync.looks l.port ≡ g.L.LineSync.looks l.fn.port + l.counter;
 }

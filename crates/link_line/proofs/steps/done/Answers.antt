@@ -15,5 +15,5 @@ pub returns-clause-on : goal.returns-clause-on
 returns-clause-on g c = λ more. let on = (c.fetch_add.ensures.2.1 _ c.requires.parcel).1 (λ z. more (c.link_of.ensures ∙ z)) in (
   on.0,
   subst (λ (k : ℕ). k ≤ MOST_NODES) (sym c.link_of.ensures) on.2,
-  subst (λ (k : ℕ). Carries (known_of c.args.seat.now) (known_of c.fetch_add.new.seat) (known_of c.args.seat.now).line (Granting k)) (sym c.link_of.ensures) on.1,
+  subst (λ (k : ℕ). Carries (known_of c.args.seat.now) (known_of c.fetch_add.new.seat) (known_of c.args.seat.now).own.line (Granting k)) (sym c.link_of.ensures) on.1,
 )

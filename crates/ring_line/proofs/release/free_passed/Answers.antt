@@ -17,7 +17,7 @@ pub free-requires : goal.free-requires
 free-requires g c =
     let next = freeing_which c.args.seat.now c.loop-node.seat c.args.nodes.now c.loop-node.node-index c.loop-node.invariant c.requires.many c.requires.nodes c.loop-node-test.true in
     record {
-      table = (c.loop-node.invariant.same.0 ∙ c.requires.table.0, c.requires.table.1);
+      table = (c.loop-node.invariant.same.0 ∙ c.requires.table.0, c.requires.table.1, c.requires.table.2);
       ready = (c.loop-node.invariant.goes_on.alone, next.0);
       high = next.1;
       next = next.2;

@@ -1,6 +1,6 @@
 use Rattle.std.proofs.Common.{◌∙◌, sym}
 use Rattle.std.proofs.lemmas.List.{length-map}
-use Rattle.qolb_run.specs.Stances.{stance_of}
+use Rattle.line_threads.specs.Stances.{stance_of}
 use Rattle.qolb_run.proofs.Forcing.{new_whole}
 use Rattle.qolb_run.proofs.by_ports.PortedLine.new.Goals as goal
 

@@ -2,7 +2,7 @@ use Rattle.std.proofs.Common.{rules, List, map, ap, sym, ◌∙◌, subst}
 use Rattle.std.proofs.lemmas.List.{with_items_is, places}
 use Rattle.qolb_model.specs.Whole.{AreWhole}
 use Rattle.qolb_script.specs.Reply.{after_command}
-use Rattle.qolb_run.specs.Stances.{stance_of}
+use Rattle.line_threads.specs.Stances.{stance_of}
 use Rattle.qolb_run.proofs.Forcing.{answers_forced}
 use Rattle.qolb_run.proofs.by_ports.PortedLineReplayLine.answer.Goals as goal
 

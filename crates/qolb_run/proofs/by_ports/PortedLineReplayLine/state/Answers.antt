@@ -1,6 +1,6 @@
 use Rattle.std.proofs.Common.{arith, ◌≡◌, ◌+◌, ◌-◌, ◌<◌, map, length, ap, ◌∙◌}
 use Rattle.std.proofs.lemmas.List.{length-map}
-use Rattle.qolb_run.specs.Stances.{stance_of}
+use Rattle.line_threads.specs.Stances.{stance_of}
 use Rattle.qolb_model.specs.Whole.{seen}
 use Rattle.qolb_run.proofs.Forcing.{state_seen}
 use Rattle.qolb_run.proofs.by_ports.PortedLineReplayLine.state.Goals as goal

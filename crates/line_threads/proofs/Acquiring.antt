@@ -1,0 +1,51 @@
+-- Waiting for a line: one request after tries that were busy.
+use Rattle.std.proofs.Common.{◌≡◌, ◌≢◌, ◌⊎◌, inl, inr, ℕ, true, List, ap, ◌∙◌}
+use Rattle.qolb_model.specs.declared.answer.Enq.{Enq}
+use Rattle.qolb_model.specs.declared.answer.Enq.TheVariants as enq
+use Rattle.qolb_model.specs.declared.answer.PortState.TheVariants.{Left, Rolled}
+use Rattle.qolb_model.specs.declared.write.Write.{Write}
+use Rattle.qolb_model.specs.declared.view.View.{View}
+use Rattle.qolb_model.specs.PortStates.{may_ask}
+use Rattle.qolb_model.specs.Views.{Extends}
+use Rattle.qolb_model.specs.Sound.{Continues}
+use Rattle.qolb_model.specs.Asking.{IsBusy}
+use Rattle.qolb_model.specs.Turns.{IsGranted}
+use Rattle.qolb_model.specs.LettingGo.{IsTold}
+use Rattle.qolb_model.specs.Calls.{Enqueues}
+use Rattle.qolb_model.proofs.Going.{continues_on, asks_goes, asks_from, joined_goes}
+use Rattle.line_threads.specs.declared.waiting.Got.{Got}
+use Rattle.line_threads.specs.declared.waiting.Got.TheVariants.{Granted, Closed}
+use Rattle.line_threads.specs.Acquiring.{Acquires}
+
+-- a port that was busy may ask again
+pub quiet_busy : (old new : View) → IsBusy old new → may_ask new.state ≡ true
+quiet_busy old new b = by b.was
+  where
+    by : (old.state ≡ Left) ⊎ (old.state ≡ Rolled) → may_ask new.state ≡ true
+    by (inl was) = ap may_ask (b.state ∙ was)
+    by (inr was) = ap may_ask (b.state ∙ was)
+
+-- granted or told at once
+pub acquired_once : (allows : List ℕ → List ℕ → Type 0) (old mid new : View) (turn : Write) (answer : Enq) (got : Got)
+    → Extends old mid → mid.count ≡ old.count → Enqueues allows mid new turn answer → answer ≢ enq.Busy
+    → (got ≡ Granted → answer ≡ enq.Granted) → (got ≡ Closed → answer ≡ enq.Closed) → Acquires allows old new turn got
+acquired_once allows old mid new turn answer got e same q asked granted closed = record {
+  continues = continues_on allows old mid new e q.continues;
+  asks = asks_from old mid new e same (q.asks asked);
+  joined = q.joined asked;
+  granted = λ is. q.granted (granted is);
+  told = λ is. q.told (closed is);
+}
+
+-- granted or told after a wait
+pub acquired_waiting : (allows : List ℕ → List ℕ → Type 0) (old mid now new : View) (first turn : Write) (got : Got)
+    → Extends old mid → mid.count ≡ old.count → Enqueues allows mid now first enq.Queued
+    → Continues allows now new → new.count ≡ now.count → (got ≡ Granted → IsGranted new turn) → (got ≡ Closed → IsTold new) → Acquires allows old new turn got
+acquired_waiting allows old mid now new first turn got e same q c count granted told =
+    let some : enq.Queued ≢ enq.Busy = λ is. cc is in record {
+      continues = continues_on allows old mid new e (continues_on allows mid now new q.continues.extends c);
+      asks = asks_from old mid new e same (asks_goes mid now new (q.asks some) c.extends count);
+      joined = joined_goes now new (q.joined some) c.extends count;
+      granted = granted;
+      told = told;
+    }

@@ -1,0 +1,4 @@
+pub mod Rounds
+pub mod Acquiring
+pub mod Places
+pub mod Joined

@@ -1,0 +1,82 @@
+-- A port that meets others in their order, one after another.
+use Rattle.std.proofs.Common.{◌≡◌, ℕ, zero, suc, ◌+◌, ◌<◌, ◌≤◌, inl, inr, List, [], ◌∷◌, ◌++◌, length, map, take, drop, get_or, set, All, Some, slice_get, refl, sym, ap, ◌∙◌, subst, arith, length-set, get_or-set_same, get_or-set_other}
+use Rattle.std.proofs.lemmas.Bool.{cases_eq}
+use Rattle.std.proofs.lemmas.List.{map-append, take_all}
+use Rattle.qolb_model.specs.declared.view.View.{View}
+use Rattle.qolb_model.specs.declared.write.Write.{Write}
+use Rattle.qolb_model.specs.Rounds.{Meet, MeetsEach, nobody, another}
+use Rattle.qolb_model.proofs.Lists.{take_with}
+use Rattle.line_threads.specs.Stances.{stance_of}
+
+pub get_of : {X : Type 0} (xs : List X) (i : ℕ) (d : X) → i < length xs → slice_get xs i ≡ Some (get_or xs i d)
+get_of [] i d lt = absurd (omega arith)
+get_of (x ∷ xs) zero d lt = refl
+get_of (x ∷ xs) (suc i) d lt = get_of xs i d (omega (arith, lt))
+
+set_take : {X : Type 0} (xs : List X) (i : ℕ) (x : X) → i < length xs → take (suc i) (set xs i x) ≡ take i xs ++ x ∷ []
+set_take [] i x lt = absurd (omega arith)
+set_take (y ∷ xs) zero x lt = refl
+set_take (y ∷ xs) (suc i) x lt = ap (λ ys. y ∷ ys) (set_take xs i x (omega (arith, lt)))
+
+set_drop : {X : Type 0} (xs : List X) (i : ℕ) (x : X) → drop (suc i) (set xs i x) ≡ drop (suc i) xs
+set_drop [] i x = refl
+set_drop (y ∷ xs) zero x = refl
+set_drop (y ∷ xs) (suc i) x = set_drop xs i x
+
+drop_one : {X : Type 0} (xs : List X) (i : ℕ) → drop (suc i) xs ≡ drop 1 (drop i xs)
+drop_one xs zero = refl
+drop_one [] (suc i) = refl
+drop_one (x ∷ xs) (suc i) = drop_one xs i
+
+get_drop : {X : Type 0} (xs : List X) (i : ℕ) → slice_get (drop i xs) 0 ≡ slice_get xs i
+get_drop xs zero = refl
+get_drop [] (suc i) = refl
+get_drop (x ∷ xs) (suc i) = get_drop xs i
+
+pub all_set : {X : Type 0} (P : X → Type 0) (xs : List X) (i : ℕ) (x : X) → All P xs → P x → All P (set xs i x)
+all_set P xs i x all is = λ k d lt.
+    let long = length-set xs i x in
+    elim (cases_eq k i) [
+      | inl e ↦ subst (λ j. P (get_or (set xs i x) j d)) (sym e) (subst P (sym (get_or-set_same xs i x d (omega arith))) is)
+      | inr ne ↦ subst P (sym (get_or-set_other xs i k x d ne)) (all k d (omega arith))
+    ]
+
+-- so far the port has met the first ones
+pub record Round {P : Type 0} (allows : List ℕ → List ℕ → Type 0) (belongs : P → Type 0) (view : P → View) (turn : P → Write) (first : P) (others : List P) (i : ℕ) (port : P) (now : List P) : Type 0 where
+  pub of_line : belongs port
+  pub all : All belongs now
+  pub many : length now ≡ length others
+  pub left : drop i now ≡ drop i others
+  pub meets : MeetsEach allows (stance_of view turn first) (map (stance_of view turn) (take i others)) (stance_of view turn port) (map (stance_of view turn) (take i now))
+
+module _ {P : Type 0} (allows : List ℕ → List ℕ → Type 0) (belongs : P → Type 0) (view : P → View) (turn : P → Write) where
+  pub round_start : (port : P) (others : List P) → belongs port → All belongs others → Round allows belongs view turn port others 0 port others
+  round_start port others of_line all = record { of_line = of_line; all = all; many = refl; left = refl; meets = nobody }
+
+  pub round_step : (first : P) (others : List P) (i : ℕ) (port : P) (now : List P) (d port_then other_then : P) → Round allows belongs view turn first others i port now → i < length now
+      → belongs port_then → belongs other_then → Meet allows (stance_of view turn port) (stance_of view turn (get_or now i d)) (stance_of view turn port_then) (stance_of view turn other_then)
+      → Round allows belongs view turn first others (i + 1) port_then (set now i other_then)
+  round_step first others i port now d port_then other_then r lt of_port of_other meet =
+      let other : P = get_or now i d in
+      let next : suc i ≡ i + 1 = omega arith in
+      let here : slice_get now i ≡ Some other = get_of now i d lt in
+      let there : slice_get others i ≡ Some other = sym (get_drop others i) ∙ (ap (λ xs. slice_get xs 0) (sym r.left) ∙ (get_drop now i ∙ here)) in
+      record {
+        of_line = of_port;
+        all = all_set belongs now i other_then r.all of_other;
+        many = length-set now i other_then ∙ r.many;
+        left = subst (λ n. drop n (set now i other_then) ≡ drop n others) next (set_drop now i other_then ∙ (drop_one now i ∙ (ap (drop 1) r.left ∙ sym (drop_one others i))));
+        meets = subst (λ n. MeetsEach allows (stance_of view turn first) (map (stance_of view turn) (take n others)) (stance_of view turn port_then) (map (stance_of view turn) (take n (set now i other_then)))) next
+            (subst (λ xs. MeetsEach allows (stance_of view turn first) xs (stance_of view turn port_then) (map (stance_of view turn) (take (suc i) (set now i other_then))))
+            (sym (ap (map (stance_of view turn)) (take_with others i other there) ∙ map-append (stance_of view turn) (take i others) (other ∷ [])))
+            (subst (λ ys. MeetsEach allows (stance_of view turn first) (map (stance_of view turn) (take i others) ++ stance_of view turn other ∷ []) (stance_of view turn port_then) ys)
+            (sym (ap (map (stance_of view turn)) (set_take now i other_then lt) ∙ map-append (stance_of view turn) (take i now) (other_then ∷ [])))
+            (another (stance_of view turn (get_or now i d)) (stance_of view turn port_then) (stance_of view turn other_then) r.meets meet)));
+      }
+
+  pub round_end : (first : P) (others : List P) (i : ℕ) (port : P) (now : List P) → Round allows belongs view turn first others i port now → length now ≤ i
+      → MeetsEach allows (stance_of view turn first) (map (stance_of view turn) others) (stance_of view turn port) (map (stance_of view turn) now)
+  round_end first others i port now r le =
+      let e = r.many in
+      subst (λ xs. MeetsEach allows (stance_of view turn first) (map (stance_of view turn) xs) (stance_of view turn port) (map (stance_of view turn) now)) (take_all i others (omega arith))
+      (subst (λ xs. MeetsEach allows (stance_of view turn first) (map (stance_of view turn) (take i others)) (stance_of view turn port) (map (stance_of view turn) xs)) (take_all i now le) r.meets)

@@ -1,0 +1,28 @@
+-- Waiting for a line: what holds once the wait has ended. (Of this project.)
+use Rattle.std.specs.Prelude.{◌≡◌, ℕ, ◌+◌, ◌<◌, List, length}
+use Rattle.qolb_model.specs.declared.write.Write.{Write}
+use Rattle.qolb_model.specs.declared.view.View.{View}
+use Rattle.qolb_model.specs.Views.{Extends}
+use Rattle.qolb_model.specs.Sound.{Continues}
+use Rattle.qolb_model.specs.Asking.{Asks, IsJoined}
+use Rattle.qolb_model.specs.Turns.{IsGranted}
+use Rattle.qolb_model.specs.LettingGo.{IsTold}
+use Rattle.line_threads.specs.declared.waiting.Got.{Got}
+use Rattle.line_threads.specs.declared.waiting.Got.TheVariants.{Granted, Closed}
+
+-- The turn came soon: once the port had asked, and before it looked, fewer requests ended than the line has nodes until it had the line;
+-- so at most one turn of each other node came before its own.
+pub record ComesSoon {Port : Type 0} (view : Port → View) (looks : Port → ℕ) (old new : Port) : Type 0 where
+  pub asked : Port
+  pub unlooked : looks asked ≡ looks old
+  pub asks : Asks (view old) (view asked)
+  pub goes_on : Extends (view asked) (view new)
+  pub few : length (view new).ends < length (view asked).ends + (view asked).terms.nodes
+
+-- the port made one request, which was granted, or told that the line is closed
+pub record Acquires (allows : List ℕ → List ℕ → Type 0) (old new : View) (turn : Write) (got : Got) : Type 0 where
+  pub continues : Continues allows old new
+  pub asks : Asks old new
+  pub joined : IsJoined new
+  pub granted : got ≡ Granted → IsGranted new turn
+  pub told : got ≡ Closed → IsTold new

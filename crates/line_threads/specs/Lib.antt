@@ -1,0 +1,4 @@
+pub mod Acquiring
+pub mod Places
+pub mod Stances
+pub mod Meetings

@@ -1,0 +1,27 @@
+//! Gates: what says when a worker may go on.
+ghost use Rattle.std.specs.Prelude.{◌≡◌, true};
+
+/// How often a gate may refuse a worker before one job, until the worker gives up.
+pub const MOST_REFUSALS: u32 = 1_000_000;
+
+/// Says when a worker may do its next job.
+pub trait Gate {
+    /// The workers are about to begin, with so many jobs in all. A gate that does not count does nothing.
+    fn begins(&self, _jobs: usize) {}
+
+    /// Whether the worker may do its job number `at`, counted from 0. After its last job it asks once more, with the number of its jobs,
+    /// and does not look at the answer.
+    fn may(&self, worker: u64, at: u64) -> bool;
+}
+
+/// The gate that is always open.
+#[derive(Clone, Copy, Debug)]
+pub struct AlwaysOpen;
+
+impl Gate for AlwaysOpen {
+    fn may(&self, _worker: u64, _at: u64) -> bool
+        ensures { result ≡ true }
+    {
+        true
+    }
+}

@@ -1,0 +1,61 @@
+-- How a node stands in the list, by what its port shows.
+use Rattle.std.specs.Prelude.{◌≡◌, ℕ, ◌+◌, ◌-◌, ◌*◌, ◌≤◌, []}
+use Rattle.qolb_model.specs.declared.answer.PortState.{PortState}
+use Rattle.qolb_model.specs.declared.answer.PortState.TheVariants as shows
+use Rattle.qolb_model.specs.declared.answer.Enq.{Enq}
+use Rattle.qolb_model.specs.declared.answer.Enq.TheVariants as enq
+use Rattle.qolb_model.specs.declared.terms.TheConstants.{MOST_NODES}
+use Rattle.qolb_model.specs.declared.view.View.{View}
+use Rattle.link_core.specs.declared.point.Point.TheVariants.{Idle, Linking, Queued, Holding, Leaving, Left, Rolled, Shut}
+use Rattle.link_core.specs.State.{unused}
+use Rattle.shared_line.specs.declared.rule.Parcel.{Parcel}
+use Rattle.link_line.specs.declared.own.LinkOwn.{LinkOwn}
+use Rattle.link_line.specs.Known.{no_line}
+
+-- a new node
+abbrev pub fresh : LinkOwn
+fresh = record { seat = unused; passed = []; line = no_line }
+
+-- where a node is whose port shows this state and does not hold; a linking one has the number of the node before for its mark
+abbrev pub rests : PortState → ℕ → LinkOwn → Type 0
+rests shows.Idle mark own = own.seat.point ≡ Idle
+rests shows.Linking mark own = (own.seat.point ≡ Linking mark) × (mark ≤ MOST_NODES)
+rests shows.Queued mark own = own.seat.point ≡ Queued
+rests shows.Holding mark own = ⊥
+rests shows.Left mark own = own.seat.point ≡ Left
+rests shows.Rolled mark own = own.seat.point ≡ Rolled
+rests shows.Shut mark own = own.seat.point ≡ Shut
+
+-- a node that holds the open line
+abbrev pub holding : ℕ → ℕ → LinkOwn → Type 0
+holding mark ended own = (own.seat.point ≡ Holding) × (own.passed ≡ [])
+
+-- a node to which this closed line came is in a release of it at once
+abbrev pub refused : ℕ → View → LinkOwn → Parcel → Type 0
+refused mark view own y = (own.seat.point ≡ Leaving view.node) × (own.line ≡ y) × (own.passed ≡ [])
+
+-- each state may be shown
+abbrev pub may_show : PortState → Type 0
+may_show state = Unit {0}
+
+-- how many word steps a node takes to make a request, by its port's state
+abbrev pub steps_to_ask : PortState → ℕ
+steps_to_ask shows.Left = 3
+steps_to_ask shows.Rolled = 3
+steps_to_ask _ = 2
+
+-- how many it takes to ask: a request that waits has been linked, by one step more
+abbrev pub asks_in : PortState → Enq → ℕ → Type 0
+asks_in state enq.Busy steps = steps ≡ 1
+asks_in state enq.Queued steps = steps ≡ steps_to_ask state + 1
+asks_in state enq.Granted steps = steps ≤ steps_to_ask state + 1
+asks_in state enq.Closed steps = Unit {0}
+
+-- A release that put after - before ends took four word steps for each, less one to three: home, done, grant and freed for each
+-- withdrawn request that it passed, and for the last end home; or home and done; or home, done and grant.
+abbrev pub lets_go_in : ℕ → ℕ → ℕ → Type 0
+lets_go_in before after steps = (4 * after ≤ 4 * before + steps + 3) × (steps + 1 + 4 * before ≤ 4 * after)
+
+-- a look and the release of a closed line that it finds
+abbrev pub most : ℕ → ℕ
+most nodes = 4 * nodes - 2

@@ -1,0 +1,94 @@
+//! How a request is made.
+ghost use Rattle.std.specs.Prelude.{◌≡◌, ◌≢◌, ℕ, ◌+◌, ◌≤◌, IsTrue, true};
+ghost use Rattle.qolb_model.specs.Asking.{IsBusy, Asks, IsJoined};
+ghost use Rattle.qolb_model.specs.PortStates as states;
+ghost use Rattle.shared_line.specs.declared.rule.Parcel.{Parcel};
+ghost use Rattle.shared_line.specs.Steps.{SameSeat, HasSlot, HasNoSlot};
+ghost use Rattle.link_line.specs.Stances.{steps_to_ask};
+ghost use Rattle.link_line.specs.Steps.{IsSeatOf, IsOwnNode, Alone, known_of, GoesOn, Rests, Comes, LinksTo};
+ghost use Rattle.link_line.specs.Releases.{IsRenewed, steps_to_renew, rest_of};
+
+use crate::rule::{Ground, LinkSeat};
+use crate::steps::{look_left, look_rolled, prepend, reset};
+use qolb_model::{Keep, PortState};
+use shared_line::{Asked, Requested};
+
+/// Makes a request, unless the node's last one is not clear. Behind another it is still to be linked to that one, whose node is the mark.
+#[inline]
+pub(crate) fn request<K: Keep>(
+    ground: &Ground<K>,
+    seat: &mut LinkSeat,
+    node: u64,
+    state: PortState,
+) -> Requested
+    requires table { IsSeatOf ground.now.table_id seat.old }
+    requires rests { (mark : ℕ) × Rests state mark seat.old }
+    requires may_ask { IsTrue (states.may_ask state) }
+    requires own { IsOwnNode node seat.old }
+    ensures same { SameSeat seat.old seat.new }
+    ensures goes_on { GoesOn K.allows seat.old.me seat.new.me result.steps }
+    ensures stays { result.answer ≡ Asked.Busy → (mark : ℕ) → Rests state mark seat.old → Rests state mark seat.new }
+    ensures busy { result.answer ≡ Asked.Busy → IsBusy (known_of seat.old).view (known_of seat.new).view }
+    ensures asks { result.answer ≢ Asked.Busy → Asks (known_of seat.old).view (known_of seat.new).view }
+    ensures joined { result.answer ≡ Asked.Came → IsJoined (known_of seat.new).view }
+    ensures links { result.answer ≡ Asked.Behind → HasNoSlot seat.new × LinksTo result.mark (known_of seat.new) }
+    ensures comes { result.answer ≡ Asked.Came → (y : Parcel) × HasSlot seat.new y × Comes (known_of seat.new) y }
+    ensures counted_busy { result.answer ≡ Asked.Busy → result.steps ≡ 1 }
+    ensures counted { result.answer ≢ Asked.Busy → result.steps ≡ steps_to_ask state }
+{
+    let Some(renewing) = renew(ground, seat, node, state) else {
+        return Requested {
+            answer: Asked::Busy,
+            mark: 0,
+            steps: 1,
+        };
+    };
+    let older = prepend(ground, seat, node);
+    let answer = if older == 0 {
+        Asked::Came
+    } else {
+        Asked::Behind
+    };
+    Requested {
+        answer,
+        mark: older,
+        steps: renewing + 1,
+    }
+}
+
+/// Makes a node ready to ask, and returns how many word steps that took. A last request that is not clear keeps it from asking: then
+/// `None`, after one step.
+#[inline]
+pub(crate) fn renew<K: Keep>(
+    ground: &Ground<K>,
+    seat: &mut LinkSeat,
+    node: u64,
+    state: PortState,
+) -> Option<u64>
+    requires table { IsSeatOf ground.now.table_id seat.old }
+    requires alone { Alone seat.old.me }
+    requires point { (known_of seat.old).own.seat.point ≡ rest_of state }
+    requires may_ask { states.may_ask state ≡ true }
+    requires own { IsOwnNode node seat.old }
+    ensures same { SameSeat seat.old seat.new }
+    ensures slot { seat.new.me.1 ≡ seat.old.me.1 }
+    ensures goes_on { GoesOn K.allows seat.old.me seat.new.me (steps_to_renew result) }
+    ensures renewed { IsRenewed state (known_of seat.old) (known_of seat.new) result }
+{
+    // By comparisons, rarest last: as a `match` on all states this is a table of jumps, which each round would go through.
+    let looks = if state == PortState::Left {
+        if !look_left(ground, seat, node) {
+            return None;
+        }
+        1
+    } else if state == PortState::Rolled {
+        if !look_rolled(ground, seat, node) {
+            return None;
+        }
+        1
+    } else {
+        0
+    };
+    reset(ground, seat, node);
+    Some(looks + 1)
+}

@@ -1,0 +1,91 @@
+//! A list as a queue discipline.
+ghost use Rattle.link_line.specs.Stances.{steps_to_ask};
+ghost use Rattle.link_line.specs.Words as layout;
+ghost use Rattle.link_line.specs.Laws.Lasting as lasting;
+ghost use Rattle.link_line.specs.Laws.Meets as meeting;
+ghost use Rattle.link_line.specs.Laws.Seats as seats;
+
+use crate::asking::request;
+use crate::release::release;
+use crate::rule::{Ground, LinkSeat, Links};
+use crate::steps::{link, load, roll};
+use crate::words::WORDS;
+use qolb_model::{Keep, PortState};
+use shared_line::{Asked, Discipline, Linked, Released, Requested};
+use std::alloc::{AllocError, Global};
+
+impl<K: Keep> Discipline<K> for Links {
+    ghost word_count = { layout.word_count };
+
+    ghost are_first = { layout.AreBlank };
+
+    fn first_words(alloc: Global) -> Result<Vec<u64>, AllocError> {
+        vec![in alloc; 0u64; WORDS]
+    }
+
+    /// Makes a request, and links it to the one before.
+    #[inline]
+    fn ask(ground: &Ground<K>, seat: &mut LinkSeat, node: u64, state: PortState) -> Requested {
+        let made = request(ground, seat, node, state);
+        if made.answer != Asked::Behind {
+            return made;
+        }
+        let came = link(ground, seat, node, made.mark);
+        Requested {
+            answer: if came { Asked::Came } else { Asked::Behind },
+            mark: made.mark,
+            steps: made.steps + 1,
+        }
+    }
+
+    #[inline]
+    fn look(ground: &Ground<K>, seat: &mut LinkSeat, node: u64, _mark: u64) -> bool {
+        load(ground, seat, node)
+    }
+
+    #[inline]
+    fn roll(ground: &Ground<K>, seat: &mut LinkSeat, node: u64, _mark: u64) -> bool {
+        roll(ground, seat, node)
+    }
+
+    #[inline]
+    fn release(
+        ground: &Ground<K>,
+        seat: &mut LinkSeat,
+        node: u64,
+        _mark: u64,
+        closed: bool,
+    ) -> Released {
+        release(ground, seat, node, closed)
+    }
+
+    ghost cuts = { seats.cuts K.good K.allows };
+
+    ghost blanks = { seats.blanks K.good K.allows };
+
+    ghost joins = { seats.joins K.good K.allows };
+
+    ghost one_slot = { seats.one_slot K.good K.allows };
+
+    ghost starts = { seats.starts K.good K.allows };
+
+    ghost meets = { meeting.meets_next K.good K.allows };
+
+    ghost parks = { meeting.parks_next K.good K.allows };
+
+    ghost finishes = { lasting.lasts K.good K.allows K.stays_good };
+}
+
+impl<K: Keep> Linked<K> for Links {
+    ghost prepends_in = { steps_to_ask };
+
+    #[inline]
+    fn prepend(ground: &Ground<K>, seat: &mut LinkSeat, node: u64, state: PortState) -> Requested {
+        request(ground, seat, node, state)
+    }
+
+    #[inline]
+    fn link(ground: &Ground<K>, seat: &mut LinkSeat, node: u64, mark: u64) -> bool {
+        link(ground, seat, node, mark)
+    }
+}

@@ -1,0 +1,127 @@
+-- A line that comes to its turn, and one that is let go.
+use Rattle.std.proofs.Common.{◌≡◌, ℕ, ◌+◌, ◌≤◌, Bool, true, false, ◌||◌, length, List, [], ◌∷◌, ◌++◌, sym, refl, ap, ◌∙◌, subst, Some, arith, replicate, bit_or}
+use Rattle.std.proofs.Math.Bool.{or-false}
+use Rattle.std.proofs.lemmas.Option.{slice_get_within}
+use Rattle.line_lanes.specs.Line.{merged}
+use Rattle.line_lanes.proofs.Masked.{merged-twice}
+use Rattle.line_lanes.proofs.Masked.{merged-none}
+use Rattle.qolb_model.specs.declared.end.End.TheVariants.{Served, Gone, Told}
+use Rattle.qolb_model.specs.declared.view.View.{View}
+use Rattle.qolb_model.specs.declared.write.Write.{Write}
+use Rattle.qolb_model.specs.Ends.{is_closed, bytes_after, written, MayEnd}
+use Rattle.qolb_model.specs.PortStates.{left_by}
+use Rattle.qolb_model.specs.Leases.{turns_left, is_last_turn, closes}
+use Rattle.qolb_model.specs.Steps.{one_fewer}
+use Rattle.qolb_model.proofs.Leases.{turns_left-served, turns_left-same, last_closes}
+use Rattle.qolb_model.specs.Views.{own, bytes_of, Extends}
+use Rattle.qolb_model.specs.Kept.{AreAllowed, MayRelease}
+use Rattle.qolb_model.specs.Turns.{IsClearBefore}
+use Rattle.qolb_model.specs.LettingGo.{LetsGo, EndsTurn, IsTold}
+use Rattle.qolb_model.proofs.Lists.{element_at, same_some}
+use Rattle.qolb_model.proofs.Prefixes.{prefix_get}
+use Rattle.qolb_model.proofs.Histories.{bytes_after-append, is_closed-append}
+use Rattle.qolb_model.proofs.Requests.{has_prefix}
+use Rattle.shared_line.specs.declared.rule.Entry.{Entry}
+use Rattle.shared_line.specs.declared.rule.Parcel.{Parcel}
+use Rattle.shared_line.specs.Entries.{LineSeat}
+use Rattle.shared_line.specs.Steps.{entry_of, sole, write_of, own_end, Carries, Comes, HasSlot}
+use Rattle.shared_line.specs.Ports.{IsMerged, Holds, IsHeld, IsPutBack}
+
+-- the line that a holder puts back and lets go is the one after its turn
+pub carries_served : (allows : List ℕ → List ℕ → Type 0) (v : View) (turn y : Parcel) (shut : Bool) → is_closed v.ends ≡ false → turn.turns_left ≡ turns_left v.terms.lease v.ends → IsMerged v turn → MayRelease allows v (write_of turn)
+    → IsPutBack turn (closes v.terms.lease v.ends shut) y → Carries allows v y
+carries_served allows v turn y shut unclosed left merged may back =
+    let end : own_end (is_closed v.ends) y ≡ Served (write_of y) y.closed = ap (λ b. own_end b y) unclosed in
+    let same : write_of y ≡ write_of turn = (λ i. record { mask = back.mask i; bytes = back.bytes i }) in
+    let mine : IsMerged v y = subst (λ (z : Write). written (bytes_of v) z ≡ z.bytes.bytes) (sym same) merged in
+    let allowed : MayRelease allows v (write_of y) = subst (MayRelease allows v) (sym same) may in
+    record {
+      bytes = ap (λ e. bytes_after v.terms.opening.bytes (v.ends ++ e ∷ [])) end ∙ (bytes_after-append v.terms.opening.bytes v.ends (Served (write_of y) y.closed ∷ []) ∙ mine);
+      closed = ap (λ e. is_closed (v.ends ++ e ∷ [])) end ∙ (is_closed-append v.ends (Served (write_of y) y.closed ∷ []) ∙ (ap (λ b. b || (y.closed || false)) unclosed ∙ or-false y.closed));
+      turns = ap (λ e. turns_left v.terms.lease (v.ends ++ e ∷ [])) end ∙ (turns_left-served v.terms.lease v.ends (write_of y) y.closed ∙ (ap one_fewer (sym left) ∙ sym back.turns));
+      may_end = subst (MayEnd (is_closed v.ends) (is_last_turn v.terms.lease v.ends)) (sym end) (unclosed, λ last. back.closed_is ∙ last_closes v.terms.lease v.ends shut last);
+      allowed = subst (λ e. AreAllowed allows (bytes_of v) (e ∷ [])) (sym end) (subst (allows (bytes_of v)) (sym mine) allowed, tt);
+    }
+
+-- a closed line that came is let go as it is
+pub carries_told : {O : Type 0} {holding : ℕ → ℕ → O → Type 0} {refused : ℕ → View → O → Parcel → Type 0} {mark : ℕ} (allows : List ℕ → List ℕ → Type 0) (w : Entry O) (y : Parcel) → Comes holding refused mark w y → y.closed ≡ true → Carries allows w.view y
+carries_told allows w y c closed =
+    let end : own_end (is_closed w.view.ends) y ≡ Told = ap (λ b. own_end b y) (sym c.closed ∙ closed) in
+    record {
+      bytes = ap (λ e. bytes_after w.view.terms.opening.bytes (w.view.ends ++ e ∷ [])) end ∙ (bytes_after-append w.view.terms.opening.bytes w.view.ends (Told ∷ []) ∙ sym c.bytes);
+      closed = ap (λ e. is_closed (w.view.ends ++ e ∷ [])) end ∙ (is_closed-append w.view.ends (Told ∷ []) ∙ (or-false (is_closed w.view.ends) ∙ sym c.closed));
+      turns = ap (λ e. turns_left w.view.terms.lease (w.view.ends ++ e ∷ [])) end ∙ (turns_left-same w.view.terms.lease w.view.ends (Told ∷ []) refl ∙ sym c.turns);
+      may_end = subst (MayEnd (is_closed w.view.ends) (is_last_turn w.view.terms.lease w.view.ends)) (sym end) (sym c.closed ∙ closed);
+      allowed = subst (λ e. AreAllowed allows (bytes_of w.view) (e ∷ [])) (sym end) tt;
+    }
+
+-- what was clear before a place is so later
+clear_goes : (v w : View) (place : ℕ) → place ≤ length v.order → place ≤ length v.ends → Extends v w → IsClearBefore v place → IsClearBefore w place
+clear_goes v w place low ended more c = λ p r e next at end kept.
+    let made = element_at v.order p (omega (arith, next, low)) in
+    let was = element_at v.ends p (omega (arith, next, ended)) in
+    let same : made.0 ≡ r = same_some (sym (prefix_get v.order w.order p made.0 more.order made.1) ∙ at) in
+    let same_end : was.0 ≡ e = same_some (sym (prefix_get v.ends w.ends p was.0 more.ends was.1) ∙ end) in
+    has_prefix v.clear w.clear r more.clear (c p r e next (made.1 ∙ ap Some same) (was.1 ∙ ap Some same_end) kept)
+
+-- and its port was told
+pub told_by : {O : Type 0} {holding : ℕ → ℕ → O → Type 0} {refused : ℕ → View → O → Parcel → Type 0} {mark : ℕ} (w t : Entry O) (y : Parcel) → Comes holding refused mark w y → y.closed ≡ true → Extends w.view t.view → EndsTurn w.view (own_end (is_closed w.view.ends) y) (left_by y.closed) t.view → IsTold t.view
+told_by w t y c closed more l =
+    let is : is_closed w.view.ends ≡ true = sym c.closed ∙ closed in
+    record {
+      before = w.view.ends;
+      passed = l.passed;
+      ends = l.ends ∙ ap (λ b. w.view.ends ++ own_end b y ∷ replicate l.passed Gone) is;
+      at_turn = l.at_turn;
+      closed = is;
+      lets_go = subst (λ b. LetsGo (length w.view.ends + 1) (left_by b) t.view) closed l.lets_go;
+      clear_before = clear_goes w.view t.view (length w.view.ends) (omega (arith, slice_get_within w.view.order (length w.view.ends) (own w.view) c.turn)) (omega arith) more c.clear;
+    }
+
+-- an open line that came is in the port's hand, and not written yet
+merged_fresh : (base : List ℕ) (z : Parcel) → length z.bytes.bytes ≡ 64 → z.mask.0 ≡ 0 → z.bytes.bytes ≡ base → written base (write_of z) ≡ z.bytes.bytes
+merged_fresh base z line mask is = ap (λ m. merged base z.bytes.bytes m) mask ∙ merged-none base z.bytes.bytes (ap length (sym is) ∙ line) ∙ sym is
+
+pub arrives : {O : Type 0} (fresh : O) (holding : ℕ → ℕ → O → Type 0) (refused : ℕ → View → O → Parcel → Type 0) (mark : ℕ) (s t : LineSeat O) (y z : Parcel) → Comes holding refused mark (entry_of fresh s) y → HasSlot s y → t.me ≡ s.me → (z.bytes ≡ y.bytes) × (z.turns_left ≡ y.turns_left) × (z.closed ≡ y.closed) → z.mask.0 ≡ 0 → z.closed ≡ false
+    → IsHeld fresh holding t z mark
+arrives fresh holding refused mark s t y z c slot same copied mask unclosed =
+    let entry : entry_of fresh s ≡ entry_of fresh t = ap (λ m. sole fresh m.0) (sym same) in
+    let here : Comes holding refused mark (entry_of fresh t) y = subst (λ e. Comes holding refused mark e y) entry c in
+    let base : z.bytes.bytes ≡ bytes_of (entry_of fresh t).view = ap (λ l. l.bytes) copied.0 ∙ here.bytes in
+    let unshut : is_closed (entry_of fresh t).view.ends ≡ false = sym here.closed ∙ (sym copied.2 ∙ unclosed) in (
+      record {
+        at = here.has.holds unshut;
+        slot = y;
+        carried = ap (λ m. m.1) same ∙ slot;
+        merged = merged_fresh (bytes_of (entry_of fresh t).view) z (ap (λ l. length l.bytes) copied.0 ∙ here.line) mask base;
+        is_open = unshut;
+        slot_open = sym copied.2 ∙ unclosed;
+        slot_turns = sym copied.1;
+        turns = copied.1 ∙ here.turns;
+        some_left = λ none. here.some_left unshut (sym copied.1 ∙ none);
+      },
+      here.state,
+      record {
+        state = here.state;
+        at_turn = here.turn;
+        unmarked = here.unmarked;
+        is_open = unshut;
+        no_mask = mask;
+        bytes = base;
+        clear_before = here.clear;
+      },
+    )
+
+-- the holder writes
+pub holds_written : {O : Type 0} (fresh : O) (holding : ℕ → ℕ → O → Type 0) (s : LineSeat O) (y z : Parcel) (mark mask : ℕ) (bytes : List ℕ) → Holds fresh holding s y mark → z.bytes.bytes ≡ merged y.bytes.bytes bytes mask → z.mask.0 ≡ bit_or y.mask.0 mask → z.turns_left ≡ y.turns_left → Holds fresh holding s z mark
+holds_written fresh holding s y z mark mask bytes h b k c = record {
+  at = h.at;
+  slot = h.slot;
+  carried = h.carried;
+  merged = (λ i. merged (bytes_of (entry_of fresh s).view) (b i) (k i)) ∙ merged-twice (bytes_of (entry_of fresh s).view) y.bytes.bytes bytes y.mask.0 mask h.merged ∙ sym b;
+  is_open = h.is_open;
+  slot_open = h.slot_open;
+  slot_turns = h.slot_turns ∙ sym c;
+  turns = c ∙ h.turns;
+  some_left = λ none. h.some_left (sym c ∙ none);
+}

@@ -1,0 +1,6 @@
+mod Turning
+mod Letting
+mod Calling
+mod Arrived
+mod Splitting
+mod Finishing

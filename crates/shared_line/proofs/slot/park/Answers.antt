@@ -1,0 +1,6 @@
+use Rattle.std.proofs.Common.{rules, arith}
+use Rattle.shared_line.specs.Steps.{entry_of}
+use Rattle.shared_line.proofs.slot.park.Goals as goal
+
+pub load-requires : goal.load-requires
+load-requires g c = let r = c.requires.ready in let y = c.requires.slot in (search rules, omega arith, g.met.Q.Discipline.parks c.args.ground.now.key _ _ _ c.args.seat.now.me (entry_of g.Q.Shape.fresh c.args.seat.now) y.0 r.0 r.1 y.1)

@@ -1,0 +1,5 @@
+pub mod Entries
+pub mod Steps
+pub mod Ports
+pub mod Finish
+pub mod Arrivals

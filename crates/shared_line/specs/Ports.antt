@@ -1,0 +1,97 @@
+-- What a port knows and holds.
+use Rattle.std.specs.Prelude.{◌≡◌, ◌≢◌, ℕ, ◌+◌, ◌-◌, length, slice_get, Bool, false, List, [], Some}
+use Rattle.std.specs.List.{All}
+use Rattle.atomic_table.specs.Seated.{TableId}
+use Rattle.qolb_model.specs.declared.answer.PortState.{PortState}
+use Rattle.qolb_model.specs.declared.answer.PortState.TheVariants as shows
+use Rattle.qolb_model.specs.declared.terms.Terms.{Terms}
+use Rattle.qolb_model.specs.declared.view.View.{View}
+use Rattle.qolb_model.specs.declared.write.Write.{Write}
+use Rattle.qolb_model.specs.Ends.{is_closed, written}
+use Rattle.qolb_model.specs.Views.{bytes_of}
+use Rattle.qolb_model.specs.Sound.{IsSound}
+use Rattle.qolb_model.specs.Leases.{turns_left}
+use Rattle.qolb_model.specs.Steps.{one_fewer}
+use Rattle.qolb_model.specs.Opening.{new_view, Opens}
+use Rattle.qolb_model.specs.Turns.{IsGranted}
+use Rattle.qolb_model.specs.LettingGo.{IsTold}
+use Rattle.shared_line.specs.declared.rule.Parcel.{Parcel}
+use Rattle.shared_line.specs.declared.rule.Setup.{Setup}
+use Rattle.shared_line.specs.Entries.{LineSeat, newcomers_from}
+use Rattle.shared_line.specs.Steps.{Alone, entry_of, HasSlot, HasNoSlot, write_of, Rests}
+
+-- a port as contracts see it: its table, what it knows, the line's bytes where it holds it with the mask of the turn's writes,
+-- how many word steps its last call took, how many it has taken in all its calls, and how often it was polled
+pub record Standing : Type 0 where
+  pub table : TableId
+  pub view : View
+  pub turn : Write
+  pub steps : ℕ
+  pub taken : ℕ
+  pub looks : ℕ
+
+abbrev pub standing : {O : Type 0} → O → LineSeat O → Parcel → ℕ → ℕ → Standing
+standing fresh s y steps looks = record { table = s.table_id; view = (entry_of fresh s).view; turn = write_of y; steps = steps; taken = (entry_of fresh s).steps; looks = looks }
+
+-- the turn's bytes are those of the earlier ends, changed under the mask
+abbrev pub IsMerged : View → Parcel → Type 0
+IsMerged v y = written (bytes_of v) (write_of y) ≡ y.bytes.bytes
+
+-- the port has the slot, and its own copy of the open line, which it may have written
+pub record Holds {O : Type 0} (fresh : O) (holding : ℕ → ℕ → O → Type 0) (s : LineSeat O) (y : Parcel) (mark : ℕ) : Type 0 where
+  pub at : holding mark (length (entry_of fresh s).view.ends) (entry_of fresh s).own
+  pub slot : Parcel
+  pub carried : HasSlot s slot
+  pub merged : IsMerged (entry_of fresh s).view y
+  pub is_open : is_closed (entry_of fresh s).view.ends ≡ false
+  pub slot_open : slot.closed ≡ false
+  pub slot_turns : slot.turns_left ≡ y.turns_left
+  pub turns : y.turns_left ≡ turns_left (entry_of fresh s).view.terms.lease (entry_of fresh s).view.ends
+  pub some_left : y.turns_left ≢ Some 0
+
+pub record IsPort {O : Type 0} (fresh : O) (rests : PortState → ℕ → O → Type 0) (holding : ℕ → ℕ → O → Type 0) (label node : ℕ) (s : LineSeat O) (y : Parcel) (mark : ℕ) (state : PortState) : Type 0 where
+  pub alone : Alone fresh s.me
+  pub rests_so : state ≢ shows.Holding → rests state mark (entry_of fresh s).own × HasNoSlot s
+  pub holds_so : state ≡ shows.Holding → Holds fresh holding s y mark
+  pub shows_state : (entry_of fresh s).view.state ≡ state
+  pub label_is : (entry_of fresh s).view.label ≡ label
+  pub node_is : (entry_of fresh s).view.node ≡ node
+
+-- the line has arrived: it is in the port's hand, open and not written, at no further step
+abbrev pub IsHeld : {O : Type 0} → O → (ℕ → ℕ → O → Type 0) → LineSeat O → Parcel → ℕ → Type 0
+IsHeld fresh holding s y mark = Holds fresh holding s y mark × ((entry_of fresh s).view.state ≡ shows.Holding) × IsGranted (entry_of fresh s).view (write_of y)
+
+-- or, closed, it was passed on, and has left the port in this state
+abbrev pub IsPassedOn : {O : Type 0} → O → (PortState → ℕ → O → Type 0) → LineSeat O → PortState → Type 0
+IsPassedOn fresh rests s state = ((mark : ℕ) → Rests fresh rests state mark s) × IsTold (entry_of fresh s).view
+
+-- the slot after a turn: the holder's bytes and mask; one turn fewer is left; and whether the turn closed it
+pub record IsPutBack (turn : Parcel) (closed : Bool) (y : Parcel) : Type 0 where
+  pub bytes : y.bytes ≡ turn.bytes
+  pub mask : y.mask ≡ turn.mask
+  pub turns : y.turns_left ≡ one_fewer turn.turns_left
+  pub closed_is : y.closed ≡ closed
+
+-- the port was opened with the line of this table
+pub record BelongsTo (good : List ℕ → Type 0) (allows : List ℕ → List ℕ → Type 0) (key : Setup) (table_id : TableId) (p : Standing) : Type 0 where
+  pub table_is : p.table ≡ table_id
+  pub sound : IsSound good allows key.label key.terms p.view
+
+-- the ports of the first n nodes, which never asked
+pub record AreSplit (table_id : TableId) (about : Setup) (n : ℕ) (ports : List Standing) : Type 0 where
+  pub many : length ports ≡ n
+  pub each : (k : ℕ) (p : Standing) → slice_get ports k ≡ Some p → (p.table ≡ table_id) × (p.view ≡ new_view about.label about.terms (k + 1)) × (p.steps ≡ 0) × (p.taken ≡ 0) × (p.looks ≡ 0)
+
+-- the ports of the first n nodes are there, and the seat `rest` has the others' entries
+pub record HasSplit {O : Type 0} (fresh : O) (table_id : TableId) (about : Setup) (n : ℕ) (rest : LineSeat O) (ports : List Standing) : Type 0 where
+  pub table : rest.table_id ≡ table_id
+  pub me : rest.me ≡ (newcomers_from fresh about n (about.terms.nodes - n), [])
+  pub new_ports : AreSplit table_id about n ports
+
+-- none of these ports has taken a step, or was polled
+abbrev pub AreUnused : List Standing → Type 0
+AreUnused ports = All (λ (p : Standing). (p.steps ≡ 0) × (p.taken ≡ 0) × (p.looks ≡ 0)) ports
+
+-- what an opened line gives
+abbrev pub IsOpened : (good : List ℕ → Type 0) (allows : List ℕ → List ℕ → Type 0) → Setup → TableId → ℕ → Terms → List Standing → Type 0
+IsOpened good allows key table_id label terms ports = Opens (λ (p : Standing). p.view) (BelongsTo good allows key table_id) key.label key.terms label terms ports

@@ -1,0 +1,21 @@
+//! A queued line over atomic words, whatever its queue: what all locks share.
+#![tactic(auto)]
+
+mod arriving;
+mod calls;
+mod finish;
+mod line;
+mod linking;
+mod meeting;
+mod open;
+mod plays;
+mod port;
+mod queue;
+mod rule;
+mod slot;
+mod sync;
+
+pub use line::{Line, Width};
+pub use port::Port;
+pub use queue::{Asked, Discipline, Linked, Released, Requested, Ruled, Shape};
+pub use rule::{Entry, Ground, LineSeat, Parcel, Rule, Setup};

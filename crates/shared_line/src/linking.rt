@@ -1,0 +1,96 @@
+//! Asking in two calls, on lines whose queue is a list of links.
+ghost use Rattle.std.specs.Prelude.{◌≡◌, ◌≢◌, ◌⊎◌, ◌+◌, ◌≤◌, IsTrue};
+ghost use Rattle.qolb_model.specs.PortStates as states;
+ghost use Rattle.qolb_model.specs.Calls.{Prepends, LinksUp};
+ghost use Rattle.shared_line.specs.Ports.{BelongsTo};
+
+use crate::arriving::{Arrival, arrive};
+use crate::line::Line;
+use crate::port::Port;
+use crate::queue::{Asked, Linked};
+use qolb_model::{Enq, Keep, PortState, Prep};
+
+impl<K: Keep, Q: Linked<K>> Line<K, Q> {
+    /// The first half of `enqolb`: makes a request. Behind another it is `Linking`, still to be linked to that one.
+    pub fn prepend(&self, port: &mut Port<Q>) -> Prep
+        requires belongs { BelongsTo K.good K.allows self.now.table.shared.key self.now.table.shared.table_id port.old }
+        requires state { IsTrue (states.may_ask port.old.view.state) }
+        ensures belongs { BelongsTo K.good K.allows self.now.table.shared.key self.now.table.shared.table_id port.new }
+        ensures prepends { Prepends K.allows port.old.view port.new.view port.new.turn result }
+        ensures taken { port.new.taken ≡ port.old.taken + port.new.steps }
+        ensures looks { port.new.looks ≡ port.old.looks }
+        ensures counted_busy { result ≡ Prep.Busy → port.new.steps ≡ 1 }
+        ensures counted { (result ≡ Prep.Granted) ⊎ (result ≡ Prep.Linking) → port.new.steps ≡ Q.prepends_in port.old.view.state }
+        ensures bound { port.new.steps ≤ Q.most self.now.table.shared.key.terms.nodes + 2 }
+    {
+        let ground = &self.table.shared;
+        let made = Q::prepend(ground, &mut port.seat, port.node, port.state);
+        port.steps = made.steps;
+        match made.answer {
+            Asked::Busy => Prep::Busy,
+            Asked::Behind => {
+                port.mark = made.mark;
+                port.state = PortState::Linking;
+                Prep::Linking
+            }
+            Asked::Came => {
+                port.mark = made.mark;
+                let came = arrive(
+                    ground,
+                    &mut port.seat,
+                    &mut port.parcel,
+                    port.node,
+                    port.mark,
+                );
+                match came {
+                    Arrival::Held => {
+                        port.state = PortState::Holding;
+                        Prep::Granted
+                    }
+                    Arrival::PassedOn(gone) => {
+                        port.steps += gone.steps;
+                        port.state = gone.state;
+                        Prep::Closed
+                    }
+                }
+            }
+        }
+    }
+
+    /// The second half of `enqolb`: links the request to the one before. It is never `Busy`.
+    pub fn link(&self, port: &mut Port<Q>) -> Enq
+        requires belongs { BelongsTo K.good K.allows self.now.table.shared.key self.now.table.shared.table_id port.old }
+        requires state { port.old.view.state ≡ PortState.Linking }
+        ensures belongs { BelongsTo K.good K.allows self.now.table.shared.key self.now.table.shared.table_id port.new }
+        ensures links_up { LinksUp K.allows port.old.view port.new.view port.new.turn result }
+        ensures taken { port.new.taken ≡ port.old.taken + port.new.steps }
+        ensures looks { port.new.looks ≡ port.old.looks }
+        ensures counted { result ≢ Enq.Closed → port.new.steps ≡ 1 }
+        ensures bound { port.new.steps ≤ Q.most self.now.table.shared.key.terms.nodes }
+    {
+        let ground = &self.table.shared;
+        port.steps = 1;
+        if !Q::link(ground, &mut port.seat, port.node, port.mark) {
+            port.state = PortState::Queued;
+            return Enq::Queued;
+        }
+        let came = arrive(
+            ground,
+            &mut port.seat,
+            &mut port.parcel,
+            port.node,
+            port.mark,
+        );
+        match came {
+            Arrival::Held => {
+                port.state = PortState::Holding;
+                Enq::Granted
+            }
+            Arrival::PassedOn(gone) => {
+                port.steps = 1 + gone.steps;
+                port.state = gone.state;
+                Enq::Closed
+            }
+        }
+    }
+}

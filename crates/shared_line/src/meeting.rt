@@ -1,0 +1,37 @@
+//! Seats that are cut and joined.
+ghost use Rattle.std.specs.Prelude.{◌≡◌, [], ◌∷◌};
+ghost use Rattle.qolb_model.specs.Calls.{TellEachOther};
+ghost use Rattle.qolb_model.specs.Meeting.{longer};
+ghost use Rattle.shared_line.specs.Steps.{IsSeatOf, HasNoSlot, Alone, entry_of, informed};
+
+use crate::plays::{Blank, Cut, Glue, Meet};
+use crate::queue::Discipline;
+use crate::rule::{Ground, LineSeat};
+use qolb_model::{Keep, PortState};
+use std::mem;
+
+/// Two seats with an entry each, of which the first may hold the slot, learn what the other knows.
+///
+/// A step compares entries of one seat only, so the second seat is joined into the first and split off again. What stands in its place
+/// meanwhile is a blank seat, since a `&mut` can't be empty.
+pub(crate) fn meet_seats<K: Keep, Q: Discipline<K>>(
+    ground: &Ground<K, Q>,
+    a: &mut LineSeat<Q::Own>,
+    b: &mut LineSeat<Q::Own>,
+)
+    requires table_a { IsSeatOf Q.word_count ground.now.table_id a.old }
+    requires table_b { IsSeatOf Q.word_count ground.now.table_id b.old }
+    requires ready { Alone Q.fresh a.old.me × Alone Q.fresh b.old.me }
+    requires slot { HasNoSlot b.old }
+    ensures tables { (a.new.table_id ≡ a.old.table_id) × (b.new.table_id ≡ b.old.table_id) }
+    ensures first { a.new.me ≡ (informed (entry_of Q.fresh a.old) (entry_of Q.fresh b.old) ∷ [], a.old.me.1) }
+    ensures second { b.new.me ≡ (informed (entry_of Q.fresh b.old) (entry_of Q.fresh a.old) ∷ [], []) }
+    ensures tell { TellEachOther K.allows (entry_of Q.fresh a.old).view (entry_of Q.fresh b.old).view (entry_of Q.fresh a.new).view (entry_of Q.fresh b.new).view }
+    ensures holder { let v = entry_of Q.fresh a.old in let u = entry_of Q.fresh b.old in (v.view.state ≡ PortState.Holding → longer v.view.ends u.view.ends ≡ v.view.ends) × (u.view.state ≡ PortState.Holding → longer u.view.ends v.view.ends ≡ u.view.ends) }
+{
+    let blank = ground.split_seat::<Blank>(a);
+    let other = mem::replace(b, blank);
+    ground.join_seat::<Glue>(a, other);
+    ground.load::<Meet<K, Q>>(a, 0);
+    *b = ground.split_seat::<Cut>(a);
+}

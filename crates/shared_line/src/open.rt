@@ -1,0 +1,157 @@
+//! How a line is opened.
+ghost use Rattle.std.specs.Prelude.{◌≡◌, ◌<◌, [], length, Some, None, IfOk, IfErr};
+ghost use Rattle.qolb_model.specs.Opening.{MayOpen, MayNotOpen};
+ghost use Rattle.shared_line.specs.Entries.{newcomers};
+ghost use Rattle.shared_line.specs.Ports.{AreSplit, IsOpened, AreUnused};
+
+use crate::line::{Line, Width};
+use crate::plays::Cut;
+use crate::port::Port;
+use crate::queue::Discipline;
+use crate::rule::{Ground, LineSeat, Parcel, Setup};
+use atomic_table::Table;
+use line_lanes::{Line64, Mask};
+use qolb_model::{Keep, Looks, OpenError, PortState, Terms};
+use std::alloc::{AllocError, Global};
+use std::marker::PhantomData;
+use std::mem;
+
+impl<K: Keep, Q: Discipline<K>> Line<K, Q> {
+    /// A line with these bytes, and a port for each of the nodes 1 to `nodes`, in this order.
+    pub fn open(
+        alloc: Global,
+        label: u64,
+        nodes: u64,
+        opening: Line64,
+    ) -> Result<(Line<K, Q>, Vec<Port<Q>>), OpenError>
+        requires { K.good opening.bytes }
+        ensures opens { IfOk result (λ r. IsOpened K.good K.allows r.0.table.shared.key r.0.table.shared.table_id label (record { nodes = nodes; opening = opening; lease = None }) r.1.items) }
+        ensures unused { IfOk result (λ r. AreUnused r.1.items) }
+        ensures may_open { IfOk result (λ r. MayOpen (record { nodes = nodes; opening = opening; lease = None })) }
+        ensures why { IfErr result (λ error. MayNotOpen (record { nodes = nodes; opening = opening; lease = None }) error) }
+    {
+        let terms = Terms {
+            nodes,
+            opening,
+            lease: None,
+        };
+        Line::<K, Q>::with_terms(alloc, label, terms)
+    }
+
+    /// As `open`, for so many served turns: the last of them closes the line.
+    pub fn open_leased(
+        alloc: Global,
+        label: u64,
+        nodes: u64,
+        opening: Line64,
+        lease: u64,
+    ) -> Result<(Line<K, Q>, Vec<Port<Q>>), OpenError>
+        requires { K.good opening.bytes }
+        ensures opens { IfOk result (λ r. IsOpened K.good K.allows r.0.table.shared.key r.0.table.shared.table_id label (record { nodes = nodes; opening = opening; lease = Some lease }) r.1.items) }
+        ensures unused { IfOk result (λ r. AreUnused r.1.items) }
+        ensures may_open { IfOk result (λ r. MayOpen (record { nodes = nodes; opening = opening; lease = Some lease })) }
+        ensures why { IfErr result (λ error. MayNotOpen (record { nodes = nodes; opening = opening; lease = Some lease }) error) }
+    {
+        let terms = Terms {
+            nodes,
+            opening,
+            lease: Some(lease),
+        };
+        Line::<K, Q>::with_terms(alloc, label, terms)
+    }
+
+    /// The same, for these terms.
+    pub fn with_terms(
+        alloc: Global,
+        label: u64,
+        terms: Terms,
+    ) -> Result<(Line<K, Q>, Vec<Port<Q>>), OpenError>
+        requires { K.good terms.opening.bytes }
+        ensures opens { IfOk result (λ r. IsOpened K.good K.allows r.0.table.shared.key r.0.table.shared.table_id label terms r.1.items) }
+        ensures unused { IfOk result (λ r. AreUnused r.1.items) }
+        ensures may_open { IfOk result (λ r. MayOpen terms) }
+        ensures why { IfErr result (λ error. MayNotOpen terms error) }
+    {
+        terms.check()?;
+        let setup = Setup { label, terms };
+        let Ok((line, rest)) = Line::<K, Q>::new_table(alloc, &setup) else {
+            return Err(OpenError::Memory);
+        };
+        let Ok(ports) = split_ports(alloc, &line.table.shared, rest, &setup) else {
+            return Err(OpenError::Memory);
+        };
+        Ok((line, ports))
+    }
+
+    /// The line, and one seat for all nodes.
+    fn new_table(alloc: Global, setup: &Setup) -> Result<(Line<K, Q>, LineSeat<Q::Own>), AllocError>
+        requires terms { MayOpen setup.now.terms }
+        requires line { length setup.now.terms.opening.bytes ≡ 64 }
+        requires good { K.good setup.now.terms.opening.bytes }
+        ensures { IfOk result (λ t. (t.1.table_id ≡ t.0.table.shared.table_id) × (t.0.table.shared.key ≡ setup.now) × (t.1.me ≡ (newcomers Q.fresh setup.now, []))) }
+    {
+        let Setup { label, terms } = *setup;
+        let words = Q::first_words(alloc)?;
+        let parcel = Parcel {
+            bytes: terms.opening,
+            mask: Mask(0),
+            turns_left: terms.lease,
+            closed: false,
+        };
+        let width = Width {
+            words: words.len(),
+            of: PhantomData,
+        };
+        let slots = Vec::from_array(alloc, [parcel])?;
+        match Table::new(alloc, words.as_slice(), slots, setup) {
+            Ok((table, seat)) => Ok((
+                Line {
+                    table,
+                    label,
+                    nodes: terms.nodes,
+                    width,
+                },
+                seat,
+            )),
+            Err(_) => Err(AllocError),
+        }
+    }
+}
+
+/// A port for each node, from the seat that has the entries of all.
+fn split_ports<K: Keep, Q: Discipline<K>>(
+    alloc: Global,
+    ground: &Ground<K, Q>,
+    rest: LineSeat<Q::Own>,
+    setup: &Setup,
+) -> Result<Vec<Port<Q>>, AllocError>
+    requires table { (rest.table_id ≡ ground.now.table_id) × (0 < ground.now.table_id.words) }
+    requires terms { MayOpen setup.now.terms }
+    requires whole { rest.me ≡ (newcomers Q.fresh setup.now, []) }
+    ensures { IfOk result (λ ports. AreSplit ground.now.table_id setup.now setup.now.terms.nodes ports.items) }
+{
+    let mut rest = rest;
+    let label = setup.label;
+    let parcel = Parcel {
+        bytes: Line64::zero(),
+        mask: Mask(0),
+        turns_left: None,
+        closed: false,
+    };
+    let mut ports = Vec::with_capacity(alloc, setup.terms.nodes as usize)?;
+    for done in 0..setup.terms.nodes {
+        let others = ground.split_seat::<Cut>(&mut rest);
+        let seat = mem::replace(&mut rest, others);
+        ports.push(Port {
+            parcel,
+            seat,
+            mark: 0,
+            label,
+            node: done + 1,
+            steps: 0,
+            state: PortState::Idle,
+            looks: Looks::none(),
+        })?;
+    }
+    Ok(ports)
+}

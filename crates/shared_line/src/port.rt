@@ -1,0 +1,62 @@
+//! The port of a node.
+ghost use Rattle.std.specs.Prelude.{◌≡◌, ◌↔◌, IsTrue};
+
+use crate::queue::Shape;
+use crate::rule::{LineSeat, Parcel};
+use qolb_model::{LinePort, Looks, PortState};
+use std::marker::Model;
+
+/// A node's end of the line.
+///
+/// `parcel` is the line where the port holds it, and else what it last was. It stands first, so that its bytes are copied from an even
+/// place, and the state last.
+#[derive(Drop)]
+pub struct Port<Q: Shape> {
+    pub(crate) parcel: Parcel,
+    pub(crate) seat: LineSeat<Q::Own>,
+    /// What the queue keeps of the last request.
+    pub(crate) mark: u64,
+    pub(crate) label: u64,
+    pub(crate) node: u64,
+    /// How many word steps the last call took.
+    pub(crate) steps: u64,
+    pub(crate) state: PortState,
+    /// How often it was polled: for proofs alone.
+    pub(crate) looks: Looks,
+}
+
+impl<Q: Shape> Model for Port<Q> {
+    ghost use Rattle.shared_line.specs.Ports.{Standing, standing, IsPort};
+
+    ghost Value = { Standing };
+
+    ghost view = { λ p. standing Q.fresh p.seat p.parcel p.steps p.looks.count };
+
+    ghost invariant = { λ p. IsPort Q.fresh Q.rests Q.holding p.label p.node p.seat p.parcel p.mark p.state };
+}
+
+impl<Q: Shape> LinePort for Port<Q> {
+    ghost view = { λ port. port.view };
+
+    fn label(&self) -> u64 {
+        self.label
+    }
+
+    fn node(&self) -> u64 {
+        self.node
+    }
+
+    fn state(&self) -> PortState {
+        self.state
+    }
+}
+
+impl<Q: Shape> Port<Q> {
+    /// Whether the port holds the line.
+    #[inline]
+    pub(crate) fn holds(&self) -> bool
+        ensures { IsTrue result ↔ (self.now.view.state ≡ PortState.Holding) }
+    {
+        self.state == PortState::Holding
+    }
+}

@@ -1,0 +1,250 @@
+//! What a queue is: how its nodes stand, its rule, and the few calls that are its own.
+ghost use Rattle.std.specs.Prelude.{◌≡◌, ◌≢◌, ℕ, List, ◌∷◌, ◌++◌, [], ◌<◌, ◌≤◌, ◌+◌, ◌^◌, length, true, false, IsTrue, IfOk};
+ghost use mathlib.Core.Option.{some, none};
+ghost use lib.ListN.{get_elem?};
+ghost use Rattle.atomic_table.specs.Table.{State, Splits, Joins, Allows, Final, opening, step};
+ghost use Rattle.qolb_model.specs.Entries.{front, behind};
+ghost use Rattle.qolb_model.specs.declared.answer.PortState.{PortState};
+ghost use Rattle.qolb_model.specs.declared.answer.PortState.TheVariants as shows;
+ghost use Rattle.qolb_model.specs.declared.answer.Enq.{Enq};
+ghost use Rattle.qolb_model.specs.declared.answer.Enq.TheVariants as enq;
+ghost use Rattle.qolb_model.specs.declared.view.View.{View};
+ghost use Rattle.qolb_model.specs.declared.terms.TheConstants.{MOST_NODES};
+ghost use Rattle.qolb_model.specs.PortStates as states;
+ghost use Rattle.qolb_model.specs.Ends.{is_closed};
+ghost use Rattle.qolb_model.specs.Asking.{IsBusy, Asks, IsJoined};
+ghost use Rattle.qolb_model.specs.Linking.{Links};
+ghost use Rattle.qolb_model.specs.LettingGo.{EndsTurn};
+ghost use Rattle.qolb_model.specs.Opening.{MayOpen};
+ghost use Rattle.qolb_model.specs.Finishing.{IsLast};
+ghost use Rattle.shared_line.specs.declared.rule.Parcel.{Parcel};
+ghost use Rattle.shared_line.specs.declared.rule.Setup.{Setup};
+ghost use Rattle.shared_line.specs.declared.rule.Entry.{Entry};
+ghost use Rattle.shared_line.specs.Entries.{Contents, newcomers, AllRest, views_of};
+ghost use Rattle.shared_line.specs.Steps.{Alone, entry_of, SameSeat, IsSeatOf, IsOwnNode, HasSlot, HasNoSlot, HasLine, Rests, GoesOn, IsEarly, IsUnlinked, IsGivenUp, Comes, Carries, own_end, met, parked};
+
+use crate::rule::{Ground, LineSeat};
+use qolb_model::{Keep, PortState};
+use std::alloc::{AllocError, Global};
+
+/// What became of a request at once.
+#[derive(Clone, Copy, Debug, PartialEq, Eq)]
+pub enum Asked {
+    /// It stands behind another.
+    Behind,
+    /// It is at its turn, and the line is in the slot.
+    Came,
+    /// None was made: the last one is not clear.
+    Busy,
+}
+
+/// A request that was made: the number that its port keeps, and how many word steps it took.
+#[derive(Clone, Copy)]
+pub struct Requested {
+    pub answer: Asked,
+    pub mark: u64,
+    pub steps: u64,
+}
+
+/// A line that was let go: the state that its port is left in, and how many word steps it took.
+#[derive(Clone, Copy)]
+pub struct Released {
+    pub state: PortState,
+    pub steps: u64,
+}
+
+/// How the nodes of a queue stand, whatever the law of the line.
+///
+/// A port keeps one number for its queue, its *mark*: the cell of its request, say, or the node before.
+pub trait Shape {
+    /// What the rule knows of a node beside what its port knows.
+    type Own;
+
+    /// That of a new node.
+    ghost fresh: { Self.Own };
+
+    /// Where a node is whose port shows this state, which is not that of a holder, and keeps this mark.
+    ghost rests: { PortState → ℕ → Self.Own → Type 0 };
+
+    /// Where a node is that holds the open line, by its port's mark and how many requests have ended.
+    ghost holding: { ℕ → ℕ → Self.Own → Type 0 };
+
+    /// Where a node is to which this closed line came, by its port's mark and what it knows.
+    ghost refused: { ℕ → View → Self.Own → Parcel → Type 0 };
+
+    /// A port may show this state.
+    ghost may_show: { PortState → Type 0 };
+
+    /// A port in this state is answered so in this many word steps. Nothing is said of `Closed`, which comes after a release.
+    ghost asks_in: { PortState → Enq → ℕ → Type 0 };
+
+    /// A release takes this many word steps, where so many requests had ended before it and so many after it.
+    ghost lets_go_in: { ℕ → ℕ → ℕ → Type 0 };
+
+    /// The most word steps of a look at a line of so many nodes, with the release of a closed line. A release alone takes one fewer at most.
+    ghost most: { ℕ → ℕ };
+
+    /// A new node is idle.
+    ghost starts_idle: { rests shows.Idle 0 fresh };
+
+    /// No other state is shown than those.
+    ghost rests_shown: { (state : PortState) (mark : ℕ) (own : Self.Own) → rests state mark own → may_show state };
+
+    ghost holding_shown: { may_show shows.Holding };
+
+    /// A look takes a step.
+    ghost most_some: { (nodes : ℕ) → 1 ≤ nodes → 1 ≤ most nodes };
+
+    /// A count of steps never overflows.
+    ghost most_fits: { (nodes : ℕ) → nodes ≤ MOST_NODES → most nodes < 2 ^ 32 };
+}
+
+/// The rule of a queue's table under the law `K`. It stands apart from the queue's calls, which step by it.
+pub trait Ruled<K: Keep>: Shape {
+    /// The invariant of all interleavings.
+    ghost holds: { Setup → State Parcel (List (Entry Self.Own)) → Type 0 };
+}
+
+/// A queue discipline: how requests are put in an order, and how the line goes from one to the next. A line is made of nothing else than its
+/// discipline and the body that all lines share.
+pub trait Discipline<K: Keep>: Ruled<K> {
+    /// How many words a line has.
+    ghost word_count: { ℕ };
+
+    /// What they are where nobody has asked.
+    ghost are_first: { List ℕ → Type 0 };
+
+    /// The words of a line that nobody has asked for.
+    fn first_words(alloc: Global) -> Result<Vec<u64>, AllocError>
+        ensures first { IfOk result (λ words. are_first words.items) }
+        ensures wide { IfOk result (λ words. (length words.items ≡ word_count) × (0 < word_count)) };
+
+    /// Makes a request, unless the node's last one is not clear.
+    fn ask(
+        ground: &Ground<K, Self>,
+        seat: &mut LineSeat<Self::Own>,
+        node: u64,
+        state: PortState,
+    ) -> Requested
+        requires table { IsSeatOf word_count ground.now.table_id seat.old }
+        requires rests { (mark : ℕ) × Rests Self.fresh Self.rests state mark seat.old }
+        requires may_ask { IsTrue (states.may_ask state) }
+        requires own { IsOwnNode Self.fresh node seat.old }
+        ensures same { SameSeat seat.old seat.new }
+        ensures goes_on { GoesOn K.allows Self.fresh seat.old.me seat.new.me result.steps }
+        ensures stays { result.answer ≡ Asked.Busy → (mark : ℕ) → Rests Self.fresh Self.rests state mark seat.old → Rests Self.fresh Self.rests state mark seat.new }
+        ensures busy { result.answer ≡ Asked.Busy → IsBusy (entry_of Self.fresh seat.old).view (entry_of Self.fresh seat.new).view }
+        ensures asks { result.answer ≢ Asked.Busy → Asks (entry_of Self.fresh seat.old).view (entry_of Self.fresh seat.new).view }
+        ensures joined { result.answer ≢ Asked.Busy → IsJoined (entry_of Self.fresh seat.new).view }
+        ensures behind { result.answer ≡ Asked.Behind → HasNoSlot seat.new × IsEarly Self.rests result.mark (entry_of Self.fresh seat.new) }
+        ensures came { result.answer ≡ Asked.Came → (y : Parcel) × HasSlot seat.new y × Comes Self.holding Self.refused result.mark (entry_of Self.fresh seat.new) y }
+        ensures counted_busy { result.answer ≡ Asked.Busy → Self.asks_in state enq.Busy result.steps }
+        ensures counted_behind { result.answer ≡ Asked.Behind → Self.asks_in state enq.Queued result.steps }
+        ensures counted_came { result.answer ≡ Asked.Came → Self.asks_in state enq.Granted result.steps }
+        ensures bound { result.steps ≤ 4 };
+
+    /// Looks whether the request has come to its turn.
+    fn look(ground: &Ground<K, Self>, seat: &mut LineSeat<Self::Own>, node: u64, mark: u64) -> bool
+        requires table { IsSeatOf word_count ground.now.table_id seat.old }
+        requires rests { Rests Self.fresh Self.rests PortState.Queued mark seat.old }
+        requires own { IsOwnNode Self.fresh node seat.old }
+        ensures same { SameSeat seat.old seat.new }
+        ensures goes_on { GoesOn K.allows Self.fresh seat.old.me seat.new.me 1 }
+        ensures count { (entry_of Self.fresh seat.new).view.count ≡ (entry_of Self.fresh seat.old).view.count }
+        ensures waits { result ≡ false → HasNoSlot seat.new × IsEarly Self.rests mark (entry_of Self.fresh seat.new) }
+        ensures comes { result ≡ true → (y : Parcel) × HasSlot seat.new y × Comes Self.holding Self.refused mark (entry_of Self.fresh seat.new) y };
+
+    /// Withdraws the request, unless it has come to its turn: whether it has.
+    fn roll(ground: &Ground<K, Self>, seat: &mut LineSeat<Self::Own>, node: u64, mark: u64) -> bool
+        requires table { IsSeatOf word_count ground.now.table_id seat.old }
+        requires rests { Rests Self.fresh Self.rests PortState.Queued mark seat.old }
+        requires own { IsOwnNode Self.fresh node seat.old }
+        ensures same { SameSeat seat.old seat.new }
+        ensures goes_on { GoesOn K.allows Self.fresh seat.old.me seat.new.me 1 }
+        ensures count { (entry_of Self.fresh seat.new).view.count ≡ (entry_of Self.fresh seat.old).view.count }
+        ensures withdrawn { result ≡ false → HasNoSlot seat.new × IsGivenUp Self.rests mark (entry_of Self.fresh seat.new) }
+        ensures comes { result ≡ true → (y : Parcel) × HasSlot seat.new y × Comes Self.holding Self.refused mark (entry_of Self.fresh seat.new) y };
+
+    /// Lets the line go that lies in the slot, closed or not.
+    fn release(
+        ground: &Ground<K, Self>,
+        seat: &mut LineSeat<Self::Own>,
+        node: u64,
+        mark: u64,
+        closed: bool,
+    ) -> Released
+        requires table { IsSeatOf word_count ground.now.table_id seat.old }
+        requires alone { Alone Self.fresh seat.old.me }
+        requires own { IsOwnNode Self.fresh node seat.old }
+        requires nodes { (1 ≤ (entry_of Self.fresh seat.old).view.terms.nodes) × ((entry_of Self.fresh seat.old).view.terms.nodes ≤ MOST_NODES) }
+        requires line { (y : Parcel) × HasSlot seat.old y × HasLine Self.holding Self.refused mark (entry_of Self.fresh seat.old) y × Carries K.allows (entry_of Self.fresh seat.old).view y × (y.closed ≡ closed) }
+        ensures same { SameSeat seat.old seat.new }
+        ensures rests { (mark : ℕ) → Rests Self.fresh Self.rests result.state mark seat.new }
+        ensures not_held { result.state ≢ PortState.Holding }
+        ensures goes_on { GoesOn K.allows Self.fresh seat.old.me seat.new.me result.steps }
+        ensures lets_go { (y : Parcel) → HasSlot seat.old y → EndsTurn (entry_of Self.fresh seat.old).view (own_end (is_closed (entry_of Self.fresh seat.old).view.ends) y) (states.left_by y.closed) (entry_of Self.fresh seat.new).view }
+        ensures counted { Self.lets_go_in (length (entry_of Self.fresh seat.old).view.ends) (length (entry_of Self.fresh seat.new).view.ends) result.steps }
+        ensures bound { result.steps + 1 ≤ Self.most (entry_of Self.fresh seat.old).view.terms.nodes };
+
+    /// A seat is cut behind its first entry; a new one has none; and one takes in those of another.
+    ghost cuts: { (about : Setup) (id : ℕ) (es : List (Entry Self.Own)) → Splits (Self.holds about) id es (front es) (behind es) };
+
+    ghost blanks: { (about : Setup) (id : ℕ) (es : List (Entry Self.Own)) → Splits (Self.holds about) id es es [] };
+
+    ghost joins: { (about : Setup) (id other : ℕ) (es fs : List (Entry Self.Own)) → Joins (Self.holds about) id es other fs (es ++ fs) [] };
+
+    /// A table has one slot.
+    ghost one_slot: { (about : Setup) (s : State Parcel (List (Entry Self.Own))) → Self.holds about s → length s.homes ≡ 1 };
+
+    /// A new line keeps the rule.
+    ghost starts: { (about : Setup) (words : List ℕ) (y : Parcel) → MayOpen about.terms → length about.terms.opening.bytes ≡ 64 → K.good about.terms.opening.bytes → length words ≡ word_count → are_first words → y.bytes.bytes ≡ about.terms.opening.bytes → y.closed ≡ false → y.turns_left ≡ about.terms.lease → Self.holds about (opening words (y ∷ []) (newcomers Self.fresh about)) };
+
+    /// Two entries of one seat tell each other what they know.
+    ghost meets: { (about : Setup) (id slots i : ℕ) (m : Contents Self.Own) (v u : Entry Self.Own) → m.0 ≡ v ∷ u ∷ [] → Allows (Self.holds about) slots id m i (λ n. n) (met K.allows Self.fresh (step slots i 0 0 none) m) };
+
+    /// A holder's slot goes home.
+    ghost parks: { (about : Setup) (id slots i : ℕ) (m : Contents Self.Own) (v : Entry Self.Own) (y : Parcel) → m.0 ≡ v ∷ [] → v.view.state ≡ shows.Holding → m.1 ≡ (0, y) ∷ [] → Allows (Self.holds about) slots id m i (λ n. n) (parked (step slots i 0 0 none) m) };
+
+    /// The line at the end, where one seat has all entries and each is at rest.
+    ghost finishes: { (about : Setup) (es : List (Entry Self.Own)) (id : ℕ) (words : List ℕ) (xs : List Parcel) → AllRest Self.rests about.terms.nodes es → Final (λ s. Self.holds about s × (get_elem? s.views id ≡ some es)) words xs → (y : Parcel) × (get_elem? xs 0 ≡ some y) × IsLast K.good K.allows about.terms (views_of es) y.bytes.bytes };
+}
+
+/// A queue whose request is made first, and linked to the one before by a second call.
+pub trait Linked<K: Keep>: Discipline<K> {
+    /// In how many word steps a node whose port shows this state makes its request.
+    ghost prepends_in: { PortState → ℕ };
+
+    /// Makes a request, unless the node's last one is not clear. Behind another it is still to be linked to that one.
+    fn prepend(
+        ground: &Ground<K, Self>,
+        seat: &mut LineSeat<Self::Own>,
+        node: u64,
+        state: PortState,
+    ) -> Requested
+        requires table { IsSeatOf Self.word_count ground.now.table_id seat.old }
+        requires rests { (mark : ℕ) × Rests Self.fresh Self.rests state mark seat.old }
+        requires may_ask { IsTrue (states.may_ask state) }
+        requires own { IsOwnNode Self.fresh node seat.old }
+        ensures same { SameSeat seat.old seat.new }
+        ensures goes_on { GoesOn K.allows Self.fresh seat.old.me seat.new.me result.steps }
+        ensures stays { result.answer ≡ Asked.Busy → (mark : ℕ) → Rests Self.fresh Self.rests state mark seat.old → Rests Self.fresh Self.rests state mark seat.new }
+        ensures busy { result.answer ≡ Asked.Busy → IsBusy (entry_of Self.fresh seat.old).view (entry_of Self.fresh seat.new).view }
+        ensures asks { result.answer ≢ Asked.Busy → Asks (entry_of Self.fresh seat.old).view (entry_of Self.fresh seat.new).view }
+        ensures joined { result.answer ≡ Asked.Came → IsJoined (entry_of Self.fresh seat.new).view }
+        ensures behind { result.answer ≡ Asked.Behind → HasNoSlot seat.new × IsUnlinked Self.rests result.mark (entry_of Self.fresh seat.new) }
+        ensures came { result.answer ≡ Asked.Came → (y : Parcel) × HasSlot seat.new y × Comes Self.holding Self.refused result.mark (entry_of Self.fresh seat.new) y }
+        ensures counted_busy { result.answer ≡ Asked.Busy → result.steps ≡ 1 }
+        ensures counted { result.answer ≢ Asked.Busy → result.steps ≡ prepends_in state }
+        ensures bound { result.steps ≤ 3 };
+
+    /// Links the request to the one before: whether the line had been left for it, and so has come.
+    fn link(ground: &Ground<K, Self>, seat: &mut LineSeat<Self::Own>, node: u64, mark: u64) -> bool
+        requires table { IsSeatOf Self.word_count ground.now.table_id seat.old }
+        requires rests { Rests Self.fresh Self.rests PortState.Linking mark seat.old }
+        requires own { IsOwnNode Self.fresh node seat.old }
+        ensures same { SameSeat seat.old seat.new }
+        ensures goes_on { GoesOn K.allows Self.fresh seat.old.me seat.new.me 1 }
+        ensures links { Links (entry_of Self.fresh seat.old).view (entry_of Self.fresh seat.new).view }
+        ensures waits { result ≡ false → HasNoSlot seat.new × IsEarly Self.rests mark (entry_of Self.fresh seat.new) }
+        ensures comes { result ≡ true → (y : Parcel) × HasSlot seat.new y × Comes Self.holding Self.refused mark (entry_of Self.fresh seat.new) y };
+}

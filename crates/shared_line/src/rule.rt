@@ -1,0 +1,54 @@
+//! The table of a line: words as its queue lays them, and one slot, which has the line.
+use crate::queue::{Ruled, Shape};
+use atomic_table::{Seat, Shared, TableRule};
+use line_lanes::{Line64, Mask};
+use qolb_model::{Keep, Terms, View};
+use std::collections::LinkedList;
+use std::marker::PhantomData;
+
+/// What the table is told when it is made.
+#[derive(Drop)]
+pub struct Setup {
+    pub label: u64,
+    pub terms: Terms,
+}
+
+/// The line, with the mask of what its holder has written in this turn, how many turns are left of its lease, and whether it is closed.
+///
+/// The bytes stand first and the flag last, so that the bytes are copied from an even place.
+#[derive(Clone, Copy)]
+pub struct Parcel {
+    pub bytes: Line64,
+    pub mask: Mask,
+    pub turns_left: Option<u64>,
+    pub closed: bool,
+}
+
+/// What the table's rule knows of a node. No value of it is made.
+pub struct Entry<O> {
+    /// What the node's port knows.
+    pub view: View,
+    /// What its queue adds.
+    pub own: O,
+    /// How many word steps it has taken in its calls: each kind of them counts itself.
+    pub steps: u64,
+}
+
+/// The rule of a table whose line is under the law `K`: the invariant of all its interleavings, which is its queue's.
+pub struct Rule<K, Q> {
+    law: PhantomData<(K, Q)>,
+}
+
+impl<K: Keep, Q: Ruled<K>> TableRule<Parcel, LinkedList<Entry<Q::Own>>, Setup> for Rule<K, Q> {
+    ghost use Rattle.shared_line.specs.Entries.{newcomers};
+
+    ghost holds = { Q.holds };
+
+    ghost first = { newcomers Q.fresh };
+}
+
+/// The table of a line, as all its nodes see it.
+pub type Ground<K, Q> = Shared<Parcel, LinkedList<Entry<<Q as Shape>::Own>>, Setup, Rule<K, Q>>;
+
+/// A seat of the table: a port has one.
+pub type LineSeat<O> = Seat<Parcel, LinkedList<Entry<O>>>;
