@@ -1,13 +1,11 @@
-//! What programs with threads over lines take: waiting for a line, a thread for each part of what is shared, gates, and ports that meet.
+//! What programs with threads over lines take: waiting for a line, a thread for each part of what is shared, and ports that meet.
 #![tactic(auto)]
 
-mod gate;
 mod meetings;
 #[cfg(test)]
 mod tests;
 pub mod together;
 mod waiting;
 
-pub use gate::{AlwaysOpen, Gate, MOST_REFUSALS};
 pub use meetings::{meet_all, meet_others};
 pub use waiting::{Got, acquire};

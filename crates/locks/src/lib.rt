@@ -1,6 +1,9 @@
 //! The locks that there are: the one place where a lock is registered.
 #![tactic(auto)]
 
+ghost use Rattle.locks.specs.declared.Lines.{Lines};
+ghost use Rattle.locks.specs.declared.Lines.TheVariants.{Ring, Link};
+
 use link_line::LinkLine;
 use qolb_model::{Keep, OpenLine};
 use ring_line::RingLine;
@@ -14,29 +17,38 @@ pub enum Lines {
     Link,
 }
 
+/// A line type that has a name here.
+pub trait Lock<K: Keep>: OpenLine<K> {
+    /// Its name.
+    ghost lock: { Lines };
+}
+
+impl<K: Keep> Lock<K> for RingLine<K> {
+    ghost lock = { Ring };
+}
+
+impl<K: Keep> Lock<K> for LinkLine<K> {
+    ghost lock = { Link };
+}
+
 /// What is done over lines of one type, whichever it is.
 pub trait OverLines<K: Keep> {
     /// What comes of it.
     type Back;
 
-    /// What it takes.
-    ghost fits: { Self → Type 0 } = { λ _. Unit {0} };
-
-    /// This may come of it.
-    ghost done: { Self → Self.Back → Type 0 };
+    /// This may come of it over lines of this name.
+    ghost done: { Self → Lines → Self.Back → Type 0 };
 
     /// Does it, over lines of the type `L`.
-    fn over<L: OpenLine<K> + Sync + Drop>(self) -> Self::Back
+    fn over<L: Lock<K> + Drop>(self) -> Self::Back
     where
-        L::Port: Send + Drop,
-        requires { fits self }
-        ensures { done self result };
+        L::Port: Drop,
+        ensures { done self L.lock result };
 }
 
-/// Does it over lines of this kind.
+/// Does it over the lines that are named.
 pub fn over_lines<K: Keep, D: OverLines<K>>(lines: Lines, work: D) -> D::Back
-    requires { D.fits work }
-    ensures { D.done work result }
+    ensures { D.done work lines result }
 {
     match lines {
         Lines::Ring => work.over::<RingLine<K>>(),

@@ -11,6 +11,7 @@ ghost use Rattle.qolb_run.specs.BankWork.{HasBanked, Asks, PaysOneAmount, ArePai
 ghost use Rattle.qolb_run.specs.JustOpened.{IsNewLine, work_terms};
 ghost use Rattle.qolb_run.specs.Reports.{IsReportOf};
 
+use crate::gate::Gate;
 use crate::opening::open_line;
 use crate::work::RunError;
 use crate::workers::{PATIENCE, Site, all_done, work_all};
@@ -18,7 +19,6 @@ use line_accounts::{
     AccountLaw, Desk, DesksError, Reply, SettleError, deposit, desks_over, settle, take_out,
     transfer,
 };
-use line_threads::Gate;
 use qolb_model::{LineSync, OpenLine, PortState};
 use qolb_script::{Job, Report, Work, WorkKind};
 use std::alloc::Global;

@@ -11,11 +11,11 @@ ghost use Rattle.qolb_run.specs.Jobs.{IsBoardJob};
 ghost use Rattle.qolb_run.specs.BoardRuns.{no_counts};
 ghost use Rattle.qolb_run.specs.Reports.{IsReportOf};
 
+use crate::gate::Gate;
 use crate::opening::open_line;
 use crate::work::RunError;
 use crate::workers::{PATIENCE, Site, all_done, work_all};
 use line_board::{BoardLaw, Put, Take, decode, put, take};
-use line_threads::Gate;
 use qolb_model::{FinishError, LineSync, OpenLine, PortState};
 use qolb_script::{Job, Report, Work, WorkKind};
 use std::alloc::{AllocError, Global};

@@ -4,6 +4,7 @@
 mod bank;
 mod board;
 mod by_ports;
+mod gate;
 mod input;
 mod line;
 mod opening;
@@ -17,9 +18,10 @@ mod task;
 mod work;
 mod workers;
 
+pub use gate::{AlwaysOpen, Gate, MOST_REFUSALS};
 pub use input::{InputError, MOST_BYTES, read_all};
 pub use line::ReplayLine;
-pub use line_threads::{AlwaysOpen, Gate, Got, MOST_REFUSALS, acquire, meet_all, together};
+pub use line_threads::{Got, acquire, meet_all, together};
 pub use locks::Lines;
 pub use progress::Progress;
 pub use replay::{Kind, ReplayError, run_schedule, run_schedule_over};

@@ -1,7 +1,7 @@
 //! A gate that says how far the work is.
 ghost use Rattle.std.specs.Prelude.{◌≡◌, true};
 
-use line_threads::Gate;
+use crate::gate::Gate;
 use std::io;
 use std::rt::Clock;
 use std::sync::atomic::{AtomicU64, Ordering};

@@ -17,7 +17,7 @@ use crate::input::{InputError, read_all};
 use crate::line::ReplayLine;
 use crate::tally::TalliedLine;
 use line_lanes::Line64;
-use locks::{Lines, OverLines, over_lines};
+use locks::{Lines, Lock, OverLines, over_lines};
 use qolb_model::{Free, OpenLine, PlainLine, Terms};
 use qolb_script::{Fault, Schedule, ScriptError, Watched, push_said, read_schedule};
 use std::alloc::{AllocError, Allocator, Global};
@@ -200,11 +200,11 @@ struct Answering<'a, 'b, A: Allocator> {
 impl<'a, A: Allocator> OverLines<Free> for Answering<'a, '_, A> {
     type Back = Result<Vec<u8, &'a A>, ReplayError>;
 
-    ghost done = { λ work result. (IfOk result (λ text. reply_to work.input.now ≡ Ok text.items)) × (IfErr result (HasNoReply work.input.now)) };
+    ghost done = { λ work _ result. (IfOk result (λ text. reply_to work.input.now ≡ Ok text.items)) × (IfErr result (HasNoReply work.input.now)) };
 
-    fn over<L: OpenLine<Free> + Sync + Drop>(self) -> Result<Vec<u8, &'a A>, ReplayError>
+    fn over<L: Lock<Free> + Drop>(self) -> Result<Vec<u8, &'a A>, ReplayError>
     where
-        L::Port: Send + Drop,
+        L::Port: Drop,
     {
         answered_over::<A, L>(self.alloc, self.shared, self.input)
     }

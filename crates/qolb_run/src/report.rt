@@ -7,10 +7,10 @@ ghost use Rattle.locks.specs.declared.Lines.{Lines};
 ghost use Rattle.qolb_run.specs.declared.report.TaskError.TheVariants.{Replay};
 ghost use Rattle.qolb_run.specs.Outcome.{IsWork, IsWorkReply, MayFail, MayEnd, task_error};
 
+use crate::gate::Gate;
 use crate::input::read_all;
 use crate::replay::ReplayError;
 use crate::work::{RunError, run_work};
-use line_threads::Gate;
 use locks::Lines;
 use qolb_script::{ScriptError, Watched, Work, WorkKind, read_work, write_report};
 use std::alloc::Global;

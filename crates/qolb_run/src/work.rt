@@ -7,9 +7,9 @@ ghost use Rattle.qolb_run.specs.BankWork.{IsBankedOver};
 
 use crate::bank::run_bank;
 use crate::board::run_board;
+use crate::gate::Gate;
 use line_accounts::AccountLaw;
 use line_board::BoardLaw;
-use line_threads::Gate;
 use link_line::LinkLine;
 use locks::Lines;
 use qolb_model::OpenLine;

@@ -6,12 +6,13 @@ ghost use Rattle.qolb_model.specs.declared.terms.TheConstants.{MOST_NODES};
 ghost use Rattle.qolb_run.specs.Jobs.{jobs_of};
 ghost use Rattle.qolb_run.specs.Workers.{AreBack, AreFresh, MayBeGone};
 
+use crate::gate::{Gate, passes};
 use crate::work::RunError;
-use line_threads::{Gate, MOST_REFUSALS, together};
+use line_threads::together;
 use qolb_script::{Job, Work};
 use std::alloc::Global;
 use std::sync::Wait;
-use std::thread::{Threads, yield_now};
+use std::thread::Threads;
 
 /// How often a worker looks for its turn at a line, before it withdraws and tries again.
 pub(crate) const PATIENCE: u64 = 64;
@@ -104,17 +105,6 @@ where
     }
     let _ = gate.may(number, at);
     Some(hand)
-}
-
-/// Asks until the worker may go on. `false` where it was refused `MOST_REFUSALS` times.
-fn passes<G: Gate>(gate: &G, worker: u64, at: u64) -> bool {
-    for _ in 0..MOST_REFUSALS {
-        if gate.may(worker, at) {
-            return true;
-        }
-        yield_now();
-    }
-    false
 }
 
 /// What all workers have in hand, gathered into the room that there is; or the first that gave up.

@@ -1,6 +1,6 @@
 use super::*;
+use crate::gate::AlwaysOpen;
 use crate::report::report_work;
-use line_threads::AlwaysOpen;
 use qolb_script::{Watched, read_work};
 use std::process::Abort;
 use std::sync::atomic::{AtomicU64, Ordering};

@@ -1,6 +1,8 @@
 //! Gates: what says when a worker may go on.
 ghost use Rattle.std.specs.Prelude.{◌≡◌, true};
 
+use std::thread::yield_now;
+
 /// How often a gate may refuse a worker before one job, until the worker gives up.
 pub const MOST_REFUSALS: u32 = 1_000_000;
 
@@ -24,4 +26,15 @@ impl Gate for AlwaysOpen {
     {
         true
     }
+}
+
+/// Asks until the worker may go on. `false` where it was refused `MOST_REFUSALS` times.
+pub(crate) fn passes<G: Gate>(gate: &G, worker: u64, at: u64) -> bool {
+    for _ in 0..MOST_REFUSALS {
+        if gate.may(worker, at) {
+            return true;
+        }
+        yield_now();
+    }
+    false
 }
