@@ -10,8 +10,11 @@ use crate::release::release;
 use crate::rule::{Ground, LinkSeat, Links};
 use crate::steps::{link, load, roll};
 use crate::words::WORDS;
+use atomic_table::Closed;
 use qolb_model::{Keep, PortState};
-use shared_line::{Asked, Discipline, Linked, Released, Requested};
+use shared_line::{
+    Asked, Discipline, Linked, Parcel, Released, Requested, put_alone, take_alone, unlay_alone,
+};
 use std::alloc::{AllocError, Global};
 
 impl<K: Keep> Discipline<K> for Links {
@@ -21,6 +24,28 @@ impl<K: Keep> Discipline<K> for Links {
 
     fn first_words(alloc: Global) -> Result<Vec<u64>, AllocError> {
         vec![in alloc; 0u64; WORDS]
+    }
+
+    ghost slot_count = { 1 };
+
+    ghost last = { λ _. 0 };
+
+    fn slot_count() -> usize {
+        1
+    }
+
+    #[inline]
+    fn take(ground: &Ground<K>, seat: &mut LinkSeat, _mark: u64, parcel: &mut Parcel) {
+        take_alone(ground, seat, parcel);
+    }
+
+    #[inline]
+    fn put(ground: &Ground<K>, seat: &mut LinkSeat, _mark: u64, parcel: &Parcel, closed: bool) {
+        put_alone(ground, seat, parcel, closed);
+    }
+
+    fn unlay(closed: Closed<Parcel, Global>) -> Parcel {
+        unlay_alone(closed)
     }
 
     /// Makes a request, and links it to the one before.
@@ -65,13 +90,13 @@ impl<K: Keep> Discipline<K> for Links {
 
     ghost joins = { seats.joins K.good K.allows };
 
-    ghost one_slot = { seats.one_slot K.good K.allows };
+    ghost slots = { seats.one_slot K.good K.allows };
 
     ghost starts = { seats.starts K.good K.allows };
 
     ghost meets = { meeting.meets_next K.good K.allows };
 
-    ghost parks = { meeting.parks_next K.good K.allows };
+    ghost parks = { λ about id slots i m v _ _ is holding kept. meeting.parks_next K.good K.allows about id slots i m v kept.0 is holding kept.1 };
 
     ghost finishes = { lasting.lasts K.good K.allows K.stays_good };
 }

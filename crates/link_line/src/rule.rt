@@ -1,5 +1,6 @@
 //! The queue of a list: how its nodes stand, and its rule.
 ghost use Rattle.link_line.specs.Laws.Standing as standing;
+ghost use Rattle.shared_line.specs.Slots.{lies_alone, kept_alone};
 ghost use Rattle.link_line.specs.Stances as stances;
 
 use crate::own::LinkOwn;
@@ -26,6 +27,12 @@ impl Shape for Links {
     ghost holding = { stances.holding };
 
     ghost refused = { stances.refused };
+
+    ghost brings = { lies_alone };
+
+    ghost keeps = { kept_alone };
+
+    ghost lays = { lies_alone };
 
     ghost may_show = { stances.may_show };
 

@@ -1,5 +1,5 @@
 -- What a port's fields, and what its contract shows of them, are after a call.
-use Rattle.std.proofs.Common.{◌≡◌, ℕ, List, true, false, sym, ap, ◌∙◌, subst, Bool, ◌||◌, bit_or}
+use Rattle.std.proofs.Common.{◌≡◌, ℕ, Option, List, true, false, sym, ap, ◌∙◌, subst, Bool, ◌||◌, bit_or}
 use Rattle.line_lanes.specs.Line.{merged}
 use Rattle.atomic_table.specs.Seated.{TableId}
 use Rattle.qolb_model.specs.declared.answer.PortState.{PortState}
@@ -24,7 +24,8 @@ use Rattle.qolb_model.proofs.Going.{continues_sound, sound_goes, asks_goes, join
 use Rattle.shared_line.specs.declared.rule.Parcel.{Parcel}
 use Rattle.shared_line.specs.declared.rule.Setup.{Setup}
 use Rattle.shared_line.specs.Entries.{LineSeat}
-use Rattle.shared_line.specs.Steps.{SameSeat, HasSlot, entry_of, sole, HasLine, write_of, own_end, Carries}
+use Rattle.shared_line.specs.Slots.{Slots}
+use Rattle.shared_line.specs.Steps.{SameSeat, entry_of, sole, HasLine, write_of, own_end, Carries}
 use Rattle.shared_line.specs.Ports.{Standing, standing, Holds, IsPort, BelongsTo, IsPutBack}
 use Rattle.shared_line.proofs.Turning.{Went}
 use Rattle.shared_line.proofs.Letting.{carries_served, holds_written}
@@ -68,21 +69,21 @@ module _ {O : Type 0} (fresh : O) {p : Standing} (s : LineSeat O) (y : Parcel) (
   call_links_on {v = v} {w = w} links more same = call_links (record { count = same ∙ links.count; joined = joined_goes v w links.joined more same })
 
 -- a port between calls
-module _ {O : Type 0} {fresh : O} {rests : PortState → ℕ → O → Type 0} {holding : ℕ → ℕ → O → Type 0} {label node : ℕ} {p : Standing} (s : LineSeat O) (y : Parcel) (mark steps looks : ℕ) (state : PortState) (between : IsPort fresh rests holding label node s y mark state) (is : standing fresh s y steps looks ≡ p) where
+module _ {O : Type 0} {fresh : O} {rests : PortState → ℕ → O → Type 0} {holding : ℕ → ℕ → O → Type 0} {keeps : ℕ → Option ℕ → Slots → Type 0} {label node : ℕ} {p : Standing} (s : LineSeat O) (y : Parcel) (mark steps looks : ℕ) (state : PortState) (between : IsPort fresh rests holding keeps label node s y mark state) (is : standing fresh s y steps looks ≡ p) where
   -- the state that it shows is its own
   pub own_state : p.view.state ≡ state
   own_state = ap (λ (x : Standing). x.view.state) (sym is) ∙ between.shows_state
 
-  pub holds_of : p.view.state ≡ shows.Holding → Holds fresh holding s y mark
+  pub holds_of : p.view.state ≡ shows.Holding → Holds fresh holding keeps s y mark
   holds_of held = between.holds_so (sym own_state ∙ held)
 
   -- it writes
   pub written_port : (z : Parcel) (mask : ℕ) (bytes : List ℕ) → p.view.state ≡ shows.Holding → z.bytes.bytes ≡ merged y.bytes.bytes bytes mask → z.mask.0 ≡ bit_or y.mask.0 mask → z.turns_left ≡ y.turns_left
-      → IsPort fresh rests holding label node s z mark state
+      → IsPort fresh rests holding keeps label node s z mark state
   written_port z mask bytes held b m c = record {
     alone = between.alone;
     rests_so = between.rests_so;
-    holds_so = λ e. holds_written fresh holding s y z mark mask bytes (between.holds_so e) b m c;
+    holds_so = λ e. holds_written fresh holding keeps s y z mark mask bytes (between.holds_so e) b m c;
     shows_state = between.shows_state;
     label_is = between.label_is;
     node_is = between.node_is;
@@ -90,8 +91,8 @@ module _ {O : Type 0} {fresh : O} {rests : PortState → ℕ → O → Type 0} {
 
   -- a holder's turns: the line is put back into it, closed or not
   module _ {good : List ℕ → Type 0} {allows : List ℕ → List ℕ → Type 0} {key : Setup} {table_id : TableId} (b : BelongsTo good allows key table_id p) (held : p.view.state ≡ shows.Holding)
-      (shut closed : Bool) (is_shut : closed ≡ (shut || is_one y.turns_left)) (u : LineSeat O) (same : SameSeat s u) (entries : u.me.0 ≡ s.me.0) (back : (z : Parcel) × HasSlot u z × IsPutBack y closed z) where
-    its : Holds fresh holding s y mark
+      (shut closed : Bool) (is_shut : closed ≡ (shut || is_one y.turns_left)) (u : LineSeat O) (same : SameSeat s u) (entries : u.me.0 ≡ s.me.0) (lays : ℕ → Parcel → Slots → Type 0) (back : (z : Parcel) × lays mark z u.me.1 × IsPutBack y closed z) where
+    its : Holds fresh holding keeps s y mark
     its = holds_of held
 
     entry : entry_of fresh u ≡ entry_of fresh s
@@ -103,7 +104,7 @@ module _ {O : Type 0} {fresh : O} {rests : PortState → ℕ → O → Type 0} {
     pub put_has : {refused : ℕ → View → O → Parcel → Type 0} (z : Parcel) → HasLine holding refused mark (entry_of fresh u) z
     put_has {refused = refused} z = subst (λ e. HasLine holding refused mark e z) (sym entry) (record { holds = λ _. its.at; refuses = λ shut. let e : true ≡ false = sym shut ∙ its.is_open in absurd (cc e) })
 
-    pub put_carries : {refused : ℕ → View → O → Parcel → Type 0} → MayRelease allows p.view p.turn → (z : Parcel) × HasSlot u z × HasLine holding refused mark (entry_of fresh u) z × Carries allows (entry_of fresh u).view z × (z.closed ≡ closed)
+    pub put_carries : {refused : ℕ → View → O → Parcel → Type 0} → MayRelease allows p.view p.turn → (z : Parcel) × lays mark z u.me.1 × HasLine holding refused mark (entry_of fresh u) z × Carries allows (entry_of fresh u).view z × (z.closed ≡ closed)
     put_carries may = (
       back.0,
       back.1,

@@ -1,5 +1,5 @@
 -- How the seats of the ports handed to `finish` are joined.
-use Rattle.std.proofs.Common.{Some, slice_get, ◌≡◌, ℕ, suc, List, [], ◌∷◌, ◌++◌, map, true, false, sym, ap, ◌∙◌, subst, ⊎_elim, arith, append_assoc}
+use Rattle.std.proofs.Common.{Some, slice_get, ◌≡◌, ℕ, Option, suc, List, [], ◌∷◌, ◌++◌, map, true, false, sym, ap, ◌∙◌, subst, ⊎_elim, arith, append_assoc}
 use Rattle.std.specs.List.{All}
 use Rattle.std.proofs.lemmas.List.{map-append}
 use Rattle.atomic_table.specs.Seated.{TableId}
@@ -11,6 +11,7 @@ use Rattle.qolb_model.specs.declared.answer.PortState.TheVariants as shows
 use Rattle.shared_line.specs.declared.rule.Parcel.{Parcel}
 use Rattle.shared_line.specs.declared.rule.Entry.{Entry}
 use Rattle.shared_line.specs.Entries.{LineSeat, AtRest}
+use Rattle.shared_line.specs.Slots.{Slots}
 use Rattle.shared_line.specs.Steps.{entry_of}
 use Rattle.shared_line.specs.Ports.{Standing, standing, IsPort}
 use Rattle.shared_line.specs.Finish.{Gathers}
@@ -35,7 +36,7 @@ pub all_rest : {A : Type 0} (P : A → Type 0) (x : A) (xs : List A) → All P (
 all_rest P x xs h = λ k d l. h (suc k) d (omega arith)
 
 -- the entries of one seat
-module _ {O : Type 0} (fresh : O) (rests : PortState → ℕ → O → Type 0) (holding : ℕ → ℕ → O → Type 0) (label node : ℕ) (s : LineSeat O) (y : Parcel) (mark steps looks : ℕ) (state : PortState) (p : Standing) (is : standing fresh s y steps looks ≡ p) (ok : IsPort fresh rests holding label node s y mark state) (quiet : may_ask p.view.state ≡ true) where
+module _ {O : Type 0} (fresh : O) (rests : PortState → ℕ → O → Type 0) (holding : ℕ → ℕ → O → Type 0) (keeps : ℕ → Option ℕ → Slots → Type 0) (label node : ℕ) (s : LineSeat O) (y : Parcel) (mark steps looks : ℕ) (state : PortState) (p : Standing) (is : standing fresh s y steps looks ≡ p) (ok : IsPort fresh rests holding keeps label node s y mark state) (quiet : may_ask p.view.state ≡ true) where
   same_view : (entry_of fresh s).view ≡ p.view
   same_view = ap (λ (q : Standing). q.view) is
 
@@ -87,9 +88,9 @@ module _ {O : Type 0} (fresh : O) (rests : PortState → ℕ → O → Type 0) (
   }
 
 -- the first seat, as the iterator over the ports gives it
-pub gathers_start : {O : Type 0} (fresh : O) (rests : PortState → ℕ → O → Type 0) (holding : ℕ → ℕ → O → Type 0) (label node : ℕ) (s : LineSeat O) (y : Parcel) (mark steps looks : ℕ) (state : PortState) (p : Standing) → standing fresh s y steps looks ≡ p → IsPort fresh rests holding label node s y mark state → (table_id : TableId) (ports items rest left : List Standing) → items ≡ ports → items ≡ p ∷ rest → left ≡ rest
+pub gathers_start : {O : Type 0} (fresh : O) (rests : PortState → ℕ → O → Type 0) (holding : ℕ → ℕ → O → Type 0) (keeps : ℕ → Option ℕ → Slots → Type 0) (label node : ℕ) (s : LineSeat O) (y : Parcel) (mark steps looks : ℕ) (state : PortState) (p : Standing) → standing fresh s y steps looks ≡ p → IsPort fresh rests holding keeps label node s y mark state → (table_id : TableId) (ports items rest left : List Standing) → items ≡ ports → items ≡ p ∷ rest → left ≡ rest
     → All (λ (q : Standing). q.table ≡ table_id) ports → All (λ (q : Standing). may_ask q.view.state ≡ true) ports → Gathers rests table_id ports left s
-gathers_start fresh rests holding label node s y mark steps looks state p is ok table_id ports items rest left a b c tables quiets =
+gathers_start fresh rests holding keeps label node s y mark steps looks state p is ok table_id ports items rest left a b c tables quiets =
     let e : ports ≡ p ∷ rest = sym a ∙ b in
     subst (λ l. Gathers rests table_id ports l s) (sym c)
-    (gathers_head fresh rests holding label node s y mark steps looks state p is ok (all_first (λ (q : Standing). may_ask q.view.state ≡ true) p rest (subst (All (λ (q : Standing). may_ask q.view.state ≡ true)) e quiets)) table_id ports rest e tables quiets)
+    (gathers_head fresh rests holding keeps label node s y mark steps looks state p is ok (all_first (λ (q : Standing). may_ask q.view.state ≡ true) p rest (subst (All (λ (q : Standing). may_ask q.view.state ≡ true)) e quiets)) table_id ports rest e tables quiets)

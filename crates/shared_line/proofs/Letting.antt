@@ -1,5 +1,5 @@
 -- A line that comes to its turn, and one that is let go.
-use Rattle.std.proofs.Common.{◌≡◌, ℕ, ◌+◌, ◌≤◌, Bool, true, false, ◌||◌, length, List, [], ◌∷◌, ◌++◌, sym, refl, ap, ◌∙◌, subst, Some, arith, replicate, bit_or}
+use Rattle.std.proofs.Common.{◌≡◌, ℕ, ◌+◌, ◌≤◌, Bool, true, false, ◌||◌, length, List, [], ◌∷◌, ◌++◌, sym, refl, ap, ◌∙◌, subst, Option, Some, arith, replicate, bit_or}
 use Rattle.std.proofs.Math.Bool.{or-false}
 use Rattle.std.proofs.lemmas.Option.{slice_get_within}
 use Rattle.line_lanes.specs.Line.{merged}
@@ -24,7 +24,8 @@ use Rattle.qolb_model.proofs.Requests.{has_prefix}
 use Rattle.shared_line.specs.declared.rule.Entry.{Entry}
 use Rattle.shared_line.specs.declared.rule.Parcel.{Parcel}
 use Rattle.shared_line.specs.Entries.{LineSeat}
-use Rattle.shared_line.specs.Steps.{entry_of, sole, write_of, own_end, Carries, Comes, HasSlot}
+use Rattle.shared_line.specs.Steps.{entry_of, sole, write_of, own_end, Carries, Comes}
+use Rattle.shared_line.specs.Slots.{Slots, IsCopy}
 use Rattle.shared_line.specs.Ports.{IsMerged, Holds, IsHeld, IsPutBack}
 
 -- the line that a holder puts back and lets go is the one after its turn
@@ -82,23 +83,20 @@ told_by w t y c closed more l =
 merged_fresh : (base : List ℕ) (z : Parcel) → length z.bytes.bytes ≡ 64 → z.mask.0 ≡ 0 → z.bytes.bytes ≡ base → written base (write_of z) ≡ z.bytes.bytes
 merged_fresh base z line mask is = ap (λ m. merged base z.bytes.bytes m) mask ∙ merged-none base z.bytes.bytes (ap length (sym is) ∙ line) ∙ sym is
 
-pub arrives : {O : Type 0} (fresh : O) (holding : ℕ → ℕ → O → Type 0) (refused : ℕ → View → O → Parcel → Type 0) (mark : ℕ) (s t : LineSeat O) (y z : Parcel) → Comes holding refused mark (entry_of fresh s) y → HasSlot s y → t.me ≡ s.me → (z.bytes ≡ y.bytes) × (z.turns_left ≡ y.turns_left) × (z.closed ≡ y.closed) → z.mask.0 ≡ 0 → z.closed ≡ false
-    → IsHeld fresh holding t z mark
-arrives fresh holding refused mark s t y z c slot same copied mask unclosed =
-    let entry : entry_of fresh s ≡ entry_of fresh t = ap (λ m. sole fresh m.0) (sym same) in
+pub arrives : {O : Type 0} (fresh : O) (holding : ℕ → ℕ → O → Type 0) (keeps : ℕ → Option ℕ → Slots → Type 0) (refused : ℕ → View → O → Parcel → Type 0) (mark : ℕ) (s t : LineSeat O) (y z : Parcel) → Comes holding refused mark (entry_of fresh s) y → t.me.0 ≡ s.me.0 → IsCopy z y → (y.closed ≡ false → keeps mark y.turns_left t.me.1) → z.closed ≡ false
+    → IsHeld fresh holding keeps t z mark
+arrives fresh holding keeps refused mark s t y z c same copied kept unclosed =
+    let entry : entry_of fresh s ≡ entry_of fresh t = ap (sole fresh) (sym same) in
     let here : Comes holding refused mark (entry_of fresh t) y = subst (λ e. Comes holding refused mark e y) entry c in
-    let base : z.bytes.bytes ≡ bytes_of (entry_of fresh t).view = ap (λ l. l.bytes) copied.0 ∙ here.bytes in
-    let unshut : is_closed (entry_of fresh t).view.ends ≡ false = sym here.closed ∙ (sym copied.2 ∙ unclosed) in (
+    let base : z.bytes.bytes ≡ bytes_of (entry_of fresh t).view = ap (λ l. l.bytes) copied.bytes ∙ here.bytes in
+    let unshut : is_closed (entry_of fresh t).view.ends ≡ false = sym here.closed ∙ (sym copied.closed ∙ unclosed) in (
       record {
         at = here.has.holds unshut;
-        slot = y;
-        carried = ap (λ m. m.1) same ∙ slot;
-        merged = merged_fresh (bytes_of (entry_of fresh t).view) z (ap (λ l. length l.bytes) copied.0 ∙ here.line) mask base;
+        kept = subst (λ left. keeps mark left t.me.1) (sym copied.turns) (kept (sym copied.closed ∙ unclosed));
+        merged = merged_fresh (bytes_of (entry_of fresh t).view) z (ap (λ l. length l.bytes) copied.bytes ∙ here.line) copied.no_mask base;
         is_open = unshut;
-        slot_open = sym copied.2 ∙ unclosed;
-        slot_turns = sym copied.1;
-        turns = copied.1 ∙ here.turns;
-        some_left = λ none. here.some_left unshut (sym copied.1 ∙ none);
+        turns = copied.turns ∙ here.turns;
+        some_left = λ none. here.some_left unshut (sym copied.turns ∙ none);
       },
       here.state,
       record {
@@ -106,22 +104,19 @@ arrives fresh holding refused mark s t y z c slot same copied mask unclosed =
         at_turn = here.turn;
         unmarked = here.unmarked;
         is_open = unshut;
-        no_mask = mask;
+        no_mask = copied.no_mask;
         bytes = base;
         clear_before = here.clear;
       },
     )
 
 -- the holder writes
-pub holds_written : {O : Type 0} (fresh : O) (holding : ℕ → ℕ → O → Type 0) (s : LineSeat O) (y z : Parcel) (mark mask : ℕ) (bytes : List ℕ) → Holds fresh holding s y mark → z.bytes.bytes ≡ merged y.bytes.bytes bytes mask → z.mask.0 ≡ bit_or y.mask.0 mask → z.turns_left ≡ y.turns_left → Holds fresh holding s z mark
-holds_written fresh holding s y z mark mask bytes h b k c = record {
+pub holds_written : {O : Type 0} (fresh : O) (holding : ℕ → ℕ → O → Type 0) (keeps : ℕ → Option ℕ → Slots → Type 0) (s : LineSeat O) (y z : Parcel) (mark mask : ℕ) (bytes : List ℕ) → Holds fresh holding keeps s y mark → z.bytes.bytes ≡ merged y.bytes.bytes bytes mask → z.mask.0 ≡ bit_or y.mask.0 mask → z.turns_left ≡ y.turns_left → Holds fresh holding keeps s z mark
+holds_written fresh holding keeps s y z mark mask bytes h b k c = record {
   at = h.at;
-  slot = h.slot;
-  carried = h.carried;
+  kept = subst (λ left. keeps mark left s.me.1) (sym c) h.kept;
   merged = (λ i. merged (bytes_of (entry_of fresh s).view) (b i) (k i)) ∙ merged-twice (bytes_of (entry_of fresh s).view) y.bytes.bytes bytes y.mask.0 mask h.merged ∙ sym b;
   is_open = h.is_open;
-  slot_open = h.slot_open;
-  slot_turns = h.slot_turns ∙ sym c;
   turns = c ∙ h.turns;
   some_left = λ none. h.some_left (sym c ∙ none);
 }

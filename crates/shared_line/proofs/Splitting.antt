@@ -1,5 +1,5 @@
 -- How the entries of all nodes are split into ports.
-use Rattle.std.proofs.Common.{◌≡◌, ℕ, ◌+◌, ◌-◌, ◌<◌, List, [], ◌∷◌, ◌++◌, sym, refl, ap, ◌∙◌, subst, ⊎_elim, length-append}
+use Rattle.std.proofs.Common.{◌≡◌, ℕ, Option, ◌+◌, ◌-◌, ◌<◌, List, [], ◌∷◌, ◌++◌, sym, refl, ap, ◌∙◌, subst, ⊎_elim, length-append}
 use Rattle.std.proofs.lemmas.Option.{get_or_from_slice_get}
 use Rattle.atomic_table.specs.Seated.{TableId}
 use Rattle.qolb_model.specs.declared.answer.PortState.TheVariants as shows
@@ -11,6 +11,7 @@ use Rattle.qolb_model.proofs.Seats.{each_from_more}
 use Rattle.shared_line.specs.declared.rule.Setup.{Setup}
 use Rattle.shared_line.specs.declared.rule.Parcel.{Parcel}
 use Rattle.shared_line.specs.Entries.{LineSeat, newcomer, newcomers_from}
+use Rattle.shared_line.specs.Slots.{Slots}
 use Rattle.shared_line.specs.Steps.{sole}
 use Rattle.shared_line.specs.Ports.{Standing, standing, IsPort, AreSplit, AreUnused, IsOpened, BelongsTo}
 use Rattle.qolb_model.specs.declared.answer.PortState.{PortState}
@@ -22,8 +23,8 @@ module _ {O : Type 0} (fresh : O) (about : Setup) (n : ℕ) (old first rest : Li
   pub rest_me : rest.me ≡ (behind old.me.0, []) → rest.me ≡ (newcomers_from fresh about (n + 1) (about.terms.nodes - (n + 1)), [])
   rest_me e = e ∙ (λ i. (behind (whole i).0, [])) ∙ (λ i. (behind (each_from_more (newcomer fresh about) n about.terms.nodes more i), []))
 
-  pub first_port : (rests : PortState → ℕ → O → Type 0) (holding : ℕ → ℕ → O → Type 0) → rests shows.Idle 0 fresh → (y : Parcel) → first.me ≡ (front old.me.0, old.me.1) → IsPort fresh rests holding about.label (n + 1) first y 0 shows.Idle
-  first_port rests holding new y e = let is = first_me e in record {
+  pub first_port : (rests : PortState → ℕ → O → Type 0) (holding : ℕ → ℕ → O → Type 0) (keeps : ℕ → Option ℕ → Slots → Type 0) → rests shows.Idle 0 fresh → (y : Parcel) → first.me ≡ (front old.me.0, old.me.1) → IsPort fresh rests holding keeps about.label (n + 1) first y 0 shows.Idle
+  first_port rests holding keeps new y e = let is = first_me e in record {
     alone = ap (λ m. m.0) is ∙ (λ i. sole fresh (sym is i).0 ∷ []);
     rests_so = λ _. (subst (λ o. rests shows.Idle 0 o) (ap (λ m. (sole fresh m.0).own) (sym is)) new, ap (λ m. m.1) is);
     holds_so = λ e. absurd (cc e);

@@ -1,4 +1,5 @@
 pub mod Entries
+pub mod Slots
 pub mod Steps
 pub mod Ports
 pub mod Finish

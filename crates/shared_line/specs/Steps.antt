@@ -44,7 +44,7 @@ SameSeat old new = (new.table_id ≡ old.table_id) × (new.id ≡ old.id)
 abbrev pub IsSeatOf : {O : Type 0} → ℕ → TableId → LineSeat O → Type 0
 IsSeatOf words table_id seat = (seat.table_id ≡ table_id) × (table_id.words ≡ words) × (0 < words)
 
--- the slot is in the seat's hand, with this line; and it is not
+-- the slot that all turns have, where there is one, is in the seat's hand, with this line; no slot is in its hand
 abbrev pub HasSlot : {O : Type 0} → LineSeat O → Parcel → Type 0
 HasSlot seat y = seat.me.1 ≡ (0, y) ∷ []
 
@@ -90,7 +90,7 @@ pub record HasLine {O : Type 0} (holding : ℕ → ℕ → O → Type 0) (refuse
   pub holds : is_closed e.view.ends ≡ false → holding mark (length e.view.ends) e.own
   pub refuses : is_closed e.view.ends ≡ true → refused mark e.view e.own y
 
--- the request has come to its turn, and the line is in the slot
+-- the request has come to its turn, with this line
 pub record Comes {O : Type 0} (holding : ℕ → ℕ → O → Type 0) (refused : ℕ → View → O → Parcel → Type 0) (mark : ℕ) (w : Entry O) (y : Parcel) : Type 0 where
   pub has : HasLine holding refused mark w y
   pub state : w.view.state ≡ shows.Holding
@@ -129,6 +129,6 @@ met allows fresh st m n m' = let v = sole fresh m.0 in let u = sole fresh (behin
     (m' ≡ (informed v u ∷ informed u v ∷ [], m.1)) × TellEachOther allows v.view u.view (informed_view v.view u.view) (informed_view u.view v.view)
     × (v.view.state ≡ shows.Holding → longer v.view.ends u.view.ends ≡ v.view.ends) × (u.view.state ≡ shows.Holding → longer u.view.ends v.view.ends ≡ u.view.ends)
 
--- the slot goes home, for a moment
+-- all slots in hand go home, for a moment
 abbrev pub parked : {O : Type 0} → Step Parcel → Contents O → ℕ → Contents O → Type 0
-parked st m n m' = (m'.0 ≡ m.0) × ((y : Parcel) → m.1 ≡ (0, y) ∷ [] → m'.1 ≡ [])
+parked st m n m' = (m'.0 ≡ m.0) × (m'.1 ≡ [])

@@ -2,13 +2,12 @@
 ghost use Rattle.std.specs.Prelude.{◌≡◌, ◌≢◌, ℕ, ◌+◌, ◌≤◌, true};
 ghost use Rattle.qolb_model.specs.declared.terms.TheConstants.{MOST_NODES};
 ghost use Rattle.shared_line.specs.declared.rule.Parcel.{Parcel};
-ghost use Rattle.shared_line.specs.Steps.{SameSeat, IsSeatOf, IsOwnNode, Alone, entry_of, HasSlot, GoesOn, Comes};
+ghost use Rattle.shared_line.specs.Steps.{SameSeat, IsSeatOf, IsOwnNode, Alone, entry_of, GoesOn, Comes};
 ghost use Rattle.shared_line.specs.Ports.{IsPassedOn};
 ghost use Rattle.shared_line.specs.Arrivals.{steps_of, HasArrived};
 
 use crate::queue::{Discipline, Released};
 use crate::rule::{Ground, LineSeat, Parcel};
-use crate::slot::take;
 use qolb_model::{Keep, PortState};
 
 /// What became of a line that has come.
@@ -32,14 +31,14 @@ pub(crate) fn arrive<K: Keep, Q: Discipline<K>>(
     requires alone { Alone Q.fresh seat.old.me }
     requires own { IsOwnNode Q.fresh node seat.old }
     requires nodes { (1 ≤ (entry_of Q.fresh seat.old).view.terms.nodes) × ((entry_of Q.fresh seat.old).view.terms.nodes ≤ MOST_NODES) }
-    requires comes { (y : Parcel) × HasSlot seat.old y × Comes Q.holding Q.refused mark (entry_of Q.fresh seat.old) y }
+    requires comes { (y : Parcel) × Q.brings mark y seat.old.me.1 × Comes Q.holding Q.refused mark (entry_of Q.fresh seat.old) y }
     ensures same { SameSeat seat.old seat.new }
     ensures goes_on { GoesOn K.allows Q.fresh seat.old.me seat.new.me (steps_of result) }
     ensures count { (entry_of Q.fresh seat.new).view.count ≡ (entry_of Q.fresh seat.old).view.count }
-    ensures arrived { HasArrived Q.fresh Q.rests Q.holding seat.new parcel.new mark result }
+    ensures arrived { HasArrived Q.fresh Q.rests Q.holding Q.keeps seat.new parcel.new mark result }
     ensures bound { steps_of result + 1 ≤ Q.most (entry_of Q.fresh seat.old).view.terms.nodes }
 {
-    take(ground, seat, parcel);
+    Q::take(ground, seat, mark, parcel);
     if parcel.closed {
         Arrival::PassedOn(pass_on(ground, seat, node, mark))
     } else {
@@ -60,7 +59,7 @@ fn pass_on<K: Keep, Q: Discipline<K>>(
     requires alone { Alone Q.fresh seat.old.me }
     requires own { IsOwnNode Q.fresh node seat.old }
     requires nodes { (1 ≤ (entry_of Q.fresh seat.old).view.terms.nodes) × ((entry_of Q.fresh seat.old).view.terms.nodes ≤ MOST_NODES) }
-    requires comes { (y : Parcel) × HasSlot seat.old y × Comes Q.holding Q.refused mark (entry_of Q.fresh seat.old) y × (y.closed ≡ true) }
+    requires comes { (y : Parcel) × Q.lays mark y seat.old.me.1 × Comes Q.holding Q.refused mark (entry_of Q.fresh seat.old) y × (y.closed ≡ true) }
     ensures same { SameSeat seat.old seat.new }
     ensures goes_on { GoesOn K.allows Q.fresh seat.old.me seat.new.me result.steps }
     ensures count { (entry_of Q.fresh seat.new).view.count ≡ (entry_of Q.fresh seat.old).view.count }

@@ -11,7 +11,7 @@ use crate::line::Line;
 use crate::meeting::meet_seats;
 use crate::port::Port;
 use crate::queue::{Asked, Discipline};
-use crate::slot::{park, put};
+use crate::slot::park;
 use qolb_model::{Enq, Keep, Out, Poll, PortState};
 
 impl<K: Keep, Q: Discipline<K>> Line<K, Q> {
@@ -176,7 +176,7 @@ impl<K: Keep, Q: Discipline<K>> Line<K, Q> {
         self.let_go(port, true);
     }
 
-    /// The holder's turn is over: the line is put back into its slot, closed or not, and let go.
+    /// The holder's turn is over: the line is laid for the next, closed where the holder shuts it or the lease is used up, and let go.
     #[inline]
     fn let_go(&self, port: &mut Port<Q>, shut: bool)
         requires belongs { BelongsTo K.good K.allows self.now.table.shared.key self.now.table.shared.table_id port.old }
@@ -190,7 +190,8 @@ impl<K: Keep, Q: Discipline<K>> Line<K, Q> {
         ensures bound { port.new.steps + 1 ≤ Q.most self.now.table.shared.key.terms.nodes }
     {
         let ground = &self.table.shared;
-        let closed = put(ground, &mut port.seat, &port.parcel, shut);
+        let closed = port.parcel.closes(shut);
+        Q::put(ground, &mut port.seat, port.mark, &port.parcel, closed);
         let gone = Q::release(ground, &mut port.seat, port.node, port.mark, closed);
         port.steps = gone.steps;
         port.state = gone.state;

@@ -19,3 +19,4 @@ pub use line::{Line, Width};
 pub use port::Port;
 pub use queue::{Asked, Discipline, Linked, Released, Requested, Ruled, Shape};
 pub use rule::{Entry, Ground, LineSeat, Parcel, Rule, Setup};
+pub use slot::{put_alone, take_alone, unlay_alone};

@@ -102,7 +102,7 @@ impl<K: Keep, Q: Discipline<K>> Line<K, Q> {
             words: words.len(),
             of: PhantomData,
         };
-        let slots = Vec::from_array(alloc, [parcel])?;
+        let slots = vec![in alloc; parcel; Q::slot_count()]?;
         match Table::new(alloc, words.as_slice(), slots, setup) {
             Ok((table, seat)) => Ok((
                 Line {

@@ -32,7 +32,7 @@ impl<Q: Shape> Model for Port<Q> {
 
     ghost view = { λ p. standing Q.fresh p.seat p.parcel p.steps p.looks.count };
 
-    ghost invariant = { λ p. IsPort Q.fresh Q.rests Q.holding p.label p.node p.seat p.parcel p.mark p.state };
+    ghost invariant = { λ p. IsPort Q.fresh Q.rests Q.holding Q.keeps p.label p.node p.seat p.parcel p.mark p.state };
 }
 
 impl<Q: Shape> LinePort for Port<Q> {

@@ -1,7 +1,8 @@
 //! What a queue is: how its nodes stand, its rule, and the few calls that are its own.
-ghost use Rattle.std.specs.Prelude.{◌≡◌, ◌≢◌, ℕ, List, ◌∷◌, ◌++◌, [], ◌<◌, ◌≤◌, ◌+◌, ◌^◌, length, true, false, IsTrue, IfOk};
+ghost use Rattle.std.specs.Prelude.{◌≡◌, ◌≢◌, ℕ, List, ◌∷◌, ◌++◌, [], Option, Some, replicate, ◌<◌, ◌≤◌, ◌+◌, ◌^◌, length, true, false, IsTrue, IfOk};
 ghost use mathlib.Core.Option.{some, none};
 ghost use lib.ListN.{get_elem?};
+ghost use Rattle.std.specs.Slots.{slots_items, slots_len, IsFull};
 ghost use Rattle.atomic_table.specs.Table.{State, Splits, Joins, Allows, Final, opening, step};
 ghost use Rattle.qolb_model.specs.Entries.{front, behind};
 ghost use Rattle.qolb_model.specs.declared.answer.PortState.{PortState};
@@ -20,10 +21,13 @@ ghost use Rattle.qolb_model.specs.Finishing.{IsLast};
 ghost use Rattle.shared_line.specs.declared.rule.Parcel.{Parcel};
 ghost use Rattle.shared_line.specs.declared.rule.Setup.{Setup};
 ghost use Rattle.shared_line.specs.declared.rule.Entry.{Entry};
+ghost use Rattle.shared_line.specs.Slots.{Slots, IsCopy};
+ghost use Rattle.shared_line.specs.Ports.{IsPutBack};
 ghost use Rattle.shared_line.specs.Entries.{Contents, newcomers, AllRest, views_of};
-ghost use Rattle.shared_line.specs.Steps.{Alone, entry_of, SameSeat, IsSeatOf, IsOwnNode, HasSlot, HasNoSlot, HasLine, Rests, GoesOn, IsEarly, IsUnlinked, IsGivenUp, Comes, Carries, own_end, met, parked};
+ghost use Rattle.shared_line.specs.Steps.{Alone, entry_of, SameSeat, IsSeatOf, IsOwnNode, HasNoSlot, HasLine, Rests, GoesOn, IsEarly, IsUnlinked, IsGivenUp, Comes, Carries, own_end, met, parked};
 
-use crate::rule::{Ground, LineSeat};
+use crate::rule::{Ground, LineSeat, Parcel};
+use atomic_table::Closed;
 use qolb_model::{Keep, PortState};
 use std::alloc::{AllocError, Global};
 
@@ -72,6 +76,15 @@ pub trait Shape {
     /// Where a node is to which this closed line came, by its port's mark and what it knows.
     ghost refused: { ℕ → View → Self.Own → Parcel → Type 0 };
 
+    /// A node with this mark to which this line came has it in these slots.
+    ghost brings: { ℕ → Parcel → Slots → Type 0 };
+
+    /// A holder with this mark, of a line with so many turns left, has these slots.
+    ghost keeps: { ℕ → Option ℕ → Slots → Type 0 };
+
+    /// A node with this mark that is about to let this line go has laid it in these slots, for the next.
+    ghost lays: { ℕ → Parcel → Slots → Type 0 };
+
     /// A port may show this state.
     ghost may_show: { PortState → Type 0 };
 
@@ -119,6 +132,51 @@ pub trait Discipline<K: Keep>: Ruled<K> {
         ensures first { IfOk result (λ words. are_first words.items) }
         ensures wide { IfOk result (λ words. (length words.items ≡ word_count) × (0 < word_count)) };
 
+    /// How many slots a line has.
+    ghost slot_count: { ℕ };
+
+    /// In which of them it lies when all is over, by its words.
+    ghost last: { List ℕ → ℕ };
+
+    /// How many slots a line has.
+    fn slot_count() -> usize
+        ensures { result ≡ slot_count };
+
+    /// Copies the line out of the slot in which it came, for a turn in which nothing is written yet. A closed line is laid for the next at
+    /// once.
+    fn take(
+        ground: &Ground<K, Self>,
+        seat: &mut LineSeat<Self::Own>,
+        mark: u64,
+        parcel: &mut Parcel,
+    )
+        requires table { seat.old.table_id ≡ ground.now.table_id }
+        requires came { (y : Parcel) × Self.brings mark y seat.old.me.1 }
+        ensures same { SameSeat seat.old seat.new × (seat.new.me.0 ≡ seat.old.me.0) }
+        ensures copied { (y : Parcel) → Self.brings mark y seat.old.me.1 → IsCopy parcel.new y }
+        ensures kept { (y : Parcel) → Self.brings mark y seat.old.me.1 → y.closed ≡ false → Self.keeps mark y.turns_left seat.new.me.1 }
+        ensures laid { (y : Parcel) → Self.brings mark y seat.old.me.1 → y.closed ≡ true → Self.lays mark y seat.new.me.1 };
+
+    /// Lays the line of a turn that is over for the next, closed where that is said.
+    fn put(
+        ground: &Ground<K, Self>,
+        seat: &mut LineSeat<Self::Own>,
+        mark: u64,
+        parcel: &Parcel,
+        closed: bool,
+    )
+        requires table { seat.old.table_id ≡ ground.now.table_id }
+        requires kept { Self.keeps mark parcel.now.turns_left seat.old.me.1 }
+        requires left { parcel.now.turns_left ≢ Some 0 }
+        ensures same { SameSeat seat.old seat.new × (seat.new.me.0 ≡ seat.old.me.0) }
+        ensures put_back { (y : Parcel) × Self.lays mark y seat.new.me.1 × IsPutBack parcel.now closed y };
+
+    /// The line, out of a table that no thread shares any more.
+    fn unlay(closed: Closed<Parcel, Global>) -> Parcel
+        requires words { (slots_len closed.words ≡ word_count) × IsFull closed.words }
+        requires slots { (slots_len closed.slots ≡ slot_count) × IsFull closed.slots }
+        ensures { get_elem? (slots_items closed.slots) (Self.last (slots_items closed.words)) ≡ some result };
+
     /// Makes a request, unless the node's last one is not clear.
     fn ask(
         ground: &Ground<K, Self>,
@@ -137,7 +195,7 @@ pub trait Discipline<K: Keep>: Ruled<K> {
         ensures asks { result.answer ≢ Asked.Busy → Asks (entry_of Self.fresh seat.old).view (entry_of Self.fresh seat.new).view }
         ensures joined { result.answer ≢ Asked.Busy → IsJoined (entry_of Self.fresh seat.new).view }
         ensures behind { result.answer ≡ Asked.Behind → HasNoSlot seat.new × IsEarly Self.rests result.mark (entry_of Self.fresh seat.new) }
-        ensures came { result.answer ≡ Asked.Came → (y : Parcel) × HasSlot seat.new y × Comes Self.holding Self.refused result.mark (entry_of Self.fresh seat.new) y }
+        ensures came { result.answer ≡ Asked.Came → (y : Parcel) × Self.brings result.mark y seat.new.me.1 × Comes Self.holding Self.refused result.mark (entry_of Self.fresh seat.new) y }
         ensures counted_busy { result.answer ≡ Asked.Busy → Self.asks_in state enq.Busy result.steps }
         ensures counted_behind { result.answer ≡ Asked.Behind → Self.asks_in state enq.Queued result.steps }
         ensures counted_came { result.answer ≡ Asked.Came → Self.asks_in state enq.Granted result.steps }
@@ -152,7 +210,7 @@ pub trait Discipline<K: Keep>: Ruled<K> {
         ensures goes_on { GoesOn K.allows Self.fresh seat.old.me seat.new.me 1 }
         ensures count { (entry_of Self.fresh seat.new).view.count ≡ (entry_of Self.fresh seat.old).view.count }
         ensures waits { result ≡ false → HasNoSlot seat.new × IsEarly Self.rests mark (entry_of Self.fresh seat.new) }
-        ensures comes { result ≡ true → (y : Parcel) × HasSlot seat.new y × Comes Self.holding Self.refused mark (entry_of Self.fresh seat.new) y };
+        ensures comes { result ≡ true → (y : Parcel) × Self.brings mark y seat.new.me.1 × Comes Self.holding Self.refused mark (entry_of Self.fresh seat.new) y };
 
     /// Withdraws the request, unless it has come to its turn: whether it has.
     fn roll(ground: &Ground<K, Self>, seat: &mut LineSeat<Self::Own>, node: u64, mark: u64) -> bool
@@ -163,9 +221,9 @@ pub trait Discipline<K: Keep>: Ruled<K> {
         ensures goes_on { GoesOn K.allows Self.fresh seat.old.me seat.new.me 1 }
         ensures count { (entry_of Self.fresh seat.new).view.count ≡ (entry_of Self.fresh seat.old).view.count }
         ensures withdrawn { result ≡ false → HasNoSlot seat.new × IsGivenUp Self.rests mark (entry_of Self.fresh seat.new) }
-        ensures comes { result ≡ true → (y : Parcel) × HasSlot seat.new y × Comes Self.holding Self.refused mark (entry_of Self.fresh seat.new) y };
+        ensures comes { result ≡ true → (y : Parcel) × Self.brings mark y seat.new.me.1 × Comes Self.holding Self.refused mark (entry_of Self.fresh seat.new) y };
 
-    /// Lets the line go that lies in the slot, closed or not.
+    /// Lets the line go that was laid for the next, closed or not.
     fn release(
         ground: &Ground<K, Self>,
         seat: &mut LineSeat<Self::Own>,
@@ -177,12 +235,12 @@ pub trait Discipline<K: Keep>: Ruled<K> {
         requires alone { Alone Self.fresh seat.old.me }
         requires own { IsOwnNode Self.fresh node seat.old }
         requires nodes { (1 ≤ (entry_of Self.fresh seat.old).view.terms.nodes) × ((entry_of Self.fresh seat.old).view.terms.nodes ≤ MOST_NODES) }
-        requires line { (y : Parcel) × HasSlot seat.old y × HasLine Self.holding Self.refused mark (entry_of Self.fresh seat.old) y × Carries K.allows (entry_of Self.fresh seat.old).view y × (y.closed ≡ closed) }
+        requires line { (y : Parcel) × Self.lays mark y seat.old.me.1 × HasLine Self.holding Self.refused mark (entry_of Self.fresh seat.old) y × Carries K.allows (entry_of Self.fresh seat.old).view y × (y.closed ≡ closed) }
         ensures same { SameSeat seat.old seat.new }
         ensures rests { (mark : ℕ) → Rests Self.fresh Self.rests result.state mark seat.new }
         ensures not_held { result.state ≢ PortState.Holding }
         ensures goes_on { GoesOn K.allows Self.fresh seat.old.me seat.new.me result.steps }
-        ensures lets_go { (y : Parcel) → HasSlot seat.old y → EndsTurn (entry_of Self.fresh seat.old).view (own_end (is_closed (entry_of Self.fresh seat.old).view.ends) y) (states.left_by y.closed) (entry_of Self.fresh seat.new).view }
+        ensures lets_go { (y : Parcel) → Self.lays mark y seat.old.me.1 → EndsTurn (entry_of Self.fresh seat.old).view (own_end (is_closed (entry_of Self.fresh seat.old).view.ends) y) (states.left_by y.closed) (entry_of Self.fresh seat.new).view }
         ensures counted { Self.lets_go_in (length (entry_of Self.fresh seat.old).view.ends) (length (entry_of Self.fresh seat.new).view.ends) result.steps }
         ensures bound { result.steps + 1 ≤ Self.most (entry_of Self.fresh seat.old).view.terms.nodes };
 
@@ -193,20 +251,20 @@ pub trait Discipline<K: Keep>: Ruled<K> {
 
     ghost joins: { (about : Setup) (id other : ℕ) (es fs : List (Entry Self.Own)) → Joins (Self.holds about) id es other fs (es ++ fs) [] };
 
-    /// A table has one slot.
-    ghost one_slot: { (about : Setup) (s : State Parcel (List (Entry Self.Own))) → Self.holds about s → length s.homes ≡ 1 };
+    /// A table has so many slots.
+    ghost slots: { (about : Setup) (s : State Parcel (List (Entry Self.Own))) → Self.holds about s → length s.homes ≡ slot_count };
 
     /// A new line keeps the rule.
-    ghost starts: { (about : Setup) (words : List ℕ) (y : Parcel) → MayOpen about.terms → length about.terms.opening.bytes ≡ 64 → K.good about.terms.opening.bytes → length words ≡ word_count → are_first words → y.bytes.bytes ≡ about.terms.opening.bytes → y.closed ≡ false → y.turns_left ≡ about.terms.lease → Self.holds about (opening words (y ∷ []) (newcomers Self.fresh about)) };
+    ghost starts: { (about : Setup) (words : List ℕ) (y : Parcel) → MayOpen about.terms → length about.terms.opening.bytes ≡ 64 → K.good about.terms.opening.bytes → length words ≡ word_count → are_first words → y.bytes.bytes ≡ about.terms.opening.bytes → y.closed ≡ false → y.turns_left ≡ about.terms.lease → Self.holds about (opening words (replicate slot_count y) (newcomers Self.fresh about)) };
 
     /// Two entries of one seat tell each other what they know.
     ghost meets: { (about : Setup) (id slots i : ℕ) (m : Contents Self.Own) (v u : Entry Self.Own) → m.0 ≡ v ∷ u ∷ [] → Allows (Self.holds about) slots id m i (λ n. n) (met K.allows Self.fresh (step slots i 0 0 none) m) };
 
-    /// A holder's slot goes home.
-    ghost parks: { (about : Setup) (id slots i : ℕ) (m : Contents Self.Own) (v : Entry Self.Own) (y : Parcel) → m.0 ≡ v ∷ [] → v.view.state ≡ shows.Holding → m.1 ≡ (0, y) ∷ [] → Allows (Self.holds about) slots id m i (λ n. n) (parked (step slots i 0 0 none) m) };
+    /// A holder's slots go home.
+    ghost parks: { (about : Setup) (id slots i : ℕ) (m : Contents Self.Own) (v : Entry Self.Own) (mark : ℕ) (left : Option ℕ) → m.0 ≡ v ∷ [] → v.view.state ≡ shows.Holding → Self.keeps mark left m.1 → Allows (Self.holds about) slots id m i (λ n. n) (parked (step slots i 0 0 none) m) };
 
     /// The line at the end, where one seat has all entries and each is at rest.
-    ghost finishes: { (about : Setup) (es : List (Entry Self.Own)) (id : ℕ) (words : List ℕ) (xs : List Parcel) → AllRest Self.rests about.terms.nodes es → Final (λ s. Self.holds about s × (get_elem? s.views id ≡ some es)) words xs → (y : Parcel) × (get_elem? xs 0 ≡ some y) × IsLast K.good K.allows about.terms (views_of es) y.bytes.bytes };
+    ghost finishes: { (about : Setup) (es : List (Entry Self.Own)) (id : ℕ) (words : List ℕ) (xs : List Parcel) → AllRest Self.rests about.terms.nodes es → Final (λ s. Self.holds about s × (get_elem? s.views id ≡ some es)) words xs → (y : Parcel) × (get_elem? xs (Self.last words) ≡ some y) × IsLast K.good K.allows about.terms (views_of es) y.bytes.bytes };
 }
 
 /// A queue whose request is made first, and linked to the one before by a second call.
@@ -232,7 +290,7 @@ pub trait Linked<K: Keep>: Discipline<K> {
         ensures asks { result.answer ≢ Asked.Busy → Asks (entry_of Self.fresh seat.old).view (entry_of Self.fresh seat.new).view }
         ensures joined { result.answer ≡ Asked.Came → IsJoined (entry_of Self.fresh seat.new).view }
         ensures behind { result.answer ≡ Asked.Behind → HasNoSlot seat.new × IsUnlinked Self.rests result.mark (entry_of Self.fresh seat.new) }
-        ensures came { result.answer ≡ Asked.Came → (y : Parcel) × HasSlot seat.new y × Comes Self.holding Self.refused result.mark (entry_of Self.fresh seat.new) y }
+        ensures came { result.answer ≡ Asked.Came → (y : Parcel) × Self.brings result.mark y seat.new.me.1 × Comes Self.holding Self.refused result.mark (entry_of Self.fresh seat.new) y }
         ensures counted_busy { result.answer ≡ Asked.Busy → result.steps ≡ 1 }
         ensures counted { result.answer ≢ Asked.Busy → result.steps ≡ prepends_in state }
         ensures bound { result.steps ≤ 3 };
@@ -246,5 +304,5 @@ pub trait Linked<K: Keep>: Discipline<K> {
         ensures goes_on { GoesOn K.allows Self.fresh seat.old.me seat.new.me 1 }
         ensures links { Links (entry_of Self.fresh seat.old).view (entry_of Self.fresh seat.new).view }
         ensures waits { result ≡ false → HasNoSlot seat.new × IsEarly Self.rests mark (entry_of Self.fresh seat.new) }
-        ensures comes { result ≡ true → (y : Parcel) × HasSlot seat.new y × Comes Self.holding Self.refused mark (entry_of Self.fresh seat.new) y };
+        ensures comes { result ≡ true → (y : Parcel) × Self.brings mark y seat.new.me.1 × Comes Self.holding Self.refused mark (entry_of Self.fresh seat.new) y };
 }

@@ -1,4 +1,7 @@
-//! The table of a line: words as its queue lays them, and one slot, which has the line.
+//! The table of a line: words and slots as its queue lays them. Where nobody has the line it lies in a slot.
+ghost use Rattle.std.specs.Prelude.{◌≡◌, ◌||◌};
+ghost use Rattle.qolb_model.specs.Steps.{is_one};
+
 use crate::queue::{Ruled, Shape};
 use atomic_table::{Seat, Shared, TableRule};
 use line_lanes::{Line64, Mask};
@@ -22,6 +25,16 @@ pub struct Parcel {
     pub mask: Mask,
     pub turns_left: Option<u64>,
     pub closed: bool,
+}
+
+impl Parcel {
+    /// Whether the line is closed after this turn: the holder shuts it, or the turn is its lease's last.
+    #[inline]
+    pub(crate) fn closes(&self, shut: bool) -> bool
+        ensures { result ≡ (shut || is_one self.now.turns_left) }
+    {
+        shut || self.turns_left == Some(1)
+    }
 }
 
 /// What the table's rule knows of a node. No value of it is made.

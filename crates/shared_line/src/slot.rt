@@ -1,27 +1,35 @@
-//! The slot in a port's hand.
-ghost use Rattle.std.specs.Prelude.{◌≡◌, ◌≢◌, ◌||◌, [], true, false, Some};
-ghost use Rattle.qolb_model.specs.Steps.{is_one};
-ghost use Rattle.shared_line.specs.Steps.{SameSeat, IsSeatOf, HasSlot, Alone, entry_of};
+//! The slots in a port's hand.
+ghost use Rattle.std.specs.Prelude.{◌≡◌, ◌≢◌, ℕ, Option, [], Some, false};
+ghost use mathlib.Core.Option.{some};
+ghost use lib.ListN.{get_elem?};
+ghost use Rattle.std.specs.Slots.{slots_items, slots_len, IsFull};
+ghost use Rattle.shared_line.specs.Slots.{lies_alone, kept_alone, IsCopy};
+ghost use Rattle.shared_line.specs.Steps.{SameSeat, IsSeatOf, Alone, entry_of};
 ghost use Rattle.shared_line.specs.Ports.{IsPutBack};
 ghost use Rattle.shared_line.specs.declared.rule.Parcel.{Parcel};
 
 use crate::plays::Park;
-use crate::queue::Discipline;
+use crate::queue::{Discipline, Ruled};
 use crate::rule::{Ground, LineSeat, Parcel};
+use atomic_table::Closed;
 use line_lanes::Mask;
 use qolb_model::{Keep, PortState};
+use std::alloc::Global;
 
-/// Copies the line out of the slot, for a turn in which nothing is written yet.
+/// Copies the line out of the one slot that all turns have, for a turn in which nothing is written yet. A closed line lies there for the
+/// next already.
 #[inline]
-pub(crate) fn take<K: Keep, Q: Discipline<K>>(
+pub fn take_alone<K: Keep, Q: Ruled<K>>(
     ground: &Ground<K, Q>,
     seat: &mut LineSeat<Q::Own>,
     parcel: &mut Parcel,
 )
-    requires { (seat.old.table_id ≡ ground.now.table_id) × ((y : Parcel) × HasSlot seat.old y) }
-    ensures same { SameSeat seat.old seat.new × (seat.new.me ≡ seat.old.me) }
-    ensures line { (y : Parcel) → HasSlot seat.old y → (parcel.new.bytes ≡ y.bytes) × (parcel.new.turns_left ≡ y.turns_left) × (parcel.new.closed ≡ y.closed) }
-    ensures fresh { parcel.new.mask.0 ≡ 0 }
+    requires table { seat.old.table_id ≡ ground.now.table_id }
+    requires came { (y : Parcel) × lies_alone 0 y seat.old.me.1 }
+    ensures same { SameSeat seat.old seat.new × (seat.new.me.0 ≡ seat.old.me.0) }
+    ensures copied { (y : Parcel) → lies_alone 0 y seat.old.me.1 → IsCopy parcel.new y }
+    ensures kept { (y : Parcel) → lies_alone 0 y seat.old.me.1 → y.closed ≡ false → kept_alone 0 y.turns_left seat.new.me.1 }
+    ensures laid { (y : Parcel) → lies_alone 0 y seat.old.me.1 → lies_alone 0 y seat.new.me.1 }
 {
     let slot = seat.slot_mut(ground, 0);
     parcel.bytes = slot.bytes;
@@ -30,25 +38,22 @@ pub(crate) fn take<K: Keep, Q: Discipline<K>>(
     parcel.mask = Mask(0);
 }
 
-/// Copies the line of a turn that is over into its slot, closed where the holder shuts it or the lease is used up. Returns whether it is
-/// closed.
+/// Copies the line of a turn that is over back into the one slot that all turns have.
 ///
 /// The turns left and the flag are written only where they change: without a lease nothing else than the turn's write is.
 #[inline]
-pub(crate) fn put<K: Keep, Q: Discipline<K>>(
+pub fn put_alone<K: Keep, Q: Ruled<K>>(
     ground: &Ground<K, Q>,
     seat: &mut LineSeat<Q::Own>,
     parcel: &Parcel,
-    shut: bool,
-) -> bool
+    closed: bool,
+)
     requires table { seat.old.table_id ≡ ground.now.table_id }
-    requires slot { (y : Parcel) × HasSlot seat.old y × (y.closed ≡ false) × (y.turns_left ≡ parcel.now.turns_left) }
+    requires kept { kept_alone 0 parcel.now.turns_left seat.old.me.1 }
     requires left { parcel.now.turns_left ≢ Some 0 }
     ensures same { SameSeat seat.old seat.new × (seat.new.me.0 ≡ seat.old.me.0) }
-    ensures put_back { (y : Parcel) × HasSlot seat.new y × IsPutBack parcel.now result y }
-    ensures closed { result ≡ (shut || is_one parcel.now.turns_left) }
+    ensures put_back { (y : Parcel) × lies_alone 0 y seat.new.me.1 × IsPutBack parcel.now closed y }
 {
-    let closed = shut || parcel.turns_left == Some(1);
     let slot = seat.slot_mut(ground, 0);
     slot.bytes = parcel.bytes;
     slot.mask = parcel.mask;
@@ -58,16 +63,26 @@ pub(crate) fn put<K: Keep, Q: Discipline<K>>(
     if closed {
         slot.closed = true;
     }
-    closed
 }
 
-/// A holder's slot goes home, for a moment.
+/// The line, out of a table with one slot that no thread shares any more.
+pub fn unlay_alone(closed: Closed<Parcel, Global>) -> Parcel
+    requires slots { (slots_len closed.slots ≡ 1) × IsFull closed.slots }
+    ensures { get_elem? (slots_items closed.slots) 0 ≡ some result }
+{
+    let mut closed = closed;
+    let parcel = closed.take(0);
+    closed.free();
+    parcel
+}
+
+/// A holder's slots go home, for a moment.
 ///
 /// A slot goes home only at a step on a word, so word 0 is loaded, which nobody looks at.
 pub(crate) fn park<K: Keep, Q: Discipline<K>>(ground: &Ground<K, Q>, seat: &mut LineSeat<Q::Own>)
     requires table { IsSeatOf Q.word_count ground.now.table_id seat.old }
     requires ready { Alone Q.fresh seat.old.me × ((entry_of Q.fresh seat.old).view.state ≡ PortState.Holding) }
-    requires slot { (y : Parcel) × HasSlot seat.old y }
+    requires kept { (mark : ℕ) × (left : Option ℕ) × Q.keeps mark left seat.old.me.1 }
     ensures { (seat.new.table_id ≡ seat.old.table_id) × (seat.new.me ≡ (seat.old.me.0, [])) }
 {
     ground.load::<Park>(seat, 0);

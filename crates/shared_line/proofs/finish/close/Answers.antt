@@ -5,14 +5,11 @@ use Rattle.qolb_model.specs.Finishing.{IsLast}
 use Rattle.shared_line.specs.Entries.{views_of}
 use Rattle.shared_line.proofs.finish.close.Goals as goal
 
-pub take-parcel-requires : goal.take-parcel-requires
-take-parcel-requires g c = let f = c.close_with-closed.ensures.values.2 in let one = g.met.Q.Discipline.one_slot c.args.line.table.shared.key f.0 f.1.0 in let same = f.3 in search rules
-
-pub free-requires : goal.free-requires
-free-requires g c = let f = c.close_with-closed.ensures.values.2 in let one = g.met.Q.Discipline.one_slot c.args.line.table.shared.key f.0 f.1.0 in let same = f.3 in search rules
+pub unlay-parcel-requires-clause-slots : goal.unlay-parcel-requires-clause-slots
+unlay-parcel-requires-clause-slots g c = let f = c.close_with.ensures.values.2 in let many = g.met.Q.Discipline.slots c.args.line.table.shared.key f.0 f.1.0 in let same = f.3 in search rules
 
 pub returns : goal.returns
 returns g c =
-    let f = g.met.Q.Discipline.finishes c.args.line.table.shared.key c.args.seat.me.0 _ _ _ c.requires.at_rest c.close_with-closed.ensures.values.2 in
-    let parcel : f.0 ≡ c.take-parcel.result = sym (some-injective _ _ (sym c.take-parcel.ensures.value ∙ f.1)) in
+    let f = g.met.Q.Discipline.finishes c.args.line.table.shared.key c.args.seat.me.0 _ _ _ c.requires.at_rest c.close_with.ensures.values.2 in
+    let parcel : f.0 ≡ c.unlay-parcel.result = sym (some-injective _ _ (sym c.unlay-parcel.ensures ∙ f.1)) in
     subst (λ (p : Parcel). IsLast g.K.Keep.good g.K.Keep.allows c.args.line.table.shared.key.terms (views_of c.args.seat.me.0) p.bytes.bytes) parcel f.2

@@ -8,7 +8,7 @@ split_seat-others-requires g c = (search rules, search rules, g.met.Q.Discipline
 
 pub invariant_of-push : goal.invariant_of-push
 invariant_of-push g c = let s = c.split_seat-others.ensures in
-    first_port g.Q.Shape.fresh c.args.setup.now c.loop-done.done c.loop-done.rest c.replace-seat.result c.replace-seat.new.dest (omega arith) c.loop-done.invariant.me g.Q.Shape.rests g.Q.Shape.holding g.Q.Shape.starts_idle _ (same_me c.replace-seat.ensures.value ∙ s.2)
+    first_port g.Q.Shape.fresh c.args.setup.now c.loop-done.done c.loop-done.rest c.replace-seat.result c.replace-seat.new.dest (omega arith) c.loop-done.invariant.me g.Q.Shape.rests g.Q.Shape.holding g.Q.Shape.keeps g.Q.Shape.starts_idle _ (same_me c.replace-seat.ensures.value ∙ s.2)
 
 pub loop-done-preserved : goal.loop-done-preserved
 loop-done-preserved g c = let s = c.split_seat-others.ensures in

@@ -1,6 +1,5 @@
 use Rattle.std.proofs.Common.{arith, subst, ◌+◌, ◌≤◌, ◌∙◌}
 use Rattle.qolb_model.proofs.Answering.{links_queued, links_granted, links_told}
-use Rattle.shared_line.specs.Steps.{entry_of}
 use Rattle.shared_line.proofs.Turning.{Went, then}
 use Rattle.shared_line.proofs.Calling.{call_continues, call_belongs, call_nodes, call_links, call_links_on}
 use Rattle.shared_line.proofs.Arrived.{passed_port}
