@@ -1,5 +1,5 @@
 -- Numbers of tickets, and what a cell tells of them.
-use Rattle.std.proofs.Common.{◌≡◌, ◌≢◌, ℕ, ◌+◌, ◌-◌, ◌*◌, ◌/◌, ◌%◌, ◌^◌, ◌<◌, ◌≤◌, ◌==◌, Bool, true, false, if◌then◌else◌, sym, ap, ◌∙◌, arith, eq-eqb, ne_eqb}
+use Rattle.std.proofs.Common.{◌≡◌, ◌≢◌, ℕ, ◌+◌, ◌-◌, ◌*◌, ◌/◌, ◌%◌, ◌^◌, ◌<◌, ◌≤◌, Bool, if◌then◌else◌, sym, ap, ◌∙◌, arith, eq-eqb, ne_eqb}
 use native.Mathlib.Nat.{mod-add-mod}
 use lib.Pow.{mod-mod-pow}
 use Rattle.atomic_table.proofs.Lists.{one_turn}
@@ -33,13 +33,14 @@ numbers_differ p e = let same = one_turn (p + 1 - CELLS) (p + 1) NUMBERS (omega 
 pub not_granted : (p mark word : ℕ) → IsLater p mark word → mark ≡ 0 → word ≢ granted p
 not_granted p mark word l none e = let b = l.before none in numbers_differ p (omega arith)
 
--- its word has the number of the place where somebody has withdrawn, and not else
+-- a cell that is granted to a place has its number, and one where a node withdrew
 pub number_of_granted : (p word : ℕ) → word ≡ granted p → word / UNIT ≡ number p
 number_of_granted p word e = omega arith
 
 pub number_of_withdrawn : (p n word : ℕ) → n ≤ MOST_NODES → word ≡ withdrawn p n → word / UNIT ≡ number p
 number_of_withdrawn p n word high e = omega arith
 
+-- so a grant finds the node that had withdrawn there, and 0 where none had
 pub by_nobody : (p mark word : ℕ) → IsLater p mark word → mark ≡ 0 → withdrawn_by (ticket_of p) word ≡ 0
 by_nobody p mark word l none = ap (λ (b : Bool). if b then word % UNIT else 0) (ne_eqb (word / UNIT) (number (ticket_of p)) (λ e. numbers_differ p (sym (l.before none) ∙ e ∙ number_ticket p)))
 

@@ -12,7 +12,6 @@ use Rattle.qolb_model.specs.Requests.{Has}
 use Rattle.qolb_model.specs.Views.{own}
 use Rattle.qolb_model.specs.Sound.{Continues}
 use Rattle.qolb_model.proofs.Requests.{has_left, has_last, has_push}
-use Rattle.qolb_model.specs.declared.terms.TheConstants.{MOST_NODES}
 use Rattle.qolb_model.proofs.Lists.{at_same}
 use Rattle.qolb_model.proofs.Updates.{put, put_here, put_else}
 use Rattle.ticket_line.specs.declared.words.TheConstants.{CELLS, UNIT}

@@ -26,7 +26,7 @@ use Rattle.qolb_model.specs.declared.terms.TheConstants.{MOST_NODES}
 use Rattle.ticket_line.specs.declared.own.Point.TheVariants.{Passing, Freeing}
 use Rattle.shared_line.specs.declared.rule.Parcel.{Parcel}
 use Rattle.ticket_line.specs.Ticket.{TicketEntry, At}
-use Rattle.ticket_line.specs.Steps.{TicketSeat, entry_of, sole, after_walk, end_of, next_end, CarriesNext, Ended, GoesHome, Passes, Frees, GoesOn, turn_ticket}
+use Rattle.ticket_line.specs.Steps.{TicketSeat, entry_of, after_walk, end_of, next_end, CarriesNext, Ended, GoesHome, Passes, Frees, GoesOn, turn_ticket}
 use Rattle.ticket_line.specs.Releases.{IsBare, WalksOn, AreNodesAt, FreesAll}
 use Rattle.ticket_line.proofs.Turning.{goes_trans}
 use Rattle.ticket_line.proofs.Numbers.{ticket_next}

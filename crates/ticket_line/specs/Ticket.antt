@@ -188,7 +188,7 @@ module _ (good : List ℕ → Type 0) (allows : List ℕ → List ℕ → Type 0
     pub marked : (p : ℕ) → 0 < x.marks p → (r : Request) × At x.order p r × (r.node ≡ x.marks p)
     pub gone : (p : ℕ) (end : End) → At x.ends p end → (is_gone end ≡ true → 0 < x.marks p) × (0 < x.marks p → is_gone end ≡ true)
 
-  -- The words and the slot. The cell at its turn has that place's number, and says no more where nobody has the line.
+  -- The words and the slot. The cell at its turn has that place's number, and where nobody has the line it says nothing else.
   pub record Shown (x : Past) (words : List ℕ) (homes : List (maybe.Option Parcel)) : Type 0 where
     pub wide : length words ≡ word_count
     pub deep : length homes ≡ 1

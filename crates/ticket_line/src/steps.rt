@@ -64,10 +64,8 @@ pub(crate) fn roll<K: Keep>(
     ensures withdrawn { result ≡ false → HasNoSlot seat.new × IsRolled ticket (entry_of seat.new) }
     ensures comes { result ≡ true → (y : Parcel) × HasSlot seat.new y × Comes ticket (entry_of seat.new) y }
 {
-    is_granted(
-        ground.swap::<Roll<K>>(seat, cell_word(ticket), withdrawn(ticket, node)),
-        ticket,
-    )
+    let found = ground.swap::<Roll<K>>(seat, cell_word(ticket), withdrawn(ticket, node));
+    is_granted(found, ticket)
 }
 
 /// Ends the request at its turn, and grants the next cell to the next ticket. Returns 0 where the line is now at home,
@@ -83,10 +81,8 @@ pub(crate) fn grant<K: Keep>(ground: &Ground<K>, seat: &mut TicketSeat, next: u6
     ensures home { result ≡ 0 → HasNoSlot seat.new × GoesHome (entry_of seat.old) (entry_of seat.new) }
     ensures passes { result ≢ 0 → (seat.new.me.1 ≡ seat.old.me.1) × Passes (entry_of seat.old) result (entry_of seat.new) }
 {
-    withdrawn_by(
-        ground.swap::<Grant<K>>(seat, cell_word(next), granted(next)),
-        next,
-    )
+    let found = ground.swap::<Grant<K>>(seat, cell_word(next), granted(next));
+    withdrawn_by(found, next)
 }
 
 /// Frees the node of the first request that was passed and is not freed yet.

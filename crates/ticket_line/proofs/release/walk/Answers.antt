@@ -1,4 +1,4 @@
-use Rattle.std.proofs.Common.{rules, refl, sym, subst, ap, arith, ◌≡◌, ◌≢◌, ◌∙◌, ◌++◌, ◌∷◌, [], ℕ, List, length}
+use Rattle.std.proofs.Common.{rules, refl, sym, subst, ap, arith, ◌≡◌, ◌≢◌, ◌∙◌, ℕ, List, length}
 use Rattle.ticket_line.specs.Words.{ticket_after}
 use Rattle.ticket_line.specs.Steps.{entry_of}
 use Rattle.ticket_line.proofs.Numbers.{ticket_next}

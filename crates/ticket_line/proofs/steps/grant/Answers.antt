@@ -5,8 +5,8 @@ use Rattle.ticket_line.proofs.Numbers.{cell_ticket}
 use Rattle.ticket_line.proofs.Grant.{grants_next}
 use Rattle.ticket_line.proofs.steps.grant.Goals as goal
 
-pub swap-requires : goal.swap-requires
-swap-requires g c = let y = c.requires.parcel in (
+pub swap-found-requires : goal.swap-found-requires
+swap-found-requires g c = let y = c.requires.parcel in (
   search rules,
   omega arith,
   grants_next g.K.Keep.good g.K.Keep.allows c.args.ground.now.key g.K.Keep.stays_good (entry_of c.args.seat.now) (⊎_elim (λ a. inl a.1) (λ a. inr a.1) c.requires.ready) y.0 y.2 _ _ _ _ c.args.seat.now.me
