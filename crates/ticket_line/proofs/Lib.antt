@@ -1,0 +1,16 @@
+pub mod Numbers
+pub mod Turning
+pub mod Walking
+pub mod Releasing
+pub mod Nodes
+pub mod Keeping
+pub mod Ask
+pub mod Taking
+pub mod Load
+pub mod Roll
+pub mod Reset
+pub mod Clearing
+pub mod Free
+pub mod Passed
+pub mod Ending
+pub mod Grant

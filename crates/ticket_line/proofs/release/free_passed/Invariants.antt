@@ -1,0 +1,5 @@
+use Rattle.ticket_line.proofs.Walking.{IsFreeing}
+use Rattle.ticket_line.proofs.release.free_passed.Given as goal
+
+abbrev pub invariant-loop-node : goal.invariant-loop-node
+invariant-loop-node g l = IsFreeing g.K.Keep.allows l.initial.seat l.node-index l.seat

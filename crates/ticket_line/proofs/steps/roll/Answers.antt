@@ -1,0 +1,15 @@
+use Rattle.std.proofs.Common.{rules, arith, ap, ◌∙◌}
+use Rattle.ticket_line.specs.Words.{cell_at, cell_of, withdrawn}
+use Rattle.ticket_line.specs.Steps.{entry_of}
+use Rattle.ticket_line.proofs.Numbers.{cell_ticket}
+use Rattle.ticket_line.proofs.Roll.{rolls_next}
+use Rattle.ticket_line.proofs.steps.roll.Goals as goal
+
+pub swap-found-requires : goal.swap-found-requires
+swap-found-requires g c = (
+  search rules,
+  omega arith,
+  rolls_next g.K.Keep.good g.K.Keep.allows c.args.ground.now.key (entry_of c.args.seat.now) c.requires.ready.1 _ _ _ _ c.args.seat.now.me c.requires.ready.0
+      (c.cell_word.ensures ∙ ap (λ t. cell_at (cell_of t)) c.requires.ticket ∙ ap cell_at (cell_ticket (entry_of c.args.seat.now).own.place))
+      (c.withdrawn.ensures ∙ (λ j. withdrawn (c.requires.ticket j) (c.requires.own.0 j))),
+)

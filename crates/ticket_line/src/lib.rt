@@ -1,0 +1,14 @@
+//! The queue of a line over atomic words: nodes draw tickets, and each waits at a cell of its own until it says the ticket's number.
+#![tactic(auto)]
+
+mod own;
+mod plays;
+mod queue;
+mod release;
+mod rule;
+mod steps;
+mod words;
+
+pub use own::TicketOwn;
+pub use rule::{Port, Ticket, TicketLine};
+pub use words::CELLS;

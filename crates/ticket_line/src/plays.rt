@@ -1,0 +1,73 @@
+//! What each step tells.
+ghost use Rattle.ticket_line.specs.Steps.{drawn, loaded, rolled, handed, freed, loaded_node, reset};
+
+use crate::own::TicketOwn;
+use atomic_table::Play;
+use qolb_model::Keep;
+use shared_line::{Entry, Parcel};
+use std::collections::LinkedList;
+use std::marker::PhantomData;
+
+/// The entries of a seat.
+type Entries = LinkedList<Entry<TicketOwn>>;
+
+/// A ticket is drawn.
+pub(crate) struct Draw<K> {
+    law: PhantomData<K>,
+}
+
+impl<K: Keep> Play<Parcel, Entries> for Draw<K> {
+    ghost then = { drawn K.allows };
+}
+
+/// The own cell is read.
+pub(crate) struct Load<K> {
+    law: PhantomData<K>,
+}
+
+impl<K: Keep> Play<Parcel, Entries> for Load<K> {
+    ghost then = { loaded K.allows };
+}
+
+/// The own number is put into the own cell.
+pub(crate) struct Roll<K> {
+    law: PhantomData<K>,
+}
+
+impl<K: Keep> Play<Parcel, Entries> for Roll<K> {
+    ghost then = { rolled K.allows };
+}
+
+/// The next cell is granted.
+pub(crate) struct Grant<K> {
+    law: PhantomData<K>,
+}
+
+impl<K: Keep> Play<Parcel, Entries> for Grant<K> {
+    ghost then = { handed K.allows };
+}
+
+/// A passed node is freed.
+pub(crate) struct Free<K> {
+    law: PhantomData<K>,
+}
+
+impl<K: Keep> Play<Parcel, Entries> for Free<K> {
+    ghost then = { freed K.allows };
+}
+
+/// The own node's word is read.
+pub(crate) struct LoadNode<K> {
+    law: PhantomData<K>,
+}
+
+impl<K: Keep> Play<Parcel, Entries> for LoadNode<K> {
+    ghost then = { loaded_node K.allows };
+}
+
+/// The own node's word is cleared.
+pub(crate) struct Reset;
+
+impl Play<Parcel, Entries> for Reset {
+    ghost then = { reset };
+}

@@ -1,0 +1,101 @@
+//! Partitioned tickets as a queue discipline.
+ghost use Rattle.std.specs.Prelude.{◌≡◌};
+ghost use Rattle.qolb_model.specs.PortStates as states;
+ghost use Rattle.ticket_line.specs.Words as layout;
+ghost use Rattle.ticket_line.specs.Laws.Seats as seats;
+ghost use Rattle.ticket_line.specs.Laws.Meets as meeting;
+ghost use Rattle.ticket_line.specs.Laws.Lasting as lasting;
+
+use crate::release::{release, renew};
+use crate::rule::{Ground, Ticket, TicketSeat};
+use crate::steps::{draw, load, roll};
+use crate::words::{WORDS, first_words};
+use qolb_model::{Keep, PortState};
+use shared_line::{Asked, Discipline, Released, Requested};
+use std::alloc::{AllocError, Global};
+
+impl<K: Keep> Discipline<K> for Ticket {
+    ghost word_count = { layout.word_count };
+
+    ghost are_first = { layout.AreFirst };
+
+    fn first_words(alloc: Global) -> Result<Vec<u64>, AllocError> {
+        first_words(alloc, WORDS)
+    }
+
+    /// Draws a ticket, and looks at its cell.
+    #[inline]
+    fn ask(ground: &Ground<K>, seat: &mut TicketSeat, node: u64, state: PortState) -> Requested {
+        let Some(renewing) = renew(ground, seat, node, state) else {
+            return Requested {
+                answer: Asked::Busy,
+                mark: 0,
+                steps: 1,
+            };
+        };
+        let ticket = draw(ground, seat);
+        let answer = if load(ground, seat, ticket) {
+            Asked::Came
+        } else {
+            Asked::Behind
+        };
+        Requested {
+            answer,
+            mark: ticket,
+            steps: renewing + 2,
+        }
+    }
+
+    #[inline]
+    fn look(ground: &Ground<K>, seat: &mut TicketSeat, _node: u64, mark: u64) -> bool {
+        load(ground, seat, mark)
+    }
+
+    #[inline]
+    fn roll(ground: &Ground<K>, seat: &mut TicketSeat, node: u64, mark: u64) -> bool {
+        roll(ground, seat, mark, node)
+    }
+
+    #[inline]
+    fn release(
+        ground: &Ground<K>,
+        seat: &mut TicketSeat,
+        _node: u64,
+        mark: u64,
+        closed: bool,
+    ) -> Released {
+        let steps = release(ground, seat, mark);
+        Released {
+            state: left_by(closed),
+            steps,
+        }
+    }
+
+    ghost cuts = { seats.cuts K.good K.allows };
+
+    ghost blanks = { seats.blanks K.good K.allows };
+
+    ghost joins = { seats.joins K.good K.allows };
+
+    ghost one_slot = { seats.one_slot K.good K.allows };
+
+    ghost starts = { seats.starts K.good K.allows };
+
+    ghost meets = { meeting.meets_next K.good K.allows };
+
+    ghost parks = { meeting.parks_next K.good K.allows };
+
+    ghost finishes = { λ about es id words xs at_rest. lasting.final_line K.good K.allows about es at_rest id words xs };
+}
+
+/// The state that a turn leaves which closed the line or did not.
+#[inline]
+fn left_by(closed: bool) -> PortState
+    ensures { result ≡ states.left_by closed }
+{
+    if closed {
+        PortState::Shut
+    } else {
+        PortState::Idle
+    }
+}

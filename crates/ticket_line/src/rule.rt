@@ -1,0 +1,63 @@
+//! The queue of a ticket line: how its nodes stand, and its rule.
+ghost use Rattle.ticket_line.specs.Stances as stances;
+ghost use Rattle.ticket_line.specs.Laws.Standing as standing;
+
+use crate::own::TicketOwn;
+use qolb_model::Keep;
+use shared_line::{LineSeat, Ruled, Shape};
+
+/// The discipline of partitioned tickets: nodes queue by tickets, and each waits at a cell of its own for its ticket's number.
+///
+/// Between any two steps on its words there is one history of the line: an order of requests, and the ends of the first of them. Where
+/// nobody has the line it lies in the slot as those ends leave it, and the cell of the request at its turn is granted to it; a cell behind
+/// has the number of an earlier ticket, or its own with the node that withdrew there. No cell is ever cleared. Each port knows a beginning of
+/// this history, and each node has at most one open request, so there are always more cells than open requests.
+pub struct Ticket;
+
+impl Shape for Ticket {
+    type Own = TicketOwn;
+
+    ghost fresh = { stances.fresh };
+
+    ghost rests = { stances.rests };
+
+    ghost holding = { stances.holding };
+
+    ghost refused = { stances.refused };
+
+    ghost may_show = { stances.may_show };
+
+    ghost asks_in = { stances.asks_in };
+
+    ghost lets_go_in = { stances.lets_go_in };
+
+    ghost most = { stances.most };
+
+    ghost starts_idle = { standing.starts_idle };
+
+    ghost rests_shown = { standing.rests_shown };
+
+    ghost holding_shown = { standing.holding_shown };
+
+    ghost most_some = { standing.most_some };
+
+    ghost most_fits = { standing.most_fits };
+}
+
+impl<K: Keep> Ruled<K> for Ticket {
+    ghost use Rattle.ticket_line.specs.Ticket.{TicketRule};
+
+    ghost holds = { TicketRule K.good K.allows };
+}
+
+/// A line that nodes queue at by tickets.
+pub type TicketLine<K> = shared_line::Line<K, Ticket>;
+
+/// A node's end of such a line.
+pub type Port = shared_line::Port<Ticket>;
+
+/// The table of a ticket line, as all its nodes see it.
+pub(crate) type Ground<K> = shared_line::Ground<K, Ticket>;
+
+/// A seat of that table.
+pub(crate) type TicketSeat = LineSeat<TicketOwn>;
