@@ -20,14 +20,15 @@ pub enum Form {
 }
 
 /// The kinds of line that answer a schedule.
-static KINDS: [Kind; 3] = [
+static KINDS: [Kind; 4] = [
     Kind::Plain,
     Kind::Shared(Lines::Ring),
     Kind::Shared(Lines::Link),
+    Kind::Shared(Lines::Ticket),
 ];
 
 /// The kinds that workers share.
-static LINES: [Lines; 2] = [Lines::Ring, Lines::Link];
+static LINES: [Lines; 3] = [Lines::Ring, Lines::Link, Lines::Ticket];
 
 /// Answers the script in each way that there is for it, and compares.
 ///

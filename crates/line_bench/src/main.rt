@@ -16,8 +16,8 @@ use clap::{Arg, ArgAction, ArgMatches, Command};
 use law::Rising;
 use line_lanes::lane;
 use link_line::LinkLine;
+use locks::{Lines, over_named};
 use qolb_model::{LineSync, OpenLine};
-use ring_line::RingLine;
 use rounds::Rounds;
 use run::{RunError, open, run_task};
 use std::alloc::{AllocError, Global};
@@ -36,7 +36,7 @@ static STRESSED: [u64; 3] = [4, 8, 32];
 const FEW_ROUNDS: u64 = 100;
 
 /// The names of the kinds of line.
-static KINDS: [&str; 2] = ["ring", "link"];
+static KINDS: [&str; 3] = ["ring", "link", "ticket"];
 
 /// What the words ask for.
 #[derive(Clone, Copy)]
@@ -52,8 +52,8 @@ enum Wanted {
 /// The line that it is done on, and how its nodes ask under stress.
 #[derive(Clone, Copy)]
 enum Kind {
-    Ring,
-    List,
+    /// A line of this name, whose nodes ask by one call.
+    AtOnce(Lines),
     /// A list whose nodes ask by two calls.
     ListApart,
 }
@@ -95,7 +95,7 @@ fn command<'a>(alloc: Global) -> Result<Command<'a>, AllocError> {
     let kind = Arg::new(alloc, "kind")
         .long("kind")
         .value_name("KIND")
-        .help("The kind of line: a ring, where the words name none, or a list")
+        .help("The kind of line: a ring, where the words name none, a list, or a ticket line")
         .value_parser(KINDS.as_slice());
     let apart = Arg::new(alloc, "apart")
         .long("apart")
@@ -131,12 +131,13 @@ fn wanted_of(matches: &ArgMatches) -> Wanted {
 /// The line that they name: a ring where they name none.
 fn kind_of(matches: &ArgMatches) -> Kind {
     if matches.get_flag("apart") {
-        Kind::ListApart
-    } else if matches.get_str("kind") == Some("link") {
-        Kind::List
-    } else {
-        Kind::Ring
+        return Kind::ListApart;
     }
+    Kind::AtOnce(match matches.get_str("kind") {
+        Some("link") => Lines::Link,
+        Some("ticket") => Lines::Ticket,
+        _ => Lines::Ring,
+    })
 }
 
 /// Does what is wanted on a line of this kind.
@@ -148,10 +149,17 @@ fn run_kind<R: Threads + Wait + Clock + Print + Sync>(
     wanted: Wanted,
 ) -> anyhow::Result<()> {
     match kind {
-        Kind::Ring => bench::<R, RingLine<Rising>, AtOnce>(rt, alloc, AtOnce, threads, wanted),
-        Kind::List => bench::<R, LinkLine<Rising>, AtOnce>(rt, alloc, AtOnce, threads, wanted),
+        Kind::AtOnce(lines) => {
+            over_named!(
+                lines,
+                bench,
+                [R, AtOnce],
+                [Rising],
+                (rt, alloc, AtOnce, threads, wanted)
+            )
+        }
         Kind::ListApart => {
-            bench::<R, LinkLine<Rising>, Apart>(rt, alloc, Apart::new(), threads, wanted)
+            bench::<R, Apart, LinkLine<Rising>>(rt, alloc, Apart::new(), threads, wanted)
         }
     }
 }
@@ -159,8 +167,8 @@ fn run_kind<R: Threads + Wait + Clock + Print + Sync>(
 /// Opens a line of so many nodes, and does on it what is wanted.
 fn bench<
     R: Threads + Wait + Clock + Print + Sync,
-    L: OpenLine<Rising> + Sync + Drop,
     A: Asking<L> + Sync + Drop,
+    L: OpenLine<Rising> + Sync + Drop,
 >(rt: &R, alloc: Global, asking: A, threads: u64, wanted: Wanted) -> anyhow::Result<()>
 where
     L::Port: Send + Drop,

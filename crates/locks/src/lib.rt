@@ -2,11 +2,13 @@
 #![tactic(auto)]
 
 ghost use Rattle.locks.specs.declared.Lines.{Lines};
-ghost use Rattle.locks.specs.declared.Lines.TheVariants.{Ring, Link};
+ghost use Rattle.locks.specs.declared.Lines.TheVariants.{Ring, Link, Ticket};
 
-use link_line::LinkLine;
 use qolb_model::{Keep, OpenLine};
-use ring_line::RingLine;
+
+pub use link_line::LinkLine;
+pub use ring_line::RingLine;
+pub use ticket_line::TicketLine;
 
 /// What represents the lines that nodes share.
 #[derive(Clone, Copy, Debug, PartialEq, Eq)]
@@ -15,7 +17,12 @@ pub enum Lines {
     Ring,
     /// Lists: lines by a home word and reversed links.
     Link,
+    /// Ticket lines: lines by tickets, and cells that say whose turn it is by a number.
+    Ticket,
 }
+
+/// Each lock that there is.
+pub static ALL: [Lines; 3] = [Lines::Ring, Lines::Link, Lines::Ticket];
 
 /// A line type that has a name here.
 pub trait Lock<K: Keep>: OpenLine<K> {
@@ -29,6 +36,10 @@ impl<K: Keep> Lock<K> for RingLine<K> {
 
 impl<K: Keep> Lock<K> for LinkLine<K> {
     ghost lock = { Link };
+}
+
+impl<K: Keep> Lock<K> for TicketLine<K> {
+    ghost lock = { Ticket };
 }
 
 /// What is done over lines of one type, whichever it is.
@@ -53,5 +64,21 @@ pub fn over_lines<K: Keep, D: OverLines<K>>(lines: Lines, work: D) -> D::Back
     match lines {
         Lines::Ring => work.over::<RingLine<K>>(),
         Lines::Link => work.over::<LinkLine<K>>(),
+        Lines::Ticket => work.over::<TicketLine<K>>(),
     }
+}
+
+/// Calls a function over the lines that are named: its last type parameters are their types, one for each law.
+///
+/// `over_named!(lines, f, [R], [Free], (a, b))` is `f::<R, RingLine<Free>>(a, b)` where rings are named. It is for work that starts threads:
+/// a method with a type parameter of its own can send nothing of that type to a thread, so such work is no `OverLines`.
+#[macro_export]
+macro_rules! over_named {
+    ($lines:expr, $work:ident, [$($other:ty),*], [$($law:ty),*], $given:tt) => {
+        match $lines {
+            $crate::Lines::Ring => $work::<$($other,)* $($crate::RingLine<$law>),*> $given,
+            $crate::Lines::Link => $work::<$($other,)* $($crate::LinkLine<$law>),*> $given,
+            $crate::Lines::Ticket => $work::<$($other,)* $($crate::TicketLine<$law>),*> $given,
+        }
+    };
 }

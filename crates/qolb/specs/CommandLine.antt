@@ -30,8 +30,8 @@ AreNames names texts = map (λ (name : Bor Text). name.now) names.now ≡ texts
 pub record KindNames : Type 0 where
   pub replayed : Names
   pub shared : Names
-  pub replayed_are : AreNames replayed (codes "plain" ∷ codes "ring" ∷ codes "link" ∷ [])
-  pub shared_are : AreNames shared (codes "ring" ∷ codes "link" ∷ [])
+  pub replayed_are : AreNames replayed (codes "plain" ∷ codes "ring" ∷ codes "link" ∷ codes "ticket" ∷ [])
+  pub shared_are : AreNames shared (codes "ring" ∷ codes "link" ∷ codes "ticket" ∷ [])
 
 -- `--kind KIND`, with one of these names
 abbrev pub kind_rule : Names → Rule
@@ -81,11 +81,11 @@ the_command names = with_subcommand (any_answer names) draw_command.top
 -- the kind of this name
 abbrev pub kind_of_name : Option Text → Kind
 kind_of_name None = kind.Plain
-kind_of_name (Some name) = if bytes_eq name (codes "ring") then kind.Shared lines.Ring else if bytes_eq name (codes "link") then kind.Shared lines.Link else kind.Plain
+kind_of_name (Some name) = if bytes_eq name (codes "ring") then kind.Shared lines.Ring else if bytes_eq name (codes "link") then kind.Shared lines.Link else if bytes_eq name (codes "ticket") then kind.Shared lines.Ticket else kind.Plain
 
 abbrev pub lines_of_name : Option Text → Lines
 lines_of_name None = lines.Link
-lines_of_name (Some name) = if bytes_eq name (codes "ring") then lines.Ring else lines.Link
+lines_of_name (Some name) = if bytes_eq name (codes "ring") then lines.Ring else if bytes_eq name (codes "ticket") then lines.Ticket else lines.Link
 
 -- what is written of each event, by what `--rank` is set to
 abbrev pub detail_of : Option Text → Detail

@@ -12,15 +12,15 @@ use qolb_script::WorkKind;
 use std::alloc::{AllocError, Global};
 
 /// The names of the kinds of lines that replay a schedule.
-static REPLAYED: [&str; 3] = ["plain", "ring", "link"];
+static REPLAYED: [&str; 4] = ["plain", "ring", "link", "ticket"];
 
 /// The names of those that workers share.
-static SHARED: [&str; 2] = ["ring", "link"];
+static SHARED: [&str; 3] = ["ring", "link", "ticket"];
 
 const REPLAYED_HELP: &str =
-    "What represents the lines: the plain reference with one owner, or rings or lists that nodes share";
+    "What represents the lines: the plain reference with one owner, or lines that nodes share: rings, lists or ticket lines";
 
-const SHARED_HELP: &str = "What represents the lines: rings or lists";
+const SHARED_HELP: &str = "What represents the lines: rings, lists or ticket lines";
 
 const ABOUT: &str =
     "Queued line locks: nodes queue at a line of 64 bytes, and a release hands lock and\nline to the next";
@@ -212,6 +212,7 @@ fn kind_named(name: Option<&str>) -> Kind
     match name {
         Some("ring") => Kind::Shared(Lines::Ring),
         Some("link") => Kind::Shared(Lines::Link),
+        Some("ticket") => Kind::Shared(Lines::Ticket),
         _ => Kind::Plain,
     }
 }
@@ -222,6 +223,7 @@ fn lines_named(name: Option<&str>) -> Lines
 {
     match name {
         Some("ring") => Lines::Ring,
+        Some("ticket") => Lines::Ticket,
         _ => Lines::Link,
     }
 }

@@ -10,11 +10,9 @@ use crate::board::run_board;
 use crate::gate::Gate;
 use line_accounts::AccountLaw;
 use line_board::BoardLaw;
-use link_line::LinkLine;
-use locks::Lines;
+use locks::{Lines, over_named};
 use qolb_model::OpenLine;
 use qolb_script::{Report, Work, WorkKind};
-use ring_line::RingLine;
 use std::alloc::{AllocError, Global};
 use std::sync::Wait;
 use std::thread::Threads;
@@ -52,14 +50,7 @@ pub fn run_work<R: Threads + Wait + Sync, G: Gate + Sync>(
     ensures report { IfOk result (IsReportOf work.now) }
     ensures stalled { IfErr result (MayStop work.now) }
 {
-    match lines {
-        Lines::Ring => run_work_over::<R, G, RingLine<BoardLaw>, RingLine<AccountLaw>>(
-            rt, alloc, gate, work,
-        ),
-        Lines::Link => run_work_over::<R, G, LinkLine<BoardLaw>, LinkLine<AccountLaw>>(
-            rt, alloc, gate, work,
-        ),
-    }
+    over_named!(lines, run_work_over, [R, G], [BoardLaw, AccountLaw], (rt, alloc, gate, work))
 }
 
 /// The same over lines of these types: a board lies in a line `B`, and the accounts of a bank in lines `A`.

@@ -10,8 +10,11 @@ use crate::release::{release, renew};
 use crate::rule::{Ground, Ticket, TicketSeat};
 use crate::steps::{draw, load, roll};
 use crate::words::{WORDS, first_words};
+use atomic_table::Closed;
 use qolb_model::{Keep, PortState};
-use shared_line::{Asked, Discipline, Released, Requested};
+use shared_line::{
+    Asked, Discipline, Parcel, Released, Requested, put_alone, take_alone, unlay_alone,
+};
 use std::alloc::{AllocError, Global};
 
 impl<K: Keep> Discipline<K> for Ticket {
@@ -21,6 +24,28 @@ impl<K: Keep> Discipline<K> for Ticket {
 
     fn first_words(alloc: Global) -> Result<Vec<u64>, AllocError> {
         first_words(alloc, WORDS)
+    }
+
+    ghost slot_count = { 1 };
+
+    ghost last = { λ _. 0 };
+
+    fn slot_count() -> usize {
+        1
+    }
+
+    #[inline]
+    fn take(ground: &Ground<K>, seat: &mut TicketSeat, _mark: u64, parcel: &mut Parcel) {
+        take_alone(ground, seat, parcel);
+    }
+
+    #[inline]
+    fn put(ground: &Ground<K>, seat: &mut TicketSeat, _mark: u64, parcel: &Parcel, closed: bool) {
+        put_alone(ground, seat, parcel, closed);
+    }
+
+    fn unlay(closed: Closed<Parcel, Global>) -> Parcel {
+        unlay_alone(closed)
     }
 
     /// Draws a ticket, and looks at its cell.
@@ -77,13 +102,13 @@ impl<K: Keep> Discipline<K> for Ticket {
 
     ghost joins = { seats.joins K.good K.allows };
 
-    ghost one_slot = { seats.one_slot K.good K.allows };
+    ghost slots = { seats.one_slot K.good K.allows };
 
     ghost starts = { seats.starts K.good K.allows };
 
     ghost meets = { meeting.meets_next K.good K.allows };
 
-    ghost parks = { meeting.parks_next K.good K.allows };
+    ghost parks = { λ about id slots i m v _ _ is holding kept. meeting.parks_next K.good K.allows about id slots i m v kept.0 is holding kept.1 };
 
     ghost finishes = { λ about es id words xs at_rest. lasting.final_line K.good K.allows about es at_rest id words xs };
 }

@@ -1,4 +1,5 @@
 //! The queue of a ticket line: how its nodes stand, and its rule.
+ghost use Rattle.shared_line.specs.Slots.{lies_alone, kept_alone};
 ghost use Rattle.ticket_line.specs.Stances as stances;
 ghost use Rattle.ticket_line.specs.Laws.Standing as standing;
 
@@ -24,6 +25,12 @@ impl Shape for Ticket {
     ghost holding = { stances.holding };
 
     ghost refused = { stances.refused };
+
+    ghost brings = { lies_alone };
+
+    ghost keeps = { kept_alone };
+
+    ghost lays = { lies_alone };
 
     ghost may_show = { stances.may_show };
 

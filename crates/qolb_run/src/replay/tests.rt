@@ -1,15 +1,14 @@
 use super::*;
-use link_line::LinkLine;
 use linked_list_allocator::LocalHeap;
-use ring_line::RingLine;
 use std::alloc::Global;
 use std::io;
 use std::test::Fail;
 
-const KINDS: [Kind; 3] = [
+const KINDS: [Kind; 4] = [
     Kind::Plain,
     Kind::Shared(Lines::Ring),
     Kind::Shared(Lines::Link),
+    Kind::Shared(Lines::Ticket),
 ];
 
 /// What a replay of the script writes.
@@ -334,15 +333,13 @@ fn heaps_refused(shared: Global, kind: Kind) -> Result<Option<u32>, Fail> {
         let lent = &heap;
         let answer = match kind {
             Kind::Plain => answered_plainly(&lent, HAND_OVER.as_bytes()),
-            Kind::Shared(Lines::Ring) => answered_over::<&LocalHeap, RingLine<Free>>(
-                &lent,
-                shared,
-                HAND_OVER.as_bytes(),
-            ),
-            Kind::Shared(Lines::Link) => answered_over::<&LocalHeap, LinkLine<Free>>(
-                &lent,
-                shared,
-                HAND_OVER.as_bytes(),
+            Kind::Shared(lines) => over_lines(
+                lines,
+                Answering {
+                    alloc: &lent,
+                    shared,
+                    input: HAND_OVER.as_bytes(),
+                },
             ),
         };
         match answer {

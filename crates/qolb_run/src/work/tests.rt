@@ -1,6 +1,7 @@
 use super::*;
 use crate::gate::AlwaysOpen;
 use crate::report::report_work;
+use locks::ALL;
 use qolb_script::{Watched, read_work};
 use std::process::Abort;
 use std::sync::atomic::{AtomicU64, Ordering};
@@ -17,7 +18,7 @@ fn expect<R: Threads + Wait + Abort + Sync, G: Gate + Sync>(
     want: Result<Report, RunError>,
 ) -> Result<(), Fail> {
     let work = read_work(alloc, script.as_bytes(), kind)?;
-    for lines in [Lines::Ring, Lines::Link] {
+    for lines in ALL {
         let found = run_work(rt, alloc, gate, &work, lines);
         assert_eq!(rt; found, want, "by {lines:?}");
     }
@@ -168,7 +169,7 @@ fn workers_stand_before_a_gate_at_the_same_time(rt: HostRuntime) -> Result<(), F
     };
     let script = "bank workers 2 lines 1\n1 in 0 1\n2 in 0 1\n";
     let work = read_work(rt.alloc(), script.as_bytes(), WorkKind::Bank)?;
-    for lines in [Lines::Ring, Lines::Link] {
+    for lines in ALL {
         let gate = Meeting {
             first: AtomicU64::new(0),
             second: AtomicU64::new(0),
@@ -263,7 +264,7 @@ impl Gate for Counting {
 fn a_worker_asks_before_each_job_and_once_after_the_last(rt: HostRuntime) -> Result<(), Fail> {
     let script = "board workers 2\n1 put 5\n2 put 6\n1 take\n";
     let work = read_work(rt.alloc(), script.as_bytes(), WorkKind::Board)?;
-    for lines in [Lines::Ring, Lines::Link] {
+    for lines in ALL {
         let gate = Counting::new(1);
         assert!(rt;
             run_work(&rt, rt.alloc(), &gate, &work, lines).is_ok(),
@@ -280,7 +281,7 @@ fn a_worker_asks_before_each_job_and_once_after_the_last(rt: HostRuntime) -> Res
 #[test]
 fn work_that_is_reported_is_done_once(rt: HostRuntime) -> Result<(), Fail> {
     let script = "board workers 2\n1 put 5\n2 put 6\n1 take\n";
-    for lines in [Lines::Ring, Lines::Link] {
+    for lines in ALL {
         let gate = Counting::new(1);
         let mut reader = Watched::new(script.as_bytes());
         let mut writer = Watched::new(Vec::new(rt.alloc()));
@@ -362,7 +363,7 @@ fn a_late_put_is_no_full_board(rt: HostRuntime) -> Result<(), Fail> {
         empty: 0,
         left: 7,
     };
-    for lines in [Lines::Ring, Lines::Link] {
+    for lines in ALL {
         for _ in 0..100 {
             let found = run_work(&rt, rt.alloc(), &AlwaysOpen, &work, lines);
             assert_eq!(rt; found, Ok(report), "by {lines:?}");

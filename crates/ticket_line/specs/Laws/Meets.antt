@@ -180,5 +180,5 @@ module _ (good : List ℕ → Type 0) (allows : List ℕ → List ℕ → Type 0
               each = r.each;
               members = r.members;
             },
-        (refl, λ z e. ap rest e),
+        (refl, ap rest carried),
       )
