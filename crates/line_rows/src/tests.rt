@@ -1,4 +1,4 @@
-//! Each row over both lines: what it answers is written once, over any line.
+//! Each row over all lines: what it answers is written once, over any line.
 
 mod boards;
 mod counts;
@@ -14,82 +14,96 @@ use link_line::LinkLine;
 use qolb_model::Free;
 use ring_line::RingLine;
 use std::test::Fail;
+use ticket_line::TicketLine;
 
 #[test]
 fn tasks_are_taken_in_their_order(rt: HostRuntime) -> Result<(), Fail> {
     boards::tasks_are_taken_in_their_order::<_, RingLine<BoardLaw>>(&rt, rt.alloc())?;
+    boards::tasks_are_taken_in_their_order::<_, TicketLine<BoardLaw>>(&rt, rt.alloc())?;
     boards::tasks_are_taken_in_their_order::<_, LinkLine<BoardLaw>>(&rt, rt.alloc())
 }
 
 #[test]
 fn tasks_lie_in_the_line(rt: HostRuntime) -> Result<(), Fail> {
     boards::tasks_lie_in_the_line::<_, RingLine<BoardLaw>>(&rt, rt.alloc())?;
+    boards::tasks_lie_in_the_line::<_, TicketLine<BoardLaw>>(&rt, rt.alloc())?;
     boards::tasks_lie_in_the_line::<_, LinkLine<BoardLaw>>(&rt, rt.alloc())
 }
 
 #[test]
 fn a_late_node_is_busy_until_it_is_passed(rt: HostRuntime) -> Result<(), Fail> {
     boards::a_late_node_is_busy_until_it_is_passed::<_, RingLine<BoardLaw>>(&rt, rt.alloc())?;
+    boards::a_late_node_is_busy_until_it_is_passed::<_, TicketLine<BoardLaw>>(&rt, rt.alloc())?;
     boards::a_late_node_is_busy_until_it_is_passed::<_, LinkLine<BoardLaw>>(&rt, rt.alloc())
 }
 
 #[test]
 fn a_lease_ends_a_board(rt: HostRuntime) -> Result<(), Fail> {
     boards::a_lease_ends_a_board::<_, RingLine<BoardLaw>>(&rt, rt.alloc())?;
+    boards::a_lease_ends_a_board::<_, TicketLine<BoardLaw>>(&rt, rt.alloc())?;
     boards::a_lease_ends_a_board::<_, LinkLine<BoardLaw>>(&rt, rt.alloc())
 }
 
 #[test]
 fn each_task_is_taken_once(rt: HostRuntime) -> Result<(), Fail> {
     boards::each_task_is_taken_once::<_, RingLine<BoardLaw>>(&rt, rt.alloc())?;
+    boards::each_task_is_taken_once::<_, TicketLine<BoardLaw>>(&rt, rt.alloc())?;
     boards::each_task_is_taken_once::<_, LinkLine<BoardLaw>>(&rt, rt.alloc())
 }
 
 #[test]
 fn a_day_is_settled(rt: HostRuntime) -> Result<(), Fail> {
     desks::a_day_is_settled::<_, RingLine<AccountLaw>>(&rt, rt.alloc())?;
+    desks::a_day_is_settled::<_, TicketLine<AccountLaw>>(&rt, rt.alloc())?;
     desks::a_day_is_settled::<_, LinkLine<AccountLaw>>(&rt, rt.alloc())
 }
 
 #[test]
 fn a_balance_has_a_limit(rt: HostRuntime) -> Result<(), Fail> {
     desks::a_balance_has_a_limit::<_, RingLine<AccountLaw>>(&rt, rt.alloc())?;
+    desks::a_balance_has_a_limit::<_, TicketLine<AccountLaw>>(&rt, rt.alloc())?;
     desks::a_balance_has_a_limit::<_, LinkLine<AccountLaw>>(&rt, rt.alloc())
 }
 
 #[test]
 fn a_full_balance_lies_in_its_lane(rt: HostRuntime) -> Result<(), Fail> {
     desks::a_full_balance_lies_in_its_lane::<_, RingLine<AccountLaw>>(&rt, rt.alloc())?;
+    desks::a_full_balance_lies_in_its_lane::<_, TicketLine<AccountLaw>>(&rt, rt.alloc())?;
     desks::a_full_balance_lies_in_its_lane::<_, LinkLine<AccountLaw>>(&rt, rt.alloc())
 }
 
 #[test]
 fn a_transfer_leaves_six_and_brings_four(rt: HostRuntime) -> Result<(), Fail> {
     desks::a_transfer_leaves_six_and_brings_four::<_, RingLine<AccountLaw>>(&rt, rt.alloc())?;
+    desks::a_transfer_leaves_six_and_brings_four::<_, TicketLine<AccountLaw>>(&rt, rt.alloc())?;
     desks::a_transfer_leaves_six_and_brings_four::<_, LinkLine<AccountLaw>>(&rt, rt.alloc())
 }
 
 #[test]
 fn a_transfer_goes_over_two_lines(rt: HostRuntime) -> Result<(), Fail> {
     desks::a_transfer_goes_over_two_lines::<_, RingLine<AccountLaw>>(&rt, rt.alloc())?;
+    desks::a_transfer_goes_over_two_lines::<_, TicketLine<AccountLaw>>(&rt, rt.alloc())?;
     desks::a_transfer_goes_over_two_lines::<_, LinkLine<AccountLaw>>(&rt, rt.alloc())
 }
 
 #[test]
 fn a_transfer_keeps_the_limit(rt: HostRuntime) -> Result<(), Fail> {
     desks::a_transfer_keeps_the_limit::<_, RingLine<AccountLaw>>(&rt, rt.alloc())?;
+    desks::a_transfer_keeps_the_limit::<_, TicketLine<AccountLaw>>(&rt, rt.alloc())?;
     desks::a_transfer_keeps_the_limit::<_, LinkLine<AccountLaw>>(&rt, rt.alloc())
 }
 
 #[test]
 fn a_lease_closes_the_line(rt: HostRuntime) -> Result<(), Fail> {
     desks::a_lease_closes_the_line::<_, RingLine<AccountLaw>>(&rt, rt.alloc())?;
+    desks::a_lease_closes_the_line::<_, TicketLine<AccountLaw>>(&rt, rt.alloc())?;
     desks::a_lease_closes_the_line::<_, LinkLine<AccountLaw>>(&rt, rt.alloc())
 }
 
 #[test]
 fn a_late_transfer_moves_nothing(rt: HostRuntime) -> Result<(), Fail> {
     desks::a_late_transfer_moves_nothing::<_, RingLine<AccountLaw>>(&rt, rt.alloc())?;
+    desks::a_late_transfer_moves_nothing::<_, TicketLine<AccountLaw>>(&rt, rt.alloc())?;
     desks::a_late_transfer_moves_nothing::<_, LinkLine<AccountLaw>>(&rt, rt.alloc())
 }
 
@@ -97,6 +111,12 @@ fn a_late_transfer_moves_nothing(rt: HostRuntime) -> Result<(), Fail> {
 fn the_lower_line_is_asked_for_first(rt: HostRuntime) -> Result<(), Fail> {
     for (from, to) in [(0, 9), (9, 0)] {
         desks::the_lower_line_is_asked_for_first::<_, RingLine<AccountLaw>>(
+            &rt,
+            rt.alloc(),
+            from,
+            to,
+        )?;
+        desks::the_lower_line_is_asked_for_first::<_, TicketLine<AccountLaw>>(
             &rt,
             rt.alloc(),
             from,
@@ -115,6 +135,7 @@ fn the_lower_line_is_asked_for_first(rt: HostRuntime) -> Result<(), Fail> {
 #[test]
 fn what_was_paid_in_is_settled(rt: HostRuntime) -> Result<(), Fail> {
     desks::what_was_paid_in_is_settled::<_, RingLine<AccountLaw>>(&rt, rt.alloc())?;
+    desks::what_was_paid_in_is_settled::<_, TicketLine<AccountLaw>>(&rt, rt.alloc())?;
     desks::what_was_paid_in_is_settled::<_, LinkLine<AccountLaw>>(&rt, rt.alloc())
 }
 
@@ -122,90 +143,105 @@ fn what_was_paid_in_is_settled(rt: HostRuntime) -> Result<(), Fail> {
 #[test]
 fn want_of_memory_is_answered(rt: HostRuntime) -> Result<(), Fail> {
     desks::want_of_memory_is_answered::<_, RingLine<AccountLaw>>(&rt, rt.alloc())?;
+    desks::want_of_memory_is_answered::<_, TicketLine<AccountLaw>>(&rt, rt.alloc())?;
     desks::want_of_memory_is_answered::<_, LinkLine<AccountLaw>>(&rt, rt.alloc())
 }
 
 #[test]
 fn lines_have_nodes_and_turns(rt: HostRuntime) {
     lines::lines_have_nodes_and_turns::<_, RingLine<Free>>(&rt, rt.alloc());
+    lines::lines_have_nodes_and_turns::<_, TicketLine<Free>>(&rt, rt.alloc());
     lines::lines_have_nodes_and_turns::<_, LinkLine<Free>>(&rt, rt.alloc());
 }
 
 #[test]
 fn a_release_passes_those_who_withdrew(rt: HostRuntime) -> Result<(), Fail> {
     lines::a_release_passes_those_who_withdrew::<_, RingLine<Free>>(&rt, rt.alloc(), 8)?;
+    lines::a_release_passes_those_who_withdrew::<_, TicketLine<Free>>(&rt, rt.alloc(), 5)?;
     lines::a_release_passes_those_who_withdrew::<_, LinkLine<Free>>(&rt, rt.alloc(), 9)
 }
 
 #[test]
 fn a_node_asks_again_once_it_was_passed(rt: HostRuntime) -> Result<(), Fail> {
     lines::a_node_asks_again_once_it_was_passed::<_, RingLine<Free>>(&rt, rt.alloc())?;
+    lines::a_node_asks_again_once_it_was_passed::<_, TicketLine<Free>>(&rt, rt.alloc())?;
     lines::a_node_asks_again_once_it_was_passed::<_, LinkLine<Free>>(&rt, rt.alloc())
 }
 
 #[test]
 fn who_withdraws_at_its_turn_is_granted(rt: HostRuntime) -> Result<(), Fail> {
     lines::who_withdraws_at_its_turn_is_granted::<_, RingLine<Free>>(&rt, rt.alloc())?;
+    lines::who_withdraws_at_its_turn_is_granted::<_, TicketLine<Free>>(&rt, rt.alloc())?;
     lines::who_withdraws_at_its_turn_is_granted::<_, LinkLine<Free>>(&rt, rt.alloc())
 }
 
 #[test]
 fn all_are_told_of_a_closed_line(rt: HostRuntime) -> Result<(), Fail> {
     lines::all_are_told_of_a_closed_line::<_, RingLine<Free>>(&rt, rt.alloc())?;
+    lines::all_are_told_of_a_closed_line::<_, TicketLine<Free>>(&rt, rt.alloc())?;
     lines::all_are_told_of_a_closed_line::<_, LinkLine<Free>>(&rt, rt.alloc())
 }
 
 #[test]
 fn the_last_turn_of_a_lease_closes_the_line(rt: HostRuntime) -> Result<(), Fail> {
     lines::the_last_turn_of_a_lease_closes_the_line::<_, RingLine<Free>>(&rt, rt.alloc())?;
+    lines::the_last_turn_of_a_lease_closes_the_line::<_, TicketLine<Free>>(&rt, rt.alloc())?;
     lines::the_last_turn_of_a_lease_closes_the_line::<_, LinkLine<Free>>(&rt, rt.alloc())
 }
 
 #[test]
 fn a_line_without_a_lease_counts_no_turns(rt: HostRuntime) -> Result<(), Fail> {
     lines::a_line_without_a_lease_counts_no_turns::<_, RingLine<Free>>(&rt, rt.alloc())?;
+    lines::a_line_without_a_lease_counts_no_turns::<_, TicketLine<Free>>(&rt, rt.alloc())?;
     lines::a_line_without_a_lease_counts_no_turns::<_, LinkLine<Free>>(&rt, rt.alloc())
 }
 
 #[test]
 fn one_node_takes_300_turns(rt: HostRuntime) -> Result<(), Fail> {
     lines::one_node_takes_300_turns::<_, RingLine<Free>>(&rt, rt.alloc())?;
+    lines::one_node_takes_300_turns::<_, TicketLine<Free>>(&rt, rt.alloc())?;
     lines::one_node_takes_300_turns::<_, LinkLine<Free>>(&rt, rt.alloc())
 }
 
 #[test]
 fn a_release_passes_all_other_nodes_of_200(rt: HostRuntime) -> Result<(), Fail> {
     lines::a_release_passes_all_other_nodes_of_200::<_, RingLine<Free>>(&rt, rt.alloc(), 599)?;
+    lines::a_release_passes_all_other_nodes_of_200::<_, TicketLine<Free>>(&rt, rt.alloc(), 399)?;
     lines::a_release_passes_all_other_nodes_of_200::<_, LinkLine<Free>>(&rt, rt.alloc(), 797)
 }
 
 #[test]
 fn finish_wants_a_quiet_port_of_each_node(rt: HostRuntime) -> Result<(), Fail> {
     lines::finish_wants_a_quiet_port_of_each_node::<_, RingLine<Free>>(&rt, rt.alloc())?;
+    lines::finish_wants_a_quiet_port_of_each_node::<_, TicketLine<Free>>(&rt, rt.alloc())?;
     lines::finish_wants_a_quiet_port_of_each_node::<_, LinkLine<Free>>(&rt, rt.alloc())
 }
 
 #[test]
 fn finish_wants_no_other_port(rt: HostRuntime) -> Result<(), Fail> {
     lines::finish_wants_no_other_port::<_, RingLine<Free>>(&rt, rt.alloc())?;
+    lines::finish_wants_no_other_port::<_, TicketLine<Free>>(&rt, rt.alloc())?;
     lines::finish_wants_no_other_port::<_, LinkLine<Free>>(&rt, rt.alloc())
 }
 
 #[test]
 fn each_growth_of_finish_is_refused(rt: HostRuntime) -> Result<(), Fail> {
     lines::each_growth_of_finish_is_refused::<_, RingLine<Free>>(&rt, rt.alloc())?;
+    lines::each_growth_of_finish_is_refused::<_, TicketLine<Free>>(&rt, rt.alloc())?;
     lines::each_growth_of_finish_is_refused::<_, LinkLine<Free>>(&rt, rt.alloc())
 }
 
 #[test]
 fn four_nodes_are_served_in_order(rt: HostRuntime) -> Result<(), Fail> {
     lines::four_nodes_are_served_in_order::<_, RingLine<Free>>(&rt, rt.alloc())?;
+    lines::four_nodes_are_served_in_order::<_, TicketLine<Free>>(&rt, rt.alloc())?;
     lines::four_nodes_are_served_in_order::<_, LinkLine<Free>>(&rt, rt.alloc())
 }
 
 #[test]
 fn a_line_is_handed_over_with_its_bytes(rt: HostRuntime) -> Result<(), Fail> {
     lines::a_line_is_handed_over_with_its_bytes::<_, RingLine<Free>>(&rt, rt.alloc())?;
+    lines::a_line_is_handed_over_with_its_bytes::<_, TicketLine<Free>>(&rt, rt.alloc())?;
     lines::a_line_is_handed_over_with_its_bytes::<_, LinkLine<Free>>(&rt, rt.alloc())
 }
 
@@ -213,23 +249,27 @@ fn a_line_is_handed_over_with_its_bytes(rt: HostRuntime) -> Result<(), Fail> {
 #[test]
 fn opening_and_finishing_answer_want_of_memory(rt: HostRuntime) -> Result<(), Fail> {
     lines::want_of_memory_is_answered::<_, RingLine<Free>>(&rt, rt.alloc())?;
+    lines::want_of_memory_is_answered::<_, TicketLine<Free>>(&rt, rt.alloc())?;
     lines::want_of_memory_is_answered::<_, LinkLine<Free>>(&rt, rt.alloc())
 }
 
 #[test]
 fn four_threads_raise_one_count(rt: HostRuntime) -> Result<(), Fail> {
     counts::four_threads_raise_one_count::<_, RingLine<Free>>(&rt, rt.alloc())?;
+    counts::four_threads_raise_one_count::<_, TicketLine<Free>>(&rt, rt.alloc())?;
     counts::four_threads_raise_one_count::<_, LinkLine<Free>>(&rt, rt.alloc())
 }
 
 #[test]
 fn a_withdrawal_and_a_release_race(rt: HostRuntime) -> Result<(), Fail> {
     counts::a_withdrawal_and_a_release_race::<_, RingLine<Free>>(&rt, rt.alloc())?;
+    counts::a_withdrawal_and_a_release_race::<_, TicketLine<Free>>(&rt, rt.alloc())?;
     counts::a_withdrawal_and_a_release_race::<_, LinkLine<Free>>(&rt, rt.alloc())
 }
 
 #[test]
 fn any_line_is_handed_over(rt: HostRuntime) -> Result<(), Fail> {
     lines::any_line_is_handed_over::<_, RingLine<Free>>(&rt, rt.alloc())?;
+    lines::any_line_is_handed_over::<_, TicketLine<Free>>(&rt, rt.alloc())?;
     lines::any_line_is_handed_over::<_, LinkLine<Free>>(&rt, rt.alloc())
 }

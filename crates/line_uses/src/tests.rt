@@ -1,4 +1,4 @@
-//! The uses, over the ring and over the list.
+//! The uses, over all lines.
 use crate::mailbox::Asked;
 use crate::{counter, fair, mailbox, seats};
 use line_lanes::Line64;
@@ -11,12 +11,15 @@ use std::alloc::Global;
 use std::process::Abort;
 use std::sync::Wait;
 use std::test::Fail;
+use ticket_line::TicketLine;
 
 #[test]
 fn no_addition_is_lost(rt: HostRuntime) -> Result<(), Fail> {
     let alloc = rt.alloc();
     let by_ring = counter::count::<HostRuntime, RingLine<Free>>(&rt, alloc, 3, 1_000);
     assert_eq!(rt; by_ring, Some(3_000));
+    let by_tickets = counter::count::<HostRuntime, TicketLine<Free>>(&rt, alloc, 3, 1_000);
+    assert_eq!(rt; by_tickets, Some(3_000));
     let by_list = counter::count::<HostRuntime, LinkLine<Free>>(&rt, alloc, 3, 1_000);
     assert_eq!(rt; by_list, Some(3_000));
     Ok(())
@@ -28,6 +31,8 @@ fn each_value_is_taken_up(rt: HostRuntime) -> Result<(), Fail> {
     // 1 to 1,000 add up to 500,500.
     let by_ring = mailbox::hand_over::<HostRuntime, RingLine<Free>>(&rt, alloc, 1_000);
     assert_eq!(rt; by_ring, Some(500_500));
+    let by_tickets = mailbox::hand_over::<HostRuntime, TicketLine<Free>>(&rt, alloc, 1_000);
+    assert_eq!(rt; by_tickets, Some(500_500));
     let by_list = mailbox::hand_over::<HostRuntime, LinkLine<Free>>(&rt, alloc, 1_000);
     assert_eq!(rt; by_list, Some(500_500));
     Ok(())
@@ -61,6 +66,7 @@ where
 #[test]
 fn a_line_is_granted_and_then_closed(rt: HostRuntime) -> Result<(), Fail> {
     granted_and_then_told::<_, RingLine<Free>>(&rt, rt.alloc())?;
+    granted_and_then_told::<_, TicketLine<Free>>(&rt, rt.alloc())?;
     granted_and_then_told::<_, LinkLine<Free>>(&rt, rt.alloc())
 }
 
@@ -92,6 +98,8 @@ fn a_turn_comes_or_the_line_is_closed(rt: HostRuntime) -> Result<(), Fail> {
     let wanted = Some([Got::Granted, Got::Closed]);
     let by_ring = one_after_the_other::<HostRuntime, RingLine<Free>>(&rt, alloc);
     assert_eq!(rt; by_ring, wanted);
+    let by_tickets = one_after_the_other::<HostRuntime, TicketLine<Free>>(&rt, alloc);
+    assert_eq!(rt; by_tickets, wanted);
     let by_list = one_after_the_other::<HostRuntime, LinkLine<Free>>(&rt, alloc);
     assert_eq!(rt; by_list, wanted);
     Ok(())
@@ -131,6 +139,7 @@ where
 fn a_late_node_asks_again(rt: HostRuntime) -> Result<(), Fail> {
     let wanted = Some([Asked::Late, Asked::Late, Asked::Granted]);
     assert_eq!(rt; late::<RingLine<Free>>(rt.alloc()), wanted);
+    assert_eq!(rt; late::<TicketLine<Free>>(rt.alloc()), wanted);
     assert_eq!(rt; late::<LinkLine<Free>>(rt.alloc()), wanted);
     Ok(())
 }
@@ -142,6 +151,8 @@ fn the_house_is_sold_out(rt: HostRuntime) -> Result<(), Fail> {
     for (customers, sold) in [(40, 100), (20, 80)] {
         let by_ring = seats::sell::<HostRuntime, RingLine<House>>(&rt, alloc, 4, customers);
         assert_eq!(rt; by_ring, Some(sold));
+        let by_tickets = seats::sell::<HostRuntime, TicketLine<House>>(&rt, alloc, 4, customers);
+        assert_eq!(rt; by_tickets, Some(sold));
         let by_list = seats::sell::<HostRuntime, LinkLine<House>>(&rt, alloc, 4, customers);
         assert_eq!(rt; by_list, Some(sold));
     }

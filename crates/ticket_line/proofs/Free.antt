@@ -1,9 +1,7 @@
 -- A release frees the node of the first request that it passed.
-use Rattle.std.proofs.Common.{◌≡◌, ◌≢◌, ℕ, suc, ◌+◌, ◌/◌, ◌<◌, ◌≤◌, List, [], ◌∷◌, ◌++◌, length, set, get_or, true, sym, refl, ap, ◌∙◌, subst, ⊎_elim, arith, length-set, get_or-set_same, get_or-set_other}
-use mathlib.Core.Logic.{dite}
+use Rattle.std.proofs.Common.{◌≡◌, ◌≢◌, ℕ, suc, ◌+◌, ◌<◌, ◌≤◌, List, [], ◌∷◌, ◌++◌, length, set, true, sym, refl, ap, ◌∙◌, subst, ⊎_elim, arith}
 use mathlib.Core.List.{IsPrefix}
 use mathlib.Core.Option.{none, some}
-use native.Mathlib.Decide.{ℕ_discrete}
 use lib.ListN.{get_elem?}
 use Rattle.atomic_table.specs.Table.{step, keeps, Allows}
 use Rattle.qolb_model.specs.declared.request.Request.{Request}
@@ -14,17 +12,16 @@ use Rattle.qolb_model.proofs.Prefixes.{prefix_self, prefix_get, prefix_more}
 use Rattle.qolb_model.proofs.Requests.{has_left, has_last, has_push, lacks_from, same_place, has_prefix, lacks_push}
 use Rattle.qolb_model.proofs.Lists.{never, at_same}
 use Rattle.qolb_model.specs.declared.terms.TheConstants.{MOST_NODES}
-use Rattle.qolb_model.proofs.Updates.{put, put_here, put_else}
+use Rattle.qolb_model.proofs.Updates.{put, put_else}
 use Rattle.ticket_line.specs.declared.own.Point.TheVariants.{Idle, Queued, Holding, Freeing, Rolled}
 use Rattle.shared_line.specs.declared.rule.Setup.{Setup}
-use Rattle.ticket_line.specs.declared.words.TheConstants.{UNIT}
-use Rattle.ticket_line.specs.Words.{ticket_at, cell_at, node_at, cell_of}
-use Rattle.ticket_line.specs.Ticket.{TicketEntry, TicketState, At, Past, HasPassed, NodeOk, PastOk, IsLater, Shown, TicketRule, has_line, is_kept}
+use Rattle.ticket_line.specs.Words.{node_at}
+use Rattle.ticket_line.specs.Ticket.{TicketEntry, TicketState, At, Past, HasPassed, NodeOk, PastOk, Shown, TicketRule, has_line, is_kept}
 use Rattle.ticket_line.specs.Steps.{sole, Contents, after_walk, Frees, freed}
 use Rattle.ticket_line.specs.Laws.Nodes.{clash_at, passed_goes, placed_at, hand_none}
 use Rattle.ticket_line.proofs.Nodes.{others_clear, others_free}
 use Rattle.ticket_line.specs.Laws.Histories.{continues}
-use Rattle.ticket_line.proofs.Keeping.{Homes, rule_step, mine_ok}
+use Rattle.ticket_line.proofs.Keeping.{Homes, rule_step, mine_ok, flag_shown}
 use Rattle.ticket_line.proofs.Clearing.{not_after, no_line_after, goes_after, clear_with, more_clear, still_unclear, fine_clear, fine_flags}
 use Rattle.ticket_line.proofs.Turning.{goes_step}
 
@@ -157,21 +154,7 @@ module _ (good : List ℕ → Type 0) (allows : List ℕ → List ℕ → Type 0
         go (p ∷ l) = one
 
     free_shown : (words : List ℕ) (homes : Homes) (i : ℕ) → i ≡ node_at r.node → r.node ≤ MOST_NODES → Shown good allows about x words homes → Shown good allows about (free_past x) (set words i 1) homes
-    free_shown words homes i is high h = record {
-      wide = length-set words i 1 ∙ h.wide;
-      deep = h.deep;
-      ticket = get_or-set_other words i ticket_at 1 0 (λ e. let l = low in omega arith) ∙ h.ticket;
-      turn = ap (λ k. k / UNIT) (get_or-set_other words i (cell_at (cell_of (length x.ends))) 1 0 (λ z. omega arith)) ∙ h.turn;
-      granted = λ e. get_or-set_other words i (cell_at (cell_of (length x.ends))) 1 0 (λ z. omega arith) ∙ h.granted e;
-      later = λ k a b. subst (IsLater (length x.ends + k) (x.marks (length x.ends + k))) (sym (get_or-set_other words i (cell_at (cell_of (length x.ends + k))) 1 0 (λ z. omega arith))) (h.later k a b);
-      flags = λ n a b. dite (ℕ_discrete n r.node)
-          (λ e. ap (λ k. get_or (set words i 1) k 0) (ap node_at e ∙ sym is) ∙ get_or-set_same words i 1 0 (let w = h.wide in omega arith) ∙ sym (ap (put x.flags r.node 1) e ∙ put_here x.flags r.node 1))
-          (λ ne. get_or-set_other words i (node_at n) 1 0 (λ z. ne (omega arith)) ∙ h.flags n a b ∙ sym (put_else x.flags r.node 1 n ne));
-      home = h.home;
-    }
-      where
-        low : 0 < r.node
-        low = (f.nodes q r asked).0
+    free_shown words homes i is high h = flag_shown good allows about x (clear_with (own v.view) ps (x.clear ++ r ∷ [])) words homes i r.node 1 is (f.nodes q r asked).0 high h
 
     learns_free : Continues allows v.view (free_entry x).view
     learns_free = continues good allows about x (free_past x) free_fine v.view.node v.view.node v (free_entry x) ok free_node refl (prefix_self v.view.order) (prefix_self v.view.ends) (wider ps)

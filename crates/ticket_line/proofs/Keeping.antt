@@ -1,5 +1,5 @@
 -- How a step of one node keeps the rule.
-use Rattle.std.proofs.Common.{◌≡◌, ◌≢◌, ℕ, ◌+◌, ◌<◌, ◌≤◌, List, [], ◌∷◌, length, drop, set, sym, refl, ap, ◌∙◌, subst, arith, length-drop}
+use Rattle.std.proofs.Common.{◌≡◌, ◌≢◌, ℕ, ◌+◌, ◌/◌, ◌<◌, ◌≤◌, List, [], ◌∷◌, length, drop, set, get_or, sym, refl, ap, ◌∙◌, subst, arith, length-drop, length-set, get_or-set_same, get_or-set_other}
 use mathlib.Core.Logic.{dite}
 use mathlib.Core.Option.{some}
 use mathlib.Core.Option as maybe
@@ -14,10 +14,12 @@ use Rattle.qolb_model.proofs.Counts.{few_if_once, count_once}
 use Rattle.qolb_model.proofs.Updates.{put, put_here, put_else}
 use Rattle.qolb_model.proofs.Seats.{step_members}
 use Rattle.shared_line.specs.Entries.{node_of}
-use Rattle.ticket_line.specs.declared.words.TheConstants.{CELLS}
+use Rattle.ticket_line.specs.declared.words.TheConstants.{CELLS, UNIT}
+use Rattle.ticket_line.specs.Words.{ticket_at, node_at, cell_at, cell_of}
+use Rattle.qolb_model.specs.declared.terms.TheConstants.{MOST_NODES}
 use Rattle.shared_line.specs.declared.rule.Setup.{Setup}
 use Rattle.shared_line.specs.declared.rule.Parcel.{Parcel}
-use Rattle.ticket_line.specs.Ticket.{TicketEntry, TicketState, At, Past, NodeOk, PastOk, Shown, TicketRule}
+use Rattle.ticket_line.specs.Ticket.{TicketEntry, TicketState, At, Past, NodeOk, PastOk, IsLater, Shown, TicketRule}
 
 abbrev pub Homes : Type 0
 Homes = List (maybe.Option Parcel)
@@ -72,3 +74,18 @@ module _ (good : List ℕ → Type 0) (allows : List ℕ → List ℕ → Type 0
   pub blank : (s : TicketState) (r : Rule s) → r.past.marks (length r.past.ends + CELLS) ≡ 0
   blank s r = dite (ℕ_discrete (r.past.marks (length r.past.ends + CELLS)) 0) (λ z. z)
       (λ ne. let k = r.fine.marked (length r.past.ends + CELLS) (omega arith) in let h = slice_get_within r.past.order (length r.past.ends + CELLS) k.0 k.1 in let w = window s r in let f = r.may_open.nodes.few in absurd (omega arith))
+
+  -- the word of a node changes
+  pub flag_shown : (x : Past) (clear : List Request) (words : List ℕ) (homes : Homes) (i n b : ℕ) → i ≡ node_at n → 0 < n → n ≤ MOST_NODES → Shown good allows about x words homes → Shown good allows about (record x { clear = clear; flags = put x.flags n b }) (set words i b) homes
+  flag_shown x clear words homes i n b is low high h = record {
+    wide = length-set words i b ∙ h.wide;
+    deep = h.deep;
+    ticket = get_or-set_other words i ticket_at b 0 (λ e. omega arith) ∙ h.ticket;
+    turn = ap (λ k. k / UNIT) (get_or-set_other words i (cell_at (cell_of (length x.ends))) b 0 (λ e. omega arith)) ∙ h.turn;
+    granted = λ e. get_or-set_other words i (cell_at (cell_of (length x.ends))) b 0 (λ q. omega arith) ∙ h.granted e;
+    later = λ k a c. subst (IsLater (length x.ends + k) (x.marks (length x.ends + k))) (sym (get_or-set_other words i (cell_at (cell_of (length x.ends + k))) b 0 (λ e. omega arith))) (h.later k a c);
+    flags = λ k a c. dite (ℕ_discrete k n)
+        (λ e. ap (λ q. get_or (set words i b) q 0) (ap node_at e ∙ sym is) ∙ get_or-set_same words i b 0 (let w = h.wide in omega arith) ∙ sym (ap (put x.flags n b) e ∙ put_here x.flags n b))
+        (λ ne. get_or-set_other words i (node_at k) b 0 (λ q. ne (omega arith)) ∙ h.flags k a c ∙ sym (put_else x.flags n b k ne));
+    home = h.home;
+  }

@@ -1,8 +1,6 @@
 -- A node whose withdrawn request was passed reads its own word, and clears it before it asks again.
-use Rattle.std.proofs.Common.{◌≡◌, ◌≢◌, ℕ, ◌+◌, ◌/◌, ◌<◌, ◌≤◌, List, [], ◌∷◌, length, set, slice_index, get_or, Bool, true, false, if◌then◌else◌, sym, refl, ap, ◌∙◌, subst, arith, length-set, get_or-set_same, get_or-set_other}
-use mathlib.Core.Logic.{dite}
+use Rattle.std.proofs.Common.{◌≡◌, ◌≢◌, ℕ, ◌<◌, ◌≤◌, List, [], ◌∷◌, length, set, slice_index, Bool, true, false, if◌then◌else◌, sym, refl, ap, ◌∙◌, subst, arith}
 use mathlib.Core.Option.{none, some}
-use native.Mathlib.Decide.{ℕ_discrete}
 use lib.ListN.{get_elem?}
 use lib.Seq.{set-get_or}
 use Rattle.atomic_table.specs.Table.{step, keeps, Allows}
@@ -11,18 +9,17 @@ use Rattle.qolb_model.specs.Views.{own}
 use Rattle.qolb_model.specs.Sound.{Continues}
 use Rattle.qolb_model.proofs.Requests.{same_place, has_prefix}
 use Rattle.qolb_model.proofs.Lists.{never, at_same}
-use Rattle.qolb_model.specs.declared.terms.TheConstants.{MOST_NODES}
-use Rattle.qolb_model.proofs.Updates.{put, put_here, put_else}
+use Rattle.qolb_model.proofs.Updates.{put, put_here}
 use Rattle.ticket_line.specs.declared.own.Point.TheVariants.{Rolled}
 use Rattle.shared_line.specs.declared.rule.Setup.{Setup}
-use Rattle.ticket_line.specs.declared.words.TheConstants.{UNIT}
-use Rattle.ticket_line.specs.Words.{ticket_at, cell_at, node_at, cell_of}
-use Rattle.ticket_line.specs.Ticket.{TicketEntry, TicketState, At, Past, NodeOk, PastOk, IsLater, Shown, TicketRule, has_line, lets_go, is_kept}
+use Rattle.ticket_line.specs.Words.{node_at}
+use Rattle.ticket_line.specs.Ticket.{TicketEntry, TicketState, At, Past, NodeOk, PastOk, TicketRule, has_line, lets_go, is_kept}
 use Rattle.ticket_line.specs.Steps.{sole, Contents, IsStill, loaded_node, reset, after_reset}
 use Rattle.ticket_line.specs.Laws.Nodes.{clash_at, placed_at, hand_none}
 use Rattle.ticket_line.proofs.Nodes.{others_reset, learned, learned_ok, passes_none}
 use Rattle.ticket_line.specs.Laws.Histories.{continues}
-use Rattle.ticket_line.proofs.Keeping.{Homes, rule_step, mine_ok, mine_low}
+use Rattle.ticket_line.proofs.Keeping.{rule_step, mine_ok, mine_low, flag_shown}
+use Rattle.ticket_line.proofs.Clearing.{fine_flags}
 use Rattle.ticket_line.proofs.Turning.{goes_step}
 use Rattle.qolb_model.proofs.Clearing.{clears_ended}
 
@@ -131,28 +128,14 @@ module _ (good : List ℕ → Type 0) (allows : List ℕ → List ℕ → Type 0
         ended c = let o = clears_ended f.cleared (own v.view) (has_prefix v.view.clear x.clear (own v.view) ok.knows.clears clear) in
             subst (λ q. q < length x.ends) (same_place x.order f.legal.numbered o.0 v.own.place (own v.view) o.2 (placed_at about x v.view.node v ok c)) o.1
 
-    reset_shown : (x : Past) (words : List ℕ) (homes : Homes) (i : ℕ) → i ≡ node_at v.view.node → 0 < v.view.node → v.view.node ≤ MOST_NODES → Shown good allows about x words homes → Shown good allows about (reset_past x) (set words i 0) homes
-    reset_shown x words homes i is low high h = record {
-      wide = length-set words i 0 ∙ h.wide;
-      deep = h.deep;
-      ticket = get_or-set_other words i ticket_at 0 0 (λ e. omega arith) ∙ h.ticket;
-      turn = ap (λ k. k / UNIT) (get_or-set_other words i (cell_at (cell_of (length x.ends))) 0 0 (λ q. omega arith)) ∙ h.turn;
-      granted = λ e. get_or-set_other words i (cell_at (cell_of (length x.ends))) 0 0 (λ q. omega arith) ∙ h.granted e;
-      later = λ k a b. subst (IsLater (length x.ends + k) (x.marks (length x.ends + k))) (sym (get_or-set_other words i (cell_at (cell_of (length x.ends + k))) 0 0 (λ q. omega arith))) (h.later k a b);
-      flags = λ n a b. dite (ℕ_discrete n v.view.node)
-          (λ e. ap (λ k. get_or (set words i 0) k 0) (ap node_at e ∙ sym is) ∙ get_or-set_same words i 0 0 (let w = h.wide in omega arith) ∙ sym (ap (put x.flags v.view.node 0) e ∙ put_here x.flags v.view.node 0))
-          (λ ne. get_or-set_other words i (node_at n) 0 0 (λ q. ne (omega arith)) ∙ h.flags n a b ∙ sym (put_else x.flags v.view.node 0 n ne));
-      home = h.home;
-    }
-
     pub resets_next : (me slots i : ℕ) (m : Contents) → m.0 ≡ v ∷ [] → i ≡ node_at v.view.node → Allows Rule slots me m i (λ _. 0) (λ _. reset (step slots i 0 0 none) m 0)
     resets_next me slots i m is word s r deep at small = (
       reset_entry ∷ [],
       keeps,
       tt,
       rule_step good allows about s r me v reset_entry (reset_past r.past) (set s.words i 0) s.homes at' refl
-          (record { legal = r.fine.legal; nodes = r.fine.nodes; kept = r.fine.kept; sound = r.fine.sound; within = r.fine.within; cleared = r.fine.cleared; nobody = r.fine.nobody; settled = r.fine.settled; marked = r.fine.marked; gone = r.fine.gone })
-          (reset_shown r.past s.words s.homes i word low.0 (let l = low.1 in let f = r.may_open.nodes.few in omega arith) r.shown)
+          (fine_flags good allows about r.past (put r.past.flags v.view.node 0) r.fine)
+          (flag_shown good allows about r.past r.past.clear s.words s.homes i v.view.node 0 word low.0 (let l = low.1 in let f = r.may_open.nodes.few in omega arith) r.shown)
           (reset_node r.past r.fine (mine_ok good allows about s r me v at'))
           (λ n a b ne. others_reset about r.past n (r.who n) (r.each n a b) v.view.node ne),
       (λ j. (after_reset (sole (sym is j)) ∷ [], m.1)),

@@ -10,6 +10,7 @@ use qolb_model::{
 use ring_line::RingLine;
 use std::alloc::{Allocator, Global};
 use std::marker::Model;
+use ticket_line::TicketLine;
 
 /// A line whose word steps are counted, and that can be finished with any allocator.
 pub(super) trait Counted: OpenLine<Free> {
@@ -42,6 +43,24 @@ impl Counted for RingLine<Free> {
         ensures ports { IfErr result (λ back. back.ports.items ≡ ports.items) }
     {
         RingLine::<Free>::finish(self, alloc, ports)
+    }
+}
+
+impl Counted for TicketLine<Free> {
+    fn steps(&self, port: &ticket_line::Port) -> u64 {
+        TicketLine::<Free>::steps(self, port)
+    }
+
+    fn finish_in<A: Allocator>(
+        self,
+        alloc: A,
+        ports: Vec<ticket_line::Port>,
+    ) -> Result<Line64, Unfinished<TicketLine<Free>, ticket_line::Port>>
+        requires belong { All (λ port. (⟦<TicketLine<Free> as LineSync<Free>>⟧.view port).label ≡ ⟦<TicketLine<Free> as LineSync<Free>>⟧.label_of self → ⟦<TicketLine<Free> as LineSync<Free>>⟧.belongs self port) ports.items }
+        ensures line { IfErr result (λ back. back.line ≡ self) }
+        ensures ports { IfErr result (λ back. back.ports.items ≡ ports.items) }
+    {
+        TicketLine::<Free>::finish(self, alloc, ports)
     }
 }
 
