@@ -1,4 +1,3 @@
 pub mod NewPorts
 pub mod Each
-pub mod Rows
 pub mod HandedOver

@@ -4,9 +4,8 @@
 ghost use Rattle.locks.specs.declared.Lines.{Lines};
 ghost use Rattle.locks.specs.declared.Lines.TheVariants.{Ring, Link, Ticket};
 
-use qolb_model::{Keep, OpenLine};
-
 pub use link_line::LinkLine;
+use qolb_model::{Keep, OpenLine};
 pub use ring_line::RingLine;
 pub use ticket_line::TicketLine;
 

@@ -50,7 +50,13 @@ pub fn run_work<R: Threads + Wait + Sync, G: Gate + Sync>(
     ensures report { IfOk result (IsReportOf work.now) }
     ensures stalled { IfErr result (MayStop work.now) }
 {
-    over_named!(lines, run_work_over, [R, G], [BoardLaw, AccountLaw], (rt, alloc, gate, work))
+    over_named!(
+        lines,
+        run_work_over,
+        [R, G],
+        [BoardLaw, AccountLaw],
+        (rt, alloc, gate, work)
+    )
 }
 
 /// The same over lines of these types: a board lies in a line `B`, and the accounts of a bank in lines `A`.

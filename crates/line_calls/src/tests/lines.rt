@@ -1,9 +1,9 @@
-//! What both lines answer, called by one thread, node by node.
+//! What each line answers, called by one thread, node by node.
 
 use super::row::{Counted, Row};
-use crate::handing::hand_over;
-use crate::opened::{open_zeros, with_two};
 use line_lanes::{Line64, Mask, changed, lane, placed, with_lane};
+use line_rows::handing::hand_over;
+use line_rows::opened::{open_zeros, with_two};
 use linked_list_allocator::LocalHeap;
 use qolb_model::{Enq, FinishError, Free, OpenError, Out, Poll, PortState, Terms};
 use std::alloc::Global;

@@ -4,7 +4,7 @@ use Rattle.std.proofs.lemmas.List.Elements.{All-push}
 use Rattle.std.specs.List.{swap_remove}
 use Rattle.std.proofs.lemmas.List.Sorted.{IsPermutation-swap_remove, All-permutation}
 use Rattle.qolb_model.specs.declared.view.View.{View}
-use Rattle.line_rows.specs.Rows.{IsTheirs, AreTheirs}
+use Rattle.line_calls.specs.Rows.{IsTheirs, AreTheirs}
 
 module _ {Line Port : Type 0} (belongs : Line → Port → Type 0) (view : Port → View) (label_of : Line → ℕ) (line : Line) where
   abbrev Theirs : Port → Type 0

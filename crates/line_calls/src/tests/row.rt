@@ -96,7 +96,7 @@ impl<L: LineSync<Free> + Drop> Model for Row<L>
 where
     L::Port: Drop,
 {
-    ghost use Rattle.line_rows.specs.Rows.{AreTheirs};
+    ghost use Rattle.line_calls.specs.Rows.{AreTheirs};
 
     ghost Value = { L };
 
@@ -110,7 +110,7 @@ where
     L::Port: Drop,
 {
     ghost use Rattle.std.specs.Prelude.{◌≡◌, ◌↔◌, IsTrue, IfErr, IfSome};
-    ghost use Rattle.line_rows.specs.Rows.{IsTheirs};
+    ghost use Rattle.line_calls.specs.Rows.{IsTheirs};
 
     /// Takes the node's port out.
     pub(super) fn take(&mut self, node: u64) -> Option<L::Port>
