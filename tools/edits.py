@@ -32,6 +32,9 @@ import tempfile
 
 ROOT = pathlib.Path(__file__).resolve().parent.parent
 
+# An answer refused for this names what the edit took away: it says nothing of the goal.
+NAMES_ALONE = re.compile(r"is not in scope|has no field|has no `|was not admitted")
+
 
 def edits_of(crate):
     return sorted((crate / "must-fail").glob("*.edit"))
@@ -100,7 +103,8 @@ def verdict(log, goals):
     if re.search(r"^logic=proved", log, re.M):
         return "PROVED", ""
     log = re.sub(r"^so far: ", "", log, flags=re.M)
-    answers = set(re.findall(r"^\./proofs/(\S+)/(?:Answers|Invariants)\.antt:\d+:\d+: error: `([^`]+)`", log, re.M))
+    refused = re.findall(r"^\./proofs/(\S+)/(?:Answers|Invariants)\.antt:\d+:\d+: error: `([^`]+)`(.*)$", log, re.M)
+    answers = {(folder, goal) for folder, goal, why in refused if not NAMES_ALONE.search(why)}
     gone = "no longer" in log or re.search(r"Answers\.antt:\d+:\d+: error: .*(is not in scope|has no `)", log)
     held = [(folder, goal) for folder, goal in answers if goal in goals.get(folder, set())]
     if held:
