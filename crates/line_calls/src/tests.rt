@@ -8,117 +8,62 @@ mod row;
 use link_line::LinkLine;
 use qolb_model::Free;
 use ring_line::RingLine;
+use row::Counted;
+use std::alloc::Global;
+use std::process::Abort;
 use std::test::Fail;
 use ticket_line::TicketLine;
 
-#[test]
-fn lines_have_nodes_and_turns(rt: HostRuntime) {
-    lines::lines_have_nodes_and_turns::<_, RingLine<Free>>(&rt, rt.alloc());
-    lines::lines_have_nodes_and_turns::<_, TicketLine<Free>>(&rt, rt.alloc());
-    lines::lines_have_nodes_and_turns::<_, LinkLine<Free>>(&rt, rt.alloc());
+/// How many word steps a release takes that passes two withdrawn nodes of three, and one that passes 199 of 200.
+struct Steps {
+    few: u64,
+    many: u64,
+}
+
+/// Each call, over lines of this type.
+fn each_call<R: Abort, L: Counted + Drop>(rt: &R, alloc: Global, steps: &Steps) -> Result<(), Fail>
+where
+    L::Port: Drop,
+{
+    lines::lines_have_nodes_and_turns::<R, L>(rt, alloc);
+    lines::a_release_passes_those_who_withdrew::<R, L>(rt, alloc, steps.few)?;
+    lines::a_node_asks_again_once_it_was_passed::<R, L>(rt, alloc)?;
+    lines::who_withdraws_at_its_turn_is_granted::<R, L>(rt, alloc)?;
+    lines::all_are_told_of_a_closed_line::<R, L>(rt, alloc)?;
+    lines::the_last_turn_of_a_lease_closes_the_line::<R, L>(rt, alloc)?;
+    lines::a_line_without_a_lease_counts_no_turns::<R, L>(rt, alloc)?;
+    lines::one_node_takes_300_turns::<R, L>(rt, alloc)?;
+    lines::a_release_passes_all_other_nodes_of_200::<R, L>(rt, alloc, steps.many)?;
+    lines::finish_wants_a_quiet_port_of_each_node::<R, L>(rt, alloc)?;
+    lines::finish_wants_no_other_port::<R, L>(rt, alloc)?;
+    lines::each_growth_of_finish_is_refused::<R, L>(rt, alloc)?;
+    lines::four_nodes_are_served_in_order::<R, L>(rt, alloc)?;
+    lines::a_line_is_handed_over_with_its_bytes::<R, L>(rt, alloc)?;
+    lines::any_line_is_handed_over::<R, L>(rt, alloc)
 }
 
 #[test]
-fn a_release_passes_those_who_withdrew(rt: HostRuntime) -> Result<(), Fail> {
-    lines::a_release_passes_those_who_withdrew::<_, RingLine<Free>>(&rt, rt.alloc(), 8)?;
-    lines::a_release_passes_those_who_withdrew::<_, TicketLine<Free>>(&rt, rt.alloc(), 5)?;
-    lines::a_release_passes_those_who_withdrew::<_, LinkLine<Free>>(&rt, rt.alloc(), 9)
+fn a_ring_answers_each_call(rt: HostRuntime) -> Result<(), Fail> {
+    let steps = Steps { few: 8, many: 599 };
+    each_call::<_, RingLine<Free>>(&rt, rt.alloc(), &steps)
 }
 
 #[test]
-fn a_node_asks_again_once_it_was_passed(rt: HostRuntime) -> Result<(), Fail> {
-    lines::a_node_asks_again_once_it_was_passed::<_, RingLine<Free>>(&rt, rt.alloc())?;
-    lines::a_node_asks_again_once_it_was_passed::<_, TicketLine<Free>>(&rt, rt.alloc())?;
-    lines::a_node_asks_again_once_it_was_passed::<_, LinkLine<Free>>(&rt, rt.alloc())
+fn a_list_answers_each_call(rt: HostRuntime) -> Result<(), Fail> {
+    let steps = Steps { few: 9, many: 797 };
+    each_call::<_, LinkLine<Free>>(&rt, rt.alloc(), &steps)
 }
 
 #[test]
-fn who_withdraws_at_its_turn_is_granted(rt: HostRuntime) -> Result<(), Fail> {
-    lines::who_withdraws_at_its_turn_is_granted::<_, RingLine<Free>>(&rt, rt.alloc())?;
-    lines::who_withdraws_at_its_turn_is_granted::<_, TicketLine<Free>>(&rt, rt.alloc())?;
-    lines::who_withdraws_at_its_turn_is_granted::<_, LinkLine<Free>>(&rt, rt.alloc())
+fn a_ticket_line_answers_each_call(rt: HostRuntime) -> Result<(), Fail> {
+    let steps = Steps { few: 5, many: 399 };
+    each_call::<_, TicketLine<Free>>(&rt, rt.alloc(), &steps)
 }
 
-#[test]
-fn all_are_told_of_a_closed_line(rt: HostRuntime) -> Result<(), Fail> {
-    lines::all_are_told_of_a_closed_line::<_, RingLine<Free>>(&rt, rt.alloc())?;
-    lines::all_are_told_of_a_closed_line::<_, TicketLine<Free>>(&rt, rt.alloc())?;
-    lines::all_are_told_of_a_closed_line::<_, LinkLine<Free>>(&rt, rt.alloc())
-}
-
-#[test]
-fn the_last_turn_of_a_lease_closes_the_line(rt: HostRuntime) -> Result<(), Fail> {
-    lines::the_last_turn_of_a_lease_closes_the_line::<_, RingLine<Free>>(&rt, rt.alloc())?;
-    lines::the_last_turn_of_a_lease_closes_the_line::<_, TicketLine<Free>>(&rt, rt.alloc())?;
-    lines::the_last_turn_of_a_lease_closes_the_line::<_, LinkLine<Free>>(&rt, rt.alloc())
-}
-
-#[test]
-fn a_line_without_a_lease_counts_no_turns(rt: HostRuntime) -> Result<(), Fail> {
-    lines::a_line_without_a_lease_counts_no_turns::<_, RingLine<Free>>(&rt, rt.alloc())?;
-    lines::a_line_without_a_lease_counts_no_turns::<_, TicketLine<Free>>(&rt, rt.alloc())?;
-    lines::a_line_without_a_lease_counts_no_turns::<_, LinkLine<Free>>(&rt, rt.alloc())
-}
-
-#[test]
-fn one_node_takes_300_turns(rt: HostRuntime) -> Result<(), Fail> {
-    lines::one_node_takes_300_turns::<_, RingLine<Free>>(&rt, rt.alloc())?;
-    lines::one_node_takes_300_turns::<_, TicketLine<Free>>(&rt, rt.alloc())?;
-    lines::one_node_takes_300_turns::<_, LinkLine<Free>>(&rt, rt.alloc())
-}
-
-#[test]
-fn a_release_passes_all_other_nodes_of_200(rt: HostRuntime) -> Result<(), Fail> {
-    lines::a_release_passes_all_other_nodes_of_200::<_, RingLine<Free>>(&rt, rt.alloc(), 599)?;
-    lines::a_release_passes_all_other_nodes_of_200::<_, TicketLine<Free>>(&rt, rt.alloc(), 399)?;
-    lines::a_release_passes_all_other_nodes_of_200::<_, LinkLine<Free>>(&rt, rt.alloc(), 797)
-}
-
-#[test]
-fn finish_wants_a_quiet_port_of_each_node(rt: HostRuntime) -> Result<(), Fail> {
-    lines::finish_wants_a_quiet_port_of_each_node::<_, RingLine<Free>>(&rt, rt.alloc())?;
-    lines::finish_wants_a_quiet_port_of_each_node::<_, TicketLine<Free>>(&rt, rt.alloc())?;
-    lines::finish_wants_a_quiet_port_of_each_node::<_, LinkLine<Free>>(&rt, rt.alloc())
-}
-
-#[test]
-fn finish_wants_no_other_port(rt: HostRuntime) -> Result<(), Fail> {
-    lines::finish_wants_no_other_port::<_, RingLine<Free>>(&rt, rt.alloc())?;
-    lines::finish_wants_no_other_port::<_, TicketLine<Free>>(&rt, rt.alloc())?;
-    lines::finish_wants_no_other_port::<_, LinkLine<Free>>(&rt, rt.alloc())
-}
-
-#[test]
-fn each_growth_of_finish_is_refused(rt: HostRuntime) -> Result<(), Fail> {
-    lines::each_growth_of_finish_is_refused::<_, RingLine<Free>>(&rt, rt.alloc())?;
-    lines::each_growth_of_finish_is_refused::<_, TicketLine<Free>>(&rt, rt.alloc())?;
-    lines::each_growth_of_finish_is_refused::<_, LinkLine<Free>>(&rt, rt.alloc())
-}
-
-#[test]
-fn four_nodes_are_served_in_order(rt: HostRuntime) -> Result<(), Fail> {
-    lines::four_nodes_are_served_in_order::<_, RingLine<Free>>(&rt, rt.alloc())?;
-    lines::four_nodes_are_served_in_order::<_, TicketLine<Free>>(&rt, rt.alloc())?;
-    lines::four_nodes_are_served_in_order::<_, LinkLine<Free>>(&rt, rt.alloc())
-}
-
-#[test]
-fn a_line_is_handed_over_with_its_bytes(rt: HostRuntime) -> Result<(), Fail> {
-    lines::a_line_is_handed_over_with_its_bytes::<_, RingLine<Free>>(&rt, rt.alloc())?;
-    lines::a_line_is_handed_over_with_its_bytes::<_, TicketLine<Free>>(&rt, rt.alloc())?;
-    lines::a_line_is_handed_over_with_its_bytes::<_, LinkLine<Free>>(&rt, rt.alloc())
-}
-
+/// To be run with each allocation failing in turn, by `rt try --test --fail-alloc 1`, `2` and so on.
 #[test]
 fn opening_and_finishing_answer_want_of_memory(rt: HostRuntime) -> Result<(), Fail> {
     lines::want_of_memory_is_answered::<_, RingLine<Free>>(&rt, rt.alloc())?;
     lines::want_of_memory_is_answered::<_, TicketLine<Free>>(&rt, rt.alloc())?;
     lines::want_of_memory_is_answered::<_, LinkLine<Free>>(&rt, rt.alloc())
-}
-
-#[test]
-fn any_line_is_handed_over(rt: HostRuntime) -> Result<(), Fail> {
-    lines::any_line_is_handed_over::<_, RingLine<Free>>(&rt, rt.alloc())?;
-    lines::any_line_is_handed_over::<_, TicketLine<Free>>(&rt, rt.alloc())?;
-    lines::any_line_is_handed_over::<_, LinkLine<Free>>(&rt, rt.alloc())
 }
