@@ -15,6 +15,7 @@ use std::test::Fail;
 use ticket_line::TicketLine;
 
 /// How many word steps a release takes that passes two withdrawn nodes of three, and one that passes 199 of 200.
+#[derive(Drop)]
 struct Steps {
     few: u64,
     many: u64,
