@@ -50,7 +50,7 @@ fn replays_and_refuses_scripts(rt: HostRuntime) -> Result<(), Fail> {
         ("nodes 2 lines 1\nenq 1", 1, "", "bad line 2\n"),
     ];
     for (script, status, out, err) in rows {
-        for kind in ["plain", "ring", "link"] {
+        for kind in ["plain", "ring", "link", "ticket"] {
             let found = run(&rt, rt.alloc(), &["replay", "--kind", kind], script)?;
             assert_eq!(rt; found.0, status, "of {script}");
             assert_eq!(rt; found.1.as_str(), out, "of {script}");
