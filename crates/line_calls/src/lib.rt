@@ -1,5 +1,6 @@
-//! The calls of each lock, made by one thread, node by node: tests.
+//! The calls of each lock, made by one thread, node by node.
 #![tactic(auto)]
 
+pub mod row;
 #[cfg(test)]
 mod tests;

@@ -3,12 +3,11 @@
 mod late;
 mod lines;
 mod named;
-mod row;
 
+use crate::row::Counted;
 use link_line::LinkLine;
 use qolb_model::Free;
 use ring_line::RingLine;
-use row::Counted;
 use std::alloc::Global;
 use std::process::Abort;
 use std::test::Fail;

@@ -1,6 +1,6 @@
 //! What the list alone answers: asking by two calls, and a release that does not wait for the link.
 
-use super::row::Row;
+use crate::row::Row;
 use line_lanes::{Line64, placed};
 use link_line::LinkLine;
 use qolb_model::{Enq, FinishError, Free, Out, Poll, PortState, Prep, Terms};

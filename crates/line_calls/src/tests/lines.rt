@@ -1,6 +1,6 @@
 //! What each line answers, called by one thread, node by node.
 
-use super::row::{Counted, Row};
+use crate::row::{Counted, Row};
 use line_lanes::{Line64, Mask, changed, lane, placed, with_lane};
 use line_rows::handing::hand_over;
 use line_rows::opened::{open_zeros, with_two};

@@ -1,4 +1,4 @@
-//! A line with ports, which a test calls by node.
+//! A line with ports, which is called by node.
 ghost use Rattle.std.specs.Prelude.{◌≡◌, All, IfErr};
 
 use line_lanes::{Line64, Mask};
@@ -7,13 +7,12 @@ use qolb_model::{
     Enq, FinishError, Free, LineSync, OpenError, OpenLine, Out, Poll, PortState, Prep, Terms,
     Unfinished,
 };
-use ring_line::RingLine;
+use shared_line::{Discipline, Line, Port};
 use std::alloc::{Allocator, Global};
 use std::marker::Model;
-use ticket_line::TicketLine;
 
 /// A line whose word steps are counted, and that can be finished with any allocator.
-pub(super) trait Counted: OpenLine<Free> {
+pub trait Counted: OpenLine<Free> {
     /// How many word steps the port's last call took; 0 before the first.
     fn steps(&self, port: &Self::Port) -> u64;
 
@@ -28,63 +27,27 @@ pub(super) trait Counted: OpenLine<Free> {
         ensures ports { IfErr result (λ back. back.ports.items ≡ ports.items) };
 }
 
-impl Counted for RingLine<Free> {
-    fn steps(&self, port: &ring_line::Port) -> u64 {
-        RingLine::<Free>::steps(self, port)
+impl<Q: Discipline<Free>> Counted for Line<Free, Q> {
+    fn steps(&self, port: &Port<Q>) -> u64 {
+        Line::<Free, Q>::steps(self, port)
     }
 
     fn finish_in<A: Allocator>(
         self,
         alloc: A,
-        ports: Vec<ring_line::Port>,
-    ) -> Result<Line64, Unfinished<RingLine<Free>, ring_line::Port>>
-        requires belong { All (λ port. (⟦<RingLine<Free> as LineSync<Free>>⟧.view port).label ≡ ⟦<RingLine<Free> as LineSync<Free>>⟧.label_of self → ⟦<RingLine<Free> as LineSync<Free>>⟧.belongs self port) ports.items }
+        ports: Vec<Port<Q>>,
+    ) -> Result<Line64, Unfinished<Line<Free, Q>, Port<Q>>>
+        requires belong { All (λ port. (⟦<Line<Free, Q> as LineSync<Free>>⟧.view port).label ≡ ⟦<Line<Free, Q> as LineSync<Free>>⟧.label_of self → ⟦<Line<Free, Q> as LineSync<Free>>⟧.belongs self port) ports.items }
         ensures line { IfErr result (λ back. back.line ≡ self) }
         ensures ports { IfErr result (λ back. back.ports.items ≡ ports.items) }
     {
-        RingLine::<Free>::finish(self, alloc, ports)
-    }
-}
-
-impl Counted for TicketLine<Free> {
-    fn steps(&self, port: &ticket_line::Port) -> u64 {
-        TicketLine::<Free>::steps(self, port)
-    }
-
-    fn finish_in<A: Allocator>(
-        self,
-        alloc: A,
-        ports: Vec<ticket_line::Port>,
-    ) -> Result<Line64, Unfinished<TicketLine<Free>, ticket_line::Port>>
-        requires belong { All (λ port. (⟦<TicketLine<Free> as LineSync<Free>>⟧.view port).label ≡ ⟦<TicketLine<Free> as LineSync<Free>>⟧.label_of self → ⟦<TicketLine<Free> as LineSync<Free>>⟧.belongs self port) ports.items }
-        ensures line { IfErr result (λ back. back.line ≡ self) }
-        ensures ports { IfErr result (λ back. back.ports.items ≡ ports.items) }
-    {
-        TicketLine::<Free>::finish(self, alloc, ports)
-    }
-}
-
-impl Counted for LinkLine<Free> {
-    fn steps(&self, port: &link_line::Port) -> u64 {
-        LinkLine::<Free>::steps(self, port)
-    }
-
-    fn finish_in<A: Allocator>(
-        self,
-        alloc: A,
-        ports: Vec<link_line::Port>,
-    ) -> Result<Line64, Unfinished<LinkLine<Free>, link_line::Port>>
-        requires belong { All (λ port. (⟦<LinkLine<Free> as LineSync<Free>>⟧.view port).label ≡ ⟦<LinkLine<Free> as LineSync<Free>>⟧.label_of self → ⟦<LinkLine<Free> as LineSync<Free>>⟧.belongs self port) ports.items }
-        ensures line { IfErr result (λ back. back.line ≡ self) }
-        ensures ports { IfErr result (λ back. back.ports.items ≡ ports.items) }
-    {
-        LinkLine::<Free>::finish(self, alloc, ports)
+        Line::<Free, Q>::finish(self, alloc, ports)
     }
 }
 
 /// A line and some ports, each of which is the line's own if it has its label.
 #[derive(Drop)]
-pub(super) struct Row<L: LineSync<Free> + Drop>
+pub struct Row<L: LineSync<Free> + Drop>
 where
     L::Port: Drop,
 {
@@ -113,7 +76,7 @@ where
     ghost use Rattle.line_calls.specs.Rows.{IsTheirs};
 
     /// Takes the node's port out.
-    pub(super) fn take(&mut self, node: u64) -> Option<L::Port>
+    pub fn take(&mut self, node: u64) -> Option<L::Port>
         ensures same { self.new ≡ self.old }
         ensures theirs { IfSome result (λ port. IsTheirs L.belongs L.view L.label_of self.new port) }
     {
@@ -122,7 +85,7 @@ where
     }
 
     /// Puts a port in.
-    pub(super) fn put(&mut self, port: L::Port) -> bool
+    pub fn put(&mut self, port: L::Port) -> bool
         requires { IsTheirs L.belongs L.view L.label_of self.old port }
         ensures same { self.new ≡ self.old }
     {
@@ -130,20 +93,20 @@ where
     }
 
     /// Whether the port is the line's.
-    pub(super) fn owns(&self, port: &L::Port) -> bool
+    pub fn owns(&self, port: &L::Port) -> bool
         ensures { IsTrue result ↔ ((L.view port.now).label ≡ L.label_of self.now) }
     {
         self.line.owns(port)
     }
 
     /// What the node's last call left.
-    pub(super) fn state(&self, node: u64) -> Option<PortState> {
+    pub fn state(&self, node: u64) -> Option<PortState> {
         let port = self.ports.iter().find(|port| L::node(port) == node)?;
         Some(L::state(port))
     }
 
     /// Asks for the node, if its port may ask.
-    pub(super) fn ask(&mut self, node: u64) -> Option<Enq> {
+    pub fn ask(&mut self, node: u64) -> Option<Enq> {
         let mut port = self.take(node)?;
         let answer = if self.owns(&port) && L::state(&port).may_ask() {
             Some(self.line.enqolb(&mut port))
@@ -155,7 +118,7 @@ where
     }
 
     /// Polls for the node, if its port waits.
-    pub(super) fn poll(&mut self, node: u64) -> Option<Poll> {
+    pub fn poll(&mut self, node: u64) -> Option<Poll> {
         let mut port = self.take(node)?;
         let answer = if self.owns(&port) && L::state(&port) == PortState::Queued {
             Some(self.line.poll(&mut port))
@@ -167,7 +130,7 @@ where
     }
 
     /// Withdraws for the node, if its port waits.
-    pub(super) fn withdraw(&mut self, node: u64) -> Option<Out> {
+    pub fn withdraw(&mut self, node: u64) -> Option<Out> {
         let mut port = self.take(node)?;
         let answer = if self.owns(&port) && L::state(&port) == PortState::Queued {
             Some(self.line.withdraw(&mut port))
@@ -179,7 +142,7 @@ where
     }
 
     /// How many turns are left of the lease, if the node's port holds the line.
-    pub(super) fn turns_left(&mut self, node: u64) -> Option<Option<u64>> {
+    pub fn turns_left(&mut self, node: u64) -> Option<Option<u64>> {
         let port = self.take(node)?;
         let answer = if self.owns(&port) && L::state(&port) == PortState::Holding {
             Some(self.line.turns_left(&port))
@@ -191,7 +154,7 @@ where
     }
 
     /// Releases for the node, and says whether its port held the line.
-    pub(super) fn release(&mut self, node: u64) -> Option<bool> {
+    pub fn release(&mut self, node: u64) -> Option<bool> {
         let mut port = self.take(node)?;
         let held = self.owns(&port) && L::state(&port) == PortState::Holding;
         if held {
@@ -202,7 +165,7 @@ where
     }
 
     /// Releases for the node and closes the line, and says whether its port held the line.
-    pub(super) fn shut(&mut self, node: u64) -> Option<bool> {
+    pub fn shut(&mut self, node: u64) -> Option<bool> {
         let mut port = self.take(node)?;
         let held = self.owns(&port) && L::state(&port) == PortState::Holding;
         if held {
@@ -213,7 +176,7 @@ where
     }
 
     /// Writes for the node, and says whether its port held the line.
-    pub(super) fn write(&mut self, node: u64, mask: Mask, bytes: &Line64) -> Option<bool> {
+    pub fn write(&mut self, node: u64, mask: Mask, bytes: &Line64) -> Option<bool> {
         let mut port = self.take(node)?;
         let held = L::state(&port) == PortState::Holding;
         if held {
@@ -224,7 +187,7 @@ where
     }
 
     /// The bytes that the node sees, if its port holds the line.
-    pub(super) fn bytes(&self, node: u64) -> Option<[u8; 64]> {
+    pub fn bytes(&self, node: u64) -> Option<[u8; 64]> {
         let port = self.ports.iter().find(|port| L::node(port) == node)?;
         if L::state(port) == PortState::Holding {
             Some(L::bytes(port).to_bytes())
@@ -234,7 +197,7 @@ where
     }
 
     /// The ports of two nodes meet, if both are the line's.
-    pub(super) fn meet(&mut self, one: u64, two: u64) -> Option<bool> {
+    pub fn meet(&mut self, one: u64, two: u64) -> Option<bool> {
         let mut a = self.take(one)?;
         let mut b = self.take(two)?;
         let own = self.owns(&a) && self.owns(&b);
@@ -247,7 +210,7 @@ where
     }
 
     /// Finishes the line.
-    pub(super) fn finish(self, alloc: Global) -> Result<Line64, (FinishError, Row<L>)>
+    pub fn finish(self, alloc: Global) -> Result<Line64, (FinishError, Row<L>)>
         ensures { IfErr result (λ back. back.1 ≡ self) }
     {
         let Row { line, ports } = self;
@@ -268,13 +231,13 @@ where
     ghost use Rattle.std.specs.Prelude.{◌≡◌, IfErr};
 
     /// A new line with this label, and all its ports.
-    pub(super) fn open(alloc: Global, label: u64, terms: Terms) -> Result<Row<L>, OpenError> {
+    pub fn open(alloc: Global, label: u64, terms: Terms) -> Result<Row<L>, OpenError> {
         let (line, ports) = L::open_with(alloc, label, terms)?;
         Ok(Row { line, ports })
     }
 
     /// A new line of zeros for so many nodes, without a lease.
-    pub(super) fn of_zeros(alloc: Global, nodes: u64) -> Result<Row<L>, OpenError> {
+    pub fn of_zeros(alloc: Global, nodes: u64) -> Result<Row<L>, OpenError> {
         let terms = Terms {
             nodes,
             opening: Line64::zero(),
@@ -284,13 +247,13 @@ where
     }
 
     /// How many word steps the port's last call took.
-    pub(super) fn steps(&self, node: u64) -> Option<u64> {
+    pub fn steps(&self, node: u64) -> Option<u64> {
         let port = self.ports.iter().find(|port| L::node(port) == node)?;
         Some(self.line.steps(port))
     }
 
     /// Finishes the line with another allocator.
-    pub(super) fn finish_in<A: Allocator>(self, alloc: A) -> Result<Line64, (FinishError, Row<L>)>
+    pub fn finish_in<A: Allocator>(self, alloc: A) -> Result<Line64, (FinishError, Row<L>)>
         ensures { IfErr result (λ back. back.1 ≡ self) }
     {
         let Row { line, ports } = self;
@@ -306,7 +269,7 @@ where
 
 impl Row<LinkLine<Free>> {
     /// The first half of asking for the node, if its port may ask.
-    pub(super) fn prepend(&mut self, node: u64) -> Option<Prep> {
+    pub fn prepend(&mut self, node: u64) -> Option<Prep> {
         let mut port = self.take(node)?;
         let may_ask = LinkLine::<Free>::state(&port).may_ask();
         let answer = if self.owns(&port) && may_ask {
@@ -319,7 +282,7 @@ impl Row<LinkLine<Free>> {
     }
 
     /// The second half, if its port is linking.
-    pub(super) fn link(&mut self, node: u64) -> Option<Enq> {
+    pub fn link(&mut self, node: u64) -> Option<Enq> {
         let mut port = self.take(node)?;
         let is_linking = LinkLine::<Free>::state(&port) == PortState::Linking;
         let answer = if self.owns(&port) && is_linking {

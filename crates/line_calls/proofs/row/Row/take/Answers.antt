@@ -1,6 +1,6 @@
 use Rattle.std.proofs.Common.{rules}
 use Rattle.line_calls.proofs.Rows.{theirs_taken}
-use Rattle.line_calls.proofs.tests.row.Row.take.Goals as goal
+use Rattle.line_calls.proofs.row.Row.take.Goals as goal
 
 pub invariant_of-self : goal.invariant_of-self
 invariant_of-self g c = let s = c.self.inside in

@@ -1,7 +1,7 @@
 use Rattle.std.proofs.Common.{sym, subst}
 use Rattle.line_calls.specs.Rows.{IsTheirs}
 use Rattle.line_calls.proofs.Rows.{theirs_put}
-use Rattle.line_calls.proofs.tests.row.Row.put.Goals as goal
+use Rattle.line_calls.proofs.row.Row.put.Goals as goal
 
 pub invariant_of-self : goal.invariant_of-self
 invariant_of-self g c = let s = c.self.inside in
