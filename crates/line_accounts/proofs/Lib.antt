@@ -6,3 +6,4 @@ pub mod Accounted
 pub mod Columns
 pub mod Transferred
 pub mod Settlements
+pub mod Pairs

@@ -1,10 +1,7 @@
 -- Transfers of a desk.
-use Rattle.std.proofs.Common.{◌≡◌, ◌≢◌, ◌+◌, ◌-◌, ◌<◌, ◌≤◌, inl, inr, ℕ, zero, suc, List, [], ◌∷◌, ◌++◌, length, take, drop, get_or, Some, slice_get, refl, sym, ap, subst, ◌∙◌, arith}
+use Rattle.std.proofs.Common.{◌≡◌, ◌≢◌, ◌+◌, ◌<◌, inl, inr, ℕ, List, Some, slice_get, refl, sym, ap, subst, ◌∙◌, arith}
 use Rattle.std.proofs.Math.ListN.{set}
-use Rattle.std.proofs.lemmas.List.{length-take-le, length-drop}
-use Rattle.std.proofs.lemmas.Option.{slice_get-get_or}
 use Rattle.qolb_model.specs.declared.view.View.{View}
-use Rattle.qolb_model.proofs.Lists.{slice_get-take, slice_get-drop}
 use Rattle.line_accounts.specs.declared.answer.Reply.{Reply}
 use Rattle.line_accounts.specs.declared.answer.Reply.TheVariants.{Done, Short, Over, Late, Closed, Busy, NoAccount, SameAccount}
 use Rattle.line_accounts.specs.Accounts.{line_of, lane_in}
@@ -14,28 +11,6 @@ use Rattle.line_accounts.specs.Moves.{Pays, IsRefusedEither, MovesWithin, MovesA
 use Rattle.line_accounts.specs.Calls.{AreTwo, Transfers}
 use Rattle.line_accounts.proofs.Totals.{looked}
 use Rattle.line_accounts.proofs.Accounted.{refused_in_vain, counts, desk_after, slice_get-set_other}
-
--- two writes, one in each of the two parts of a list
-set_back : {X : Type 0} (xs : List X) (j : ℕ) (r : X) → take j xs ++ set (drop j xs) 0 r ≡ set xs j r
-set_back [] zero r = refl
-set_back [] (suc j) r = refl
-set_back (x ∷ xs) zero r = refl
-set_back (x ∷ xs) (suc j) r = ap (λ l. x ∷ l) (set_back xs j r)
-
-pub set_parts : {X : Type 0} (xs : List X) (i j : ℕ) (q r : X) → i < j → set (take j xs) i q ++ set (drop j xs) 0 r ≡ set (set xs i q) j r
-set_parts [] i zero q r lt = absurd (omega arith)
-set_parts [] i (suc j) q r lt = refl
-set_parts (x ∷ xs) i zero q r lt = absurd (omega arith)
-set_parts (x ∷ xs) zero (suc j) q r lt = ap (λ l. q ∷ l) (set_back xs j r)
-set_parts (x ∷ xs) (suc i) (suc j) q r lt = ap (λ l. x ∷ l) (set_parts xs i j q r (omega (arith, lt)))
-
--- in any order
-pub set_swap : {X : Type 0} (xs : List X) (i j : ℕ) (q r : X) → i ≢ j → set (set xs i q) j r ≡ set (set xs j r) i q
-set_swap [] i j q r ne = refl
-set_swap (x ∷ xs) zero zero q r ne = absurd (ne refl)
-set_swap (x ∷ xs) zero (suc j) q r ne = refl
-set_swap (x ∷ xs) (suc i) zero q r ne = refl
-set_swap (x ∷ xs) (suc i) (suc j) q r ne = ap (λ l. x ∷ l) (set_swap xs i j q r (λ e. ne (ap suc e)))
 
 -- a transfer over two lines: each port is at rest, and what the one drew the other paid in
 pub either_rests : (s s_then t t_then : View) (reply : Reply) → IsAtRest t → IsAtRest s → IsRefusedEither s s_then t t_then reply → (IsAtRest s_then × Pays s s_then 0 0) × (IsAtRest t_then × Pays t t_then 0 0)
@@ -62,18 +37,6 @@ across_ports refused s s_then t t_then from to amount why Closed h = let w = why
 across_ports refused s s_then t t_then from to amount why Busy h = let w = why Busy h in (0, w.0, w.1)
 across_ports refused s s_then t t_then from to amount why NoAccount h = absurd h
 across_ports refused s s_then t t_then from to amount why SameAccount h = absurd h
-
--- elements of the two parts of a list
-pub at_front : {X : Type 0} (xs front : List X) (i j : ℕ) (x : X) → front ≡ take j xs → i < j → j ≤ length xs → slice_get xs i ≡ Some (get_or front i x)
-at_front xs front i j x is lt le =
-    let long : length front ≡ j = ap length is ∙ length-take-le j xs le in
-    sym (slice_get-take j xs i lt) ∙ (ap (λ l. slice_get l i) (sym is) ∙ slice_get-get_or front i x (omega (arith, long, lt)))
-
-pub at_back : {X : Type 0} (xs back : List X) (j : ℕ) (x : X) → back ≡ drop j xs → j < length xs → slice_get xs j ≡ Some (get_or back 0 x)
-at_back xs back j x is lt =
-    let long : length back ≡ length xs - j = ap length is ∙ length-drop j xs in
-    let e : j + 0 ≡ j = omega arith in
-    ap (slice_get xs) (sym e) ∙ (sym (slice_get-drop j xs 0) ∙ (ap (λ l. slice_get l 0) (sym is) ∙ slice_get-get_or back 0 x (omega (arith, long, lt))))
 
 -- a desk over its lines where two of its ports were called, and what the one drew the other paid in
 module _ {Line Port : Type 0} (belongs : Line → Port → Type 0) (view : Port → View) (lines : List Line) where

@@ -7,6 +7,7 @@ use crate::across::{move_down, move_up};
 use crate::answer::Reply;
 use crate::law::AccountLaw;
 use crate::money::place_of;
+use crate::pair::pair_of;
 use crate::turn::{move_within, pay_in, pay_out};
 use qolb_model::{LineSync, PortState};
 use std::marker::Model;
@@ -156,29 +157,13 @@ pub fn transfer<L: LineSync<AccountLaw>>(
             patience,
         );
     }
+    let (paying, paid) = pair_of(&mut desk.ports, i, j);
     if i < j {
-        let (front, back) = desk.ports.split_at_mut(j);
-        move_up(
-            &lines[i],
-            &mut front[i],
-            source,
-            &lines[j],
-            &mut back[0],
-            target,
-            amount,
-            patience,
-        )
-    } else {
-        let (front, back) = desk.ports.split_at_mut(i);
-        move_down(
-            &lines[i],
-            &mut back[0],
-            source,
-            &lines[j],
-            &mut front[j],
-            target,
-            amount,
-            patience,
-        )
+        return move_up(
+            &lines[i], paying, source, &lines[j], paid, target, amount, patience,
+        );
     }
+    move_down(
+        &lines[i], paying, source, &lines[j], paid, target, amount, patience,
+    )
 }

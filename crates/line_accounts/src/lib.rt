@@ -8,6 +8,7 @@ mod desk;
 mod desks;
 mod law;
 mod money;
+mod pair;
 mod settling;
 mod turn;
 

@@ -5,7 +5,7 @@ use Rattle.std.specs.List.{sum_by}
 use Rattle.std.proofs.lemmas.Bool.{cases_eq, cases_lt}
 use Rattle.std.proofs.lemmas.List.{length-take-le}
 use Rattle.std.proofs.lemmas.List.Sums.{sum_by-le, sum_by-cons, count_by-le-length, length-filter}
-use Rattle.std.proofs.lemmas.List.Elements.{All-take, All-head, All-tail}
+use Rattle.std.proofs.lemmas.List.Elements.{All-nil, All-push, All-append, All-take, All-head, All-tail}
 use Rattle.std.proofs.lemmas.Option.{slice_get-get_or, slice_get_within, get_or_from_slice_get}
 use Rattle.line_lanes.specs.Line.{zeros}
 use Rattle.line_lanes.specs.Lane.{lanes_total}
@@ -29,8 +29,8 @@ use Rattle.qolb_script.specs.declared.schedule.TheConstants.{MOST_COMMANDS}
 use Rattle.qolb_run.specs.Jobs.{jobs_of}
 use Rattle.qolb_run.specs.JustOpened.{IsNewLine, work_terms}
 use Rattle.qolb_run.specs.Workers.{AreDone, AreFresh}
-use Rattle.qolb_run.specs.BankRuns.{paid_in_of, paid_out_of, paid_in_by, paid_out_by, ComesTo}
-use Rattle.qolb_run.specs.BankWork.{ArePaid, PaysOneAmount, is_again, is_outcome, Asks, Tries, not_yet, again, Makes, nothing, another, HasBanked}
+use Rattle.qolb_run.specs.BankRuns.{is_outcome, paid_in_of, paid_out_of, paid_in_by, paid_out_by, ComesTo}
+use Rattle.qolb_run.specs.BankWork.{ArePaid, PaysOneAmount, is_again, Asks, Tries, not_yet, again, Makes, nothing, another, HasBanked}
 
 -- sums over desks
 module _ {Port : Type 0} (desks : List (DeskOf Port)) (i : ℕ) (few : length desks ≤ MOST_NODES) (small : All (λ desk. ArePaid MOST_COMMANDS desk) desks) (le : i ≤ length desks) where
@@ -418,10 +418,16 @@ none_missing {Line} {Port} belongs view terms_of lines workers jobs desks done m
         let name : k + 1 ≡ suc k = omega arith in
         lacks k desk port at at_port (h.of_worker i port at_port ∙ name)
 
+-- each job that was made had an outcome
+with_outcomes : {Port : Type 0} (view : Port → View) (lines : ℕ) (from to : DeskOf Port) (jobs : List Job) (replies : List Reply) → Makes view lines from jobs replies to → All (λ reply. is_outcome reply ≡ true) replies
+with_outcomes view lines from to [] [] nothing = All-nil (λ reply. is_outcome reply ≡ true)
+with_outcomes view lines from to jobs replies (another {jobs = before} {replies = others} {before = desk} job reply makes tries asks is) =
+    All-append (λ reply. is_outcome reply ≡ true) others (reply ∷ []) (with_outcomes view lines from desk before others makes) (All-push (λ reply. is_outcome reply ≡ true) [] reply (All-nil (λ reply. is_outcome reply ≡ true)) is)
+
 -- what all workers' jobs came to
 pub comes_to : {Line Port : Type 0} (belongs : Line → Port → Type 0) (view : Port → View) (lines : List Line) (jobs : List Job) (first : ℕ) (desks : List (DeskOf Port))
     → ((k : ℕ) (desk : DeskOf Port) → slice_get desks k ≡ Some desk → HasBanked belongs view lines (first + k) desk (jobs_of (first + k) jobs)) → ComesTo first (length desks) jobs (all_paid_in desks) (all_paid_out desks)
-comes_to belongs view lines jobs first [] done = record { replies = []; workers_are = refl; as_many = λ k own at. absurd (let no : None ≡ Some own = at in cc no); in_is = refl; out_is = refl }
+comes_to belongs view lines jobs first [] done = record { replies = []; workers_are = refl; as_many = λ k own at. absurd (let no : None ≡ Some own = at in cc no); outcomes = λ k own at. absurd (let no : None ≡ Some own = at in cc no); in_is = refl; out_is = refl }
 comes_to {Line} {Port} belongs view lines jobs first (desk ∷ desks) done =
     let same : first + 0 ≡ first = omega arith in
     let here = subst (λ n. HasBanked belongs view lines n desk (jobs_of n jobs)) same (done 0 desk refl) in
@@ -432,6 +438,7 @@ comes_to {Line} {Port} belongs view lines jobs first (desk ∷ desks) done =
       replies = here.replies ∷ rest.replies;
       workers_are = ap suc rest.workers_are;
       as_many = own_many here.replies rest.replies here.as_many rest.as_many;
+      outcomes = own_outcomes here.replies rest.replies (with_outcomes view (length lines) here.fresh desk (jobs_of first jobs) here.replies here.made) rest.outcomes;
       in_is = a ∙ (ap (λ n. n + all_paid_in desks) here.paid_in ∙ ap (λ n. paid_in_by (jobs_of first jobs) here.replies + n) rest.in_is);
       out_is = b ∙ (ap (λ n. n + all_paid_out desks) here.paid_out ∙ ap (λ n. paid_out_by (jobs_of first jobs) here.replies + n) rest.out_is);
     }
@@ -446,3 +453,8 @@ comes_to {Line} {Port} belongs view lines jobs first (desk ∷ desks) done =
         start : (first : ℕ) → first ≡ first + 0
         start first = omega arith
     own_many replies others mine rest (suc k) own at = rest k own at ∙ ap (λ n. length (jobs_of n jobs)) (sym (shift first k))
+
+    own_outcomes : (replies : List Reply) (others : List (List Reply)) → All (λ reply. is_outcome reply ≡ true) replies → ((k : ℕ) (own : List Reply) → slice_get others k ≡ Some own → All (λ reply. is_outcome reply ≡ true) own)
+        → (k : ℕ) (own : List Reply) → slice_get (replies ∷ others) k ≡ Some own → All (λ reply. is_outcome reply ≡ true) own
+    own_outcomes replies others mine rest zero own at = subst (All (λ reply. is_outcome reply ≡ true)) (same_some at) mine
+    own_outcomes replies others mine rest (suc k) own at = rest k own at

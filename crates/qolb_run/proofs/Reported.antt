@@ -15,6 +15,7 @@ use Rattle.locks.specs.declared.Lines.{Lines}
 use Rattle.qolb_run.specs.declared.task.Task.TheVariants.{Work}
 use Rattle.qolb_run.specs.Reports.{IsReportOf}
 use Rattle.qolb_run.specs.BankWork.{IsBankedOver}
+use Rattle.qolb_run.specs.BoardWork.{IsBoardedOver}
 use Rattle.qolb_run.specs.Outcome.{IsWork, IsAnswered, MayFail, MayEnd}
 
 -- a script that is refused ends the task, over whatever lines
@@ -34,3 +35,9 @@ pub board_banked : {Line Port E : Type 0} (belongs : Line → Port → Type 0) (
 board_banked belongs view terms_of work (Ok (report.Board stored full taken empty left)) of_board is = tt
 board_banked belongs view terms_of work (Ok (report.Bank paid_in paid_out total)) of_board is = absurd (let no : Board ≡ Bank = sym of_board ∙ is.of_bank in cc no)
 board_banked belongs view terms_of work (Err error) of_board is = tt
+
+-- and one of a bank nothing of a board
+pub bank_boarded : {Line Port E : Type 0} (belongs : Line → Port → Type 0) (view : Port → View) (terms_of : Line → Terms) (work : WorkScript) (r : Result Report E) → work.kind ≡ Bank → IfOk r (IsReportOf work) → IfOk r (IsBoardedOver belongs view terms_of work)
+bank_boarded belongs view terms_of work (Ok (report.Bank paid_in paid_out total)) of_bank is = tt
+bank_boarded belongs view terms_of work (Ok (report.Board stored full taken empty left)) of_bank is = absurd (let no : Bank ≡ Board = sym of_bank ∙ is.of_board in cc no)
+bank_boarded belongs view terms_of work (Err error) of_bank is = tt

@@ -1,10 +1,21 @@
 -- What the jobs of a bank come to, by their outcomes. (Of this project.)
-use Rattle.std.specs.Prelude.{◌≡◌, ℕ, ◌+◌, List, [], ◌∷◌, length, Some, slice_get}
+use Rattle.std.specs.Prelude.{◌≡◌, ℕ, ◌+◌, Bool, true, false, List, [], ◌∷◌, length, All, Some, slice_get}
 use Rattle.line_accounts.specs.declared.answer.Reply.{Reply}
-use Rattle.line_accounts.specs.declared.answer.Reply.TheVariants.{Done}
+use Rattle.line_accounts.specs.declared.answer.Reply.TheVariants.{Done, Short, Over, Late, Closed, Busy, NoAccount, SameAccount}
 use Rattle.qolb_script.specs.declared.job.Job.{Job}
 use Rattle.qolb_script.specs.declared.job.Job.TheVariants.{PayIn, PayOut}
 use Rattle.qolb_run.specs.Jobs.{jobs_of}
+
+-- with this reply the job was made: nothing is left to be asked for again
+abbrev pub is_outcome : Reply → Bool
+is_outcome Done = true
+is_outcome Short = true
+is_outcome Over = true
+is_outcome SameAccount = true
+is_outcome NoAccount = false
+is_outcome Late = false
+is_outcome Busy = false
+is_outcome Closed = false
 
 -- what a job paid in, and out: its amount, where it is such a payment and was done
 abbrev pub paid_in_of : Job → Reply → ℕ
@@ -40,5 +51,6 @@ pub record ComesTo (first workers : ℕ) (jobs : List Job) (paid_in paid_out : �
   pub replies : List (List Reply)
   pub workers_are : length replies ≡ workers
   pub as_many : (k : ℕ) (own : List Reply) → slice_get replies k ≡ Some own → length own ≡ length (jobs_of (first + k) jobs)
+  pub outcomes : (k : ℕ) (own : List Reply) → slice_get replies k ≡ Some own → All (λ reply. is_outcome reply ≡ true) own
   pub in_is : paid_in ≡ all_in_by first jobs replies
   pub out_is : paid_out ≡ all_out_by first jobs replies

@@ -15,7 +15,7 @@ use Rattle.qolb_script.specs.declared.report.Report.TheVariants.{Board, Bank}
 use Rattle.qolb_script.specs.WorkScript.{WorkScript}
 use Rattle.qolb_run.specs.JustOpened.{work_terms}
 use Rattle.qolb_run.specs.Workers.{AreDone}
-use Rattle.qolb_run.specs.BankRuns.{paid_in_by, paid_out_by}
+use Rattle.qolb_run.specs.BankRuns.{is_outcome, paid_in_by, paid_out_by}
 
 -- in so many jobs no more was paid in, or out, than as many of the largest amounts
 pub record ArePaid {Port : Type 0} (jobs : ℕ) (desk : DeskOf Port) : Type 0 where
@@ -27,7 +27,7 @@ pub record PaysOneAmount {Port : Type 0} (old new : DeskOf Port) : Type 0 where
   pub paid_in : new.paid_in ≤ old.paid_in + 2 ^ 64
   pub paid_out : new.paid_out ≤ old.paid_out + 2 ^ 64
 
--- the lines of a job were not granted in time, and it is tried again; and it was made, with an outcome
+-- the lines of a job were not granted in time, and it is tried again
 abbrev pub is_again : Reply → Bool
 is_again Late = true
 is_again Busy = true
@@ -37,16 +37,6 @@ is_again Over = false
 is_again Closed = false
 is_again NoAccount = false
 is_again SameAccount = false
-
-abbrev pub is_outcome : Reply → Bool
-is_outcome Done = true
-is_outcome Short = true
-is_outcome Over = true
-is_outcome SameAccount = true
-is_outcome NoAccount = false
-is_outcome Late = false
-is_outcome Busy = false
-is_outcome Closed = false
 
 module _ {Port : Type 0} (view : Port → View) (lines : ℕ) where
   -- one call at the desk, over so many lines, asked for the job, and was answered so

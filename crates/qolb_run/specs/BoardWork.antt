@@ -4,16 +4,22 @@ use Rattle.std.specs.List.{sum_by}
 use Rattle.qolb_model.specs.declared.request.Request.{Request}
 use Rattle.qolb_model.specs.declared.end.End.{End}
 use Rattle.qolb_model.specs.declared.end.End.TheVariants.{Served, Gone, Told}
+use Rattle.qolb_model.specs.declared.terms.Terms.{Terms}
 use Rattle.qolb_model.specs.declared.view.View.{View}
 use Rattle.qolb_model.specs.Ends.{written}
 use Rattle.line_board.specs.declared.board.TheConstants.{MOST_TASKS}
 use Rattle.line_board.specs.PutsAndTakes.{standing}
 use Rattle.line_accounts.specs.Desks.{IsAtRest}
 use Rattle.qolb_script.specs.declared.job.Job.{Job}
+use Rattle.qolb_script.specs.declared.report.Report.{Report}
+use Rattle.qolb_script.specs.declared.report.Report.TheVariants.{Board, Bank}
+use Rattle.qolb_script.specs.WorkScript.{WorkScript}
 use Rattle.qolb_run.specs.declared.board.BoardHand.{BoardHand}
 use Rattle.qolb_run.specs.declared.board.BoardCounts.{BoardCounts}
 use Rattle.qolb_run.specs.Jobs.{IsBoardJob}
 use Rattle.qolb_run.specs.BoardRuns.{tasks_after}
+use Rattle.qolb_run.specs.JustOpened.{work_terms}
+use Rattle.qolb_run.specs.Workers.{AreDone}
 
 -- a turn at a board: the tasks that it found, and those that it left
 pub record Turn : Type 0 where
@@ -116,3 +122,16 @@ pub record AreSums {Port : Type 0} (hands : List (BoardHand Port)) (counts : Boa
   pub full : counts.full ≡ sum_by (λ hand. hand.counts.full) hands
   pub taken : counts.taken ≡ sum_by (λ hand. hand.counts.taken) hands
   pub empty : counts.empty ≡ sum_by (λ hand. hand.counts.empty) hands
+
+-- there is a line that was opened for the work, and a port of it for each worker, whose turns did its jobs; and these are the counts of all
+pub record AreBoarded {Line Port : Type 0} (belongs : Line → Port → Type 0) (view : Port → View) (terms_of : Line → Terms) (work : WorkScript) (counts : BoardCounts) : Type 0 where
+  pub line : Line
+  pub hands : List (BoardHand Port)
+  pub opened : terms_of line ≡ work_terms work.workers
+  pub each : length hands ≡ work.workers
+  pub done : AreDone (HasWorked belongs view) line work.jobs hands
+  pub sums : AreSums hands counts
+
+abbrev pub IsBoardedOver : {Line Port : Type 0} → (Line → Port → Type 0) → (Port → View) → (Line → Terms) → WorkScript → Report → Type 0
+IsBoardedOver belongs view terms_of work (Board stored full taken empty left) = AreBoarded belongs view terms_of work (record { stored = stored; full = full; taken = taken; empty = empty })
+IsBoardedOver belongs view terms_of work (Bank paid_in paid_out total) = Unit {0}

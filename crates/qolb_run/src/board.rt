@@ -5,7 +5,7 @@ ghost use Rattle.qolb_model.specs.declared.terms.TheConstants.{MOST_NODES};
 ghost use Rattle.qolb_model.specs.LettingGo.{IsTold};
 ghost use Rattle.line_accounts.specs.Desks.{IsAtRest};
 ghost use Rattle.qolb_run.specs.Workers.{AreDone, AreFresh, MayStop, IsWithinLimits};
-ghost use Rattle.qolb_run.specs.BoardWork.{Turn, HasTurns, HasStored, FoundFull, HasTakenOne, FoundNone, HasWorked, AreWithin, AreAdded, AreSums};
+ghost use Rattle.qolb_run.specs.BoardWork.{Turn, HasTurns, HasStored, FoundFull, HasTakenOne, FoundNone, HasWorked, AreWithin, AreAdded, AreSums, IsBoardedOver};
 ghost use Rattle.qolb_run.specs.JustOpened.{AreJustOpened, work_terms};
 ghost use Rattle.qolb_run.specs.Jobs.{IsBoardJob};
 ghost use Rattle.qolb_run.specs.BoardRuns.{no_counts};
@@ -206,6 +206,7 @@ where
     requires as_many { vec_len hands ≡ work.now.workers }
     requires done { AreDone (HasWorked L.belongs L.view) board.line work.now.jobs hands.items }
     ensures report { IfOk result (IsReportOf work.now) }
+    ensures boarded { IfOk result (IsBoardedOver L.belongs L.view L.terms_of work.now) }
     ensures stalled { IfErr result (MayStop work.now) }
 {
     let counts = sum_up(hands.as_slice());
@@ -240,6 +241,7 @@ where
     L::Port: Send + Drop,
     requires { work.now.kind ≡ WorkKind.Board }
     ensures report { IfOk result (IsReportOf work.now) }
+    ensures boarded { IfOk result (IsBoardedOver L.belongs L.view L.terms_of work.now) }
     ensures stalled { IfErr result (MayStop work.now) }
 {
     let (line, ports) = open_line::<BoardLaw, L>(alloc, 0, work.workers())?;

@@ -4,6 +4,7 @@ ghost use Rattle.qolb_run.specs.declared.work.RunError.TheVariants.{Memory};
 ghost use Rattle.qolb_run.specs.Workers.{MayStop};
 ghost use Rattle.qolb_run.specs.Reports.{IsReportOf};
 ghost use Rattle.qolb_run.specs.BankWork.{IsBankedOver};
+ghost use Rattle.qolb_run.specs.BoardWork.{IsBoardedOver};
 
 use crate::bank::run_bank;
 use crate::board::run_board;
@@ -70,6 +71,7 @@ where
     B::Port: Send + Drop,
     A::Port: Send + Drop,
     ensures report { IfOk result (IsReportOf work.now) }
+    ensures boarded { IfOk result (IsBoardedOver B.belongs B.view B.terms_of work.now) }
     ensures banked { IfOk result (IsBankedOver A.belongs A.view A.terms_of work.now) }
     ensures stalled { IfErr result (MayStop work.now) }
 {

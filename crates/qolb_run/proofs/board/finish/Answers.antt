@@ -52,3 +52,13 @@ returns-clause-report g c =
       takes = takes_are g.L.LineSync.belongs g.L.LineSync.view c.args.board.line c.args.work.now c.args.hands.items c.in_ok-ports.ports.items c.requires.done c.in_ok-ports.ensures
           c.sum_up-counts.result _ _ c.in-Ok.last.bytes c.in-Some.tasks.items sums many c.requires.limits.its c.requires.terms c.in-Ok.ensures.finished c.in-Some.ensures;
     }
+
+pub returns-clause-boarded : goal.returns-clause-boarded
+returns-clause-boarded g c = record {
+  line = c.args.board.line;
+  hands = c.args.hands.items;
+  opened = c.requires.terms;
+  each = sym c.args.hands.ok.0 ∙ c.requires.as_many;
+  done = c.requires.done;
+  sums = subst (λ (hs : List (BoardHand g.row.L-Port.Denot)). AreSums hs c.sum_up-counts.result) c.as_slice.ensures.value c.sum_up-counts.ensures;
+}

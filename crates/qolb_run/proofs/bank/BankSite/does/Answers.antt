@@ -1,6 +1,7 @@
 use Rattle.std.proofs.Common.{◌≡◌, true, inl, inr, List, length, subst, ap}
 use Rattle.line_accounts.specs.Desks.{IsDeskOver}
-use Rattle.qolb_run.specs.BankWork.{Asks, is_again, is_outcome, not_yet, again}
+use Rattle.qolb_run.specs.BankRuns.{is_outcome}
+use Rattle.qolb_run.specs.BankWork.{Asks, is_again, not_yet, again}
 use Rattle.qolb_run.proofs.Banking.{banked_more}
 use Rattle.qolb_run.proofs.bank.BankSite.does.Goals as goal
 
