@@ -39,7 +39,7 @@ use Rattle.line_accounts.specs.declared.answer.Reply.TheVariants as answer
 use Rattle.line_accounts.specs.Accounts.{AreBalances, StayBalances, balances_after}
 use Rattle.line_accounts.specs.Paid.{sum_of_turns, rise, fall, paid_by, drawn_by, KnowsOwnPlaces}
 use Rattle.line_accounts.specs.Desks.{IsAtRest}
-use Rattle.line_accounts.specs.Moves.{Pays, IsServed, Holds, Leaves, TakesTurn, AsksInVain, IsRefused, StopsWaiting}
+use Rattle.line_accounts.specs.Moves.{Pays, IsServed, Holds, Leaves, TakesTurn, AsksInVain}
 use Rattle.line_accounts.proofs.Turns.{turns-append, turns-same, slice_get-append_right, none_of_node, own_place}
 
 -- asked for before a call that made no request, it is so after it
@@ -320,36 +320,6 @@ module _ (held new : View) (write : Write) (releases : Releases StayBalances fal
     where
       zero-plus : (n : ℕ) → n + 0 ≡ n
       zero-plus n = omega arith
-
--- one call that goes on after another
-pub continues_after : (old mid new : View) → Continues StayBalances old mid → Continues StayBalances mid new → Continues StayBalances old new
-continues_after old mid new a b = record {
-  extends = extends_trans old mid new a.extends b.extends;
-  history = b.history;
-  kept = b.kept;
-  freed_clear = b.freed_clear;
-  own_past = b.own_past;
-}
-
--- what became of a request that waited
-module _ (old mid new : View) (rest : IsAtRest old) (past : KnowsOwnPast old) (first : Continues StayBalances old mid) (asks : Asks old mid) (then_on : Continues StayBalances mid new) (count : new.count ≡ mid.count) where
-  asked : Asks old new
-  asked = asks_later old mid new asks then_on.extends count
-
-  pub waited_holds : (turn : Write) (result : Result Unit Reply) → IfOk result (λ _. IsGranted new turn) → IfOk result (λ _. Holds old new turn)
-  waited_holds turn (Ok x) granted = holds old new rest past (continues_after old mid new first then_on) turn asked granted
-  waited_holds turn (Err reply) granted = tt
-
-  pub waited_refused : (result : Result Unit Reply) → IfErr result (StopsWaiting new) → IfErr result (IsRefused old new)
-  waited_refused (Ok x) stops = tt
-  waited_refused (Err answer.Late) stops = (late old new rest past (continues_after old mid new first then_on) asked stops, asked, stops)
-  waited_refused (Err answer.Closed) stops = (closed old new rest past (continues_after old mid new first then_on) asked stops, asked, stops)
-  waited_refused (Err answer.Busy) stops = absurd stops
-  waited_refused (Err answer.Done) stops = absurd stops
-  waited_refused (Err answer.Short) stops = absurd stops
-  waited_refused (Err answer.Over) stops = absurd stops
-  waited_refused (Err answer.NoAccount) stops = absurd stops
-  waited_refused (Err answer.SameAccount) stops = absurd stops
 
 -- a port that held the line and left these bytes has had a turn
 pub took : (old held new : View) (turn : Write) (left : List ℕ) → Holds old held turn → Leaves held new left → TakesTurn old new (bytes_of held) left

@@ -34,17 +34,6 @@ pub record IsServed (v : View) (found left : List ℕ) : Type 0 where
   pub before : bytes_after v.terms.opening.bytes (take place v.ends) ≡ found
   pub after : bytes_after v.terms.opening.bytes (take (place + 1) v.ends) ≡ left
 
--- a request that waited is withdrawn, or told that the line is closed
-abbrev pub StopsWaiting : View → Reply → Type 0
-StopsWaiting v Late = IsWithdrawn v
-StopsWaiting v Closed = IsTold v
-StopsWaiting v Busy = ⊥
-StopsWaiting v Done = ⊥
-StopsWaiting v Short = ⊥
-StopsWaiting v Over = ⊥
-StopsWaiting v NoAccount = ⊥
-StopsWaiting v SameAccount = ⊥
-
 -- a holder released the line, and left these bytes
 abbrev pub Leaves : View → View → List ℕ → Type 0
 Leaves held new left = (write : Write) × (write.bytes.bytes ≡ left) × Releases StayBalances false held new write

@@ -4,15 +4,16 @@ use Rattle.qolb_model.specs.declared.view.View.{View}
 use Rattle.qolb_model.specs.declared.write.Write.{Write}
 use Rattle.qolb_model.specs.PortStates.{may_ask}
 use Rattle.qolb_model.specs.Sound.{Continues}
-use Rattle.line_board.specs.declared.answer.Asked.TheVariants as asked
+use Rattle.qolb_model.specs.declared.patience.Asked.TheVariants as asked
+use Rattle.qolb_model.specs.Patience.{AcquiresPatiently}
 use Rattle.line_board.specs.declared.answer.Put.TheVariants as put
 use Rattle.line_board.specs.declared.answer.Take.TheVariants as take
 use Rattle.line_board.specs.declared.board.TheConstants.{MOST_TASKS}
 use Rattle.line_board.specs.Law.{Changes}
-use Rattle.line_board.specs.Calls.{HasPut, HasTaken, HasFound, Acquires, Puts, Takes}
+use Rattle.line_board.specs.Calls.{HasPut, HasTaken, HasFound, Puts, Takes}
 use Rattle.qolb_model.proofs.Going.{continues_on, asks_goes, joined_goes}
 
-module _ (old mid new : View) (turn : Write) (acquired : Acquires old mid turn asked.Granted) (goes_on : Continues Changes mid new) (same : new.count ≡ mid.count) (quiet : may_ask new.state ≡ true) where
+module _ (old mid new : View) (turn : Write) (acquired : AcquiresPatiently Changes old mid turn asked.Granted) (goes_on : Continues Changes mid new) (same : new.count ≡ mid.count) (quiet : may_ask new.state ≡ true) where
   pub stored : (task : ℕ) → HasPut task new → Puts task old new put.Stored
   stored task has = record {
     continues = continues_on Changes old mid new acquired.continues.extends goes_on;

@@ -2,8 +2,6 @@ pub mod Steps
 pub mod Balance
 pub mod Writing
 pub mod Turns
-pub mod Unserved
-pub mod Acquiring
 pub mod Boards
 pub mod Encoding
 pub mod Answering

@@ -16,9 +16,8 @@ use Rattle.qolb_model.specs.Sound.{Continues}
 use Rattle.qolb_model.specs.Asking.{IsBusy, Asks, IsJoined}
 use Rattle.qolb_model.specs.Turns.{IsClearBefore, IsGranted, IsWithdrawn}
 use Rattle.qolb_model.specs.LettingGo.{LetsGo, IsTold}
+use Rattle.qolb_model.specs.Patience.{IsUnserved}
 use Rattle.line_board.specs.declared.board.TheConstants.{MOST_TASKS}
-use Rattle.line_board.specs.declared.answer.Asked.{Asked}
-use Rattle.line_board.specs.declared.answer.Asked.TheVariants as asked
 use Rattle.line_board.specs.declared.answer.Put.{Put}
 use Rattle.line_board.specs.declared.answer.Put.TheVariants as put
 use Rattle.line_board.specs.declared.answer.Take.{Take}
@@ -61,21 +60,6 @@ pub record HasFound (count : ℕ) (new : View) : Type 0 where
   pub counted : length tasks ≡ count
   pub turn : HadTurn tasks tasks [] [] new
   pub same : bytes_of new ≡ bytes_after new.terms.opening.bytes turn.before
-
--- of the requests that the port made in the call none was served: it put no task and took none, and changed no byte
-abbrev pub IsUnserved : View → View → Type 0
-IsUnserved old new = (p : ℕ) (r : Request) (e : End) → slice_get new.order p ≡ Some r → r.node ≡ new.node → old.count < r.number → slice_get new.ends p ≡ Some e → is_served e ≡ false
-
--- asking, and waiting with patience: the port is granted the line, or has withdrawn, or is told that the line is closed; or it was busy
-pub record Acquires (old new : View) (turn : Write) (answer : Asked) : Type 0 where
-  pub continues : Continues Changes old new
-  pub busy : answer ≡ asked.Busy → IsBusy old new
-  pub asks : answer ≢ asked.Busy → Asks old new
-  pub joined : answer ≢ asked.Busy → IsJoined new
-  pub granted : answer ≡ asked.Granted → IsGranted new turn
-  pub late : answer ≡ asked.Late → IsWithdrawn new
-  pub told : answer ≡ asked.Closed → IsTold new
-  pub unserved : answer ≢ asked.Granted → IsUnserved old new
 
 -- `put`: a task is put behind the others, where there is room
 pub record Puts (task : ℕ) (old new : View) (answer : Put) : Type 0 where

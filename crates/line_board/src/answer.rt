@@ -29,16 +29,3 @@ pub enum Take {
     /// The node's last request is not clear yet, so nothing was asked.
     Busy,
 }
-
-/// What came of asking for the line with so much patience.
-#[derive(Clone, Copy, Debug, PartialEq, Eq)]
-pub(crate) enum Asked {
-    /// The node holds the line.
-    Granted,
-    /// Patience ended first, and the request is withdrawn.
-    Late,
-    /// The line is closed.
-    Closed,
-    /// Nothing was asked.
-    Busy,
-}

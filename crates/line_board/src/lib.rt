@@ -2,7 +2,6 @@
 //! task is lost, doubled or overtaken.
 #![tactic(auto)]
 
-mod acquire;
 mod answer;
 mod board;
 mod law;

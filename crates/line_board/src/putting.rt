@@ -7,13 +7,12 @@ ghost use Rattle.line_board.specs.Board.{Stand};
 ghost use Rattle.line_board.specs.Law.{Changes};
 ghost use Rattle.line_board.specs.Calls.{HasPut, HasFound, Puts};
 
-use crate::acquire::acquire;
-use crate::answer::{Asked, Put};
+use crate::answer::Put;
 use crate::board::{MOST_TASKS, decode, encode};
 use crate::law::BoardLaw;
 use crate::turn::{keep, replace};
 use line_lanes::Line64;
-use qolb_model::LineSync;
+use qolb_model::{Asked, LineSync, acquire_patiently};
 
 /// Puts the task behind the others, in one turn. Asks for the line once, polls at most `patience` times while the request waits, and
 /// then withdraws it.
@@ -25,7 +24,7 @@ pub fn put<L: LineSync<BoardLaw>>(line: &L, port: &mut L::Port, task: u64, patie
     ensures patient { L.looks port.new ≤ L.looks port.old + patience }
     ensures late { result ≡ Put.Late → L.looks port.new ≡ L.looks port.old + patience }
 {
-    match acquire(line, port, patience) {
+    match acquire_patiently(line, port, patience) {
         Asked::Granted => {
             if store(line, port, task) {
                 Put::Stored

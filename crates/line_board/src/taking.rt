@@ -7,13 +7,12 @@ ghost use Rattle.line_board.specs.Board.{Stand};
 ghost use Rattle.line_board.specs.Law.{Changes};
 ghost use Rattle.line_board.specs.Calls.{HasTaken, HasFound, Takes};
 
-use crate::acquire::acquire;
-use crate::answer::{Asked, Take};
+use crate::answer::Take;
 use crate::board::{decode, encode};
 use crate::law::BoardLaw;
 use crate::turn::{keep, replace};
 use line_lanes::Line64;
-use qolb_model::LineSync;
+use qolb_model::{Asked, LineSync, acquire_patiently};
 
 /// Takes the oldest task, in one turn. Asks for the line once, polls at most `patience` times while the request waits, and then
 /// withdraws it.
@@ -25,7 +24,7 @@ pub fn take<L: LineSync<BoardLaw>>(line: &L, port: &mut L::Port, patience: u64) 
     ensures patient { L.looks port.new ≤ L.looks port.old + patience }
     ensures late { result ≡ Take.Late → L.looks port.new ≡ L.looks port.old + patience }
 {
-    match acquire(line, port, patience) {
+    match acquire_patiently(line, port, patience) {
         Asked::Granted => match remove(line, port) {
             Some(task) => Take::Task(task),
             None => Take::Empty,

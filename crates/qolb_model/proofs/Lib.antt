@@ -29,3 +29,5 @@ pub mod Meetings
 pub mod Reached
 pub mod Whole
 pub mod Forced
+pub mod Unserved
+pub mod Acquiring

@@ -24,6 +24,7 @@ pub mod Meeting
 pub mod Entries
 pub mod Finishing
 pub mod Calls
+pub mod Patience
 pub mod Laws
 pub mod Whole
 pub mod Rounds

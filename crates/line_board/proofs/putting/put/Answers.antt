@@ -4,11 +4,11 @@ use Rattle.line_board.proofs.putting.put.Goals as goal
 pub returns-then-store-clause-puts : goal.returns-then-store-clause-puts
 returns-then-store-clause-puts g c =
     let s = c.store.ensures in
-    stored (g.L.LineSync.view c.args.port.now) (g.L.LineSync.view c.acquire.new.port) (g.L.LineSync.view c.store.new.port) (g.L.LineSync.turn c.acquire.new.port)
+    stored (g.L.LineSync.view c.args.port.now) (g.L.LineSync.view c.acquire_patiently.new.port) (g.L.LineSync.view c.store.new.port) (g.L.LineSync.turn c.acquire_patiently.new.port)
     c.in-Granted.ensures.acquires s.continues s.count s.state c.args.task (s.stored c.if-store.true)
 
 pub returns-else-store-clause-puts : goal.returns-else-store-clause-puts
 returns-else-store-clause-puts g c =
     let s = c.store.ensures in
-    full (g.L.LineSync.view c.args.port.now) (g.L.LineSync.view c.acquire.new.port) (g.L.LineSync.view c.store.new.port) (g.L.LineSync.turn c.acquire.new.port)
+    full (g.L.LineSync.view c.args.port.now) (g.L.LineSync.view c.acquire_patiently.new.port) (g.L.LineSync.view c.store.new.port) (g.L.LineSync.turn c.acquire_patiently.new.port)
     c.in-Granted.ensures.acquires s.continues s.count s.state c.args.task (s.full c.if-store.false)

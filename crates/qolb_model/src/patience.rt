@@ -2,19 +2,35 @@
 ghost use Rattle.std.specs.Prelude.{◌≡◌, ◌≤◌, ◌+◌, IsTrue};
 ghost use Rattle.qolb_model.specs.PortStates.{may_ask};
 ghost use Rattle.qolb_model.specs.Calls.{Withdraws};
-ghost use Rattle.line_board.specs.Law.{Changes};
-ghost use Rattle.line_board.specs.Calls.{Acquires};
+ghost use Rattle.qolb_model.specs.Patience.{AcquiresPatiently};
 
-use crate::answer::Asked;
-use crate::law::BoardLaw;
-use qolb_model::{Enq, LineSync, Out, Poll, PortState};
+use crate::answer::{Enq, Out, Poll, PortState};
+use crate::keep::Keep;
+use crate::sync::LineSync;
+
+/// What came of asking for a line with so much patience.
+#[derive(Clone, Copy, Debug, PartialEq, Eq)]
+pub enum Asked {
+    /// The node holds the line.
+    Granted,
+    /// Patience ended first, and the request is withdrawn.
+    Late,
+    /// The line is closed, and the node was told so.
+    Closed,
+    /// The node's last request is not clear yet, so nothing was asked.
+    Busy,
+}
 
 /// Asks for the line, polls at most `patience` times while it waits, and then withdraws.
-pub(crate) fn acquire<L: LineSync<BoardLaw>>(line: &L, port: &mut L::Port, patience: u64) -> Asked
+pub fn acquire_patiently<K: Keep, L: LineSync<K>>(
+    line: &L,
+    port: &mut L::Port,
+    patience: u64,
+) -> Asked
     requires belongs { L.belongs line.now port.old }
     requires state { IsTrue (may_ask (L.view port.old).state) }
     ensures belongs { L.belongs line.now port.new }
-    ensures acquires { Acquires (L.view port.old) (L.view port.new) (L.turn port.new) result }
+    ensures acquires { AcquiresPatiently K.allows (L.view port.old) (L.view port.new) (L.turn port.new) result }
     ensures patient { L.looks port.new ≤ L.looks port.old + patience }
     ensures late { result ≡ Asked.Late → L.looks port.new ≡ L.looks port.old + patience }
 {
@@ -22,7 +38,7 @@ pub(crate) fn acquire<L: LineSync<BoardLaw>>(line: &L, port: &mut L::Port, patie
         Enq::Granted => Asked::Granted,
         Enq::Closed => Asked::Closed,
         Enq::Busy => Asked::Busy,
-        Enq::Queued => match wait(line, port, patience) {
+        Enq::Queued => match wait_patiently(line, port, patience) {
             Out::Granted => Asked::Granted,
             Out::Closed => Asked::Closed,
             Out::Withdrawn => Asked::Late,
@@ -31,11 +47,11 @@ pub(crate) fn acquire<L: LineSync<BoardLaw>>(line: &L, port: &mut L::Port, patie
 }
 
 /// Polls at most `patience` times while the request waits, and then withdraws it.
-fn wait<L: LineSync<BoardLaw>>(line: &L, port: &mut L::Port, patience: u64) -> Out
+fn wait_patiently<K: Keep, L: LineSync<K>>(line: &L, port: &mut L::Port, patience: u64) -> Out
     requires belongs { L.belongs line.now port.old }
     requires state { (L.view port.old).state ≡ PortState.Queued }
     ensures belongs { L.belongs line.now port.new }
-    ensures withdraws { Withdraws Changes (L.view port.old) (L.view port.new) (L.turn port.new) result }
+    ensures withdraws { Withdraws K.allows (L.view port.old) (L.view port.new) (L.turn port.new) result }
     ensures patient { L.looks port.new ≤ L.looks port.old + patience }
     ensures late { result ≡ Out.Withdrawn → L.looks port.new ≡ L.looks port.old + patience }
 {

@@ -1,4 +1,4 @@
--- A call that was not granted put no end of the board.
+-- Asking that was not granted had no turn.
 use Rattle.std.proofs.Common.{◌≡◌, ◌≢◌, ℕ, ◌+◌, ◌<◌, ◌≤◌, [], ◌∷◌, length, replicate, Some, slice_get, refl, ap, sym, ◌∙◌, arith}
 use Rattle.std.proofs.lemmas.Option.{slice_get_within}
 use Rattle.qolb_model.specs.declared.request.Request.{Request}
@@ -16,9 +16,9 @@ use Rattle.qolb_model.proofs.Prefixes.{prefix_get}
 use Rattle.qolb_model.proofs.Requests.{has_at, same_request, number_le_count_all}
 use Rattle.qolb_model.proofs.Histories.{same_place_legal}
 use Rattle.qolb_model.proofs.Agreeing.{among_first}
-use Rattle.line_board.specs.declared.answer.Asked.{Asked}
-use Rattle.line_board.specs.declared.answer.Asked.TheVariants as asked
-use Rattle.line_board.specs.Calls.{IsUnserved}
+use Rattle.qolb_model.specs.declared.patience.Asked.{Asked}
+use Rattle.qolb_model.specs.declared.patience.Asked.TheVariants as asked
+use Rattle.qolb_model.specs.Patience.{IsUnserved}
 
 module _ (old new : View) (history : OneHistory (new ∷ [])) where
   -- no request of the node has a higher number than its count

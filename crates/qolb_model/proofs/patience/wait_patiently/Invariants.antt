@@ -1,7 +1,7 @@
 use Rattle.std.proofs.Common.{◌≡◌, ◌+◌}
 use Rattle.qolb_model.specs.declared.answer.PortState.TheVariants.{Queued}
 use Rattle.qolb_model.specs.Views.{Extends}
-use Rattle.line_board.proofs.acquire.wait.Given as goal
+use Rattle.qolb_model.proofs.patience.wait_patiently.Given as goal
 
 abbrev pub invariant-loop : goal.invariant-loop
 invariant-loop g l = record {
