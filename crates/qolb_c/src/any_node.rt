@@ -199,7 +199,7 @@ impl AnyNode {
 
 /// Asks for a list.
 ///
-/// It is apart, so that a ring's call saves no registers for it.
+/// It is apart, so that the calls for other lines save no registers for it.
 #[inline(never)]
 fn ask_list(node: &mut Node<LinkLine<Free>>) -> Answer
     ensures { Enqolbs (AnyNode.List node.old) (AnyNode.List node.new) result }
