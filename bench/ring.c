@@ -3,19 +3,13 @@
 //   clang -O3 -march=x86-64-v2 -pthread -o ring bench/ring.c && ./ring THREADS ROUNDS
 //
 // Nobody withdraws, and the line is never closed.
-#include "line.h"
-
-enum { CELLS = 256, NODE_STRIDE = 16, CELL_STRIDE = 8, TICKET = NODE_STRIDE, FIRST_CELL = NODE_STRIDE * (MOST_NODES + 2), WORDS = FIRST_CELL + CELLS * CELL_STRIDE };
-
-static _Alignas(128) _Atomic uint64_t words[WORDS];
+#include "cells.h"
 
 struct port {
     struct parcel parcel;
     uint64_t cell;
     uint64_t steps;
 };
-
-static _Atomic uint64_t *cell_word(uint64_t cell) { return &words[FIRST_CELL + cell % CELLS * CELL_STRIDE]; }
 
 static int look(struct port *p) {
     p->steps++;

@@ -100,7 +100,7 @@ static uint32_t comes(unsigned n) {
 static int has_turn(unsigned n) { return model.queue[0].node == n && model.lies_with == NOBODY; }
 
 static uint32_t asks(unsigned n, int in_halves) {
-    if (!may_ask(n) || (in_halves && model.kind == QOLB_RING)) return QOLB_MISUSE;
+    if (!may_ask(n) || (in_halves && model.kind != QOLB_LIST)) return QOLB_MISUSE;
     if (model.node[n].busy) return QOLB_BUSY;
     int behind = model.waiting > 0;
     model.queue[model.waiting++] = (struct request){n, 0, behind && in_halves};
@@ -240,7 +240,7 @@ static void one_line(void) {
     qolb_bytes opening;
     for (int k = 0; k < 64; k++) opening.byte[k] = (uint8_t)draw(256);
     memset(&model, 0, sizeof model);
-    model.kind = (uint32_t)draw(2);
+    model.kind = (uint32_t)draw(QOLB_TICKET + 1);
     model.label = draw(UINT64_MAX);
     model.nodes = draw(10) ? 1 + draw(6) : 1 + draw(MOST);
     model.turns = draw(3) ? QOLB_NO_LEASE : 1 + draw(200);

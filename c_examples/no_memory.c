@@ -56,4 +56,4 @@ static int refused_in_turn(uint32_t kind) {
     }
 }
 
-int main(void) { return refused_in_turn(QOLB_RING) || refused_in_turn(QOLB_LIST); }
+int main(void) { return refused_in_turn(QOLB_RING) || refused_in_turn(QOLB_LIST) || refused_in_turn(QOLB_TICKET); }

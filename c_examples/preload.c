@@ -6,6 +6,8 @@
  * gives it back. Condition variables are the C library's own, with a mutex of this library's behind each line. Recursive, error-checking, robust and
  * shared mutexes stay the C library's.
  *
+ * QOLB_KIND=list makes them lists and QOLB_KIND=ticket ticket lines; else they are rings.
+ *
  * With QOLB_REPORT=FILE the program's last act is to append a line there: how many mutexes were lines, how often one was granted, was late or was not
  * free at once, and how often two threads were in one at the same time, which must be 0. */
 #define _GNU_SOURCE
@@ -77,11 +79,17 @@ static int entry(struct table *table, void *key) {
     return -1;
 }
 
+static uint32_t kind_named(const char *name) {
+    if (name && strcmp(name, "list") == 0) return QOLB_LIST;
+    if (name && strcmp(name, "ticket") == 0) return QOLB_TICKET;
+    return QOLB_RING;
+}
+
 static struct line *opened(void) {
     qolb_bytes zeros = {{0}};
     qolb_node nodes[NODES] = {{0}};
     struct line *line = aligned_alloc(QOLB_NODE_ALIGN, sizeof *line);
-    if (!line || qolb_open(QOLB_RING, 0, NODES, QOLB_NO_LEASE, &zeros, nodes, NODES) != QOLB_DONE) abort();
+    if (!line || qolb_open(kind_named(getenv("QOLB_KIND")), 0, NODES, QOLB_NO_LEASE, &zeros, nodes, NODES) != QOLB_DONE) abort();
     memset(line, 0, sizeof *line);
     for (int k = 0; k < NODES; k++) line->place[k].node = qolb_move(&nodes[k]);
     pthread_mutex_init(&line->inner, NULL);

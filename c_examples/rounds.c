@@ -1,6 +1,6 @@
 /* Times rounds from C, to be compared with bench/ring.c: each thread asks, adds 1 to lane 0 and releases.
  *
- *   make -C c_examples build/rounds && c_examples/build/rounds THREADS ROUNDS [ring|list] [lanes|lines]
+ *   make -C c_examples build/rounds && c_examples/build/rounds THREADS ROUNDS [ring|list|ticket] [lanes|lines]
  *
  * Prints the lane sum, and nanoseconds a round over all threads. `lines` reads and writes whole lines in place of a lane. */
 #define _POSIX_C_SOURCE 200809L
@@ -55,7 +55,8 @@ static void *work(void *argument) {
 int main(int argc, char **argv) {
     int threads = argc > 1 ? atoi(argv[1]) : 2;
     rounds = argc > 2 ? strtoull(argv[2], NULL, 10) : 1000;
-    uint32_t kind = argc > 3 && strcmp(argv[3], "list") == 0 ? QOLB_LIST : QOLB_RING;
+    const char *named = argc > 3 ? argv[3] : "ring";
+    uint32_t kind = strcmp(named, "list") == 0 ? QOLB_LIST : strcmp(named, "ticket") == 0 ? QOLB_TICKET : QOLB_RING;
     by_lines = argc > 4 && strcmp(argv[4], "lines") == 0;
     if (threads < 1 || threads > MOST) return 2;
     qolb_bytes zeros = {{0}};

@@ -169,9 +169,12 @@ static int names(void) {
 #endif
 
 int main(void) {
-    if (share(QOLB_RING) || share(QOLB_LIST)) return 1;
+    for (uint32_t kind = QOLB_RING; kind <= QOLB_TICKET; kind++)
+        if (share(kind)) return 1;
 #ifndef UNGUARDED
-    if (answers(QOLB_RING) || answers(QOLB_LIST) || names()) return 1;
+    for (uint32_t kind = QOLB_RING; kind <= QOLB_TICKET; kind++)
+        if (answers(kind)) return 1;
+    if (names()) return 1;
 #endif
     return 0;
 }

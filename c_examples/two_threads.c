@@ -1,4 +1,4 @@
-/* Two threads add to one lane of a line, of a ring and of a list; then every mistake is made that the library must answer. Prints nothing but
+/* Two threads add to one lane of a line of each kind; then every mistake is made that the library must answer. Prints nothing but
  * what went wrong. */
 #include <pthread.h>
 #include <qolb.h>
@@ -75,7 +75,7 @@ static int count(uint32_t kind) {
 static int refusals(void) {
     qolb_bytes zeros = {{0}};
     qolb_node nodes[3] = {{0}}, other = {0};
-    WANT(qolb_open(2, 7, 0, 0, &zeros, nodes, 3), QOLB_BAD_KIND);
+    WANT(qolb_open(3, 7, 0, 0, &zeros, nodes, 3), QOLB_BAD_KIND);
     WANT(qolb_open(QOLB_RING, 7, 0, 0, &zeros, nodes, 3), QOLB_BAD_NODES);
     WANT(qolb_open(QOLB_LIST, 7, 201, QOLB_NO_LEASE, &zeros, nodes, 3), QOLB_BAD_NODES);
     WANT(qolb_open(QOLB_LIST, 7, 4, 0, &zeros, nodes, 3), QOLB_BAD_LEASE);
@@ -84,7 +84,7 @@ static int refusals(void) {
     void *own = other.own;
     nodes[2] = qolb_move(&other);
     WANT(other.own == NULL, 1);
-    WANT(qolb_open(QOLB_RING, 8, 3, QOLB_NO_LEASE, &zeros, nodes, 3), QOLB_OCCUPIED);
+    WANT(qolb_open(QOLB_TICKET, 8, 3, QOLB_NO_LEASE, &zeros, nodes, 3), QOLB_OCCUPIED);
     WANT(nodes[0].own == NULL && nodes[1].own == NULL && nodes[2].own == own, 1);
     WANT(qolb_open(QOLB_RING, 8, 2, QOLB_NO_LEASE, &zeros, nodes, 3), QOLB_DONE);
     WANT(qolb_number(&nodes[0]), 1);
@@ -170,11 +170,14 @@ static int misuse(uint32_t kind) {
 /* A node that has asked and not linked; and a lease of two turns. */
 static int halves(void) {
     qolb_bytes zeros = {{0}};
-    qolb_node n[2] = {{0}}, ring = {0};
-    WANT(qolb_open(QOLB_RING, 7, 1, QOLB_NO_LEASE, &zeros, &ring, 1), QOLB_DONE);
-    WANT(qolb_prepend(&ring), QOLB_MISUSE);
-    WANT(qolb_link(&ring), QOLB_MISUSE);
-    WANT(qolb_close(&ring), QOLB_DONE);
+    qolb_node n[2] = {{0}}, other = {0};
+    for (uint32_t kind = QOLB_RING; kind <= QOLB_TICKET; kind++) {
+        if (kind == QOLB_LIST) continue;
+        WANT(qolb_open(kind, 7, 1, QOLB_NO_LEASE, &zeros, &other, 1), QOLB_DONE);
+        WANT(qolb_prepend(&other), QOLB_MISUSE);
+        WANT(qolb_link(&other), QOLB_MISUSE);
+        WANT(qolb_close(&other), QOLB_DONE);
+    }
     WANT(qolb_open(QOLB_LIST, 7, 2, 2, &zeros, n, 2), QOLB_DONE);
     WANT(qolb_prepend(&n[0]), QOLB_GRANTED);
     WANT(qolb_prepend(&n[1]), QOLB_LINKING);
@@ -191,7 +194,7 @@ static int halves(void) {
 }
 
 int main(void) {
-    if (count(QOLB_RING) || count(QOLB_LIST)) return 1;
-    if (refusals() || empty_handle() || misuse(QOLB_RING) || misuse(QOLB_LIST) || halves()) return 1;
-    return 0;
+    for (uint32_t kind = QOLB_RING; kind <= QOLB_TICKET; kind++)
+        if (count(kind) || misuse(kind)) return 1;
+    return refusals() || empty_handle() || halves();
 }

@@ -119,9 +119,8 @@ bool is_assigned(qolb_kind kind) {
 int main() {
     auto [refused, none] = qolb::Node::open(QOLB_RING, 1, 201, qolb_bytes{});
     if (refused != QOLB_BAD_NODES || !none.empty()) return std::puts("201 nodes were opened"), 1;
-    if (!run(QOLB_RING)) return std::puts("ring"), 1;
-    if (!run(QOLB_LIST)) return std::puts("list"), 1;
-    for (qolb_kind kind : {QOLB_RING, QOLB_LIST}) {
+    for (qolb_kind kind : {QOLB_RING, QOLB_LIST, QOLB_TICKET}) {
+        if (!run(kind)) return std::puts("a token that is moved"), 1;
         if (!work_throws(kind)) return std::puts("a holder whose work throws"), 1;
         if (!is_assigned(kind)) return std::puts("a holder that is assigned to"), 1;
         if (!is_lock(kind)) return std::puts("the node as a lock"), 1;

@@ -121,19 +121,20 @@ fn guards(kind: Kind) {
 fn main() {
     assert_eq!(qolb::open(Kind::Ring, 1, 0, None, &Bytes([0; 64])).err(), Some(Answer::BadNodes));
     assert_eq!(qolb::open(Kind::List, 1, 2, Some(0), &Bytes([0; 64])).err(), Some(Answer::BadLease));
-    count(Kind::Ring);
-    count(Kind::List);
-    races(Kind::Ring);
-    races(Kind::List);
+    let kinds = [Kind::Ring, Kind::List, Kind::Ticket];
+    for kind in kinds {
+        count(kind);
+        races(kind);
+    }
     // The panics that are wanted print nothing.
     panic::set_hook(Box::new(|told| {
         if !told.to_string().contains("a holder's panic") {
             eprintln!("{told}");
         }
     }));
-    for kind in [Kind::Ring, Kind::List] {
+    for kind in kinds {
         panics_while_holding(kind);
         guards(kind);
     }
-    assert_eq!(qolb::version(), 10100);
+    assert_eq!(qolb::version(), 10200);
 }

@@ -43,6 +43,16 @@
  * busy: a node whose last request is not cleared away yet, and which so may not ask again (BUSY, below).
  * label: a number of the caller's own, which qolb_label gives back. Give each line another: the thread sanitizer takes lines of one label for one.
  *
+ * KINDS
+ *
+ * A line is of one of three kinds, all under the same calls and promises:
+ *
+ * - QOLB_RING: a node draws a ticket and waits at a cell of its own. Take this one, unless you want what another has.
+ * - QOLB_LIST: a node stands behind the one that asked before it, and links itself to that one. It alone has the two halves of asking, qolb_prepend
+ *   and qolb_link, and in it a node may be busy after its own release (BUSY, below).
+ * - QOLB_TICKET: a ticket line. It is a ring whose cells say by a number whose turn it is, and are never cleared. So a release that passes no
+ *   withdrawn request takes one step on the words that nodes share, where a ring's takes two. By its answers nobody can tell it from a ring.
+ *
  * WHAT YOU MUST KEEP
  *
  * - Start a handle as zeros: `qolb_node node = {0};`.
@@ -119,7 +129,7 @@
 /* The version of this header. QOLB_VERSION is one number, 10000 for each major version, 100 for each minor one; qolb_version() is that of the
  * library that the program runs with. */
 #define QOLB_VERSION_MAJOR 1
-#define QOLB_VERSION_MINOR 1
+#define QOLB_VERSION_MINOR 2
 #define QOLB_VERSION_PATCH 0
 #define QOLB_VERSION (QOLB_VERSION_MAJOR * 10000 + QOLB_VERSION_MINOR * 100 + QOLB_VERSION_PATCH)
 
@@ -150,9 +160,9 @@ typedef struct qolb_bytes {
     uint8_t byte[64];
 } qolb_bytes;
 
-/* How the nodes of a line wait: at cells that they draw by tickets, or in a list that they link. Take a ring, unless you want the two halves of
- * asking. */
-enum qolb_kind { QOLB_RING = 0, QOLB_LIST = 1 };
+/* How the nodes of a line wait: at cells that they draw by tickets, in a list that they link, or at numbered cells that they draw by tickets. Take a
+ * ring, unless you want the two halves of asking, which a list alone has, or the shorter release of a ticket line. */
+enum qolb_kind { QOLB_RING = 0, QOLB_LIST = 1, QOLB_TICKET = 2 };
 
 /* What a call answers. */
 enum qolb_answer {
@@ -205,7 +215,7 @@ uint32_t qolb_wait(qolb_node *node, uint64_t polls) QOLB_LOOK;
 uint32_t qolb_withdraw(qolb_node *node) QOLB_LOOK;
 
 /* The two halves of qolb_enqolb, of a list alone: prepend takes the place in the queue, and link tells the node before, its predecessor, who comes
- * next. Until then the line does not go on past the predecessor. On a ring MISUSE.
+ * next. Until then the line does not go on past the predecessor. On a line of another kind MISUSE.
  * prepend, where the node may ask: GRANTED, LINKING, CLOSED, BUSY. link, in the state LINKING: GRANTED, QUEUED, CLOSED. */
 uint32_t qolb_prepend(qolb_node *node) QOLB_LOOK;
 uint32_t qolb_link(qolb_node *node) QOLB_LOOK;

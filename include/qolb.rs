@@ -25,12 +25,17 @@ use std::ptr::null_mut;
 use std::thread;
 use std::time::{Duration, Instant};
 
-/// How the nodes of a line wait.
+/// How the nodes of a line wait. Take a ring, unless you want what another kind has.
 #[derive(Clone, Copy, Debug, PartialEq, Eq)]
 #[repr(u32)]
 pub enum Kind {
+    /// At cells that they draw by tickets.
     Ring = 0,
+    /// In a list that they link. It alone has the two halves of asking, `prepend` and `link`.
     List = 1,
+    /// At numbered cells that they draw by tickets. A release that passes no withdrawn request takes one step on shared words, where a ring's takes
+    /// two.
+    Ticket = 2,
 }
 
 /// What a call answers. Each is described in `qolb.h`.

@@ -17,7 +17,7 @@ import tempfile
 import time
 
 from definitions import answer_to, is_right
-from program import SECONDS, run, the_program
+from program import LOCKS, SECONDS, run, the_program
 
 SCRIPT = b"nodes 2 lines 1\nenq 1 0\nwrite 1 0 0 a1b2\nenq 2 0\npoll 2 0\ndeq 1 0\npoll 2 0\nshow 2 0\ndeq 2 0\n"
 STEPS = b"nodes 1\nreset 1\nprepend 1\nhome 1\n"
@@ -27,9 +27,7 @@ WORKERS = 200
 ROUNDS = 100
 
 TASKS = [
-    (["replay", "--kind", "plain"], SCRIPT),
-    (["replay", "--kind", "ring"], SCRIPT),
-    (["replay", "--kind", "link"], SCRIPT),
+    *((["replay", "--kind", kind], SCRIPT) for kind in ("plain", *LOCKS)),
     (["steps"], STEPS),
     (["board"], BOARD),
     (["bank"], BANK),
@@ -169,8 +167,8 @@ def many_workers(program):
         began = time.monotonic()
         for round in range(ROUNDS):
             script = work_script(task, round)
-            kind = ("ring", "link")[round % 2]
-            few = processors[: 1 + round // 2 % 2]
+            kind = LOCKS[round % len(LOCKS)]
+            few = processors[: 1 + round // len(LOCKS) % 2]
             found = run(program, [task, "--kind", kind], script, preexec_fn=lambda: os.sched_setaffinity(0, few))
             if not is_right(answer_to(task, script), found):
                 raise Wrong(f"{task} by 200 workers, round {round}: {found}")

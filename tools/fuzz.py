@@ -4,9 +4,9 @@
     nice -n 19 tools/fuzz.py [--count 100000] [--seed 1] [--first 0] [--jobs 2] [--program PATH] [TASK..]
 
 TASK is replay, steps, board or bank; without one all four are run, each on that many scripts; replay runs each script by the plain line, by
-rings and by lists, board and bank by rings and lists in turn. Every run must end by itself, within ten minutes, with the status and the very
-bytes that definitions.py says of the script; of workers, whose order is free, with a report that it allows. Script number n of a seed is the
-same in every run. The first script that is answered wrongly is printed, and ends all.
+rings, by lists and by ticket lines, board and bank by these three in turn. Every run must end by itself, within ten minutes, with the status and
+the very bytes that definitions.py says of the script; of workers, whose order is free, with a report that it allows. Script number n of a seed is
+the same in every run. The first script that is answered wrongly is printed, and ends all.
 """
 
 import argparse
@@ -18,10 +18,10 @@ import sys
 import time
 
 from definitions import EVENTS, Core, Line, answer_to, is_right
-from program import PROGRAM, run
+from program import LOCKS, PROGRAM, run
 
 TASKS = ["replay", "steps", "board", "bank"]
-KINDS = {"replay": ["plain", "ring", "link"], "board": ["ring", "link"], "bank": ["ring", "link"]}
+KINDS = {"replay": ["plain", *LOCKS], "board": LOCKS, "bank": LOCKS}
 EDGES = [0, 1, 2, 7, 8, 9, 63, 64, 65, 199, 200, 201, 2**48, 2**48 + 1, 2**63, 2**64 - 1, 2**64, 10**19, 10**20, 10**40]
 STRAYS = [b"\0", b"\t", b"\r", b"\x0b", b"\x0c", b"\x1b", b"\x7f", b"\x80", b"\xc3\xa9", b"\xff", b"\n", b" ", b"-", b"+", b"0"]
 SIZES = [1, 2, 2, 3, 3, 4, 5, 9]

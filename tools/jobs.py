@@ -11,7 +11,7 @@ of one job less, with a fault at its end, takes: the reading alone.
 import sys
 import time
 
-from program import run, the_program
+from program import LOCKS, run, the_program
 
 JOBS = 99_000
 TIMES = 9
@@ -52,7 +52,7 @@ def seconds(program, words, script):
 
 def main():
     program = the_program()
-    kinds = [(task, kind) for task in ("bank", "board") for kind in ("ring", "link")]
+    kinds = [(task, kind) for task in ("bank", "board") for kind in LOCKS]
     print("workers   " + "".join(f"{task} {kind}".rjust(14) for task, kind in kinds) + "   reading, ms")
     for workers in (1, 2, 4, 8):
         scripts = {task: "\n".join(make(workers)) + "\n" for task, make in (("bank", bank), ("board", board))}

@@ -1,7 +1,7 @@
 #!/usr/bin/env python3
 """Runs programs that nobody here wrote with their mutexes as lines, and compares what they make with what they make without.
 
-    tools/preloaded.py [MEGABYTES]        inputs of so many megabytes, 64
+    tools/preloaded.py [MEGABYTES [KIND]]        inputs of so many megabytes, 64; lines of this kind: ring, list or ticket
 
 It wants the C library (make -C c_examples build/preload.so builds it) and Debian's packages pigz, pbzip2 and sysbench. Each program must end as it does
 alone, with the same output, after at least some grants, and with no two threads in one mutex at the same time. Seconds are those of one run each.
@@ -22,20 +22,20 @@ PRELOAD = ROOT / "c_examples/build/preload.so"
 SECONDS = 600
 
 
-def run(words, source, preloaded, folder):
-    """The output, the seconds, and the library's report."""
+def run(words, source, kind, folder):
+    """The output, the seconds, and the library's report; without a kind the program runs alone, and there is none."""
     report = folder / "report"
     report.unlink(missing_ok=True)
     env = dict(os.environ)
-    if preloaded:
-        env |= {"LD_PRELOAD": str(PRELOAD), "QOLB_REPORT": str(report)}
+    if kind:
+        env |= {"LD_PRELOAD": str(PRELOAD), "QOLB_KIND": kind, "QOLB_REPORT": str(report)}
     since = time.monotonic()
     with open(source, "rb") as stdin:
         done = subprocess.run(words, stdin=stdin, capture_output=True, env=env, timeout=SECONDS, check=False)
     spent = time.monotonic() - since
     if done.returncode:
         sys.exit(f"{' '.join(words)}: ended with {done.returncode}: {done.stderr.decode()[:500]}")
-    return done.stdout, spent, report.read_text() if preloaded else ""
+    return done.stdout, spent, report.read_text() if kind else ""
 
 
 def events(told):
@@ -47,9 +47,9 @@ def same(told):
     return told
 
 
-def compare(name, words, source, of_output, folder):
-    alone, seconds, _ = run(words, source, False, folder)
-    lined, with_lines, report = run(words, source, True, folder)
+def compare(name, words, source, of_output, kind, folder):
+    alone, seconds, _ = run(words, source, None, folder)
+    lined, with_lines, report = run(words, source, kind, folder)
     if not of_output(alone) or of_output(alone) != of_output(lined):
         sys.exit(f"{name}: the output differs")
     found = re.fullmatch(r"mutexes (\d+) grants (\d+) late (\d+) not free (\d+) violations (\d+)\n", report)
@@ -64,6 +64,7 @@ def compare(name, words, source, of_output, folder):
 
 def main():
     size = int(sys.argv[1]) if len(sys.argv) > 1 else 64
+    kind = sys.argv[2] if len(sys.argv) > 2 else "ring"
     missing = [name for name in ("pigz", "pbzip2", "sysbench") if not shutil.which(name)]
     if missing:
         sys.exit(f"not installed: {' '.join(missing)}")
@@ -80,11 +81,11 @@ def main():
         for threads in (2, 4, 16):
             for tool in (["pigz", "-n", "-c", "-b", "32"], ["pbzip2", "-c", "-b1"]):
                 packed = folder / "packed"
-                packed.write_bytes(compare(f"{tool[0]}, {threads} threads", [*tool, f"-p{threads}"], plain, same, folder))
-                if compare(f"{tool[0]} -d, {threads} threads", [tool[0], "-d", "-c", f"-p{threads}"], packed, same, folder) != plain.read_bytes():
+                packed.write_bytes(compare(f"{tool[0]}, {threads} threads", [*tool, f"-p{threads}"], plain, same, kind, folder))
+                if compare(f"{tool[0]} -d, {threads} threads", [tool[0], "-d", "-c", f"-p{threads}"], packed, same, kind, folder) != plain.read_bytes():
                     sys.exit(f"{tool[0]}: unpacked is not what was packed")
             for test, *more in (["mutex", "--events=20000", "--mutex-num=16", "--mutex-locks=20000", "--mutex-loops=100"], ["threads", "--events=200", "--thread-locks=3"]):
-                compare(f"sysbench {test}, {threads} threads", ["sysbench", test, f"--threads={threads}", "--time=0", *more, "run"], os.devnull, events, folder)
+                compare(f"sysbench {test}, {threads} threads", ["sysbench", test, f"--threads={threads}", "--time=0", *more, "run"], os.devnull, events, kind, folder)
 
 
 main()

@@ -5,6 +5,8 @@ import subprocess
 import sys
 
 PROGRAM = os.path.join(os.path.dirname(os.path.abspath(__file__)), "..", "crates", "qolb", "out", "qolb")
+# The kinds of lines that nodes share, as `--kind` names them.
+LOCKS = ["ring", "link", "ticket"]
 # A run at the least priority may get no processor for minutes on a busy machine.
 SECONDS = 600
 

@@ -19,7 +19,7 @@ import tempfile
 import time
 
 from definitions import answer_to, is_right
-from program import run, the_program
+from program import LOCKS, run, the_program
 
 HERE = os.path.dirname(os.path.abspath(__file__))
 
@@ -40,14 +40,10 @@ BOARD = b"board workers 5\n1 put 5\n2 put 6\n3 take\n4 put 7\n1 take\n5 put 8\n5
 BANK = b"bank workers 5 lines 8\n1 in 0 10\n2 in 63 5\n3 move 0 63 2\n4 out 63 1\n5 in 1 1\n1 out 0 3\n"
 
 TASKS = [
-    (["replay", "--kind", "plain"], SCHEDULE),
-    (["replay", "--kind", "ring"], SCHEDULE),
-    (["replay", "--kind", "link"], SCHEDULE),
+    *((["replay", "--kind", kind], SCHEDULE) for kind in ("plain", *LOCKS)),
     (["steps"], STEPS),
-    (["board", "--kind", "ring"], BOARD),
-    (["board", "--kind", "link"], BOARD),
-    (["bank", "--kind", "ring"], BANK),
-    (["bank", "--kind", "link"], BANK),
+    *((["board", "--kind", kind], BOARD) for kind in LOCKS),
+    *((["bank", "--kind", kind], BANK) for kind in LOCKS),
 ]
 
 

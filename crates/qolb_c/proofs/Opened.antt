@@ -46,7 +46,7 @@ module _ {Line Port : Type 0} (view : Port → View) (make : NodeOf Line Port �
       let y = at_port ports j b f in
       subst (λ (n : AnyNode). AreOfOneLine n b) (sym x.1) (subst (λ (n : AnyNode). AreOfOneLine (make (node_at line x.0)) n) (sym y.1) (each x.0 y.0))
 
--- the new nodes of one line, as nodes of either kind
+-- the new nodes of one line, as nodes of any kind
 pub new_nodes_of : {Line Port : Type 0} (view : Port → View) (make : NodeOf Line Port → AnyNode) (kind label : ℕ) (terms : Terms) (nodes : List (NodeOf Line Port)) (anys : List AnyNode)
     → ((n : NodeOf Line Port) → view_of (make n) ≡ view n.port) → ((n : NodeOf Line Port) → kind_of (make n) ≡ kind)
     → ((line : Line) (p q : Port) → AreOfOneLine (make (node_at line p)) (make (node_at line q)))

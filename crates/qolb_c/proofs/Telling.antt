@@ -8,7 +8,7 @@ use Rattle.qolb_c.specs.declared.any_node.AnyNode.{AnyNode}
 use Rattle.qolb_c.specs.Calls.{AreOfOneLine, IsCall, Calls}
 use Rattle.qolb_c.specs.Numbers.{number_of}
 
--- a call of a node, of either kind, by its own result and by what is told of that
+-- a call of a node, of any kind, by its own result and by what is told of that
 pub told :
     {A X : Type 0} (make : X → AnyNode) (Allowed : Type 0) (tell : A → Answer) (Promise : A → Type 0) (was now : X) (made : Result A Misuse) (a : Answer)
     → AreOfOneLine (make was) (make now)

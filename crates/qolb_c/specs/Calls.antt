@@ -29,16 +29,19 @@ use Rattle.qolb_c.specs.Numbers.{number_of, state_number, turns_number}
 abbrev pub view_of : AnyNode → View
 view_of (kind.Ring node) = node.port.view
 view_of (kind.List node) = node.port.view
+view_of (kind.Ticket node) = node.port.view
 
 -- what the node has written, where it holds the line
 abbrev pub turn_of : AnyNode → Write
 turn_of (kind.Ring node) = node.port.turn
 turn_of (kind.List node) = node.port.turn
+turn_of (kind.Ticket node) = node.port.turn
 
 -- how often the node has polled
 abbrev pub looks_of : AnyNode → ℕ
 looks_of (kind.Ring node) = node.port.looks
 looks_of (kind.List node) = node.port.looks
+looks_of (kind.Ticket node) = node.port.looks
 
 abbrev pub state_of : AnyNode → PortState
 state_of node = (view_of node).state
@@ -46,14 +49,15 @@ state_of node = (view_of node).state
 -- two nodes are of one line
 abbrev pub AreOfOneLine : AnyNode → AnyNode → Type 0
 AreOfOneLine (kind.Ring a) (kind.Ring b) = b.line ≡ a.line
-AreOfOneLine (kind.Ring a) (kind.List b) = ⊥
-AreOfOneLine (kind.List a) (kind.Ring b) = ⊥
 AreOfOneLine (kind.List a) (kind.List b) = b.line ≡ a.line
+AreOfOneLine (kind.Ticket a) (kind.Ticket b) = b.line ≡ a.line
+AreOfOneLine _ _ = ⊥
 
 -- C's number of the kind of a node's line
 abbrev pub kind_of : AnyNode → ℕ
 kind_of (kind.Ring node) = 0
 kind_of (kind.List node) = 1
+kind_of (kind.Ticket node) = 2
 
 -- the answers of a line's calls
 abbrev pub enq_told : Enq → Answer

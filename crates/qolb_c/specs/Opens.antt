@@ -45,14 +45,18 @@ pub record AreOpened (kind label : ℕ) (terms : Terms) (old new : List Handle) 
   pub were_empty : AreEmpty terms.nodes old
   pub filled : held_by new ≡ map (λ (node : AnyNode). Some node) nodes ++ drop terms.nodes (held_by old)
 
+-- a number of a kind of line
+abbrev pub IsKind : ℕ → Type 0
+IsKind kind = kind ≤ 2
+
 -- why a line is not opened, the first cause that stands
 abbrev pub WhyRefused : (kind : ℕ) → Terms → List Handle → Answer → Type 0
-WhyRefused kind terms handles answer.BadKind = 1 < kind
-WhyRefused kind terms handles answer.BadNodes = (kind ≤ 1) × ((terms.nodes < 1) ⊎ (MOST_NODES < terms.nodes))
-WhyRefused kind terms handles answer.BadLease = (kind ≤ 1) × AreNodes terms.nodes × (terms.lease ≡ Some 0)
-WhyRefused kind terms handles answer.TooFew = (kind ≤ 1) × MayOpen terms × (length handles < terms.nodes)
-WhyRefused kind terms handles answer.Occupied = (kind ≤ 1) × MayOpen terms × (terms.nodes ≤ length handles) × HasNode terms.nodes handles
-WhyRefused kind terms handles answer.NoMemory = (kind ≤ 1) × MayOpen terms × (terms.nodes ≤ length handles) × AreEmpty terms.nodes handles
+WhyRefused kind terms handles answer.BadKind = ¬ IsKind kind
+WhyRefused kind terms handles answer.BadNodes = IsKind kind × ((terms.nodes < 1) ⊎ (MOST_NODES < terms.nodes))
+WhyRefused kind terms handles answer.BadLease = IsKind kind × AreNodes terms.nodes × (terms.lease ≡ Some 0)
+WhyRefused kind terms handles answer.TooFew = IsKind kind × MayOpen terms × (length handles < terms.nodes)
+WhyRefused kind terms handles answer.Occupied = IsKind kind × MayOpen terms × (terms.nodes ≤ length handles) × HasNode terms.nodes handles
+WhyRefused kind terms handles answer.NoMemory = IsKind kind × MayOpen terms × (terms.nodes ≤ length handles) × AreEmpty terms.nodes handles
 WhyRefused kind terms handles _ = ⊥
 
 -- what an opening promises: a line is opened, or the handles have what they had, and the answer says why

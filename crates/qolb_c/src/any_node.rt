@@ -1,4 +1,4 @@
-//! A node of a line of either kind.
+//! A node of a line of any kind.
 ghost use Rattle.std.specs.Prelude.{◌≡◌, ◌≢◌, ℕ, true, false, MatchOption, MatchResult};
 ghost use Rattle.qolb_model.specs.PortStates.{may_ask};
 ghost use Rattle.qolb_c.specs.Calls.{view_of, turn_of, state_of, Enqolbs, Polls, Waits, Prepends, LinksUp, Withdraws, Reads, ReadsLane, Writes, WritesLane, Releases, TellsTurns};
@@ -11,17 +11,31 @@ use line_lanes::{Line64, Mask, lane, placed};
 use link_line::LinkLine;
 use qolb_model::{Free, PortState};
 use ring_line::RingLine;
+use ticket_line::TicketLine;
 
 /// How many lanes a line has.
 const LANES: u64 = 8;
 
-/// A node of a line of either kind.
+/// A node of a line of any kind.
 #[derive(Drop)]
 pub enum AnyNode {
     /// Of a ring.
     Ring(Node<RingLine<Free>>),
     /// Of a list.
     List(Node<LinkLine<Free>>),
+    /// Of a ticket line.
+    Ticket(Node<TicketLine<Free>>),
+}
+
+/// Does this with the node, of whichever kind it is.
+macro_rules! of_any {
+    ($any:expr, $node:ident => $done:expr) => {
+        match $any {
+            AnyNode::Ring($node) => $done,
+            AnyNode::List($node) => $done,
+            AnyNode::Ticket($node) => $done,
+        }
+    };
 }
 
 impl AnyNode {
@@ -29,30 +43,21 @@ impl AnyNode {
     pub fn number(&self) -> u64
         ensures { result ≡ (view_of self.now).node }
     {
-        match self {
-            AnyNode::Ring(node) => node.number(),
-            AnyNode::List(node) => node.number(),
-        }
+        of_any!(self, node => node.number())
     }
 
     /// The label of the node's line.
     pub fn label(&self) -> u64
         ensures { result ≡ (view_of self.now).label }
     {
-        match self {
-            AnyNode::Ring(node) => node.label(),
-            AnyNode::List(node) => node.label(),
-        }
+        of_any!(self, node => node.label())
     }
 
     /// What the node's last call left.
     pub fn state(&self) -> PortState
         ensures { result ≡ state_of self.now }
     {
-        match self {
-            AnyNode::Ring(node) => node.state(),
-            AnyNode::List(node) => node.state(),
-        }
+        of_any!(self, node => node.state())
     }
 
     /// Asks for the line.
@@ -62,6 +67,7 @@ impl AnyNode {
         match self {
             AnyNode::Ring(node) => Answer::of_enq(node.enqolb()),
             AnyNode::List(node) => ask_list(node),
+            AnyNode::Ticket(node) => Answer::of_enq(node.enqolb()),
         }
     }
 
@@ -69,20 +75,14 @@ impl AnyNode {
     pub fn poll(&mut self) -> Answer
         ensures { Polls self.old self.new result }
     {
-        match self {
-            AnyNode::Ring(node) => Answer::of_poll(node.poll()),
-            AnyNode::List(node) => Answer::of_poll(node.poll()),
-        }
+        of_any!(self, node => Answer::of_poll(node.poll()))
     }
 
     /// Looks at most so many times, with a pause between two.
     pub fn wait(&mut self, polls: u64) -> Answer
         ensures { Waits polls self.old self.new result }
     {
-        match self {
-            AnyNode::Ring(node) => Answer::of_poll(node.wait(polls)),
-            AnyNode::List(node) => Answer::of_poll(node.wait(polls)),
-        }
+        of_any!(self, node => Answer::of_poll(node.wait(polls)))
     }
 
     /// The first half of asking, of a list alone.
@@ -90,7 +90,7 @@ impl AnyNode {
         ensures { Prepends self.old self.new result }
     {
         match self {
-            AnyNode::Ring(_) => Answer::Misuse,
+            AnyNode::Ring(_) | AnyNode::Ticket(_) => Answer::Misuse,
             AnyNode::List(node) => Answer::of_prep(node.prepend()),
         }
     }
@@ -100,7 +100,7 @@ impl AnyNode {
         ensures { LinksUp self.old self.new result }
     {
         match self {
-            AnyNode::Ring(_) => Answer::Misuse,
+            AnyNode::Ring(_) | AnyNode::Ticket(_) => Answer::Misuse,
             AnyNode::List(node) => Answer::of_enq(node.link()),
         }
     }
@@ -109,30 +109,21 @@ impl AnyNode {
     pub fn withdraw(&mut self) -> Answer
         ensures { Withdraws self.old self.new result }
     {
-        match self {
-            AnyNode::Ring(node) => Answer::of_out(node.withdraw()),
-            AnyNode::List(node) => Answer::of_out(node.withdraw()),
-        }
+        of_any!(self, node => Answer::of_out(node.withdraw()))
     }
 
     /// The line's bytes, where the node holds the line.
     fn bytes(&self) -> Option<&Line64>
         ensures { MatchOption result (state_of self.now ≢ PortState.Holding) (λ line. (state_of self.now ≡ PortState.Holding) × (line.now ≡ (turn_of self.now).bytes)) }
     {
-        match self {
-            AnyNode::Ring(node) => node.bytes().ok(),
-            AnyNode::List(node) => node.bytes().ok(),
-        }
+        of_any!(self, node => node.bytes().ok())
     }
 
     /// How many turns are left of the line's lease, by C's number; 0 where the node does not hold the line.
     pub fn turns_left(&self) -> u64
         ensures { TellsTurns self.now result }
     {
-        match self {
-            AnyNode::Ring(node) => turns_number(node.turns_left()),
-            AnyNode::List(node) => turns_number(node.turns_left()),
-        }
+        of_any!(self, node => turns_number(node.turns_left()))
     }
 
     /// The holder reads the line.
@@ -188,36 +179,27 @@ impl AnyNode {
     pub fn write(&mut self, mask: Mask, bytes: &Line64) -> Answer
         ensures { Writes mask.0 bytes.now.bytes self.old self.new result }
     {
-        match self {
-            AnyNode::Ring(node) => Answer::of_done(node.write(mask, bytes)),
-            AnyNode::List(node) => Answer::of_done(node.write(mask, bytes)),
-        }
+        of_any!(self, node => Answer::of_done(node.write(mask, bytes)))
     }
 
     /// Releases the line.
     pub fn deqolb(&mut self) -> Answer
         ensures { Releases false self.old self.new result }
     {
-        match self {
-            AnyNode::Ring(node) => Answer::of_done(node.deqolb()),
-            AnyNode::List(node) => Answer::of_done(node.deqolb()),
-        }
+        of_any!(self, node => Answer::of_done(node.deqolb()))
     }
 
     /// Releases the line, and closes it.
     pub fn shut(&mut self) -> Answer
         ensures { Releases true self.old self.new result }
     {
-        match self {
-            AnyNode::Ring(node) => Answer::of_done(node.shut()),
-            AnyNode::List(node) => Answer::of_done(node.shut()),
-        }
+        of_any!(self, node => Answer::of_done(node.shut()))
     }
 }
 
 /// Asks for a list.
 ///
-/// It is apart, so that a ring's call saves no registers for it.
+/// It is apart, so that the calls for other lines save no registers for it.
 #[inline(never)]
 fn ask_list(node: &mut Node<LinkLine<Free>>) -> Answer
     ensures { Enqolbs (AnyNode.List node.old) (AnyNode.List node.new) result }
@@ -227,10 +209,10 @@ fn ask_list(node: &mut Node<LinkLine<Free>>) -> Answer
 
 /// A node of some kind of line.
 pub trait IntoAny: Drop {
-    /// The node among those of either kind.
+    /// The node among those of any kind.
     ghost as_any: { Self → AnyNode };
 
-    /// The node as one of either kind.
+    /// The node as one of any kind.
     fn into_any(self) -> AnyNode
         ensures { result ≡ as_any self };
 }
@@ -248,5 +230,13 @@ impl IntoAny for Node<LinkLine<Free>> {
 
     fn into_any(self) -> AnyNode {
         AnyNode::List(self)
+    }
+}
+
+impl IntoAny for Node<TicketLine<Free>> {
+    ghost as_any = { λ node. AnyNode.Ticket node };
+
+    fn into_any(self) -> AnyNode {
+        AnyNode::Ticket(self)
     }
 }

@@ -31,10 +31,10 @@ pub struct Bytes {
 }
 
 /// The version of the library: 10,000 for each major version, 100 for each minor one. The header has it too, as `QOLB_VERSION`.
-const VERSION: u32 = 10_100;
+const VERSION: u32 = 10_200;
 
-/// Opens a line of this kind (0 a ring, 1 a list) with the bytes of `opening`, and puts its nodes into the first of these handles. The line
-/// closes at the turn that is the lease's last; with a lease of 2^64 - 1 it has none.
+/// Opens a line of this kind (0 a ring, 1 a list, 2 a ticket line) with the bytes of `opening`, and puts its nodes into the first of these
+/// handles. The line closes at the turn that is the lease's last; with a lease of 2^64 - 1 it has none.
 #[unsafe(no_mangle)]
 pub extern "C" fn qolb_open(
     alloc: Global,
@@ -326,7 +326,7 @@ pub extern "C" fn qolb_state(alloc: Global, node: &mut Handle) -> u32
 /// The library's version.
 #[unsafe(no_mangle)]
 pub extern "C" fn qolb_version() -> u32
-    ensures { result ≡ 10100 }
+    ensures { result ≡ 10200 }
 {
     VERSION
 }

@@ -1,7 +1,7 @@
 //! How a line is opened for C.
 ghost use Rattle.std.specs.Prelude.{◌≡◌, ◌≢◌, ◌≤◌, ◌++◌, ℕ, true, false, length, map, drop, Some, None, IsTrue, IfOk, IfErr};
 ghost use Rattle.qolb_model.specs.Opening.{MayOpen, MayNotOpen};
-ghost use Rattle.qolb_c.specs.Opens.{AreOfLine, AreNewNodes, held_by, AreEmpty, HasNode, AreOpened, WhyRefused, refused_by};
+ghost use Rattle.qolb_c.specs.Opens.{AreOfLine, AreNewNodes, held_by, AreEmpty, HasNode, AreOpened, WhyRefused, refused_by, IsKind};
 
 use crate::answer::Answer;
 use crate::any_node::{AnyNode, IntoAny};
@@ -12,6 +12,7 @@ use qolb_model::{Free, OpenError, OpenLine, Terms};
 use ring_line::RingLine;
 use std::alloc::Global;
 use std::sync::Arc;
+use ticket_line::TicketLine;
 
 /// C's number for a ring.
 const RING: u32 = 0;
@@ -19,13 +20,16 @@ const RING: u32 = 0;
 /// C's number for a list.
 const LIST: u32 = 1;
 
+/// C's number for a ticket line.
+const TICKET: u32 = 2;
+
 /// Opens a line of this kind, and puts its nodes into the first of these handles.
 pub fn open(alloc: Global, kind: u32, label: u64, terms: Terms, out: &mut [Handle]) -> Answer
     ensures opened { result ≡ Answer.Done → AreOpened kind label terms out.old out.new }
     ensures unchanged { result ≢ Answer.Done → held_by out.new ≡ held_by out.old }
     ensures why { result ≢ Answer.Done → WhyRefused kind terms out.old result }
 {
-    if kind != RING && kind != LIST {
+    if kind != RING && kind != LIST && kind != TICKET {
         return Answer::BadKind;
     }
     if let Err(error) = terms.check() {
@@ -83,14 +87,16 @@ fn nodes_of_kind(
     label: u64,
     terms: Terms,
 ) -> Result<Vec<Box<AnyNode>>, OpenError>
-    requires { kind ≤ 1 }
+    requires { IsKind kind }
     ensures nodes { IfOk result (λ boxes. AreNewNodes kind label terms (map (λ node. node.value) boxes.items)) }
     ensures why { IfErr result (λ error. MayNotOpen terms error) }
 {
     if kind == RING {
         boxed(alloc, new_nodes::<RingLine<Free>>(alloc, label, terms)?)
-    } else {
+    } else if kind == LIST {
         boxed(alloc, new_nodes::<LinkLine<Free>>(alloc, label, terms)?)
+    } else {
+        boxed(alloc, new_nodes::<TicketLine<Free>>(alloc, label, terms)?)
     }
 }
 

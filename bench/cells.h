@@ -1,0 +1,9 @@
+// What the ring and the ticket line share: a ticket, cells, and a word for each node. Those that nodes poll stand apart, so that they share no cache
+// line.
+#include "line.h"
+
+enum { CELLS = 256, NODE_STRIDE = 16, CELL_STRIDE = 8, TICKET = NODE_STRIDE, FIRST_CELL = NODE_STRIDE * (MOST_NODES + 2), WORDS = FIRST_CELL + CELLS * CELL_STRIDE };
+
+static _Alignas(128) _Atomic uint64_t words[WORDS];
+
+static _Atomic uint64_t *cell_word(uint64_t ticket) { return &words[FIRST_CELL + ticket % CELLS * CELL_STRIDE]; }
