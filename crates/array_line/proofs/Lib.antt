@@ -1,0 +1,13 @@
+pub mod OneNode
+pub mod Nodes
+pub mod Turning
+pub mod Releasing
+pub mod Standing
+pub mod Histories
+pub mod Seats
+pub mod Meets
+pub mod Lasting
+pub mod Keeping
+pub mod Clearing
+pub mod Ending
+pub mod Passed
