@@ -11,3 +11,10 @@ pub mod Keeping
 pub mod Clearing
 pub mod Ending
 pub mod Passed
+pub mod Ask
+pub mod Free
+pub mod Reset
+pub mod Taking
+pub mod Waiting
+pub mod Roll
+pub mod Walking
