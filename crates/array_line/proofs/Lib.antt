@@ -15,6 +15,6 @@ pub mod Ask
 pub mod Free
 pub mod Reset
 pub mod Taking
-pub mod Waiting
+pub mod Load
 pub mod Roll
 pub mod Walking

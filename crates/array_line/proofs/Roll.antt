@@ -1,10 +1,11 @@
--- A waiting node withdraws its request.
-use Rattle.std.proofs.Common.{◌≡◌, ◌≢◌, ℕ, ◌+◌, ◌*◌, ◌%◌, ◌^◌, ◌<◌, ◌≤◌, List, [], ◌∷◌, ◌++◌, length, set, slice_index, get_or, if◌then◌else◌, sym, refl, ap, ◌∙◌, subst, ⊎_elim, arith, length-set, mod-lt, get_or-set_same, get_or-set_other}
+-- A waiting node writes that it withdraws into its cell: the line has come, or its request is withdrawn.
+use Rattle.std.proofs.Common.{◌≡◌, ◌≢◌, ℕ, ◌+◌, ◌*◌, ◌%◌, ◌^◌, ◌<◌, ◌≤◌, List, [], ◌∷◌, ◌++◌, length, set, slice_index, get_or, Bool, if◌then◌else◌, sym, refl, ap, ◌∙◌, subst, ⊎_elim, arith, length-set, mod-lt, get_or-set_same, get_or-set_other}
 use mathlib.Core.Logic.{dite}
 use mathlib.Core.Option.{none, some}
 use native.Mathlib.Decide.{ℕ_discrete, dec_le}
 use lib.ListN.{get_elem?}
 use Rattle.std.proofs.lemmas.Option.{slice_get_within}
+use Rattle.atomic_table.specs.Table.{Step, keeps, takes, Allows}
 use Rattle.qolb_model.specs.declared.answer.PortState.TheVariants as shows
 use Rattle.qolb_model.specs.Requests.{Has}
 use Rattle.qolb_model.specs.Views.{own}
@@ -15,14 +16,22 @@ use Rattle.qolb_model.proofs.Lists.{at_same}
 use Rattle.qolb_model.proofs.Updates.{put, put_here, put_else}
 use Rattle.array_line.specs.declared.own.Point.TheVariants.{Queued, Rolled}
 use Rattle.shared_line.specs.declared.rule.Setup.{Setup}
+use Rattle.shared_line.specs.declared.rule.Parcel.{Parcel}
+use Rattle.array_line.specs.declared.words.TheConstants.{CELLS}
 use Rattle.array_line.specs.Words.{cell_at, cells_in, cell_of}
 use Rattle.array_line.specs.Array.{ArrayEntry, ArrayState, At, Cells, Past, NodeOk, PastOk, ArrayRule, has_line, lets_go, is_kept}
-use Rattle.array_line.specs.Steps.{IsRolled}
+use Rattle.array_line.specs.Steps.{sole, Contents, IsRolled, Comes, rolled}
 use Rattle.array_line.proofs.OneNode.{knows_whole, hand_none}
 use Rattle.array_line.proofs.Nodes.{others_roll, passes_none, freed_so}
 use Rattle.array_line.proofs.Histories.{continues}
 use Rattle.array_line.proofs.Keeping.{rule_step, mine_ok, mine_low, few_open, cell_shown}
-use Rattle.array_line.proofs.Taking.{asked_at}
+use Rattle.array_line.proofs.Taking.{Takes, StaysBehind, take_entry, asked_at, near, behind, found_is, home, comes, learns_take, taken_not_waits, taken_rule}
+use Rattle.array_line.proofs.Turning.{goes_step, same_count}
+
+-- What a queue shows where the node n withdraws its request at this place, which is behind the turn, by a step that changes the cell so.
+abbrev pub Withdraws : Cells → ℕ → ℕ → (ℕ → ℕ) → Type 0
+Withdraws cells place n change = (ended hand : ℕ) (cleared : Bool) (marks says : ℕ → ℕ) → 0 < n → n ≤ MOST_NODES → ended < place → place < ended + CELLS → marks place ≡ 0 → cells ended hand cleared marks says
+    → cells ended hand cleared (put marks place n) (put says (cell_of place) (change (says (cell_of place))))
 
 module _ (cells : Cells) (good : List ℕ → Type 0) (allows : List ℕ → List ℕ → Type 0) (about : Setup) (v : ArrayEntry) (queued : v.own.point ≡ Queued) where
   abbrev Rule : ArrayState → Type 0
@@ -107,18 +116,18 @@ module _ (cells : Cells) (good : List ℕ → Type 0) (allows : List ℕ → Lis
     low : 0 < v.view.node
     low = (mine_low cells good allows about s r me v at).0
 
-    behind : length r.past.ends < v.own.place
-    behind = let q = ok.stance.queued queued in omega arith
+    after : length r.past.ends < v.own.place
+    after = let q = ok.stance.queued queued in omega arith
 
     -- the rule once the cell has become z
     pub rolls_rule : Rule record { words = set s.words i z; homes = s.homes; views = set s.views me (roll_entry r.past ∷ []) }
-    rolls_rule = rule_step cells good allows about s r me v (roll_entry r.past) (roll_past r.past) (set s.words i z) s.homes at refl (roll_fine r.past r.fine ok low behind)
+    rolls_rule = rule_step cells good allows about s r me v (roll_entry r.past) (roll_past r.past) (set s.words i z) s.homes at refl (roll_fine r.past r.fine ok low after)
         (cell_shown cells good allows about r.past s.words s.homes s.homes i (cell_of v.own.place) z word (mod-lt v.own.place (omega arith)) r.shown refl
-        r.past.hand r.past.cleared r.past.ends r.past.clear (put r.past.marks v.own.place v.view.node) r.past.passer said r.shown.home) (roll_node r.past r.fine ok low behind)
+        r.past.hand r.past.cleared r.past.ends r.past.clear (put r.past.marks v.own.place v.view.node) r.past.passer said r.shown.home) (roll_node r.past r.fine ok low after)
         (λ n a b ne. others_roll about r.past n (r.who n) (r.each n a b) v.view.node v.own.place (own v.view) (asked_at cells good allows about v queued r.past ok) refl low ne)
 
     pub learns_roll : Continues allows v.view (roll_entry r.past).view
-    learns_roll = continues good allows about r.past (roll_past r.past) (roll_fine r.past r.fine ok low behind) v.view.node v.view.node v (roll_entry r.past) ok (roll_node r.past r.fine ok low behind) refl
+    learns_roll = continues good allows about r.past (roll_past r.past) (roll_fine r.past r.fine ok low after) v.view.node v.view.node v (roll_entry r.past) ok (roll_node r.past r.fine ok low after) refl
         ok.knows.orders ok.knows.endings ok.knows.clears (λ q h. h) (λ q h. has_left v.view.marked (own v.view ∷ []) q h) (λ q h. h)
 
     pub is_rolled : (mark_of : ℕ → ℕ) → IsRolled mark_of (mark_of v.own.place) (roll_entry r.past)
@@ -126,8 +135,41 @@ module _ (cells : Cells) (good : List ℕ → Type 0) (allows : List ℕ → Lis
       stands = refl;
       withdrawn = record {
         state = refl;
-        waits = (v.own.place, behind, asked_at cells good allows about v queued r.past ok);
+        waits = (v.own.place, after, asked_at cells good allows about v queued r.past ok);
         near = few_open cells good allows about s r v.view.terms ok.who.terms;
         marked = has_last v.view.marked (own v.view);
       };
     }
+
+  module _ (mark_of : ℕ → ℕ) (waits comes_to : ℕ → ℕ → Type 0) (change : ℕ → ℕ) (takes_line : Takes cells waits v.own.place v.view.node change) (stays : StaysBehind cells comes_to v.own.place) (withdraws : Withdraws cells v.own.place v.view.node change) where
+    pub rolls_next : (me slots i : ℕ) (m : Contents) (st : Step Parcel) → m.0 ≡ v ∷ [] → i ≡ cell_at (cell_of v.own.place) → Allows Rule slots me m i change (rolled allows mark_of waits comes_to st m)
+    rolls_next me slots i m st is word s r deep at small = let at' : get_elem? s.views me ≡ some (v ∷ []) = at ∙ ap some is in dite (ℕ_discrete v.own.place (length r.past.ends))
+        (λ here. let y = home cells good allows about v queued s r me i at' word here in (
+          take_entry cells good allows about v queued r.past ∷ [],
+          takes 0 y.0,
+          y.1,
+          taken_rule cells good allows about v queued s r me i at' word here waits change takes_line,
+          (
+            goes_step allows m v (take_entry cells good allows about v queued r.past) ((0, y.0) ∷ m.1) is (learns_take cells good allows about v queued s r me i at' word here) refl,
+            same_count m v (take_entry cells good allows about v queued r.past) is refl,
+            (λ w. absurd (taken_not_waits cells good allows about v queued s r me i at' word here waits change takes_line (subst (λ u. waits (sole u).own.place (slice_index s.words i)) is w))),
+            (λ _. (y.0, refl, subst (λ u. Comes mark_of (mark_of (sole u).own.place) (take_entry cells good allows about v queued r.past) y.0) (sym is) (comes cells good allows about v queued s r me i at' word here mark_of))),
+          ),
+        ))
+        (λ later. let b = behind cells good allows about v queued s r me i at' word later in let n = near cells good allows about v queued s r me i at' word in
+            let found = found_is cells good allows about v queued s r me i at' word in
+            let low = mine_low cells good allows about s r me v at' in let low_node = low.0 in let high_node = low.1 in let few = r.may_open.nodes.few in
+            let said = subst (λ k. cells (length r.past.ends) r.past.hand r.past.cleared (put r.past.marks v.own.place v.view.node) (put (cells_in s.words) (cell_of v.own.place) (change k))) (sym found)
+            (withdraws (length r.past.ends) r.past.hand r.past.cleared r.past.marks (cells_in s.words) low.0 (omega arith) b.0 n b.1 r.shown.said) in (
+          roll_entry r.past ∷ [],
+          keeps,
+          tt,
+          rolls_rule s r me i (change (slice_index s.words i)) at' word later said,
+          (
+            goes_step allows m v (roll_entry r.past) m.1 is (learns_roll s r me i (change (slice_index s.words i)) at' word later said) refl,
+            same_count m v (roll_entry r.past) is refl,
+            (λ _. (refl, subst (λ u. IsRolled mark_of (mark_of (sole u).own.place) (roll_entry r.past)) (sym is) (is_rolled s r me i (change (slice_index s.words i)) at' word later said mark_of))),
+            (λ c. absurd (stays (length r.past.ends) r.past.hand r.past.cleared r.past.marks (cells_in s.words) b.0 n b.1 r.shown.said
+                (subst (comes_to v.own.place) found (subst (λ u. comes_to (sole u).own.place (slice_index s.words i)) is c)))),
+          ),
+        ))

@@ -22,7 +22,7 @@ use Rattle.array_line.specs.declared.own.Point.TheVariants.{Idle, Queued, Holdin
 use Rattle.shared_line.specs.declared.rule.Setup.{Setup}
 use Rattle.shared_line.specs.declared.rule.Parcel.{Parcel}
 use Rattle.array_line.specs.Words.{cell_at, cells_in, cell_of}
-use Rattle.array_line.specs.Array.{ArrayEntry, ArrayState, At, Cells, Past, NodeOk, PastOk, Shown, ArrayRule, has_line, lets_go, is_kept}
+use Rattle.array_line.specs.Array.{ArrayEntry, ArrayState, At, Cells, Past, Walks, NodeOk, PastOk, Shown, ArrayRule, has_line, lets_go, is_kept}
 use Rattle.array_line.specs.Stances.{holding}
 use Rattle.array_line.specs.Steps.{Comes}
 use Rattle.array_line.proofs.OneNode.{clash_at, placed_at, knows_whole}
@@ -31,25 +31,43 @@ use Rattle.array_line.proofs.Histories.{not_withdrawn, continues}
 use Rattle.array_line.proofs.Keeping.{rule_step, mine_ok, mine_low, window, cell_shown}
 use Rattle.qolb_model.proofs.Leases.{open_has_turns}
 
+-- What a queue shows of the cell of a request at its turn, where nobody has the line. It does not say that the node is to wait. And as the
+-- node n takes the line by a step that changes the cell so, the cells say what they must.
+abbrev pub Takes : Cells → (ℕ → ℕ → Type 0) → ℕ → ℕ → (ℕ → ℕ) → Type 0
+Takes cells waits place n change = (cleared : Bool) (marks says : ℕ → ℕ) → 0 < n → marks place ≡ 0 → cells place 0 cleared marks says
+    → (waits place (says (cell_of place)) → ⊥) × cells place n false marks (put says (cell_of place) (change (says (cell_of place))))
+
+-- and of the cell of one that is behind the turn and not withdrawn: it does not say that the line comes
+abbrev pub StaysBehind : Cells → (ℕ → ℕ → Type 0) → ℕ → Type 0
+StaysBehind cells comes place = (ended hand : ℕ) (cleared : Bool) (marks says : ℕ → ℕ) → ended < place → place < ended + CELLS → marks place ≡ 0 → cells ended hand cleared marks says
+    → comes place (says (cell_of place)) → ⊥
+
 -- the cells behind one are others
 pub cells_apart : (m k : ℕ) → 0 < k → k < CELLS → cell_of (m + k) ≢ cell_of m
 cells_apart m k a b e = let f = one_turn m (m + k) CELLS (omega arith) (omega arith) (sym e) in omega arith
 
--- a node that has the line is at the turn of its own request, or of a withdrawn one
-pub at_turn : (about : Setup) (x : Past) (n : ℕ) (v : ArrayEntry) → NodeOk about x n v → has_line v.own.point ≡ true → (v.own.place ≡ length x.ends) ⊎ (0 < x.marks (length x.ends))
+-- a node that has the line is at the turn of its own request, or of a withdrawn one that it passed
+pub at_turn : (about : Setup) (x : Past) (n : ℕ) (v : ArrayEntry) → NodeOk about x n v → has_line v.own.point ≡ true → Walks (length x.ends) x.marks v
 at_turn about x n v ok l = go v.own.point refl
   where
-    walks : lets_go v.own.point ≡ true → (v.own.place ≡ length x.ends) ⊎ (0 < x.marks (length x.ends))
-    walks g = ⊎_elim (λ z. inl z.0) (λ z. inr z.1) (ok.passes.walking g l)
-
-    go : (q : Point) → v.own.point ≡ q → (v.own.place ≡ length x.ends) ⊎ (0 < x.marks (length x.ends))
+    go : (q : Point) → v.own.point ≡ q → Walks (length x.ends) x.marks v
     go Idle e = absurd (clash_at has_line Idle l e refl)
     go Queued e = absurd (clash_at has_line Queued l e refl)
-    go Holding e = inl (ok.stance.holding e)
-    go Passing e = walks (ap lets_go e)
-    go Cleared e = walks (ap lets_go e)
+    go Holding e = inl (ok.stance.holding e, none_passed ok.passes (ap lets_go e))
+    go Passing e = ok.passes.walking (ap lets_go e) l
+    go Cleared e = ok.passes.walking (ap lets_go e) l
     go Freeing e = absurd (clash_at has_line Freeing l e refl)
     go Rolled e = absurd (clash_at has_line Rolled l e refl)
+
+-- and it keeps its request
+pub line_kept : (q : Point) → has_line q ≡ true → is_kept q ≡ true
+line_kept Idle e = absurd (cc e)
+line_kept Queued e = refl
+line_kept Holding e = refl
+line_kept Passing e = refl
+line_kept Cleared e = refl
+line_kept Freeing e = refl
+line_kept Rolled e = absurd (cc e)
 
 module _ (cells : Cells) (good : List ℕ → Type 0) (allows : List ℕ → List ℕ → Type 0) (about : Setup) (v : ArrayEntry) (queued : v.own.point ≡ Queued) where
   abbrev Rule : ArrayState → Type 0
@@ -115,7 +133,7 @@ module _ (cells : Cells) (good : List ℕ → Type 0) (allows : List ℕ → Lis
 
       go : (u : ArrayEntry) → NodeOk about x x.hand u → (b : Bool) → has_line u.own.point ≡ b → ⊥
       go u k false e = k.hand.lacks e refl
-      go u k true e = ⊎_elim (λ z. other u k e z) (λ z. let m : x.marks (length x.ends) ≡ 0 = ap x.marks (sym here) ∙ ok.marks.unmarked (ap is_kept queued) in omega arith) (at_turn about x x.hand u k e)
+      go u k true e = ⊎_elim (λ z. other u k e z.0) (λ z. let m : x.marks (length x.ends) ≡ 0 = ap x.marks (sym here) ∙ ok.marks.unmarked (ap is_kept queued) in let more = z.1 in omega arith) (at_turn about x x.hand u k e)
 
   -- the state s, whose seat `me` has the entry v alone, at the word i of its cell
   module _ (s : ArrayState) (r : Rule s) (me i : ℕ) (at : get_elem? s.views me ≡ some (v ∷ [])) (word : i ≡ cell_at (cell_of v.own.place)) where
@@ -128,6 +146,10 @@ module _ (cells : Cells) (good : List ℕ → Type 0) (allows : List ℕ → Lis
     -- a request that is not at its turn is behind it, not withdrawn, and no cell comes round so far
     pub behind : v.own.place ≢ length r.past.ends → (length r.past.ends < v.own.place) × (r.past.marks v.own.place ≡ 0)
     behind later = let l = ok.stance.queued queued in (omega arith, ok.marks.unmarked (ap is_kept queued))
+
+    -- what its cell says
+    pub found_is : slice_index s.words i ≡ cells_in s.words (cell_of v.own.place)
+    found_is = ap (slice_index s.words) word
 
     module _ (here : v.own.place ≡ length r.past.ends) where
       pub hand : r.past.hand ≡ 0
@@ -184,3 +206,16 @@ module _ (cells : Cells) (good : List ℕ → Type 0) (allows : List ℕ → Lis
 
       pub learns_take : Continues allows v.view (take_entry r.past).view
       learns_take = continues good allows about r.past (take_past r.past) take_fine v.view.node v.view.node v (take_entry r.past) ok (take_node r.past here ok) refl ok.knows.orders ok.knows.endings ok.knows.clears (λ q h. h) (λ q h. h) (λ q h. h)
+
+      -- where the queue has what it must show
+      module _ (waits : ℕ → ℕ → Type 0) (change : ℕ → ℕ) (takes : Takes cells waits v.own.place v.view.node change) where
+        taken : (waits v.own.place (cells_in s.words (cell_of v.own.place)) → ⊥) × cells v.own.place v.view.node false r.past.marks (put (cells_in s.words) (cell_of v.own.place) (change (cells_in s.words (cell_of v.own.place))))
+        taken = takes r.past.cleared r.past.marks (cells_in s.words) low (ok.marks.unmarked (ap is_kept queued))
+            (subst (λ (z : ℕ × ℕ). cells z.0 z.1 r.past.cleared r.past.marks (cells_in s.words)) (λ j. (sym here j, hand j)) r.shown.said)
+
+        pub taken_not_waits : waits v.own.place (slice_index s.words i) → ⊥
+        taken_not_waits w = taken.0 (subst (waits v.own.place) found_is w)
+
+        pub taken_rule : Rule record { words = set s.words i (change (slice_index s.words i)); homes = set s.homes 0 none; views = set s.views me (take_entry r.past ∷ []) }
+        taken_rule = takes_rule (change (slice_index s.words i))
+            (subst (λ (z : ℕ × ℕ). cells z.0 v.view.node false r.past.marks (put (cells_in s.words) (cell_of v.own.place) (change z.1))) (λ j. (here j, sym found_is j)) taken.1)
