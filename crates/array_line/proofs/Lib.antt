@@ -18,3 +18,4 @@ pub mod Taking
 pub mod Load
 pub mod Roll
 pub mod Walking
+pub mod Grant

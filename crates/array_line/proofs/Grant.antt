@@ -1,13 +1,13 @@
 -- A release grants the next cell: the request at its turn has ended. Where the next one is not withdrawn the line is at home, else it
 -- stays with the node, which passes that request.
-use Rattle.std.proofs.Common.{◌≡◌, ◌≢◌, ◌⊎◌, ℕ, zero, suc, ◌+◌, ◌*◌, ◌%◌, ◌^◌, ◌<◌, ◌≤◌, List, [], ◌∷◌, ◌++◌, length, set, slice_index, get_or, true, false, sym, refl, ap, ◌∙◌, subst, inl, inr, ⊎_elim, arith, length-append, length-set, mod-lt, get_or-set_same, get_or-set_other}
+use Rattle.std.proofs.Common.{◌≡◌, ◌≢◌, ◌⊎◌, ℕ, zero, suc, ◌+◌, ◌*◌, ◌%◌, ◌^◌, ◌<◌, ◌≤◌, List, [], ◌∷◌, ◌++◌, length, set, slice_index, Bool, true, false, sym, refl, ap, ◌∙◌, subst, inl, inr, ⊎_elim, arith, length-append, length-set, mod-lt}
 use mathlib.Core.Logic.{dite}
 use mathlib.Core.List.{IsPrefix}
 use mathlib.Core.Option.{none, some, some-ne-none}
 use native.Mathlib.Decide.{ℕ_discrete}
 use lib.ListN.{get_elem?}
 use Rattle.std.proofs.lemmas.Option.{slice_get_within}
-use Rattle.atomic_table.specs.Table.{step, keeps, gives, Allows}
+use Rattle.atomic_table.specs.Table.{Step, keeps, gives, Allows}
 use Rattle.atomic_table.proofs.Lists.{set_here}
 use Rattle.qolb_model.specs.declared.request.Request.{Request}
 use Rattle.qolb_model.specs.declared.end.End.{End}
@@ -22,22 +22,22 @@ use Rattle.qolb_model.proofs.Requests.{has_last, lacks_from, same_place}
 use Rattle.qolb_model.specs.declared.terms.TheConstants.{MOST_NODES}
 use Rattle.qolb_model.proofs.Prefixes.{prefix_more}
 use Rattle.qolb_model.proofs.Updates.{put, put_here, put_else}
-use Rattle.ring_line.specs.declared.words.TheConstants.{CELLS, WITHDRAWN}
-use Rattle.ring_line.specs.declared.own.Point.TheVariants.{Idle, Queued, Holding, Passing, Cleared, Rolled}
+use Rattle.array_line.specs.declared.words.TheConstants.{CELLS}
+use Rattle.array_line.specs.declared.own.Point.TheVariants.{Idle, Queued, Holding, Passing, Rolled}
 use Rattle.shared_line.specs.declared.rule.Setup.{Setup}
 use Rattle.shared_line.specs.declared.rule.Parcel.{Parcel}
-use Rattle.ring_line.specs.Words.{ticket_at, cell_at, node_at, cell_of, withdrawn_by}
-use Rattle.ring_line.specs.Ring.{RingEntry, RingState, At, Past, HasPassed, Walks, NodeOk, PastOk, Shown, RingRule, has_line, lets_go, is_kept, is_cleared}
-use Rattle.ring_line.specs.Steps.{Contents, next_end, after_walk, CarriesNext, Ended, GoesHome, Passes, granted}
-use Rattle.ring_line.specs.Laws.Nodes.{passed_goes, placed_at, knows_whole, hand_none}
-use Rattle.ring_line.proofs.Nodes.{others_end, others_clear, others_hand, freed_so}
-use Rattle.ring_line.specs.Laws.Histories.{marked_at, continues}
-use Rattle.ring_line.proofs.Keeping.{Homes, rule_step, mine_ok, mine_low, blank}
-use Rattle.ring_line.proofs.Taking.{cells_apart}
-use Rattle.ring_line.proofs.Clearing.{not_after, no_line_after, goes_after, clear_with, more_clear, still_unclear, fine_clear}
-use Rattle.ring_line.proofs.Ending.{not_holding, own_not_gone, passed_gone, fine_end, fine_home}
-use Rattle.ring_line.proofs.Passed.{few_passed}
-use Rattle.ring_line.proofs.Turning.{goes_step}
+use Rattle.array_line.specs.Words.{cell_at, cells_in, cell_of}
+use Rattle.array_line.specs.Array.{ArrayEntry, ArrayState, At, Cells, Past, HasPassed, Walks, NodeOk, PastOk, ArrayRule, has_line, lets_go, is_kept, is_cleared}
+use Rattle.array_line.specs.Steps.{Contents, next_end, after_walk, CarriesNext, Ended, GoesHome, Passes, granted}
+use Rattle.array_line.proofs.OneNode.{clash_at, passed_goes, placed_at, knows_whole, hand_none}
+use Rattle.array_line.proofs.Nodes.{others_end, others_clear, others_hand, freed_so}
+use Rattle.array_line.proofs.Histories.{marked_at, continues}
+use Rattle.array_line.proofs.Keeping.{rule_step, mine_ok, mine_low, blank, cell_shown}
+use Rattle.array_line.proofs.Taking.{at_turn, line_kept}
+use Rattle.array_line.proofs.Clearing.{not_after, no_line_after, goes_after, clear_with, more_clear, still_unclear, fine_clear}
+use Rattle.array_line.proofs.Ending.{not_holding, own_not_gone, passed_gone, fine_end, fine_home}
+use Rattle.array_line.proofs.Passed.{few_passed}
+use Rattle.array_line.proofs.Turning.{goes_step}
 use Rattle.qolb_model.specs.Leases.{turns_left, is_last_turn}
 use Rattle.qolb_model.specs.declared.terms.Terms.{Terms}
 use Rattle.qolb_model.specs.PortStates.{left_by}
@@ -56,9 +56,17 @@ elem_within [] p x e = absurd (some-ne-none x (sym e))
 elem_within (y ∷ ys) zero x e = omega arith
 elem_within (y ∷ ys) (suc p) x e = let h = elem_within ys p x e in omega arith
 
-module _ (good : List ℕ → Type 0) (allows : List ℕ → List ℕ → Type 0) (about : Setup) (goes : (a b : List ℕ) → good a → allows a b → good b) (v : RingEntry) (cleared : v.own.point ≡ Cleared) (y : Parcel) (carries : CarriesNext allows v y) where
-  abbrev Rule : RingState → Type 0
-  Rule = RingRule good allows about
+-- What a queue shows where so many requests have ended and the next cell is changed so, to grant it. Where nobody withdrew there, it reads 0 of
+-- what the cell said, and the line goes home; else it reads who withdrew, and the line stays in that hand.
+abbrev pub GrantsNext : Cells → (ℕ → ℕ → ℕ) → (ℕ → ℕ → ℕ) → ℕ → Bool → (ℕ → ℕ) → Type 0
+GrantsNext cells seen withdrawn_by ended cleared change = (hand : ℕ) (marks says : ℕ → ℕ) → marks (ended + CELLS) ≡ 0 → cells ended hand cleared marks says
+    → (marks (ended + 1) ≡ 0 → (seen (ended + 1) (says (cell_of (ended + 1))) ≡ 0) × cells (ended + 1) 0 false marks (put says (cell_of (ended + 1)) (change (says (cell_of (ended + 1))))))
+      × (0 < marks (ended + 1) → marks (ended + 1) ≤ MOST_NODES → 0 < hand
+      → (seen (ended + 1) (says (cell_of (ended + 1))) ≢ 0) × (withdrawn_by (ended + 1) (says (cell_of (ended + 1))) ≡ marks (ended + 1)) × cells (ended + 1) hand false marks (put says (cell_of (ended + 1)) (change (says (cell_of (ended + 1))))))
+
+module _ (cells : Cells) (good : List ℕ → Type 0) (allows : List ℕ → List ℕ → Type 0) (about : Setup) (goes : (a b : List ℕ) → good a → allows a b → good b) (v : ArrayEntry) (has_it : has_line v.own.point ≡ true) (y : Parcel) (carries : CarriesNext allows v y) where
+  abbrev Rule : ArrayState → Type 0
+  Rule = ArrayRule cells good allows about
 
   abbrev e : End
   e = next_end v y
@@ -66,42 +74,45 @@ module _ (good : List ℕ → Type 0) (allows : List ℕ → List ℕ → Type 0
   abbrev walk_past : Past → Past
   walk_past x = record x { ends = x.ends ++ e ∷ []; cleared = false; passer = put x.passer (length (x.ends ++ e ∷ [])) v.view.node }
 
-  abbrev walk_entry : Past → RingEntry
+  abbrev walk_entry : Past → ArrayEntry
   walk_entry x = record v { view = record v.view { state = left_by y.closed; order = x.order; ends = x.ends ++ e ∷ []; clear = x.clear }; own = record v.own { point = Passing; passed = v.own.passed ++ length (x.ends ++ e ∷ []) ∷ [] }; steps = v.steps + 1 }
 
   abbrev home_past : Past → Past
   home_past x = record x { ends = x.ends ++ e ∷ []; clear = clear_with (own v.view) v.own.passed x.clear; hand = 0; cleared = false }
 
-  abbrev home_entry : Past → RingEntry
+  abbrev home_entry : Past → ArrayEntry
   home_entry x = record v { view = record v.view { state = left_by y.closed; order = x.order; ends = x.ends ++ e ∷ []; clear = clear_with (own v.view) v.own.passed x.clear }; own = record v.own { point = after_walk v.own.passed }; steps = v.steps + 1 }
 
+  keeps_it : is_kept v.own.point ≡ true
+  keeps_it = line_kept v.own.point has_it
+
   not_idle : v.own.point ≢ Idle
-  not_idle i = let d = cleared in cc
+  not_idle i = clash_at has_line Idle has_it i refl
 
   not_rolled : v.own.point ≢ Rolled
-  not_rolled i = let d = cleared in cc
+  not_rolled i = clash_at has_line Rolled has_it i refl
 
   module _ (x : Past) (f : PastOk good allows about x) (ok : NodeOk about x v.view.node v) where
     longer : length (x.ends ++ e ∷ []) ≡ length x.ends + 1
     longer = length-append x.ends (e ∷ [])
 
     ends : v.view.ends ≡ x.ends
-    ends = (ok.hand.holds (ap has_line cleared)).0
+    ends = (ok.hand.holds has_it).0
 
     hand : x.hand ≡ v.view.node
-    hand = (ok.hand.holds (ap has_line cleared)).1
+    hand = (ok.hand.holds has_it).1
 
-    was_cleared : x.cleared ≡ true
-    was_cleared = (ok.hand.holds (ap has_line cleared)).2 ∙ ap is_cleared cleared
+    was_cleared : x.cleared ≡ is_cleared v.own.point
+    was_cleared = (ok.hand.holds has_it).2
 
     walks : Walks (length x.ends) x.marks v
-    walks = ok.passes.walking (ap lets_go cleared) (ap has_line cleared)
+    walks = at_turn about x v.view.node v ok has_it
 
     unmarked : x.marks v.own.place ≡ 0
-    unmarked = ok.marks.unmarked (ap is_kept cleared)
+    unmarked = ok.marks.unmarked keeps_it
 
     unclear : Lacks x.clear (own v.view)
-    unclear = ok.marks.unclear (ap is_kept cleared)
+    unclear = ok.marks.unclear keeps_it
 
     placed : At x.order v.own.place (own v.view)
     placed = placed_at about x v.view.node v ok (ok.stance.asked not_idle)
@@ -140,52 +151,8 @@ module _ (good : List ℕ → Type 0) (allows : List ℕ → List ℕ → Type 0
       ended_fine passer = fine_end good allows about goes x e passer f (λ z. let h = hand in omega arith) (slice_get_within x.order (length x.ends) turn.0 turn.1)
           follows allowed gone marked
 
-      ended_others : (passer : ℕ → ℕ) → ((p : ℕ) → p ≤ length x.ends → passer p ≡ x.passer p) → (n : ℕ) (u : RingEntry) → n ≢ v.view.node → NodeOk about x n u → NodeOk about (record x { ends = x.ends ++ e ∷ []; cleared = false; passer = passer }) n u
+      ended_others : (passer : ℕ → ℕ) → ((p : ℕ) → p ≤ length x.ends → passer p ≡ x.passer p) → (n : ℕ) (u : ArrayEntry) → n ≢ v.view.node → NodeOk about x n u → NodeOk about (record x { ends = x.ends ++ e ∷ []; cleared = false; passer = passer }) n u
       ended_others passer passes n u ne k = others_end about x n u k v.view.node turn.0 e passer turn.1 turn.2 marked ne hand passes
-
-      -- the cell behind the granted one
-      module _ (words : List ℕ) (homes : Homes) (i : ℕ) (is : i ≡ cell_at (cell_of (length x.ends + 1))) (far : x.marks (length x.ends + CELLS) ≡ 0) (h : Shown good allows about x words homes) where
-        found : slice_index words i ≡ WITHDRAWN * x.marks (length (x.ends ++ e ∷ []))
-        found = ap (slice_index words) is ∙ h.later 1 (omega arith) (omega arith) ∙ ap (λ k. WITHDRAWN * x.marks k) (sym longer)
-
-        small : cell_of (length x.ends + 1) < CELLS
-        small = mod-lt (length x.ends + 1) (omega arith)
-
-        later_cells : (z k : ℕ) → 0 < k → k < CELLS → slice_index (set words i z) (cell_at (cell_of (length (x.ends ++ e ∷ []) + k))) ≡ WITHDRAWN * x.marks (length (x.ends ++ e ∷ []) + k)
-        later_cells z k a b = subst (λ q. slice_index (set words i z) (cell_at (cell_of q)) ≡ WITHDRAWN * x.marks q) (sym (ap (λ q. q + k) longer))
-            (get_or-set_other words i (cell_at (cell_of (length x.ends + 1 + k))) z 0 (λ q. cells_apart (length x.ends + 1) k a b (let s = small in let t : cell_of (length x.ends + 1 + k) < CELLS = mod-lt (length x.ends + 1 + k) (omega arith) in omega arith)) ∙ old (ℕ_discrete (k + 1) CELLS))
-          where
-            old : Dec (k + 1 ≡ CELLS) → slice_index words (cell_at (cell_of (length x.ends + 1 + k))) ≡ WITHDRAWN * x.marks (length x.ends + 1 + k)
-            old (yes last) = let n : length x.ends + 1 + k ≡ length x.ends + CELLS = omega arith in let w : cell_of (length x.ends + 1 + k) ≡ cell_of (length x.ends) = omega arith in
-                let m : x.marks (length x.ends + 1 + k) ≡ 0 = ap x.marks n ∙ far in
-                ap (λ q. slice_index words (cell_at q)) w ∙ h.cleared was_cleared ∙ (let z : 0 ≡ WITHDRAWN * x.marks (length x.ends + 1 + k) = omega arith in z)
-            old (no ne) = let n : length x.ends + (k + 1) ≡ length x.ends + 1 + k = omega arith in
-                subst (λ q. slice_index words (cell_at (cell_of q)) ≡ WITHDRAWN * x.marks q) n (h.later (k + 1) (omega arith) (omega arith))
-
-        walk_shown : (z : ℕ) → Shown good allows about (walk_past x) (set words i z) homes
-        walk_shown z = record {
-          wide = length-set words i z ∙ h.wide;
-          deep = h.deep;
-          ticket = get_or-set_other words i ticket_at z 0 (λ q. omega arith) ∙ h.ticket;
-          cleared = λ q. absurd (cc q);
-          granted = λ q. absurd (let k = hand in omega arith);
-          later = λ k a b. later_cells z k a b;
-          flags = λ n a b. get_or-set_other words i (node_at n) z 0 (λ q. omega arith) ∙ h.flags n a b;
-          home = λ q. absurd (let k = hand in omega arith);
-        }
-
-        home_shown : x.marks (length (x.ends ++ e ∷ [])) ≡ 0 → Shown good allows about (home_past x) (set words i ((slice_index words i + 1) % 2 ^ 64)) (set homes 0 (some y))
-        home_shown free = let new : ℕ = (slice_index words i + 1) % 2 ^ 64 in record {
-          wide = length-set words i new ∙ h.wide;
-          deep = length-set homes 0 (some y) ∙ h.deep;
-          ticket = get_or-set_other words i ticket_at new 0 (λ q. omega arith) ∙ h.ticket;
-          cleared = λ q. absurd (cc q);
-          granted = λ _. ap (λ k. get_or (set words i new) k 0) (ap (λ k. cell_at (cell_of k)) longer ∙ sym is) ∙ get_or-set_same words i new 0 (let w = h.wide in let b = small in omega arith)
-              ∙ ap (λ k. (k + 1) % 2 ^ 64) (found ∙ ap (λ k. WITHDRAWN * k) free);
-          later = λ k a b. later_cells new k a b;
-          flags = λ n a b. get_or-set_other words i (node_at n) new 0 (λ q. omega arith) ∙ h.flags n a b;
-          home = λ _. (y, set_here homes 0 (some y) (let d = h.deep in omega arith), bytes, shut, left);
-        }
 
       -- the next request is withdrawn
       module _ (rolled : 0 < x.marks (length (x.ends ++ e ∷ []))) where
@@ -253,7 +220,7 @@ module _ (good : List ℕ → Type 0) (allows : List ℕ → List ℕ → Type 0
             old : (i p : ℕ) → At v.own.passed i p → p ≡ length (x.ends ++ e ∷ []) → ⊥
             old i p at q = let h = (ok.passes.passed i p at).within in let l = longer in omega arith
 
-        walk_others : (n : ℕ) (u : RingEntry) → n ≢ v.view.node → NodeOk about x n u → NodeOk about (walk_past x) n u
+        walk_others : (n : ℕ) (u : ArrayEntry) → n ≢ v.view.node → NodeOk about x n u → NodeOk about (walk_past x) n u
         walk_others n u ne k = ended_others (put x.passer (length (x.ends ++ e ∷ [])) v.view.node) (λ p le. put_else x.passer (length (x.ends ++ e ∷ [])) v.view.node p (λ q. let l = longer in omega arith)) n u ne k
 
         walk_fine : PastOk good allows about (walk_past x)
@@ -311,7 +278,7 @@ module _ (good : List ℕ → Type 0) (allows : List ℕ → List ℕ → Type 0
           joins = ok.joins;
         }
 
-        home_others : (n : ℕ) (u : RingEntry) → 0 < n → n ≢ v.view.node → NodeOk about x n u → NodeOk about (home_past x) n u
+        home_others : (n : ℕ) (u : ArrayEntry) → 0 < n → n ≢ v.view.node → NodeOk about x n u → NodeOk about (home_past x) n u
         home_others n u above ne k = others_hand about (record x { ends = x.ends ++ e ∷ []; cleared = false; clear = clear_with (own v.view) v.own.passed x.clear }) n u (go v.own.passed) 0 false (λ q. ne (sym q ∙ hand)) (λ q. absurd (some_node q))
           where
             one : NodeOk about (record x { ends = x.ends ++ e ∷ []; cleared = false }) n u
@@ -358,47 +325,78 @@ module _ (good : List ℕ → Type 0) (allows : List ℕ → List ℕ → Type 0
         }
 
   own_turn_of : (x : Past) (ok : NodeOk about x v.view.node v) → v.own.passed ≡ [] → At x.order (length v.view.ends) (own v.view)
-  own_turn_of x ok empty = ⊎_elim (λ z. subst (λ q. At x.order q (own v.view)) (z.0 ∙ ap length (sym (ok.hand.holds (ap has_line cleared)).0)) (placed_at about x v.view.node v ok (ok.stance.asked not_idle)))
-      (λ z. absurd (z.2 empty)) (ok.passes.walking (ap lets_go cleared) (ap has_line cleared))
+  own_turn_of x ok empty = ⊎_elim (λ z. subst (λ q. At x.order q (own v.view)) (z.0 ∙ ap length (sym (ok.hand.holds has_it).0)) (placed_at about x v.view.node v ok (ok.stance.asked not_idle)))
+      (λ z. absurd (z.2 empty)) (at_turn about x v.view.node v ok has_it)
 
-  module _ (s : RingState) (r : Rule s) (me i : ℕ) (at : get_elem? s.views me ≡ some (v ∷ [])) (word : i ≡ cell_at (cell_of (length v.view.ends + 1))) where
+  -- the word i is that of the next cell, and becomes z
+  module _ (s : ArrayState) (r : Rule s) (me i z : ℕ) (at : get_elem? s.views me ≡ some (v ∷ [])) (word : i ≡ cell_at (cell_of (length v.view.ends + 1))) where
     ok : NodeOk about r.past v.view.node v
-    ok = mine_ok good allows about s r me v at
+    ok = mine_ok cells good allows about s r me v at
 
     above : 0 < v.view.node
-    above = (mine_low good allows about s r me v at).0
+    above = (mine_low cells good allows about s r me v at).0
 
     same_ends : v.view.ends ≡ r.past.ends
     same_ends = ends r.past r.fine ok
 
-    cell_is : i ≡ cell_at (cell_of (length r.past.ends + 1))
-    cell_is = word ∙ ap (λ es. cell_at (cell_of (length es + 1))) same_ends
+    -- the place behind the turn
+    abbrev next : ℕ
+    next = length (r.past.ends ++ e ∷ [])
 
-    seen : slice_index s.words i ≡ WITHDRAWN * r.past.marks (length (r.past.ends ++ e ∷ []))
-    seen = found r.past r.fine ok above s.words s.homes i cell_is (blank good allows about s r) r.shown
+    next_is : length v.view.ends + 1 ≡ next
+    next_is = ap (λ es. length es + 1) same_ends ∙ sym (longer r.past r.fine ok)
 
-    homes_rule : r.past.marks (length (r.past.ends ++ e ∷ [])) ≡ 0 → Rule record { words = set s.words i ((slice_index s.words i + 1) % 2 ^ 64); homes = set s.homes 0 (some y); views = set s.views me (home_entry r.past ∷ []) }
-    homes_rule free = rule_step good allows about s r me v (home_entry r.past) (home_past r.past) (set s.words i ((slice_index s.words i + 1) % 2 ^ 64)) (set s.homes 0 (some y)) at refl
-        (home_fine r.past r.fine ok above free) (home_shown r.past r.fine ok above s.words s.homes i cell_is (blank good allows about s r) r.shown free) (home_node r.past r.fine ok above free)
+    small : cell_of (length v.view.ends + 1) < CELLS
+    small = mod-lt (length v.view.ends + 1) (omega arith)
+
+    -- what the cells say, as far as the node knows the turn
+    said : cells (length v.view.ends) r.past.hand (is_cleared v.own.point) r.past.marks (cells_in s.words)
+    said = subst (λ (z : ℕ × Bool). cells z.0 r.past.hand z.1 r.past.marks (cells_in s.words)) (λ j. (length (sym same_ends j), was_cleared r.past r.fine ok j)) r.shown.said
+
+    far : r.past.marks (length v.view.ends + CELLS) ≡ 0
+    far = ap (λ es. r.past.marks (length es + CELLS)) same_ends ∙ blank cells good allows about s r
+
+    homes_rule : r.past.marks next ≡ 0 → cells (length v.view.ends + 1) 0 false r.past.marks (put (cells_in s.words) (cell_of (length v.view.ends + 1)) z)
+        → Rule record { words = set s.words i z; homes = set s.homes 0 (some y); views = set s.views me (home_entry r.past ∷ []) }
+    homes_rule free says = rule_step cells good allows about s r me v (home_entry r.past) (home_past r.past) (set s.words i z) (set s.homes 0 (some y)) at refl
+        (home_fine r.past r.fine ok above free)
+        (cell_shown cells good allows about r.past s.words s.homes (set s.homes 0 (some y)) i (cell_of (length v.view.ends + 1)) z word small r.shown (length-set s.homes 0 (some y))
+        0 false (r.past.ends ++ e ∷ []) (clear_with (own v.view) v.own.passed r.past.clear) r.past.marks r.past.passer
+        (subst (λ q. cells q 0 false r.past.marks (put (cells_in s.words) (cell_of (length v.view.ends + 1)) z)) next_is says)
+        (λ _. (y, set_here s.homes 0 (some y) (let d = r.shown.deep in omega arith), bytes r.past r.fine ok, shut r.past r.fine ok, left r.past r.fine ok)))
+        (home_node r.past r.fine ok above free)
         (λ n a b ne. home_others r.past r.fine ok above free n (r.who n) a ne (r.each n a b))
 
-    walks_rule : 0 < r.past.marks (length (r.past.ends ++ e ∷ [])) → (z : ℕ) → Rule record { words = set s.words i z; homes = s.homes; views = set s.views me (walk_entry r.past ∷ []) }
-    walks_rule rolled z = rule_step good allows about s r me v (walk_entry r.past) (walk_past r.past) (set s.words i z) s.homes at refl
-        (walk_fine r.past r.fine ok above rolled) (walk_shown r.past r.fine ok above s.words s.homes i cell_is (blank good allows about s r) r.shown z) (walk_node r.past r.fine ok above rolled)
+    walks_rule : 0 < r.past.marks next → cells (length v.view.ends + 1) r.past.hand false r.past.marks (put (cells_in s.words) (cell_of (length v.view.ends + 1)) z)
+        → Rule record { words = set s.words i z; homes = s.homes; views = set s.views me (walk_entry r.past ∷ []) }
+    walks_rule rolled says = rule_step cells good allows about s r me v (walk_entry r.past) (walk_past r.past) (set s.words i z) s.homes at refl
+        (walk_fine r.past r.fine ok above rolled)
+        (cell_shown cells good allows about r.past s.words s.homes s.homes i (cell_of (length v.view.ends + 1)) z word small r.shown refl
+        r.past.hand false (r.past.ends ++ e ∷ []) r.past.clear r.past.marks (put r.past.passer next v.view.node)
+        (subst (λ q. cells q r.past.hand false r.past.marks (put (cells_in s.words) (cell_of (length v.view.ends + 1)) z)) next_is says)
+        (λ nobody. absurd (held nobody)))
+        (walk_node r.past r.fine ok above rolled)
         (λ n a b ne. walk_others r.past r.fine ok above rolled n (r.who n) ne (r.each n a b))
+      where
+        held : r.past.hand ≡ 0 → ⊥
+        held nobody = let h = hand r.past r.fine ok in let l = above in omega arith
 
-    passes : 0 < r.past.marks (length (r.past.ends ++ e ∷ [])) → Passes v (slice_index s.words i) (walk_entry r.past)
-    passes rolled = let k = passed_request r.past r.fine ok above rolled in record {
+    passes : (by_node : ℕ) → by_node ≡ r.past.marks next → (rolled : 0 < r.past.marks next) → cells (length v.view.ends + 1) r.past.hand false r.past.marks (put (cells_in s.words) (cell_of (length v.view.ends + 1)) z) → Passes v by_node (walk_entry r.past)
+    passes by_node is rolled says = let k = passed_request r.past r.fine ok above rolled in record {
       point = refl;
       passed = refl;
       request = k.0;
       at = k.1;
-      node = k.2 ∙ (let w = seen in let d : r.past.marks (length (r.past.ends ++ e ∷ [])) ≡ withdrawn_by (slice_index s.words i) = omega arith in d);
-      high = subst (λ (t : Terms). k.0.node ≤ t.nodes) (sym ok.who.terms) (r.fine.nodes (length (r.past.ends ++ e ∷ [])) k.0 k.1).1;
-      few = subst (λ (t : Terms). length (v.own.passed ++ length (r.past.ends ++ e ∷ []) ∷ []) + 1 ≤ t.nodes) (sym ok.who.terms)
-          (few_passed good allows about (record { words = set s.words i 0; homes = s.homes; views = set s.views me (walk_entry r.past ∷ []) }) (walks_rule rolled 0) me (walk_entry r.past) (set_here s.views me (walk_entry r.past ∷ []) (elem_within s.views me (v ∷ []) at)) refl);
+      is_by = k.2 ∙ sym is;
+      high = subst (λ (t : Terms). k.0.node ≤ t.nodes) (sym ok.who.terms) (r.fine.nodes next k.0 k.1).1;
+      few = subst (λ (t : Terms). length (v.own.passed ++ next ∷ []) + 1 ≤ t.nodes) (sym ok.who.terms)
+          (few_passed cells good allows about (record { words = set s.words i z; homes = s.homes; views = set s.views me (walk_entry r.past ∷ []) }) (walks_rule rolled says) me (walk_entry r.past) (set_here s.views me (walk_entry r.past ∷ []) (elem_within s.views me (v ∷ []) at)) refl);
       nodes = subst (λ (t : Terms). t.nodes ≤ MOST_NODES) (sym ok.who.terms) r.may_open.nodes.few;
     }
+
+    -- a node that withdrew is one of the line's
+    high : 0 < r.past.marks next → r.past.marks next ≤ MOST_NODES
+    high rolled = let k = r.fine.marked next rolled in let h = (r.fine.nodes next k.0 k.1).1 in let same = k.2 in let few = r.may_open.nodes.few in omega arith
 
     ended_home : Ended v (home_entry r.past) y
     ended_home = record { known = (ended_fine r.past r.fine ok above r.past.passer).legal.ended; ends = ap (λ l. l ++ e ∷ []) (sym same_ends); state = refl; count = refl; own_turn = own_turn_of r.past ok }
@@ -406,31 +404,39 @@ module _ (good : List ℕ → Type 0) (allows : List ℕ → List ℕ → Type 0
     ended_walk : Ended v (walk_entry r.past) y
     ended_walk = record { known = (ended_fine r.past r.fine ok above r.past.passer).legal.ended; ends = ap (λ l. l ++ e ∷ []) (sym same_ends); state = refl; count = refl; own_turn = own_turn_of r.past ok }
 
-  pub grants_next : (me slots i : ℕ) (m : Contents) → m ≡ (v ∷ [], (0, y) ∷ []) → i ≡ cell_at (cell_of (length v.view.ends + 1)) → Allows Rule slots me m i (λ n. (n + 1) % 2 ^ 64) (granted allows (step slots i 1 0 none) m)
-  grants_next me slots i m is word = subst (λ (z : Contents). Allows Rule slots me z i (λ n. (n + 1) % 2 ^ 64) (granted allows (step slots i 1 0 none) z)) (sym is) (λ s r deep at small.
-      let w = seen s r me i at word in
-      dite (ℕ_discrete (r.past.marks (length (r.past.ends ++ e ∷ []))) 0)
-      (λ free. (
-        home_entry r.past ∷ [],
-        gives,
-        tt,
-        homes_rule s r me i at word free,
-        (
-          goes_step allows (v ∷ [], (0, y) ∷ []) v (home_entry r.past) [] refl (learns_home r.past r.fine (ok s r me i at word) (above s r me i at word) free) refl,
-          (λ z c. subst (λ (u : Parcel). Ended v (home_entry r.past) u) (ap (carried_parcel y) c) (ended_home s r me i at word)),
-          (λ _. ((λ z c. refl), goes_home r.past r.fine (ok s r me i at word) (above s r me i at word) free)),
-          (λ ne. absurd (ne (omega arith))),
-        ),
-      ))
-      (λ ne. (
-        walk_entry r.past ∷ [],
-        keeps,
-        tt,
-        walks_rule s r me i at word (omega arith) ((slice_index s.words i + 1) % 2 ^ 64),
-        (
-          goes_step allows (v ∷ [], (0, y) ∷ []) v (walk_entry r.past) ((0, y) ∷ []) refl (learns_walk r.past r.fine (ok s r me i at word) (above s r me i at word) (omega arith)) refl,
-          (λ z c. subst (λ (u : Parcel). Ended v (walk_entry r.past) u) (ap (carried_parcel y) c) (ended_walk s r me i at word)),
-          (λ z. absurd (ne (omega arith))),
-          (λ _. (refl, passes s r me i at word (omega arith))),
-        ),
-      )))
+  module _ (seen withdrawn_by : ℕ → ℕ → ℕ) (change : ℕ → ℕ) (grants : GrantsNext cells seen withdrawn_by (length v.view.ends) (is_cleared v.own.point) change) where
+    pub grants_next : (me slots i : ℕ) (m : Contents) (st : Step Parcel) → m ≡ (v ∷ [], (0, y) ∷ []) → i ≡ cell_at (cell_of (length v.view.ends + 1)) → Allows Rule slots me m i change (granted allows seen withdrawn_by st m)
+    grants_next me slots i m st is word = subst (λ (z : Contents). Allows Rule slots me z i change (granted allows seen withdrawn_by st z)) (sym is) (λ s r deep at small.
+        let new : ℕ = change (slice_index s.words i) in
+        let found : slice_index s.words i ≡ cells_in s.words (cell_of (length v.view.ends + 1)) = ap (slice_index s.words) word in
+        let step_of = next_is s r me i new at word in
+        let all = grants r.past.hand r.past.marks (cells_in s.words) (far s r me i new at word) (said s r me i new at word) in
+        dite (ℕ_discrete (r.past.marks (length (r.past.ends ++ e ∷ []))) 0)
+        (λ free. let both = all.0 (ap r.past.marks step_of ∙ free) in (
+          home_entry r.past ∷ [],
+          gives,
+          tt,
+          homes_rule s r me i new at word free (subst (λ k. cells (length v.view.ends + 1) 0 false r.past.marks (put (cells_in s.words) (cell_of (length v.view.ends + 1)) (change k))) (sym found) both.1),
+          (
+            goes_step allows (v ∷ [], (0, y) ∷ []) v (home_entry r.past) [] refl (learns_home r.past r.fine (ok s r me i new at word) (above s r me i new at word) free) refl,
+            (λ z c. subst (λ (u : Parcel). Ended v (home_entry r.past) u) (ap (carried_parcel y) c) (ended_home s r me i new at word)),
+            (λ _. ((λ z c. refl), goes_home r.past r.fine (ok s r me i new at word) (above s r me i new at word) free)),
+            (λ ne. absurd (ne (ap (seen (length v.view.ends + 1)) found ∙ both.0))),
+          ),
+        ))
+        (λ ne. let rolled : 0 < r.past.marks (length (r.past.ends ++ e ∷ [])) = omega arith in
+            let marked : r.past.marks (length v.view.ends + 1) ≡ r.past.marks (length (r.past.ends ++ e ∷ [])) = ap r.past.marks step_of in
+            let held = (hand r.past r.fine (ok s r me i new at word)) in let up = above s r me i new at word in let some_node : 0 < r.past.hand = omega arith in
+            let told = all.1 (subst (λ k. 0 < k) (sym marked) rolled) (subst (λ k. k ≤ MOST_NODES) (sym marked) (high s r me i new at word rolled)) some_node in
+            let says = subst (λ k. cells (length v.view.ends + 1) r.past.hand false r.past.marks (put (cells_in s.words) (cell_of (length v.view.ends + 1)) (change k))) (sym found) told.2 in (
+          walk_entry r.past ∷ [],
+          keeps,
+          tt,
+          walks_rule s r me i new at word rolled says,
+          (
+            goes_step allows (v ∷ [], (0, y) ∷ []) v (walk_entry r.past) ((0, y) ∷ []) refl (learns_walk r.past r.fine (ok s r me i new at word) (above s r me i new at word) rolled) refl,
+            (λ z c. subst (λ (u : Parcel). Ended v (walk_entry r.past) u) (ap (carried_parcel y) c) (ended_walk s r me i new at word)),
+            (λ z. absurd (told.0 (ap (seen (length v.view.ends + 1)) (sym found) ∙ z))),
+            (λ _. (refl, passes s r me i new at word (withdrawn_by (length v.view.ends + 1) (slice_index s.words i)) (ap (withdrawn_by (length v.view.ends + 1)) found ∙ told.1 ∙ marked) rolled says)),
+          ),
+        )))
