@@ -7,7 +7,7 @@ use mathlib.Core.Option.{none, some, some-ne-none}
 use native.Mathlib.Decide.{ℕ_discrete}
 use lib.ListN.{get_elem?}
 use Rattle.std.proofs.lemmas.Option.{slice_get_within}
-use Rattle.atomic_table.specs.Table.{Step, keeps, gives, Allows}
+use Rattle.atomic_table.specs.Table.{step, keeps, gives, Allows}
 use Rattle.atomic_table.proofs.Lists.{set_here}
 use Rattle.qolb_model.specs.declared.request.Request.{Request}
 use Rattle.qolb_model.specs.declared.end.End.{End}
@@ -405,8 +405,8 @@ module _ (cells : Cells) (good : List ℕ → Type 0) (allows : List ℕ → Lis
     ended_walk = record { known = (ended_fine r.past r.fine ok above r.past.passer).legal.ended; ends = ap (λ l. l ++ e ∷ []) (sym same_ends); state = refl; count = refl; own_turn = own_turn_of r.past ok }
 
   module _ (seen withdrawn_by : ℕ → ℕ → ℕ) (change : ℕ → ℕ) (grants : GrantsNext cells seen withdrawn_by (length v.view.ends) (is_cleared v.own.point) change) where
-    pub grants_next : (me slots i : ℕ) (m : Contents) (st : Step Parcel) → m ≡ (v ∷ [], (0, y) ∷ []) → i ≡ cell_at (cell_of (length v.view.ends + 1)) → Allows Rule slots me m i change (granted allows seen withdrawn_by st m)
-    grants_next me slots i m st is word = subst (λ (z : Contents). Allows Rule slots me z i change (granted allows seen withdrawn_by st z)) (sym is) (λ s r deep at small.
+    pub grants_next : (me slots i : ℕ) (m : Contents) → m ≡ (v ∷ [], (0, y) ∷ []) → i ≡ cell_at (cell_of (length v.view.ends + 1)) → Allows Rule slots me m i change (granted allows seen withdrawn_by (step slots i 0 0 none) m)
+    grants_next me slots i m is word = subst (λ (z : Contents). Allows Rule slots me z i change (granted allows seen withdrawn_by (step slots i 0 0 none) z)) (sym is) (λ s r deep at small.
         let new : ℕ = change (slice_index s.words i) in
         let found : slice_index s.words i ≡ cells_in s.words (cell_of (length v.view.ends + 1)) = ap (slice_index s.words) word in
         let step_of = next_is s r me i new at word in

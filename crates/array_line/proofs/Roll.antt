@@ -5,7 +5,7 @@ use mathlib.Core.Option.{none, some}
 use native.Mathlib.Decide.{ℕ_discrete, dec_le}
 use lib.ListN.{get_elem?}
 use Rattle.std.proofs.lemmas.Option.{slice_get_within}
-use Rattle.atomic_table.specs.Table.{Step, keeps, takes, Allows}
+use Rattle.atomic_table.specs.Table.{step, keeps, takes, Allows}
 use Rattle.qolb_model.specs.declared.answer.PortState.TheVariants as shows
 use Rattle.qolb_model.specs.Requests.{Has}
 use Rattle.qolb_model.specs.Views.{own}
@@ -142,8 +142,8 @@ module _ (cells : Cells) (good : List ℕ → Type 0) (allows : List ℕ → Lis
     }
 
   module _ (mark_of : ℕ → ℕ) (waits comes_to : ℕ → ℕ → Type 0) (change : ℕ → ℕ) (takes_line : Takes cells waits v.own.place v.view.node change) (stays : StaysBehind cells comes_to v.own.place) (withdraws : Withdraws cells v.own.place v.view.node change) where
-    pub rolls_next : (me slots i : ℕ) (m : Contents) (st : Step Parcel) → m.0 ≡ v ∷ [] → i ≡ cell_at (cell_of v.own.place) → Allows Rule slots me m i change (rolled allows mark_of waits comes_to st m)
-    rolls_next me slots i m st is word s r deep at small = let at' : get_elem? s.views me ≡ some (v ∷ []) = at ∙ ap some is in dite (ℕ_discrete v.own.place (length r.past.ends))
+    pub rolls_next : (me slots i : ℕ) (m : Contents) → m.0 ≡ v ∷ [] → i ≡ cell_at (cell_of v.own.place) → Allows Rule slots me m i change (rolled allows mark_of waits comes_to (step slots i 0 0 none) m)
+    rolls_next me slots i m is word s r deep at small = let at' : get_elem? s.views me ≡ some (v ∷ []) = at ∙ ap some is in dite (ℕ_discrete v.own.place (length r.past.ends))
         (λ here. let y = home cells good allows about v queued s r me i at' word here in (
           take_entry cells good allows about v queued r.past ∷ [],
           takes 0 y.0,

@@ -33,6 +33,15 @@ goes_trans allows a b c i j f g = record {
   counted = omega (arith, f.counted, g.counted);
 }
 
+-- a step by which the node learns nothing
+pub goes_same : (allows : List ℕ → List ℕ → Type 0) (a : Contents) (w : ArrayEntry) → w.view ≡ (sole a.0).view → w.steps ≡ (sole a.0).steps + 1 → GoesOn allows a (w ∷ [], a.1) 1
+goes_same allows a w same n = record {
+  alone = refl;
+  extends = subst (Extends (sole a.0).view) (sym same) (extends_self (sole a.0).view);
+  continues = λ u before. subst (Continues allows u) (sym same) before;
+  counted = n;
+}
+
 -- the step that clears the own word
 pub goes_reset : (allows : List ℕ → List ℕ → Type 0) (a b : Contents) → b ≡ (after_reset (sole a.0) ∷ [], a.1) → GoesOn allows a b 1
-goes_reset allows a b is = subst (λ m. GoesOn allows a m 1) (sym is) (record { alone = refl; extends = extends_self (sole a.0).view; continues = λ u before. before; counted = refl })
+goes_reset allows a b is = subst (λ m. GoesOn allows a m 1) (sym is) (goes_same allows a (after_reset (sole a.0)) refl refl)

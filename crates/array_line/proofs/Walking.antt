@@ -377,6 +377,6 @@ walk_step allows s t u nodes steps more all found node next by_node y k some low
       home = λ z. ((home z).0, is_home (entry_of t) (entry_of u) nodes node y here.1 ended (home z).1);
     }
 
--- all its steps, with those that freed the nodes
-pub walked_steps : (allows : List ℕ → List ℕ → Type 0) (s t u : ArraySeat) (nodes : List ℕ) (steps found node freed all : ℕ) → IsWalking allows s nodes steps found node t → GoesOn allows t.me u.me freed → steps + freed ≡ all → GoesOn allows s.me u.me all
-walked_steps allows s t u nodes steps found node freed all k went sum = subst (GoesOn allows s.me u.me) sum (goes_trans allows s.me t.me u.me steps freed k.goes_on went)
+-- all its steps, with those that freed the nodes, one for each
+pub walked_steps : (allows : List ℕ → List ℕ → Type 0) (s t u : ArraySeat) (nodes : List ℕ) (steps found node freed all : ℕ) → IsWalking allows s nodes steps found node t → GoesOn allows t.me u.me freed → freed ≡ length nodes → steps + length nodes ≡ all → GoesOn allows s.me u.me all
+walked_steps allows s t u nodes steps found node freed all k went each sum = let whole : steps + freed ≡ all = omega arith in subst (GoesOn allows s.me u.me) whole (goes_trans allows s.me t.me u.me steps freed k.goes_on went)
