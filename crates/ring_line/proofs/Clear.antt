@@ -3,20 +3,23 @@ use Rattle.std.proofs.Common.{◌≡◌, ◌≢◌, ◌⊎◌, ℕ, ◌+◌, ◌
 use mathlib.Core.Option.{none, some}
 use lib.ListN.{get_elem?}
 use Rattle.atomic_table.specs.Table.{step, keeps, Allows}
-use Rattle.ring_line.specs.declared.words.TheConstants.{CELLS}
-use Rattle.ring_line.specs.declared.own.Point.TheVariants.{Idle, Holding, Passing, Rolled}
+use Rattle.array_line.specs.declared.words.TheConstants.{CELLS}
+use Rattle.array_line.specs.declared.own.Point.TheVariants.{Idle, Holding, Passing, Rolled}
 use Rattle.shared_line.specs.declared.rule.Setup.{Setup}
-use Rattle.ring_line.specs.Words.{ticket_at, cell_at, node_at, cell_of}
-use Rattle.ring_line.specs.Ring.{RingEntry, Past, Walks, NodeOk, Shown, RingRule, has_line, lets_go, is_kept}
-use Rattle.ring_line.specs.Steps.{sole, Contents, cleared, after_clear}
+use Rattle.array_line.specs.Words.{cell_at, cells_in, cell_of}
+use Rattle.array_line.specs.Array.{ArrayEntry, Past, Walks, NodeOk, Shown, has_line, is_kept}
+use Rattle.ring_line.specs.Ring.{RingCells, RingRule}
+use Rattle.array_line.specs.Steps.{sole, Contents}
+use Rattle.ring_line.specs.Steps.{cleared, after_clear}
 use Rattle.qolb_model.proofs.Prefixes.{prefix_self}
-use Rattle.ring_line.specs.Laws.Nodes.{clash_at, passed_goes}
-use Rattle.ring_line.proofs.Nodes.{none_passed, others_hand}
-use Rattle.ring_line.proofs.Keeping.{Homes, rule_step, mine_ok, mine_low}
-use Rattle.ring_line.proofs.Taking.{cells_apart}
+use Rattle.array_line.proofs.OneNode.{clash_at, passed_goes}
+use Rattle.array_line.proofs.Nodes.{others_hand}
+use Rattle.array_line.proofs.Keeping.{Homes, rule_step, mine_ok, mine_low, cell_shown}
+use Rattle.array_line.proofs.Taking.{cells_apart, at_turn, line_kept}
+use Rattle.qolb_model.proofs.Updates.{put_here, put_else}
 
-module _ (good : List ℕ → Type 0) (allows : List ℕ → List ℕ → Type 0) (about : Setup) (v : RingEntry) (passing : (v.own.point ≡ Holding) ⊎ (v.own.point ≡ Passing)) where
-  abbrev cleared_entry : RingEntry
+module _ (good : List ℕ → Type 0) (allows : List ℕ → List ℕ → Type 0) (about : Setup) (v : ArrayEntry) (passing : (v.own.point ≡ Holding) ⊎ (v.own.point ≡ Passing)) where
+  abbrev cleared_entry : ArrayEntry
   cleared_entry = after_clear v
 
   abbrev cleared_past : Past → Past
@@ -26,7 +29,7 @@ module _ (good : List ℕ → Type 0) (allows : List ℕ → List ℕ → Type 0
   has_it = ⊎_elim (λ e. ap has_line e) (λ e. ap has_line e) passing
 
   keeps_it : is_kept v.own.point ≡ true
-  keeps_it = ⊎_elim (λ e. ap is_kept e) (λ e. ap is_kept e) passing
+  keeps_it = line_kept v.own.point has_it
 
   not_idle : v.own.point ≢ Idle
   not_idle e = clash_at has_line Idle has_it e refl
@@ -75,26 +78,23 @@ module _ (good : List ℕ → Type 0) (allows : List ℕ → List ℕ → Type 0
   }
     where
       walks : Walks (length x.ends) x.marks v
-      walks = ⊎_elim (λ e. inl (ok.stance.holding e, none_passed ok.passes (ap lets_go e))) (λ e. ok.passes.walking (ap lets_go e) has_it) passing
+      walks = at_turn about x v.view.node v ok has_it
 
-  cleared_shown : (x : Past) (words : List ℕ) (homes : Homes) (i : ℕ) → i ≡ cell_at (cell_of (length x.ends)) → x.hand ≡ v.view.node → 0 < v.view.node → Shown good allows about x words homes → Shown good allows about (cleared_past x) (set words i 0) homes
-  cleared_shown x words homes i is mine low h = let small : cell_of (length x.ends) < CELLS = mod-lt (length x.ends) (omega arith) in record {
-    wide = length-set words i 0 ∙ h.wide;
-    deep = h.deep;
-    ticket = get_or-set_other words i ticket_at 0 0 (λ e. omega arith) ∙ h.ticket;
-    cleared = λ _. ap (λ k. get_or (set words i 0) k 0) (sym is) ∙ get_or-set_same words i 0 0 (let w = h.wide in omega arith);
-    granted = λ e. absurd (omega arith);
-    later = λ k a b. get_or-set_other words i (cell_at (cell_of (length x.ends + k))) 0 0 (λ e. cells_apart (length x.ends) k a b (omega arith)) ∙ h.later k a b;
-    flags = λ n a b. get_or-set_other words i (node_at n) 0 0 (λ e. omega arith) ∙ h.flags n a b;
-    home = h.home;
-  }
+  cleared_shown : (x : Past) (words : List ℕ) (homes : Homes) (i : ℕ) → i ≡ cell_at (cell_of (length x.ends)) → x.hand ≡ v.view.node → 0 < v.view.node → Shown RingCells good allows about x words homes → Shown RingCells good allows about (cleared_past x) (set words i 0) homes
+  cleared_shown x words homes i is mine low h = cell_shown RingCells good allows about x words homes homes i (cell_of (length x.ends)) 0 is (mod-lt (length x.ends) (omega arith)) h refl x.hand true x.ends x.clear x.marks x.passer
+      (record {
+        blank = λ _. put_here (cells_in words) (cell_of (length x.ends)) 0;
+        granted = λ e. absurd (omega arith);
+        later = λ k a b. put_else (cells_in words) (cell_of (length x.ends)) 0 (cell_of (length x.ends + k)) (cells_apart (length x.ends) k a b) ∙ h.said.later k a b;
+      })
+      h.home
 
   pub clears_next : (me slots i : ℕ) (m : Contents) → m.0 ≡ v ∷ [] → i ≡ cell_at (cell_of (length v.view.ends)) → Allows (RingRule good allows about) slots me m i (λ _. 0) (λ _. cleared (step slots i 0 0 none) m 0)
   clears_next me slots i m is word s r deep at small = (
     cleared_entry ∷ [],
     keeps,
     tt,
-    rule_step good allows about s r me v cleared_entry (cleared_past r.past) (set s.words i 0) s.homes at' refl
+    rule_step RingCells good allows about s r me v cleared_entry (cleared_past r.past) (set s.words i 0) s.homes at' refl
         (record { legal = r.fine.legal; nodes = r.fine.nodes; kept = r.fine.kept; sound = r.fine.sound; within = r.fine.within; cleared = r.fine.cleared; nobody = λ e. absurd (held e); settled = λ e. absurd (held e); marked = r.fine.marked; gone = r.fine.gone })
         (cleared_shown r.past s.words s.homes i (word ∙ ap (λ es. cell_at (cell_of (length es))) (ok.hand.holds has_it).0) mine low r.shown)
         (cleared_node r.past ok)
@@ -106,10 +106,10 @@ module _ (good : List ℕ → Type 0) (allows : List ℕ → List ℕ → Type 0
       at' = at ∙ ap some is
 
       ok : NodeOk about r.past v.view.node v
-      ok = mine_ok good allows about s r me v at'
+      ok = mine_ok RingCells good allows about s r me v at'
 
       low : 0 < v.view.node
-      low = (mine_low good allows about s r me v at').0
+      low = (mine_low RingCells good allows about s r me v at').0
 
       mine : r.past.hand ≡ v.view.node
       mine = (ok.hand.holds has_it).1

@@ -1,400 +1,72 @@
--- A walk over withdrawn requests, and the freeing of their nodes.
-use Rattle.std.proofs.Common.{◌≡◌, ◌≢◌, ℕ, zero, suc, ◌+◌, ◌-◌, ◌*◌, ◌≤◌, ◌<◌, ◌⊎◌, inl, inr, Bool, false, ◌||◌, length, drop, List, [], ◌∷◌, ◌++◌, sym, refl, ap, ◌∙◌, subst, Some, None, get_or, slice_get, arith, replicate, append-nil, append_assoc, length-append}
-use Rattle.std.proofs.Math.Bool.{or-false}
-use Rattle.qolb_model.specs.Kept.{AreAllowed}
-use Rattle.qolb_model.specs.Views.{bytes_of}
-use Rattle.std.proofs.lemmas.Option.{slice_get_within, slice_get-get_or}
-use Rattle.std.proofs.lemmas.List.{length-replicate}
-use Rattle.qolb_model.specs.declared.request.Request.{Request}
-use Rattle.qolb_model.specs.declared.terms.Terms.{Terms}
-use Rattle.qolb_model.specs.PortStates.{left_by}
-use Rattle.qolb_model.specs.Leases.{served, turns_left, is_last_turn}
-use Rattle.qolb_model.proofs.Leases.{turns_left-same}
-use Rattle.qolb_model.specs.declared.end.End.{End}
-use Rattle.qolb_model.specs.declared.end.End.TheVariants.{Gone}
-use Rattle.qolb_model.specs.Requests.{Has, Lacks}
-use Rattle.qolb_model.specs.Ends.{is_closed, bytes_after, MayEnd}
-use Rattle.qolb_model.specs.Histories.{turn_of}
-use Rattle.qolb_model.specs.Views.{own, Extends}
-use Rattle.qolb_model.proofs.Lists.{element_at, drop_with, push_cases, same_some}
-use Rattle.qolb_model.proofs.Prefixes.{prefix_get}
-use Rattle.qolb_model.proofs.Histories.{bytes_after-append, is_closed-append}
-use Rattle.qolb_model.proofs.Writes.{bytes_after-passed}
-use Rattle.shared_line.specs.Steps.{SameSeat, HasSlot, HasNoSlot}
-use Rattle.ring_line.specs.Words.{cell_of, withdrawn_by}
+-- A walk over withdrawn requests, which clears each cell before it grants the next.
+use Rattle.std.proofs.Common.{◌≡◌, ◌≢◌, ℕ, ◌+◌, ◌*◌, ◌≤◌, List, [], ◌∷◌, ◌++◌, length, sym, ap, ◌∙◌, subst, arith, refl, length-append}
 use Rattle.qolb_model.specs.declared.terms.TheConstants.{MOST_NODES}
-use Rattle.ring_line.specs.declared.own.Point.TheVariants.{Passing, Freeing}
+use Rattle.qolb_model.specs.PortStates.{left_by}
 use Rattle.shared_line.specs.declared.rule.Parcel.{Parcel}
-use Rattle.ring_line.specs.Ring.{RingEntry, At}
-use Rattle.ring_line.specs.Steps.{RingSeat, entry_of, sole, after_walk, end_of, next_end, CarriesNext, Ended, GoesHome, Passes, Frees, GoesOn, turn_cell, after_clear}
-use Rattle.ring_line.specs.Releases.{IsBare, WalksOn, AreNodesAt, FreesAll}
-use Rattle.ring_line.proofs.Turning.{goes_trans, goes_clear}
-use Rattle.qolb_model.proofs.Requests.{has_prefix}
+use Rattle.shared_line.specs.Steps.{SameSeat, HasSlot, HasNoSlot}
+use Rattle.array_line.specs.Words.{cell_of}
+use Rattle.array_line.specs.Array.{ArrayEntry}
+use Rattle.array_line.specs.Steps.{ArraySeat, Contents, entry_of, sole, CarriesNext, Ended, GoesHome, Passes, GoesOn}
+use Rattle.array_line.specs.Releases.{IsBare}
+use Rattle.array_line.proofs.Turning.{goes_trans, goes_same}
+use Rattle.array_line.proofs.Walking as walk
+use Rattle.ring_line.specs.Words.{withdrawn_by}
+use Rattle.ring_line.specs.Steps.{turn_cell, after_clear}
 
--- the first of the requests that were passed are freed
-pub record FreesFirst (v : RingEntry) (i : ℕ) (w : RingEntry) : Type 0 where
-  pub point : w.own.point ≡ after_walk (drop i v.own.passed)
-  pub passed : w.own.passed ≡ drop i v.own.passed
-  pub state : w.view.state ≡ v.view.state
-  pub count : w.view.count ≡ v.view.count
-  pub order : w.view.order ≡ v.view.order
-  pub ends : w.view.ends ≡ v.view.ends
-  pub marked : w.view.marked ≡ v.view.marked
-  pub freed : (k p : ℕ) (r : Request) → k < i → At v.own.passed k p → At v.view.order p r → Has w.view.freed r
-  pub clear : (k p : ℕ) (r : Request) → k < i → At v.own.passed k p → At v.view.order p r → Has w.view.clear r
-  pub own_clear : drop i v.own.passed ≡ [] → Has w.view.clear (own w.view)
-
--- at first none is
-pub frees_none : (v : RingEntry) → v.own.point ≡ Freeing → v.own.passed ≢ [] → FreesFirst v 0 v
-frees_none v p some = record {
-  point = p ∙ by v.own.passed some;
-  passed = refl;
-  state = refl;
-  count = refl;
-  order = refl;
-  ends = refl;
-  marked = refl;
-  freed = λ k p r lt at is. absurd (omega (arith, lt));
-  clear = λ k p r lt at is. absurd (omega (arith, lt));
-  own_clear = λ none. absurd (some none);
-}
-  where
-    by : (ps : List ℕ) → ps ≢ [] → Freeing ≡ after_walk ps
-    by [] n = absurd (n refl)
-    by (q ∷ ps) n = refl
-
--- the node that is freed next
-pub frees_which : (v w : RingEntry) (nodes : List ℕ) (i node : ℕ) → FreesFirst v i w → length nodes ≡ length v.own.passed → AreNodesAt v.view.order v.own.passed nodes → At nodes i node
-    → (w.own.point ≡ Freeing) × (node ≤ MOST_NODES) × ((q : ℕ) × (ps : List ℕ) × (r : Request) × (w.own.passed ≡ q ∷ ps) × At w.view.order q r × (r.node ≡ node))
-frees_which v w nodes i node f many are is =
-    let here = element_at v.own.passed i (omega (arith, many, slice_get_within nodes i node is)) in
-    let cut : drop i v.own.passed ≡ here.0 ∷ drop (i + 1) v.own.passed = drop_with v.own.passed i here.0 here.1 in
-    let made = are.each i here.0 node here.1 is in
-    (f.point ∙ ap after_walk cut, made.3, (here.0, drop (i + 1) v.own.passed, made.0, f.passed ∙ cut, subst (λ o. At o here.0 made.0) (sym f.order) made.1, made.2))
-
--- and one more is freed
-pub frees_next : (v w x : RingEntry) (nodes : List ℕ) (i node : ℕ) → FreesFirst v i w → length nodes ≡ length v.own.passed → AreNodesAt v.view.order v.own.passed nodes → At nodes i node → Extends w.view x.view
-    → ((q : ℕ) (ps : List ℕ) (r : Request) → w.own.passed ≡ q ∷ ps → At w.view.order q r → Frees w ps r x) → FreesFirst v (i + 1) x
-frees_next v w x nodes i node f many are is more frees =
-    let here = element_at v.own.passed i (omega (arith, many, slice_get_within nodes i node is)) in
-    let cut : drop i v.own.passed ≡ here.0 ∷ drop (i + 1) v.own.passed = drop_with v.own.passed i here.0 here.1 in
-    let made = are.each i here.0 node here.1 is in
-    let one = frees here.0 (drop (i + 1) v.own.passed) made.0 (f.passed ∙ cut) (subst (λ o. At o here.0 made.0) (sym f.order) made.1) in
-    record {
-      point = one.point;
-      passed = one.passed;
-      state = one.state ∙ f.state;
-      count = one.count ∙ f.count;
-      order = one.order ∙ f.order;
-      ends = one.ends ∙ f.ends;
-      marked = one.marked ∙ f.marked;
-      freed = λ k p r lt at on. elim (upto k i (omega (arith, lt))) [
-        | inl early ↦ more.freed r (f.freed k p r early at on)
-        | inr last ↦ subst (Has x.view.freed) (same v.view.order v.own.passed i k here.0 p made.0 r last here.1 at made.1 on) one.freed
-      ];
-      clear = λ k p r lt at on. elim (upto k i (omega (arith, lt))) [
-        | inl early ↦ has_prefix w.view.clear x.view.clear r more.clear (f.clear k p r early at on)
-        | inr last ↦ subst (Has x.view.clear) (same v.view.order v.own.passed i k here.0 p made.0 r last here.1 at made.1 on) one.clear
-      ];
-      own_clear = one.own_clear;
-    }
-  where
-    upto : (k i : ℕ) → k ≤ i → (k < i) ⊎ (k ≡ i)
-    upto zero zero h = inr refl
-    upto zero (suc i) h = inl (omega arith)
-    upto (suc k) zero h = absurd (omega (arith, h))
-    upto (suc k) (suc i) h = elim (upto k i (omega (arith, h))) [
-      | inl lt ↦ inl (omega (arith, lt))
-      | inr e ↦ inr (ap suc e)
-    ]
-
-    same : (order : List Request) (places : List ℕ) (i k q p : ℕ) (s r : Request) → k ≡ i → At places i q → At places k p → At order q s → At order p r → s ≡ r
-    same order places i k q p s r e a b c d =
-        let places_same : q ≡ p = same_some (sym a ∙ (ap (slice_get places) (sym e) ∙ b)) in
-        same_some (sym c ∙ (ap (slice_get order) places_same ∙ d))
-
--- until all are
-pub frees_all : (v w : RingEntry) (i : ℕ) → FreesFirst v i w → length v.own.passed ≤ i → FreesAll v w
-frees_all v w i f le = let none : drop i v.own.passed ≡ [] = past i v.own.passed le in record {
-  point = f.point ∙ ap after_walk none;
-  state = f.state;
-  count = f.count;
-  order = f.order;
-  ends = f.ends;
-  marked = f.marked;
-  freed = λ k p r at on. f.freed k p r (omega (arith, le, slice_get_within v.own.passed k p at)) at on;
-  clear = λ k p r at on. f.clear k p r (omega (arith, le, slice_get_within v.own.passed k p at)) at on;
-  own_clear = f.own_clear none;
-}
-  where
-    past : (i : ℕ) (xs : List ℕ) → length xs ≤ i → drop i xs ≡ []
-    past zero [] h = refl
-    past zero (x ∷ xs) h = absurd (omega (arith, h))
-    past (suc i) [] h = refl
-    past (suc i) (x ∷ xs) h = past i xs (omega (arith, h))
-
--- what the freeing of the nodes of all passed requests has done so far, from the seat s on
-pub record IsFreeing (allows : List ℕ → List ℕ → Type 0) (s : RingSeat) (i : ℕ) (t : RingSeat) : Type 0 where
-  pub same : SameSeat s t
-  pub carried : t.me.1 ≡ s.me.1
-  pub goes_on : GoesOn allows s.me t.me i
-  pub within : i ≤ length (entry_of s).own.passed
-  pub frees : FreesFirst (entry_of s) i (entry_of t)
-
-pub freeing_which : {allows : List ℕ → List ℕ → Type 0} (s t : RingSeat) (nodes : List ℕ) (i : ℕ) → IsFreeing allows s i t → length nodes ≡ length (entry_of s).own.passed → AreNodesAt (entry_of s).view.order (entry_of s).own.passed nodes → i < length nodes
-    → ((entry_of t).own.point ≡ Freeing) × (get_or nodes i 0 ≤ MOST_NODES) × ((q : ℕ) × (ps : List ℕ) × (r : Request) × ((entry_of t).own.passed ≡ q ∷ ps) × At (entry_of t).view.order q r × (r.node ≡ get_or nodes i 0))
-freeing_which s t nodes i f many are lt = frees_which (entry_of s) (entry_of t) nodes i (get_or nodes i 0) f.frees many are (slice_get-get_or nodes i 0 lt)
-
-pub freeing_next : (allows : List ℕ → List ℕ → Type 0) (s t u : RingSeat) (nodes : List ℕ) (i : ℕ) → IsFreeing allows s i t → length nodes ≡ length (entry_of s).own.passed → AreNodesAt (entry_of s).view.order (entry_of s).own.passed nodes → i < length nodes
-    → SameSeat t u → u.me.1 ≡ t.me.1 → GoesOn allows t.me u.me 1
-    → ((q : ℕ) (ps : List ℕ) (r : Request) → (entry_of t).own.passed ≡ q ∷ ps → At (entry_of t).view.order q r → Frees (entry_of t) ps r (entry_of u)) → IsFreeing allows s (i + 1) u
-freeing_next allows s t u nodes i f many are lt same slot went frees = record {
-  same = (same.0 ∙ f.same.0, same.1 ∙ f.same.1);
-  carried = slot ∙ f.carried;
-  goes_on = goes_trans allows s.me t.me u.me i 1 f.goes_on went;
-  within = omega (arith, many, lt);
-  frees = frees_next (entry_of s) (entry_of t) (entry_of u) nodes i (get_or nodes i 0) f.frees many are (slice_get-get_or nodes i 0 lt) went.extends frees;
-}
-
-pub freed_steps : (allows : List ℕ → List ℕ → Type 0) (s t : RingSeat) (nodes : List ℕ) (i : ℕ) → IsFreeing allows s i t → length nodes ≡ length (entry_of s).own.passed → length nodes ≤ i → GoesOn allows s.me t.me (length nodes)
-freed_steps allows s t nodes i f many all = let is : i ≡ length nodes = omega (arith, many, f.within) in subst (GoesOn allows s.me t.me) is f.goes_on
-
--- a walk that began at v has passed the requests of these nodes
-pub record Walked (v : RingEntry) (nodes : List ℕ) (w : RingEntry) : Type 0 where
-  pub terms : w.view.terms ≡ v.view.terms
-  pub state : w.view.state ≡ v.view.state
-  pub count : w.view.count ≡ v.view.count
-  pub ends : w.view.ends ≡ v.view.ends ++ replicate (length nodes) Gone
-  pub run : (i p : ℕ) → At w.own.passed i p → p ≡ length v.view.ends + i
-  pub made : AreNodesAt w.view.order w.own.passed nodes
-  pub few : length w.own.passed + 1 ≤ v.view.terms.nodes
-
--- it stands at one more withdrawn request, that of the node which the last grant found
-pub record StandsAt (nodes : List ℕ) (found : ℕ) (w : RingEntry) : Type 0 where
-  pub point : w.own.point ≡ Passing
-  pub many : length w.own.passed ≡ length nodes + 1
-  pub request : Request
-  pub at : At w.view.order (length w.view.ends) request
-  pub node : request.node ≡ withdrawn_by found
-  pub high : request.node ≤ w.view.terms.nodes
-
--- the line is home
-pub record IsHome (nodes : List ℕ) (w : RingEntry) : Type 0 where
-  pub point : w.own.point ≡ Freeing
-  pub many : length w.own.passed ≡ length nodes
-  pub some : w.own.passed ≢ []
-  pub known : length w.view.ends ≤ length w.view.order
-  pub unmarked : (r : Request) → turn_of w.view.order w.view.ends ≡ Some r → Lacks w.view.marked r
-
--- so it begins
-pub walk_begins : (v : RingEntry) → v.own.passed ≡ length v.view.ends ∷ [] → 2 ≤ v.view.terms.nodes → Walked v [] v
-walk_begins v passed two = record {
-  terms = refl;
-  state = refl;
-  count = refl;
-  ends = sym (append-nil v.view.ends);
-  run = λ i p at. by (length v.view.ends) i p (subst (λ ps. At ps i p) passed at);
-  made = record { each = λ k p n at none. absurd (let h : None ≡ Some n = none in cc h) };
-  few = omega (arith, ap length passed, two);
-}
-  where
-    by : (f i p : ℕ) → At (f ∷ []) i p → p ≡ f + i
-    by f zero p at = omega (arith, same_some at)
-    by f (suc i) p at = absurd (let h : None ≡ Some p = at in cc h)
-
-pub stands_first : (v : RingEntry) (found : ℕ) → v.own.point ≡ Passing → v.own.passed ≡ length v.view.ends ∷ [] → (r : Request) × At v.view.order (length v.view.ends) r × (r.node ≡ withdrawn_by found) × (r.node ≤ v.view.terms.nodes) → StandsAt [] found v
-stands_first v found passing passed first = record { point = passing; many = omega (arith, ap length passed); request = first.0; at = first.1; node = first.2; high = first.3 }
-
--- who has passed one ends a withdrawn request next
-ends_gone : (ps : List ℕ) (closed : Bool) (y : Parcel) (k : ℕ) → length ps ≡ k + 1 → end_of ps closed y ≡ Gone
-ends_gone [] closed y k e = absurd (omega (arith, e))
-ends_gone (p ∷ ps) closed y k e = refl
-
-pub carries_gone : (allows : List ℕ → List ℕ → Type 0) (v w : RingEntry) (nodes : List ℕ) (found : ℕ) (y : Parcel) → Walked v nodes w → StandsAt nodes found w → IsBare v y → CarriesNext allows (after_clear w) y
-carries_gone allows v w nodes found y k s b =
-    let gone : next_end (after_clear w) y ≡ Gone = ends_gone w.own.passed (is_closed w.view.ends) y (length nodes) s.many in
-    let bytes : bytes_after w.view.terms.opening.bytes w.view.ends ≡ y.bytes.bytes = (λ i. bytes_after (k.terms i).opening.bytes (k.ends i)) ∙ (bytes_after-append v.view.terms.opening.bytes v.view.ends (replicate (length nodes) Gone) ∙ (bytes_after-passed (bytes_after v.view.terms.opening.bytes v.view.ends) (length nodes) ∙ b.bytes)) in
-    let left : turns_left w.view.terms.lease w.view.ends ≡ y.turns_left = (λ i. turns_left (k.terms i).lease (k.ends i)) ∙ (turns_left-same v.view.terms.lease v.view.ends (replicate (length nodes) Gone) (served-gone (length nodes)) ∙ b.turns) in
-    let closed : is_closed w.view.ends ≡ y.closed = ap is_closed k.ends ∙ (is_closed-append v.view.ends (replicate (length nodes) Gone) ∙ (ap (λ c. is_closed v.view.ends || c) (is_closed-passed (length nodes)) ∙ (or-false (is_closed v.view.ends) ∙ b.closed))) in
-    record {
-      bytes = ap (λ e. bytes_after w.view.terms.opening.bytes (w.view.ends ++ e ∷ [])) gone ∙ (bytes_after-append w.view.terms.opening.bytes w.view.ends (Gone ∷ []) ∙ bytes);
-      closed = ap (λ e. is_closed (w.view.ends ++ e ∷ [])) gone ∙ (is_closed-append w.view.ends (Gone ∷ []) ∙ (or-false (is_closed w.view.ends) ∙ closed));
-      turns = ap (λ e. turns_left w.view.terms.lease (w.view.ends ++ e ∷ [])) gone ∙ (turns_left-same w.view.terms.lease w.view.ends (Gone ∷ []) refl ∙ left);
-      may_end = subst (MayEnd (is_closed w.view.ends) (is_last_turn w.view.terms.lease w.view.ends)) (sym gone) tt;
-      allowed = subst (λ e. AreAllowed allows (bytes_of w.view) (e ∷ [])) (sym gone) tt;
-    }
-  where
-    served-gone : (n : ℕ) → served (replicate n Gone) ≡ 0
-    served-gone zero = refl
-    served-gone (suc n) = served-gone n
-
-    is_closed-passed : (n : ℕ) → is_closed (replicate n Gone) ≡ false
-    is_closed-passed zero = refl
-    is_closed-passed (suc n) = is_closed-passed n
-
--- what a grant that passes one or goes home does to the places
-record Grows (w x : RingEntry) (first : ℕ) : Type 0 where
-  run : (i p : ℕ) → At x.own.passed i p → p ≡ first + i
-  front : (i p : ℕ) → i < length w.own.passed → At x.own.passed i p → At w.own.passed i p
-  few : length x.own.passed + 1 ≤ w.view.terms.nodes
-
-grows : (v w x : RingEntry) (nodes : List ℕ) (found next : ℕ) (y : Parcel) → Walked v nodes w → StandsAt nodes found w → length x.view.ends ≡ length v.view.ends + (length nodes + 1) → x.view.terms.nodes ≡ w.view.terms.nodes
-    → (next ≡ 0 → GoesHome (after_clear w) x) → (next ≢ 0 → Passes (after_clear w) next x) → Grows w x (length v.view.ends)
-grows v w x nodes found zero y k s many n home passes = let h = home refl in record {
-  run = λ i p at. k.run i p (subst (λ ps. At ps i p) h.passed at);
-  front = λ i p lt at. subst (λ ps. At ps i p) h.passed at;
-  few = omega (arith, ap length h.passed, k.few, ap (λ (t : Terms). t.nodes) k.terms);
-}
-grows v w x nodes found (suc next) y k s many n home passes = let h = passes (λ e. let f : suc next ≡ 0 = e in omega (arith, f)) in record {
-  run = λ i p at. elim (push_cases w.own.passed (length x.view.ends) i p (subst (λ ps. At ps i p) h.passed at)) [
-    | inl old ↦ k.run i p old.1
-    | inr last ↦ omega (arith, last.0, last.1, s.many, many)
-  ];
-  front = λ i p lt at. elim (push_cases w.own.passed (length x.view.ends) i p (subst (λ ps. At ps i p) h.passed at)) [
-    | inl old ↦ old.1
-    | inr last ↦ absurd (omega (arith, last.0, lt))
-  ];
-  few = omega (arith, h.few, n);
-}
-
-replicate-push : (n : ℕ) (e : End) → replicate n e ++ e ∷ [] ≡ replicate (suc n) e
-replicate-push zero e = refl
-replicate-push (suc n) e = ap (λ es. e ∷ es) (replicate-push n e)
-
--- a grant ends one more withdrawn request
-pub walked_on : (v w x : RingEntry) (nodes : List ℕ) (found next : ℕ) (y : Parcel) → v.view.terms.nodes ≤ MOST_NODES → Walked v nodes w → StandsAt nodes found w → Ended (after_clear w) x y → Extends w.view x.view → x.view.state ≡ w.view.state
-    → (next ≡ 0 → GoesHome (after_clear w) x) → (next ≢ 0 → Passes (after_clear w) next x) → Walked v (nodes ++ withdrawn_by found ∷ []) x
-walked_on v w x nodes found next y low k s e more stays home passes =
-    let gone : next_end (after_clear w) y ≡ Gone = ends_gone w.own.passed (is_closed w.view.ends) y (length nodes) s.many in
-    let pushed : length (nodes ++ withdrawn_by found ∷ []) ≡ suc (length nodes) = omega (arith, length-append nodes (withdrawn_by found ∷ [])) in
-    let ends : x.view.ends ≡ v.view.ends ++ replicate (length (nodes ++ withdrawn_by found ∷ [])) Gone =
-    e.ends ∙ ((λ i. k.ends i ++ gone i ∷ []) ∙ (append_assoc v.view.ends (replicate (length nodes) Gone) (Gone ∷ []) ∙ (ap (λ es. v.view.ends ++ es) (replicate-push (length nodes) Gone) ∙ ap (λ n. v.view.ends ++ replicate n Gone) (sym pushed)))) in
-    let before : length w.view.ends ≡ length v.view.ends + length nodes = ap length k.ends ∙ omega (arith, length-append v.view.ends (replicate (length nodes) Gone), length-replicate (length nodes) Gone) in
-    let many : length x.view.ends ≡ length v.view.ends + (length nodes + 1) = ap length ends ∙ omega (arith, pushed, length-append v.view.ends (replicate (length (nodes ++ withdrawn_by found ∷ [])) Gone), length-replicate (length (nodes ++ withdrawn_by found ∷ [])) Gone) in
-    let g = grows v w x nodes found next y k s many (ap (λ (t : Terms). t.nodes) more.terms) home passes in
-    record {
-      terms = more.terms ∙ k.terms;
-      state = stays ∙ k.state;
-      count = e.count ∙ k.count;
-      ends = ends;
-      run = g.run;
-      made = record {
-        each = λ j p n at is. elim (push_cases nodes (withdrawn_by found) j n is) [
-          | inl old ↦ let one = k.made.each j p n (g.front j p (omega (arith, old.0, s.many)) at) old.1 in (one.0, prefix_get w.view.order x.view.order p one.0 more.order one.1, one.2, one.3)
-          | inr last ↦
-              let place : length w.view.ends ≡ p = omega (arith, before, g.run j p at, last.0) in
-              (s.request, prefix_get w.view.order x.view.order p s.request more.order (subst (λ q. At w.view.order q s.request) place s.at), s.node ∙ sym last.1, omega (arith, last.1, s.node, s.high, ap (λ (t : Terms). t.nodes) k.terms, low))
-        ];
-      };
-      few = omega (arith, g.few, ap (λ (t : Terms). t.nodes) k.terms);
-    }
-
-pub stands_next : (w x : RingEntry) (nodes : List ℕ) (found next : ℕ) → StandsAt nodes found w → Passes (after_clear w) next x → StandsAt (nodes ++ withdrawn_by found ∷ []) next x
-stands_next w x nodes found next s p = record {
-  point = p.point;
-  many = omega (arith, ap length p.passed, length-append w.own.passed (length x.view.ends ∷ []), length-append nodes (withdrawn_by found ∷ []), s.many);
-  request = p.request;
-  at = p.at;
-  node = p.node;
-  high = p.high;
-}
-
-pub is_home : (w x : RingEntry) (nodes : List ℕ) (found : ℕ) (y : Parcel) → StandsAt nodes found w → Ended (after_clear w) x y → GoesHome (after_clear w) x → IsHome (nodes ++ withdrawn_by found ∷ []) x
-is_home w x nodes found y s e h = record {
-  point = h.point ∙ by w.own.passed (length nodes) s.many;
-  many = omega (arith, ap length h.passed, length-append nodes (withdrawn_by found ∷ []), s.many);
-  some = λ none. absurd (omega (arith, s.many, ap length (sym h.passed ∙ none)));
-  known = e.known;
-  unmarked = h.unmarked;
-}
-  where
-    by : (ps : List ℕ) (k : ℕ) → length ps ≡ k + 1 → after_walk ps ≡ Freeing
-    by [] k e = absurd (omega (arith, e))
-    by (p ∷ ps) k e = refl
-
--- when the line is home and the passed requests are freed, the walk is over
-pub walk_over : (v w x : RingEntry) (nodes : List ℕ) → Walked v nodes w → IsHome nodes w → FreesAll w x → WalksOn v x
-walk_over v w x nodes k h f =
-    let last = nonempty w.own.passed h.some in
-    let many : length nodes ≡ suc last.0 = sym h.many ∙ last.1 in
-    let ends : x.view.ends ≡ v.view.ends ++ replicate (suc last.0) Gone = f.ends ∙ (k.ends ∙ ap (λ n. v.view.ends ++ replicate n Gone) many) in
-    let long : length x.view.ends ≡ length v.view.ends + length w.own.passed = ap length ends ∙ omega (arith, last.1, length-append v.view.ends (replicate (suc last.0) Gone), length-replicate (suc last.0) Gone) in
-    record {
-      point = f.point;
-      state = f.state ∙ k.state;
-      count = f.count ∙ k.count;
-      passed = last.0;
-      ends = ends;
-      lets_go = record {
-        known = omega (arith, h.known, ap length f.order, ap length f.ends);
-        unmarked = λ r is. subst (λ ms. Lacks ms r) (sym f.marked) (h.unmarked r (sym (λ i. turn_of (f.order i) (f.ends i)) ∙ is));
-        freed = λ p r low high at. let one = passed_at v w nodes p k low (omega (arith, high, long)) in f.freed one.0 p r one.1 (subst (λ o. At o p r) f.order at);
-        cleared = λ p r low high at. let one = passed_at v w nodes p k low (omega (arith, high, long)) in inl (f.clear one.0 p r one.1 (subst (λ o. At o p r) f.order at));
-        state = inr (f.state ∙ k.state, f.own_clear);
-      };
-    }
-  where
-    nonempty : (xs : List ℕ) → xs ≢ [] → (n : ℕ) × (length xs ≡ suc n)
-    nonempty [] h = absurd (h refl)
-    nonempty (x ∷ xs) h = (length xs, omega arith)
-
-    passed_at : (v w : RingEntry) (nodes : List ℕ) (p : ℕ) → Walked v nodes w → length v.view.ends ≤ p → p < length v.view.ends + length w.own.passed → (i : ℕ) × At w.own.passed i p
-    passed_at v w nodes p k low high =
-        let i = p - length v.view.ends in
-        let one = element_at w.own.passed i (omega (arith, low, high)) in
-        (i, subst (At w.own.passed i) (k.run i one.0 one.1 ∙ omega (arith, low)) one.1)
-
--- what a walk that began at the seat s has done so far
-pub record IsWalking (allows : List ℕ → List ℕ → Type 0) (s : RingSeat) (nodes : List ℕ) (cell found : ℕ) (t : RingSeat) : Type 0 where
-  pub same : SameSeat s t
-  pub goes_on : GoesOn allows s.me t.me (2 * length nodes)
-  pub cell_is : cell ≡ turn_cell t
-  pub walked : Walked (entry_of s) nodes (entry_of t)
-  pub stands : found ≢ 0 → (t.me.1 ≡ s.me.1) × StandsAt nodes found (entry_of t)
-  pub home : found ≡ 0 → HasNoSlot t × IsHome nodes (entry_of t)
+-- the step that clears a cell
+pub goes_clear : (allows : List ℕ → List ℕ → Type 0) (a b : Contents) → b ≡ (after_clear (sole a.0) ∷ [], a.1) → GoesOn allows a b 1
+goes_clear allows a b is = subst (λ m. GoesOn allows a m 1) (sym is) (goes_same allows a (after_clear (sole a.0)) refl refl)
 
 -- what the seat has once the cell is cleared
-abbrev pub IsCleared : RingSeat → RingSeat → Type 0
+abbrev pub IsCleared : ArraySeat → ArraySeat → Type 0
 IsCleared t d = d.me ≡ (after_clear (entry_of t) ∷ [], t.me.1)
 
-pub cleared_entry : (t d : RingSeat) → IsCleared t d → entry_of d ≡ after_clear (entry_of t)
+pub cleared_entry : (t d : ArraySeat) → IsCleared t d → entry_of d ≡ after_clear (entry_of t)
 cleared_entry t d e = ap (λ m. sole m.0) e
 
-pub cleared_slot : (t d : RingSeat) → IsCleared t d → d.me.1 ≡ t.me.1
+pub cleared_slot : (t d : ArraySeat) → IsCleared t d → d.me.1 ≡ t.me.1
 cleared_slot t d e = ap (λ m. m.1) e
 
--- what the next grant asks
-pub walk_carries : (allows : List ℕ → List ℕ → Type 0) (s t d : RingSeat) (nodes : List ℕ) (cell found : ℕ) (y : Parcel) → IsWalking allows s nodes cell found t → found ≢ 0 → IsCleared t d → HasSlot s y → IsBare (entry_of s) y
+-- that the cell is cleared changes nothing in what the line carries, and in what a grant tells
+cleared_carries : (allows : List ℕ → List ℕ → Type 0) (v : ArrayEntry) (y : Parcel) → CarriesNext allows v y → CarriesNext allows (after_clear v) y
+cleared_carries allows v y c = record { bytes = c.bytes; closed = c.closed; turns = c.turns; may_end = c.may_end; allowed = c.allowed }
+
+pub cleared_ended : (v w : ArrayEntry) (y : Parcel) → Ended (after_clear v) w y → Ended v w y
+cleared_ended v w y e = record { known = e.known; ends = e.ends; state = e.state; count = e.count; own_turn = e.own_turn }
+
+cleared_home : (v w : ArrayEntry) → GoesHome (after_clear v) w → GoesHome v w
+cleared_home v w h = record { point = h.point; passed = h.passed; unmarked = h.unmarked; clear = h.clear }
+
+cleared_passes : (v w : ArrayEntry) (node : ℕ) → Passes (after_clear v) node w → Passes v node w
+cleared_passes v w node p = record { point = p.point; passed = p.passed; request = p.request; at = p.at; is_by = p.is_by; high = p.high; few = p.few; nodes = p.nodes }
+
+-- what a walk that began at the seat s has done so far: two steps for each request that it passed
+pub record IsWalking (allows : List ℕ → List ℕ → Type 0) (s : ArraySeat) (nodes : List ℕ) (cell found : ℕ) (t : ArraySeat) : Type 0 where
+  pub cell_is : cell ≡ turn_cell t
+  pub walking : walk.IsWalking allows s nodes (2 * length nodes) found (withdrawn_by found) t
+
+-- what the next grant asks, once the cell is cleared
+pub walk_carries : (allows : List ℕ → List ℕ → Type 0) (s t d : ArraySeat) (nodes : List ℕ) (cell found : ℕ) (y : Parcel) → IsWalking allows s nodes cell found t → found ≢ 0 → IsCleared t d → HasSlot s y → IsBare (entry_of s) y
     → HasSlot d y × CarriesNext allows (entry_of d) y
 walk_carries allows s t d nodes cell found y k more cleared slot bare =
-    let here = k.stands more in (
-      cleared_slot t d cleared ∙ (here.0 ∙ slot),
-      subst (λ e. CarriesNext allows e y) (sym (cleared_entry t d cleared)) (carries_gone allows (entry_of s) (entry_of t) nodes found y k.walked here.1 bare),
-    )
+    let both = walk.walk_carries allows s t nodes (2 * length nodes) found (withdrawn_by found) y k.walking more slot bare in
+    (cleared_slot t d cleared ∙ both.0, subst (λ e. CarriesNext allows e y) (sym (cleared_entry t d cleared)) (cleared_carries allows (entry_of t) y both.1))
 
 -- and what the walk has done after it
-pub walk_step : (allows : List ℕ → List ℕ → Type 0) (s t d u : RingSeat) (nodes : List ℕ) (cell found after next : ℕ) (y : Parcel) → IsWalking allows s nodes cell found t → found ≢ 0 → (entry_of s).view.terms.nodes ≤ MOST_NODES → SameSeat t d → IsCleared t d
+pub walk_step : (allows : List ℕ → List ℕ → Type 0) (s t d u : ArraySeat) (nodes : List ℕ) (cell found after next : ℕ) (y : Parcel) → IsWalking allows s nodes cell found t → found ≢ 0 → (entry_of s).view.terms.nodes ≤ MOST_NODES → SameSeat t d → IsCleared t d
     → HasSlot s y → (entry_of s).view.state ≡ left_by y.closed → SameSeat d u → GoesOn allows d.me u.me 1 → ((x : Parcel) → HasSlot d x → Ended (entry_of d) (entry_of u) x)
-    → (next ≡ 0 → HasNoSlot u × GoesHome (entry_of d) (entry_of u)) → (next ≢ 0 → (u.me.1 ≡ d.me.1) × Passes (entry_of d) next (entry_of u)) → after ≡ cell_of (cell + 1)
+    → (next ≡ 0 → HasNoSlot u × GoesHome (entry_of d) (entry_of u)) → (next ≢ 0 → (u.me.1 ≡ d.me.1) × Passes (entry_of d) (withdrawn_by next) (entry_of u)) → after ≡ cell_of (cell + 1)
     → IsWalking allows s (nodes ++ withdrawn_by found ∷ []) after next u
 walk_step allows s t d u nodes cell found after next y k more low same cleared slot state same' went end home passes step =
-    let here = k.stands more in
     let entry = cleared_entry t d cleared in
-    let goes : GoesOn allows t.me u.me 2 = goes_trans allows t.me d.me u.me 1 1 (goes_clear allows t.me d.me cleared) went in
-    let ended : Ended (after_clear (entry_of t)) (entry_of u) y = subst (λ e. Ended e (entry_of u) y) entry (end y (cleared_slot t d cleared ∙ (here.0 ∙ slot))) in
-    let homes : next ≡ 0 → GoesHome (after_clear (entry_of t)) (entry_of u) = λ z. subst (λ e. GoesHome e (entry_of u)) entry (home z).1 in
-    let passed : next ≢ 0 → Passes (after_clear (entry_of t)) next (entry_of u) = λ z. subst (λ e. Passes e next (entry_of u)) entry (passes z).1 in
-    let longer : length (entry_of u).view.ends ≡ length (entry_of t).view.ends + 1 = omega (arith, ap length ended.ends, length-append (entry_of t).view.ends (next_end (after_clear (entry_of t)) y ∷ [])) in
-    let twice : 2 * length nodes + 2 ≡ 2 * length (nodes ++ withdrawn_by found ∷ []) = omega (arith, length-append nodes (withdrawn_by found ∷ [])) in
+    let carried : d.me.1 ≡ t.me.1 = cleared_slot t d cleared in
+    let ended : Ended (entry_of t) (entry_of u) y = cleared_ended (entry_of t) (entry_of u) y (subst (λ e. Ended e (entry_of u) y) entry (end y (carried ∙ ((k.walking.stands more).0 ∙ slot)))) in
+    let longer = walk.ended_longer (entry_of t) (entry_of u) y ended in
     record {
-      same = (same'.0 ∙ (same.0 ∙ k.same.0), same'.1 ∙ (same.1 ∙ k.same.1));
-      goes_on = subst (GoesOn allows s.me u.me) twice (goes_trans allows s.me t.me u.me (2 * length nodes) 2 k.goes_on goes);
       cell_is = omega (arith, step, k.cell_is, longer);
-      walked = walked_on (entry_of s) (entry_of t) (entry_of u) nodes found next y low k.walked here.1 ended goes.extends (ended.state ∙ (sym state ∙ sym k.walked.state)) homes passed;
-      stands = λ z. ((passes z).0 ∙ (cleared_slot t d cleared ∙ here.0), stands_next (entry_of t) (entry_of u) nodes found next here.1 (passed z));
-      home = λ z. ((home z).0, is_home (entry_of t) (entry_of u) nodes found y here.1 ended (homes z));
+      walking = walk.walk_step allows s t u nodes (2 * length nodes) 2 (2 * length (nodes ++ withdrawn_by found ∷ [])) found (withdrawn_by found) next (withdrawn_by next) y k.walking more low state
+          (same'.0 ∙ same.0, same'.1 ∙ same.1) (goes_trans allows t.me d.me u.me 1 1 (goes_clear allows t.me d.me cleared) went) ended
+          (λ z. ((home z).0, cleared_home (entry_of t) (entry_of u) (subst (λ e. GoesHome e (entry_of u)) entry (home z).1)))
+          (λ z. ((passes z).0 ∙ carried, cleared_passes (entry_of t) (entry_of u) (withdrawn_by next) (subst (λ e. Passes e (withdrawn_by next) (entry_of u)) entry (passes z).1)))
+          (omega (arith, length-append nodes (withdrawn_by found ∷ [])));
     }
-
--- all its steps: two for each request that it passes, and one to free its node
-pub walked_steps : (allows : List ℕ → List ℕ → Type 0) (s t u : RingSeat) (nodes : List ℕ) (cell found freed steps : ℕ) → IsWalking allows s nodes cell found t → GoesOn allows t.me u.me freed → freed ≡ length nodes → steps ≡ 3 * length nodes → GoesOn allows s.me u.me steps
-walked_steps allows s t u nodes cell found freed steps k went each is = let all : 2 * length nodes + freed ≡ steps = omega arith in subst (GoesOn allows s.me u.me) all (goes_trans allows s.me t.me u.me (2 * length nodes) freed k.goes_on went)

@@ -1,188 +1,58 @@
--- What each step of a port tells it.
-use Rattle.std.specs.Prelude.{◌≡◌, ◌≢◌, ℕ, ◌+◌, ◌≤◌, List, [], ◌∷◌, ◌++◌, length, Bool, Some}
+-- What each step of a port tells it, where a ring has a say in it.
+use Rattle.std.specs.Prelude.{◌≡◌, ◌≢◌, ℕ, ◌+◌, List, [], ◌∷◌, length}
 use Rattle.atomic_table.specs.Table.{Step}
-use Rattle.qolb_model.specs.declared.answer.PortState.TheVariants as shows
-use Rattle.qolb_model.specs.declared.request.Request.{Request}
-use Rattle.qolb_model.specs.declared.end.End.{End}
-use Rattle.qolb_model.specs.declared.end.End.TheVariants.{Gone}
-use Rattle.qolb_model.specs.declared.terms.TheConstants.{MOST_NODES}
-use Rattle.qolb_model.specs.Requests.{Has, Lacks}
-use Rattle.qolb_model.specs.PortStates.{left_by}
-use Rattle.qolb_model.specs.Leases.{is_last_turn, turns_left}
-use Rattle.qolb_model.specs.Ends.{is_closed, bytes_after, MayEnd}
-use Rattle.qolb_model.specs.Histories.{turn_of}
-use Rattle.qolb_model.specs.Views.{own, bytes_of}
-use Rattle.qolb_model.specs.Kept.{AreAllowed}
-use Rattle.qolb_model.specs.Asking.{Asks}
 use Rattle.shared_line.specs.declared.rule.Parcel.{Parcel}
-use Rattle.shared_line.specs.Entries as entries
-use Rattle.shared_line.specs.Steps as line
-use Rattle.shared_line.specs.Steps.{own_end}
-use Rattle.ring_line.specs.declared.own.Point.{Point}
-use Rattle.ring_line.specs.declared.own.Point.TheVariants.{Idle, Queued, Passing, Cleared, Freeing, Rolled}
-use Rattle.ring_line.specs.declared.own.RingOwn.{RingOwn}
-use Rattle.ring_line.specs.Words.{cell_of, withdrawn_by}
-use Rattle.ring_line.specs.Stances.{fresh, rests, holding, refused}
-use Rattle.ring_line.specs.Ring.{RingEntry, At}
-
-abbrev pub RingSeat : Type 0
-RingSeat = entries.LineSeat RingOwn
-
-abbrev pub Contents : Type 0
-Contents = entries.Contents RingOwn
-
-abbrev pub sole : List RingEntry → RingEntry
-sole = line.sole fresh
-
--- the seat has one entry alone
-abbrev pub Alone : Contents → Type 0
-Alone m = line.Alone fresh m
-
--- the entry of a seat that has one
-abbrev pub entry_of : RingSeat → RingEntry
-entry_of seat = line.entry_of fresh seat
-
--- the seat has the entry of one node, which stands at this point
-abbrev pub IsAt : Point → RingSeat → Type 0
-IsAt point seat = Alone seat.me × ((entry_of seat).own.point ≡ point)
+use Rattle.array_line.specs.declared.own.Point.TheVariants.{Cleared}
+use Rattle.array_line.specs.Words.{cell_of}
+use Rattle.array_line.specs.Array.{ArrayEntry}
+use Rattle.array_line.specs.Steps as array
+use Rattle.array_line.specs.Steps.{ArraySeat, Contents, sole, entry_of}
+use Rattle.ring_line.specs.Words as layout
 
 -- the cell of the node's last request, and the one at its turn, as far as the node knows
-abbrev pub own_cell : RingSeat → ℕ
+abbrev pub own_cell : ArraySeat → ℕ
 own_cell seat = cell_of (entry_of seat).own.place
 
-abbrev pub turn_cell : RingSeat → ℕ
+abbrev pub turn_cell : ArraySeat → ℕ
 turn_cell seat = cell_of (length (entry_of seat).view.ends)
 
--- the number of the seat's node
-abbrev pub IsOwnNode : ℕ → RingSeat → Type 0
-IsOwnNode node seat = line.IsOwnNode fresh node seat
+-- A port's mark is its cell. The request has not come to its turn, and is not withdrawn; it has come; and it has not, and is withdrawn.
+abbrev pub IsEarly : ℕ → ArrayEntry → Type 0
+IsEarly cell w = array.IsEarly cell_of cell w
 
--- after so many word steps of its node the seat has one entry as before, which forgets nothing
-abbrev pub GoesOn : (List ℕ → List ℕ → Type 0) → Contents → Contents → ℕ → Type 0
-GoesOn allows old new steps = line.GoesOn allows fresh old new steps
+abbrev pub Comes : ℕ → ArrayEntry → Parcel → Type 0
+Comes cell w y = array.Comes cell_of cell w y
 
--- the node drew a ticket, and knows all that came before
-pub record Draws (v : RingEntry) (found : ℕ) (w : RingEntry) : Type 0 where
-  pub point : w.own.point ≡ Queued
-  pub state : w.view.state ≡ shows.Queued
-  pub cell : cell_of found ≡ cell_of w.own.place
-  pub asks : Asks v.view w.view
-  pub joined : Has w.view.joined (own w.view)
+abbrev pub IsRolled : ℕ → ArrayEntry → Type 0
+IsRolled cell w = array.IsRolled cell_of cell w
 
--- the request has not come to its turn, and is not withdrawn; it has come; and it has not, and is withdrawn
-abbrev pub IsEarly : ℕ → RingEntry → Type 0
-IsEarly cell w = line.IsEarly rests cell w
-
-abbrev pub Comes : ℕ → RingEntry → Parcel → Type 0
-Comes cell w y = line.Comes holding refused cell w y
-
-abbrev pub IsRolled : ℕ → RingEntry → Type 0
-IsRolled cell w = line.IsGivenUp rests cell w
-
--- the withdrawn request is clear, or it is not
-pub record IsStill (v : RingEntry) (found : ℕ) (w : RingEntry) : Type 0 where
-  pub point : w.own.point ≡ Rolled
-  pub state : w.view.state ≡ v.view.state
-  pub count : w.view.count ≡ v.view.count
-  pub unclear : found ≡ 0 → Lacks w.view.clear (own w.view)
-  pub clear : found ≢ 0 → Has w.view.clear (own w.view)
-
--- the end that the next grant puts: of the node's own request where it has passed none, else of a withdrawn one
-abbrev pub end_of : List ℕ → Bool → Parcel → End
-end_of [] closed y = own_end closed y
-end_of (p ∷ ps) closed y = Gone
-
-abbrev pub next_end : RingEntry → Parcel → End
-next_end v y = end_of v.own.passed (is_closed v.view.ends) y
-
--- a release ends here where no passed node is to be freed
-abbrev pub after_walk : List ℕ → Point
-after_walk [] = Idle
-after_walk (p ∷ ps) = Freeing
-
--- the line that a release carries is the one after the end that it will put next, which may follow, and the law allows it
-pub record CarriesNext (allows : List ℕ → List ℕ → Type 0) (v : RingEntry) (y : Parcel) : Type 0 where
-  pub bytes : bytes_after v.view.terms.opening.bytes (v.view.ends ++ next_end v y ∷ []) ≡ y.bytes.bytes
-  pub closed : is_closed (v.view.ends ++ next_end v y ∷ []) ≡ y.closed
-  pub turns : turns_left v.view.terms.lease (v.view.ends ++ next_end v y ∷ []) ≡ y.turns_left
-  pub may_end : MayEnd (is_closed v.view.ends) (is_last_turn v.view.terms.lease v.view.ends) (next_end v y)
-  pub allowed : AreAllowed allows (bytes_of v.view) (next_end v y ∷ [])
-
--- the request at its turn has ended, and the node knows it
-pub record Ended (v w : RingEntry) (y : Parcel) : Type 0 where
-  pub known : length w.view.ends ≤ length w.view.order
-  pub ends : w.view.ends ≡ v.view.ends ++ next_end v y ∷ []
-  pub state : w.view.state ≡ left_by y.closed
-  pub count : w.view.count ≡ v.view.count
-  pub own_turn : v.own.passed ≡ [] → At w.view.order (length v.view.ends) (own w.view)
-
--- the next request is not withdrawn, and the line is at home
-pub record GoesHome (v w : RingEntry) : Type 0 where
-  pub point : w.own.point ≡ after_walk v.own.passed
-  pub passed : w.own.passed ≡ v.own.passed
-  pub unmarked : (r : Request) → turn_of w.view.order w.view.ends ≡ Some r → Lacks w.view.marked r
-  pub clear : v.own.passed ≡ [] → Has w.view.clear (own w.view)
-
--- the next request is withdrawn: the line stays with the node, which passes that request
-pub record Passes (v : RingEntry) (found : ℕ) (w : RingEntry) : Type 0 where
-  pub point : w.own.point ≡ Passing
-  pub passed : w.own.passed ≡ v.own.passed ++ length w.view.ends ∷ []
-  pub request : Request
-  pub at : At w.view.order (length w.view.ends) request
-  pub node : request.node ≡ withdrawn_by found
-  pub high : request.node ≤ w.view.terms.nodes
-  pub few : length w.own.passed + 1 ≤ w.view.terms.nodes
-  pub nodes : w.view.terms.nodes ≤ MOST_NODES
-
--- the node of the first passed request is free, and that request clear; ps are the passed ones that are left
-pub record Frees (v : RingEntry) (ps : List ℕ) (r : Request) (w : RingEntry) : Type 0 where
-  pub point : w.own.point ≡ after_walk ps
-  pub passed : w.own.passed ≡ ps
-  pub state : w.view.state ≡ v.view.state
-  pub count : w.view.count ≡ v.view.count
-  pub order : w.view.order ≡ v.view.order
-  pub ends : w.view.ends ≡ v.view.ends
-  pub marked : w.view.marked ≡ v.view.marked
-  pub freed : Has w.view.freed r
-  pub clear : Has w.view.clear r
-  pub own_clear : ps ≡ [] → Has w.view.clear (own w.view)
-
--- the node has cleared the cell at its turn; and its own word
-abbrev pub after_clear : RingEntry → RingEntry
+-- the node has cleared the cell at its turn
+abbrev pub after_clear : ArrayEntry → ArrayEntry
 after_clear v = record v { own = record v.own { point = Cleared }; steps = v.steps + 1 }
-
-abbrev pub after_reset : RingEntry → RingEntry
-after_reset v = record v { own = record v.own { point = Idle }; steps = v.steps + 1 }
 
 abbrev pub cleared : Step Parcel → Contents → ℕ → Contents → Type 0
 cleared st m n m' = m' ≡ (after_clear (sole m.0) ∷ [], m.1)
 
-abbrev pub reset : Step Parcel → Contents → ℕ → Contents → Type 0
-reset st m n m' = m' ≡ (after_reset (sole m.0) ∷ [], m.1)
+-- an own cell that is blank is not granted
+abbrev pub is_blank : ℕ → ℕ → Type 0
+is_blank place found = found ≡ 0
+
+abbrev pub is_granted : ℕ → ℕ → Type 0
+is_granted place found = found ≢ 0
+
+-- and a next one is not withdrawn; another one has the number of the node that did
+abbrev pub seen : ℕ → ℕ → ℕ
+seen place found = found
+
+abbrev pub withdrawn_by : ℕ → ℕ → ℕ
+withdrawn_by place found = layout.withdrawn_by found
 
 module _ (allows : List ℕ → List ℕ → Type 0) where
-  abbrev pub drawn : Step Parcel → Contents → ℕ → Contents → Type 0
-  drawn st m n m' = (m'.1 ≡ m.1) × GoesOn allows m m' 1 × Draws (sole m.0) n (sole m'.0)
-
   abbrev pub loaded : Step Parcel → Contents → ℕ → Contents → Type 0
-  loaded st m n m' = GoesOn allows m m' 1 × ((sole m'.0).view.count ≡ (sole m.0).view.count)
-      × (n ≡ 0 → (m'.1 ≡ m.1) × IsEarly (cell_of (sole m.0).own.place) (sole m'.0))
-      × (n ≢ 0 → (y : Parcel) × (m'.1 ≡ (0, y) ∷ m.1) × Comes (cell_of (sole m.0).own.place) (sole m'.0) y)
+  loaded st m n m' = array.loaded allows cell_of is_blank is_granted st m n m'
 
   abbrev pub rolled : Step Parcel → Contents → ℕ → Contents → Type 0
-  rolled st m n m' = GoesOn allows m m' 1 × ((sole m'.0).view.count ≡ (sole m.0).view.count)
-      × (n ≡ 0 → (m'.1 ≡ m.1) × IsRolled (cell_of (sole m.0).own.place) (sole m'.0))
-      × (n ≢ 0 → (y : Parcel) × (m'.1 ≡ (0, y) ∷ m.1) × Comes (cell_of (sole m.0).own.place) (sole m'.0) y)
+  rolled st m n m' = array.rolled allows cell_of is_blank is_granted st m n m'
 
   abbrev pub granted : Step Parcel → Contents → ℕ → Contents → Type 0
-  granted st m n m' = GoesOn allows m m' 1
-      × ((y : Parcel) → m.1 ≡ (0, y) ∷ [] → Ended (sole m.0) (sole m'.0) y)
-      × (n ≡ 0 → ((y : Parcel) → m.1 ≡ (0, y) ∷ [] → m'.1 ≡ []) × GoesHome (sole m.0) (sole m'.0))
-      × (n ≢ 0 → (m'.1 ≡ m.1) × Passes (sole m.0) n (sole m'.0))
-
-  abbrev pub freed : Step Parcel → Contents → ℕ → Contents → Type 0
-  freed st m n m' = (m'.1 ≡ m.1) × GoesOn allows m m' 1
-      × ((q : ℕ) (ps : List ℕ) (r : Request) → (sole m.0).own.passed ≡ q ∷ ps → At (sole m.0).view.order q r → Frees (sole m.0) ps r (sole m'.0))
-
-  abbrev pub loaded_node : Step Parcel → Contents → ℕ → Contents → Type 0
-  loaded_node st m n m' = (m'.1 ≡ m.1) × GoesOn allows m m' 1 × IsStill (sole m.0) n (sole m'.0)
+  granted st m n m' = array.granted allows seen withdrawn_by st m n m'

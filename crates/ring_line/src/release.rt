@@ -5,15 +5,18 @@ ghost use Rattle.qolb_model.specs.declared.terms.TheConstants.{MOST_NODES};
 ghost use Rattle.qolb_model.specs.PortStates.{left_by};
 ghost use Rattle.shared_line.specs.declared.rule.Parcel.{Parcel};
 ghost use Rattle.shared_line.specs.Steps.{SameSeat, IsSeatOf, HasSlot, HasNoSlot};
-ghost use Rattle.ring_line.specs.Words as layout;
-ghost use Rattle.ring_line.specs.Ring.{At};
-ghost use Rattle.ring_line.specs.Steps.{IsAt, IsOwnNode, turn_cell, entry_of, GoesOn, CarriesNext};
-ghost use Rattle.ring_line.specs.Releases.{IsRenewed, steps_to_renew, IsBare, LetsLineGo, WalksOn, AreNodesAt, FreesAll};
-ghost use Rattle.ring_line.specs.declared.own.Point.TheVariants.{Idle, Holding, Passing, Freeing, Rolled};
+ghost use Rattle.array_line.specs.Words.{word_count};
+ghost use Rattle.array_line.specs.Array.{At};
+ghost use Rattle.array_line.specs.Steps.{IsAt, IsOwnNode, entry_of, GoesOn, CarriesNext};
+ghost use Rattle.array_line.specs.Releases.{IsRenewed, steps_to_renew, IsBare, LetsLineGo, WalksOn, AreNodesAt, FreesAll};
+ghost use Rattle.ring_line.specs.Words.{withdrawn_by};
+ghost use Rattle.ring_line.specs.Steps.{turn_cell};
+ghost use Rattle.array_line.specs.declared.own.Point.TheVariants.{Idle, Holding, Passing, Freeing, Rolled};
 
 use crate::rule::{Ground, RingSeat};
 use crate::steps::{clear, free, grant, load_node, reset};
-use crate::words::{cell_after, is_freed, is_withdrawn, withdrawn_by};
+use crate::words::{cell_after, is_withdrawn, withdrawn_by};
+use array_line::is_freed;
 use arrayvec::ArrayVec;
 use qolb_model::{Keep, MOST_NODES, PortState};
 
@@ -29,7 +32,7 @@ pub(crate) fn renew<K: Keep>(
     node: u64,
     state: PortState,
 ) -> Option<u64>
-    requires table { IsSeatOf layout.word_count ground.now.table_id seat.old }
+    requires table { IsSeatOf word_count ground.now.table_id seat.old }
     requires rolled { state ≡ PortState.Rolled → IsAt Rolled seat.old }
     requires idle { state ≢ PortState.Rolled → IsAt Idle seat.old }
     requires own { IsOwnNode node seat.old }
@@ -51,7 +54,7 @@ pub(crate) fn renew<K: Keep>(
 /// Lets the line go that lies in the slot, and returns how many word steps that took.
 #[inline]
 pub(crate) fn release<K: Keep>(ground: &Ground<K>, seat: &mut RingSeat, cell: u64) -> u64
-    requires table { IsSeatOf layout.word_count ground.now.table_id seat.old }
+    requires table { IsSeatOf word_count ground.now.table_id seat.old }
     requires ready { IsAt Holding seat.old }
     requires none_passed { (entry_of seat.old).own.passed ≡ [] }
     requires cell { cell ≡ turn_cell seat.old }
@@ -80,12 +83,12 @@ pub(crate) fn release<K: Keep>(ground: &Ground<K>, seat: &mut RingSeat, cell: u6
 #[cold]
 #[inline(never)]
 fn walk<K: Keep>(ground: &Ground<K>, seat: &mut RingSeat, cell: u64, found: u64) -> u64
-    requires table { IsSeatOf layout.word_count ground.now.table_id seat.old }
+    requires table { IsSeatOf word_count ground.now.table_id seat.old }
     requires ready { IsAt Passing seat.old }
     requires cell { cell ≡ turn_cell seat.old }
     requires found { found ≢ 0 }
     requires passed { (entry_of seat.old).own.passed ≡ length (entry_of seat.old).view.ends ∷ [] }
-    requires first { (r : Request) × At (entry_of seat.old).view.order (length (entry_of seat.old).view.ends) r × (r.node ≡ layout.withdrawn_by found) × (r.node ≤ (entry_of seat.old).view.terms.nodes) }
+    requires first { (r : Request) × At (entry_of seat.old).view.order (length (entry_of seat.old).view.ends) r × (r.node ≡ withdrawn_by found) × (r.node ≤ (entry_of seat.old).view.terms.nodes) }
     requires nodes { (2 ≤ (entry_of seat.old).view.terms.nodes) × ((entry_of seat.old).view.terms.nodes ≤ MOST_NODES) }
     requires parcel { (y : Parcel) × HasSlot seat.old y × IsBare (entry_of seat.old) y × ((entry_of seat.old).view.state ≡ left_by y.closed) }
     ensures same { SameSeat seat.old seat.new }
@@ -111,7 +114,7 @@ fn walk<K: Keep>(ground: &Ground<K>, seat: &mut RingSeat, cell: u64, found: u64)
 
 /// Frees the nodes of all requests that were passed, in their order.
 fn free_passed<K: Keep>(ground: &Ground<K>, seat: &mut RingSeat, nodes: &[u64])
-    requires table { IsSeatOf layout.word_count ground.now.table_id seat.old }
+    requires table { IsSeatOf word_count ground.now.table_id seat.old }
     requires ready { IsAt Freeing seat.old }
     requires some { (entry_of seat.old).own.passed ≢ [] }
     requires many { length nodes.now ≡ length (entry_of seat.old).own.passed }

@@ -6,16 +6,17 @@ ghost use Rattle.qolb_model.specs.Views.{own};
 ghost use Rattle.qolb_model.specs.declared.terms.TheConstants.{MOST_NODES};
 ghost use Rattle.shared_line.specs.declared.rule.Parcel.{Parcel};
 ghost use Rattle.shared_line.specs.Steps.{SameSeat, IsSeatOf, HasSlot, HasNoSlot};
-ghost use Rattle.ring_line.specs.Words.{word_count};
-ghost use Rattle.ring_line.specs.Ring.{At};
-ghost use Rattle.ring_line.specs.Steps.{IsAt, IsOwnNode, own_cell, turn_cell, entry_of, GoesOn, Draws, IsEarly, Comes, IsRolled, IsStill, CarriesNext, Ended, GoesHome, Passes, Frees, after_clear, after_reset};
-ghost use Rattle.ring_line.specs.declared.own.Point.TheVariants.{Idle, Queued, Holding, Passing, Cleared, Freeing, Rolled};
+ghost use Rattle.array_line.specs.Words.{word_count};
+ghost use Rattle.array_line.specs.Array.{At};
+ghost use Rattle.array_line.specs.Steps.{IsAt, IsOwnNode, entry_of, GoesOn, Draws, IsStill, CarriesNext, Ended, GoesHome, Passes, Frees, after_reset};
+ghost use Rattle.ring_line.specs.Words.{withdrawn_by};
+ghost use Rattle.ring_line.specs.Steps.{own_cell, turn_cell, IsEarly, Comes, IsRolled, after_clear};
+ghost use Rattle.array_line.specs.declared.own.Point.TheVariants.{Idle, Queued, Holding, Passing, Cleared, Freeing, Rolled};
 
 use crate::plays::{Clear, Draw, Free, Grant, Load, LoadNode, Reset, Roll};
 use crate::rule::{Ground, RingSeat};
-use crate::words::{
-    GRANTED, TICKET, WITHDRAWN, cell_after, cell_of, cell_word, is_granted, node_word,
-};
+use crate::words::{GRANTED, WITHDRAWN, cell_after, cell_of, is_granted};
+use array_line::{TICKET, cell_word, node_word};
 use qolb_model::Keep;
 
 /// Draws a ticket, and returns its cell.
@@ -28,7 +29,7 @@ pub(crate) fn draw<K: Keep>(ground: &Ground<K>, seat: &mut RingSeat) -> u64
     ensures slot { seat.new.me.1 ≡ seat.old.me.1 }
     ensures goes_on { GoesOn K.allows seat.old.me seat.new.me 1 }
     ensures cell { result ≡ own_cell seat.new }
-    ensures draws { Draws (entry_of seat.old) result (entry_of seat.new) }
+    ensures draws { Draws (entry_of seat.old) (entry_of seat.new) }
 {
     cell_of(ground.fetch_add::<Draw<K>>(seat, TICKET, 1))
 }
@@ -86,7 +87,7 @@ pub(crate) fn grant<K: Keep>(ground: &Ground<K>, seat: &mut RingSeat, cell: u64)
     ensures goes_on { GoesOn K.allows seat.old.me seat.new.me 1 }
     ensures ended { (y : Parcel) → HasSlot seat.old y → Ended (entry_of seat.old) (entry_of seat.new) y }
     ensures home { result ≡ 0 → HasNoSlot seat.new × GoesHome (entry_of seat.old) (entry_of seat.new) }
-    ensures passes { result ≢ 0 → (seat.new.me.1 ≡ seat.old.me.1) × Passes (entry_of seat.old) result (entry_of seat.new) }
+    ensures passes { result ≢ 0 → (seat.new.me.1 ≡ seat.old.me.1) × Passes (entry_of seat.old) (withdrawn_by result) (entry_of seat.new) }
 {
     ground.fetch_add::<Grant<K>>(seat, cell_word(cell_after(cell)), GRANTED)
 }

@@ -1,16 +1,3 @@
 pub mod Numbers
-pub mod Turning
+pub mod Cells
 pub mod Walking
-pub mod Releasing
-pub mod Nodes
-pub mod Keeping
-pub mod Ask
-pub mod Taking
-pub mod Load
-pub mod Roll
-pub mod Reset
-pub mod Clearing
-pub mod Free
-pub mod Passed
-pub mod Ending
-pub mod Grant

@@ -1,31 +1,15 @@
--- Where the words of a table lie: the ticket, a word for each node, and the cells, each apart from the others. And what a cell says.
-use Rattle.std.specs.Prelude.{◌≡◌, ◌≢◌, ℕ, ◌+◌, ◌-◌, ◌*◌, ◌/◌, ◌%◌, ◌^◌, ◌<◌, List, slice_index, ◌==◌, if◌then◌else◌}
-use Rattle.qolb_model.specs.declared.terms.TheConstants.{MOST_NODES}
-use Rattle.ticket_line.specs.declared.words.TheConstants.{CELLS, NODE_STRIDE, CELL_STRIDE, UNIT, NUMBERS}
+-- What the words of a ticket line say.
+use Rattle.std.specs.Prelude.{ℕ, ◌+◌, ◌-◌, ◌*◌, ◌/◌, ◌%◌, List, ◌==◌, if◌then◌else◌}
+use Rattle.array_line.specs.declared.words.TheConstants.{CELLS}
+use Rattle.array_line.specs.Words as array
+use Rattle.array_line.specs.Words.{ticket_of}
+use Rattle.ticket_line.specs.declared.words.TheConstants.{UNIT, NUMBERS}
 
-abbrev pub ticket_at : ℕ
-ticket_at = NODE_STRIDE
-
-abbrev pub node_at : ℕ → ℕ
-node_at n = NODE_STRIDE + NODE_STRIDE * n
-
-abbrev pub cell_at : ℕ → ℕ
-cell_at c = node_at (MOST_NODES + 1) + c * CELL_STRIDE
-
-abbrev pub word_count : ℕ
-word_count = cell_at CELLS
-
--- the ticket of the request at a place of the order, which fits a word; and the one behind it
-abbrev pub ticket_of : ℕ → ℕ
-ticket_of place = place % 2 ^ 64
-
+-- the ticket behind one
 abbrev pub ticket_after : ℕ → ℕ
 ticket_after ticket = ticket_of (ticket + 1)
 
--- The cell and the number of a ticket. Places have them too: those of their tickets, since CELLS and NUMBERS divide 2^64.
-abbrev pub cell_of : ℕ → ℕ
-cell_of ticket = ticket % CELLS
-
+-- The number of a ticket. A place has that of its ticket, since NUMBERS divides 2^64.
 abbrev pub number : ℕ → ℕ
 number ticket = (ticket + 1) % NUMBERS
 
@@ -46,4 +30,4 @@ number_before place = (place + 1 - CELLS) % NUMBERS
 
 -- nobody has asked: the first cell is granted to the first ticket, and all else is blank
 abbrev pub AreFirst : List ℕ → Type 0
-AreFirst words = (slice_index words (cell_at 0) ≡ granted 0) × ((i : ℕ) → i < word_count → i ≢ cell_at 0 → slice_index words i ≡ 0)
+AreFirst words = array.AreFirst (granted 0) words

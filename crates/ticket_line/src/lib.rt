@@ -1,7 +1,6 @@
 //! The queue of a line over atomic words: nodes draw tickets, and each waits at a cell of its own until it says the ticket's number.
 #![tactic(auto)]
 
-mod own;
 mod plays;
 mod queue;
 mod release;
@@ -9,6 +8,4 @@ mod rule;
 mod steps;
 mod words;
 
-pub use own::TicketOwn;
 pub use rule::{Port, Ticket, TicketLine};
-pub use words::CELLS;

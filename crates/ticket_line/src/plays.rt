@@ -1,7 +1,8 @@
 //! What each step tells.
-ghost use Rattle.ticket_line.specs.Steps.{drawn, loaded, rolled, handed, freed, loaded_node, reset};
+ghost use Rattle.array_line.specs.Steps.{drawn, freed, loaded_node, reset};
+ghost use Rattle.ticket_line.specs.Steps.{loaded, rolled, handed};
 
-use crate::own::TicketOwn;
+use array_line::Own;
 use atomic_table::Play;
 use qolb_model::Keep;
 use shared_line::{Entry, Parcel};
@@ -9,7 +10,7 @@ use std::collections::LinkedList;
 use std::marker::PhantomData;
 
 /// The entries of a seat.
-type Entries = LinkedList<Entry<TicketOwn>>;
+type Entries = LinkedList<Entry<Own>>;
 
 /// A ticket is drawn.
 pub(crate) struct Draw<K> {

@@ -1,15 +1,19 @@
 //! Partitioned tickets as a queue discipline.
 ghost use Rattle.std.specs.Prelude.{◌≡◌};
 ghost use Rattle.qolb_model.specs.PortStates as states;
+ghost use Rattle.array_line.specs.Words.{word_count, ticket_of};
+ghost use Rattle.array_line.proofs.Seats as seats;
+ghost use Rattle.array_line.proofs.Meets as meeting;
+ghost use Rattle.array_line.proofs.Lasting as lasting;
 ghost use Rattle.ticket_line.specs.Words as layout;
-ghost use Rattle.ticket_line.specs.Laws.Seats as seats;
-ghost use Rattle.ticket_line.specs.Laws.Meets as meeting;
-ghost use Rattle.ticket_line.specs.Laws.Lasting as lasting;
+ghost use Rattle.ticket_line.specs.Ticket.{TicketCells};
+ghost use Rattle.ticket_line.specs.Laws.{first_cells};
 
 use crate::release::{release, renew};
 use crate::rule::{Ground, Ticket, TicketSeat};
 use crate::steps::{draw, load, roll};
-use crate::words::{WORDS, first_words};
+use crate::words::first_words;
+use array_line::WORDS;
 use atomic_table::Closed;
 use qolb_model::{Keep, PortState};
 use shared_line::{
@@ -18,7 +22,7 @@ use shared_line::{
 use std::alloc::{AllocError, Global};
 
 impl<K: Keep> Discipline<K> for Ticket {
-    ghost word_count = { layout.word_count };
+    ghost word_count = { word_count };
 
     ghost are_first = { layout.AreFirst };
 
@@ -96,21 +100,21 @@ impl<K: Keep> Discipline<K> for Ticket {
         }
     }
 
-    ghost cuts = { seats.cuts K.good K.allows };
+    ghost cuts = { seats.cuts TicketCells K.good K.allows };
 
-    ghost blanks = { seats.blanks K.good K.allows };
+    ghost blanks = { seats.blanks TicketCells K.good K.allows };
 
-    ghost joins = { seats.joins K.good K.allows };
+    ghost joins = { seats.joins TicketCells K.good K.allows };
 
-    ghost slots = { seats.one_slot K.good K.allows };
+    ghost slots = { seats.one_slot TicketCells K.good K.allows };
 
-    ghost starts = { seats.starts K.good K.allows };
+    ghost starts = { λ about. seats.starts TicketCells K.good K.allows about (layout.granted 0) first_cells };
 
-    ghost meets = { meeting.meets_next K.good K.allows };
+    ghost meets = { meeting.meets_next TicketCells K.good K.allows };
 
-    ghost parks = { λ about id slots i m v _ _ is holding kept. meeting.parks_next K.good K.allows about id slots i m v kept.0 is holding kept.1 };
+    ghost parks = { λ about id slots i m v _ _ is holding kept. meeting.parks_next TicketCells K.good K.allows about id slots i m v kept.0 is holding kept.1 };
 
-    ghost finishes = { λ about es id words xs at_rest. lasting.final_line K.good K.allows about es at_rest id words xs };
+    ghost finishes = { λ about es id words xs at_rest. lasting.final_line TicketCells K.good K.allows about es ticket_of at_rest id words xs };
 }
 
 /// The state that a turn leaves which closed the line or did not.

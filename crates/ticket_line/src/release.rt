@@ -5,15 +5,17 @@ ghost use Rattle.qolb_model.specs.declared.terms.TheConstants.{MOST_NODES};
 ghost use Rattle.qolb_model.specs.PortStates.{left_by};
 ghost use Rattle.shared_line.specs.declared.rule.Parcel.{Parcel};
 ghost use Rattle.shared_line.specs.Steps.{SameSeat, IsSeatOf, HasSlot, HasNoSlot};
-ghost use Rattle.ticket_line.specs.Words as layout;
-ghost use Rattle.ticket_line.specs.Ticket.{At};
-ghost use Rattle.ticket_line.specs.Steps.{IsAt, IsOwnNode, turn_ticket, entry_of, GoesOn, CarriesNext};
-ghost use Rattle.ticket_line.specs.Releases.{IsRenewed, steps_to_renew, IsBare, LetsLineGo, WalksOn, AreNodesAt, FreesAll};
-ghost use Rattle.ticket_line.specs.declared.own.Point.TheVariants.{Idle, Holding, Passing, Freeing, Rolled};
+ghost use Rattle.array_line.specs.Words.{word_count};
+ghost use Rattle.array_line.specs.Array.{At};
+ghost use Rattle.array_line.specs.Steps.{IsAt, IsOwnNode, entry_of, GoesOn, CarriesNext};
+ghost use Rattle.array_line.specs.Releases.{IsRenewed, steps_to_renew, IsBare, LetsLineGo, WalksOn, AreNodesAt, FreesAll};
+ghost use Rattle.ticket_line.specs.Steps.{turn_ticket};
+ghost use Rattle.array_line.specs.declared.own.Point.TheVariants.{Idle, Holding, Passing, Freeing, Rolled};
 
 use crate::rule::{Ground, TicketSeat};
 use crate::steps::{free, grant, load_node, reset};
-use crate::words::{is_freed, ticket_after};
+use crate::words::ticket_after;
+use array_line::is_freed;
 use arrayvec::ArrayVec;
 use qolb_model::{Keep, MOST_NODES, PortState};
 
@@ -29,7 +31,7 @@ pub(crate) fn renew<K: Keep>(
     node: u64,
     state: PortState,
 ) -> Option<u64>
-    requires table { IsSeatOf layout.word_count ground.now.table_id seat.old }
+    requires table { IsSeatOf word_count ground.now.table_id seat.old }
     requires rolled { state ≡ PortState.Rolled → IsAt Rolled seat.old }
     requires idle { state ≢ PortState.Rolled → IsAt Idle seat.old }
     requires own { IsOwnNode node seat.old }
@@ -51,7 +53,7 @@ pub(crate) fn renew<K: Keep>(
 /// Lets the line go that lies in the slot, and returns how many word steps that took.
 #[inline]
 pub(crate) fn release<K: Keep>(ground: &Ground<K>, seat: &mut TicketSeat, ticket: u64) -> u64
-    requires table { IsSeatOf layout.word_count ground.now.table_id seat.old }
+    requires table { IsSeatOf word_count ground.now.table_id seat.old }
     requires ready { IsAt Holding seat.old }
     requires none_passed { (entry_of seat.old).own.passed ≡ [] }
     requires ticket { ticket ≡ turn_ticket seat.old }
@@ -79,7 +81,7 @@ pub(crate) fn release<K: Keep>(ground: &Ground<K>, seat: &mut TicketSeat, ticket
 #[cold]
 #[inline(never)]
 fn walk<K: Keep>(ground: &Ground<K>, seat: &mut TicketSeat, ticket: u64, node: u64) -> u64
-    requires table { IsSeatOf layout.word_count ground.now.table_id seat.old }
+    requires table { IsSeatOf word_count ground.now.table_id seat.old }
     requires ready { IsAt Passing seat.old }
     requires ticket { ticket ≡ turn_ticket seat.old }
     requires some { node ≢ 0 }
@@ -109,7 +111,7 @@ fn walk<K: Keep>(ground: &Ground<K>, seat: &mut TicketSeat, ticket: u64, node: u
 
 /// Frees the nodes of all requests that were passed, in their order.
 fn free_passed<K: Keep>(ground: &Ground<K>, seat: &mut TicketSeat, nodes: &[u64])
-    requires table { IsSeatOf layout.word_count ground.now.table_id seat.old }
+    requires table { IsSeatOf word_count ground.now.table_id seat.old }
     requires ready { IsAt Freeing seat.old }
     requires some { (entry_of seat.old).own.passed ≢ [] }
     requires many { length nodes.now ≡ length (entry_of seat.old).own.passed }

@@ -1,9 +1,11 @@
 //! The queue of a ticket line: how its nodes stand, and its rule.
 ghost use Rattle.shared_line.specs.Slots.{lies_alone, kept_alone};
-ghost use Rattle.ticket_line.specs.Stances as stances;
-ghost use Rattle.ticket_line.specs.Laws.Standing as standing;
+ghost use Rattle.array_line.specs.Words.{ticket_of};
+ghost use Rattle.array_line.specs.Stances as stances;
+ghost use Rattle.array_line.proofs.Standing as standing;
+ghost use Rattle.ticket_line.specs.Laws as laws;
 
-use crate::own::TicketOwn;
+use array_line::Own;
 use qolb_model::Keep;
 use shared_line::{LineSeat, Ruled, Shape};
 
@@ -16,15 +18,15 @@ use shared_line::{LineSeat, Ruled, Shape};
 pub struct Ticket;
 
 impl Shape for Ticket {
-    type Own = TicketOwn;
+    type Own = Own;
 
     ghost fresh = { stances.fresh };
 
-    ghost rests = { stances.rests };
+    ghost rests = { stances.rests ticket_of };
 
-    ghost holding = { stances.holding };
+    ghost holding = { stances.holding ticket_of };
 
-    ghost refused = { stances.refused };
+    ghost refused = { stances.refused ticket_of };
 
     ghost brings = { lies_alone };
 
@@ -36,19 +38,19 @@ impl Shape for Ticket {
 
     ghost asks_in = { stances.asks_in };
 
-    ghost lets_go_in = { stances.lets_go_in };
+    ghost lets_go_in = { stances.lets_go_in 2 };
 
-    ghost most = { stances.most };
+    ghost most = { stances.most 2 };
 
-    ghost starts_idle = { standing.starts_idle };
+    ghost starts_idle = { standing.starts_idle ticket_of };
 
-    ghost rests_shown = { standing.rests_shown };
+    ghost rests_shown = { standing.rests_shown ticket_of };
 
     ghost holding_shown = { standing.holding_shown };
 
-    ghost most_some = { standing.most_some };
+    ghost most_some = { laws.most_some };
 
-    ghost most_fits = { standing.most_fits };
+    ghost most_fits = { laws.most_fits };
 }
 
 impl<K: Keep> Ruled<K> for Ticket {
@@ -67,4 +69,4 @@ pub type Port = shared_line::Port<Ticket>;
 pub(crate) type Ground<K> = shared_line::Ground<K, Ticket>;
 
 /// A seat of that table.
-pub(crate) type TicketSeat = LineSeat<TicketOwn>;
+pub(crate) type TicketSeat = LineSeat<Own>;

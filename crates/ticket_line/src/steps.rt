@@ -6,14 +6,16 @@ ghost use Rattle.qolb_model.specs.Views.{own};
 ghost use Rattle.qolb_model.specs.declared.terms.TheConstants.{MOST_NODES};
 ghost use Rattle.shared_line.specs.declared.rule.Parcel.{Parcel};
 ghost use Rattle.shared_line.specs.Steps.{SameSeat, IsSeatOf, HasSlot, HasNoSlot};
-ghost use Rattle.ticket_line.specs.Words.{word_count};
-ghost use Rattle.ticket_line.specs.Ticket.{At};
-ghost use Rattle.ticket_line.specs.Steps.{IsAt, IsOwnNode, own_ticket, next_ticket, entry_of, GoesOn, Draws, IsEarly, Comes, IsRolled, IsStill, CarriesNext, Ended, GoesHome, Passes, Frees, after_reset};
-ghost use Rattle.ticket_line.specs.declared.own.Point.TheVariants.{Idle, Queued, Holding, Passing, Freeing, Rolled};
+ghost use Rattle.array_line.specs.Words.{word_count};
+ghost use Rattle.array_line.specs.Array.{At};
+ghost use Rattle.array_line.specs.Steps.{IsAt, IsOwnNode, entry_of, GoesOn, Draws, IsStill, CarriesNext, Ended, GoesHome, Passes, Frees, after_reset};
+ghost use Rattle.ticket_line.specs.Steps.{own_ticket, next_ticket, IsEarly, Comes, IsRolled};
+ghost use Rattle.array_line.specs.declared.own.Point.TheVariants.{Idle, Queued, Holding, Passing, Freeing, Rolled};
 
 use crate::plays::{Draw, Free, Grant, Load, LoadNode, Reset, Roll};
 use crate::rule::{Ground, TicketSeat};
-use crate::words::{TICKET, cell_word, granted, is_granted, node_word, withdrawn, withdrawn_by};
+use crate::words::{cell_word, granted, is_granted, withdrawn, withdrawn_by};
+use array_line::{TICKET, node_word};
 use qolb_model::Keep;
 
 /// Draws a ticket.
@@ -26,7 +28,7 @@ pub(crate) fn draw<K: Keep>(ground: &Ground<K>, seat: &mut TicketSeat) -> u64
     ensures slot { seat.new.me.1 ≡ seat.old.me.1 }
     ensures goes_on { GoesOn K.allows seat.old.me seat.new.me 1 }
     ensures ticket { result ≡ own_ticket seat.new }
-    ensures draws { Draws (entry_of seat.old) result (entry_of seat.new) }
+    ensures draws { Draws (entry_of seat.old) (entry_of seat.new) }
 {
     ground.fetch_add::<Draw<K>>(seat, TICKET, 1)
 }

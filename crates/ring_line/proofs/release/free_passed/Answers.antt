@@ -1,7 +1,7 @@
 use Rattle.std.proofs.Common.{refl, ◌∙◌, arith}
-use Rattle.ring_line.specs.Steps.{entry_of}
-use Rattle.ring_line.proofs.Turning.{goes_none}
-use Rattle.ring_line.proofs.Walking.{frees_none, frees_all, freeing_which, freeing_next, freed_steps}
+use Rattle.array_line.specs.Steps.{entry_of}
+use Rattle.array_line.proofs.Turning.{goes_none}
+use Rattle.array_line.proofs.Walking.{frees_none, frees_all, freeing_which, freeing_next, freed_steps}
 use Rattle.ring_line.proofs.release.free_passed.Goals as goal
 
 pub loop-node-init : goal.loop-node-init

@@ -1,10 +1,10 @@
 use Rattle.std.proofs.Common.{subst, ◌∙◌}
-use Rattle.ring_line.specs.Steps.{entry_of, Ended}
-use Rattle.ring_line.proofs.Turning.{goes_trans, goes_clear}
-use Rattle.ring_line.proofs.Walking.{cleared_entry, cleared_slot}
-use Rattle.ring_line.proofs.Releasing.{lets_on}
+use Rattle.array_line.specs.Array.{ArrayEntry}
+use Rattle.array_line.specs.Steps.{entry_of, Ended}
+use Rattle.array_line.proofs.Turning.{goes_trans}
+use Rattle.array_line.proofs.Releasing.{lets_on}
+use Rattle.ring_line.proofs.Walking.{goes_clear, cleared_entry, cleared_slot, cleared_ended}
 use Rattle.ring_line.proofs.release.release.Goals as goal
-use Rattle.ring_line.specs.Ring.{RingEntry}
 
 pub returns-else-is_withdrawn-clause-goes_on : goal.returns-else-is_withdrawn-clause-goes_on
 returns-else-is_withdrawn-clause-goes_on g c = goes_trans g.K.Keep.allows c.args.seat.now.me c.clear.new.seat.me c.grant-found.new.seat.me 1 1 (goes_clear g.K.Keep.allows c.args.seat.now.me c.clear.new.seat.me c.clear.ensures.cleared) c.grant-found.ensures.goes_on
@@ -16,5 +16,5 @@ returns-then-is_withdrawn-clause-goes_on g c = goes_trans g.K.Keep.allows c.args
 
 pub returns-then-is_withdrawn-clause-lets_go : goal.returns-then-is_withdrawn-clause-lets_go
 returns-then-is_withdrawn-clause-lets_go g c y slot =
-    let ended = subst (λ (e : RingEntry). Ended e (entry_of c.grant-found.new.seat) y) (cleared_entry c.args.seat.now c.clear.new.seat c.clear.ensures.cleared) (c.grant-found.ensures.ended y (cleared_slot c.args.seat.now c.clear.new.seat c.clear.ensures.cleared ∙ slot)) in
+    let ended = cleared_ended (entry_of c.args.seat.now) (entry_of c.grant-found.new.seat) y (subst (λ (e : ArrayEntry). Ended e (entry_of c.grant-found.new.seat) y) (cleared_entry c.args.seat.now c.clear.new.seat c.clear.ensures.cleared) (c.grant-found.ensures.ended y (cleared_slot c.args.seat.now c.clear.new.seat c.clear.ensures.cleared ∙ slot))) in
     lets_on (entry_of c.args.seat.now) (entry_of c.grant-found.new.seat) (entry_of c.walk.new.seat) y c.requires.none_passed ended c.walk.ensures.goes_on.extends c.walk.ensures.walks_on

@@ -1,4 +1,4 @@
-use Rattle.ring_line.proofs.Turning.{goes_trans, goes_reset}
+use Rattle.array_line.proofs.Turning.{goes_trans, goes_reset}
 use Rattle.ring_line.proofs.release.renew.Goals as goal
 
 pub returns-clause-goes_on : goal.returns-clause-goes_on

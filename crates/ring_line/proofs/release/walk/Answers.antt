@@ -1,17 +1,21 @@
 use Rattle.std.proofs.Common.{rules, refl, sym, subst, ap, arith, ◌≡◌, ◌≢◌, ◌∙◌, ◌++◌, ◌∷◌, [], ℕ, List, length}
-use Rattle.ring_line.specs.Steps.{entry_of}
-use Rattle.ring_line.proofs.Turning.{goes_none}
-use Rattle.ring_line.proofs.Walking.{IsWalking, walk_begins, stands_first, walk_carries, walk_step, walked_steps, walk_over}
+use Rattle.array_line.specs.Steps.{entry_of}
+use Rattle.array_line.proofs.Turning.{goes_none}
+use Rattle.array_line.proofs.Walking.{walk_begins, stands_first, walked_steps, walk_over}
+use Rattle.ring_line.specs.Words.{withdrawn_by}
+use Rattle.ring_line.proofs.Walking.{IsWalking, walk_carries, walk_step}
 use Rattle.ring_line.proofs.release.walk.Goals as goal
 
 pub loop-passed-init : goal.loop-passed-init
 loop-passed-init g c = subst (λ (nodes : List ℕ). IsWalking g.K.Keep.allows c.args.seat.now nodes c.args.cell c.args.found c.args.seat.now) (sym c.new-passed.ensures) (record {
-  same = (refl, refl);
-  goes_on = goes_none g.K.Keep.allows c.args.seat.now.me c.requires.ready.0;
   cell_is = c.requires.cell;
-  walked = walk_begins (entry_of c.args.seat.now) c.requires.passed c.requires.nodes.0;
-  stands = λ more. (refl, stands_first (entry_of c.args.seat.now) c.args.found c.requires.ready.1 c.requires.passed c.requires.first);
-  home = λ none. absurd (c.requires.found none);
+  walking = record {
+    same = (refl, refl);
+    goes_on = goes_none g.K.Keep.allows c.args.seat.now.me c.requires.ready.0;
+    walked = walk_begins (entry_of c.args.seat.now) c.requires.passed c.requires.nodes.0;
+    stands = λ more. (refl, stands_first (entry_of c.args.seat.now) (withdrawn_by c.args.found) c.requires.ready.1 c.requires.passed c.requires.first);
+    home = λ none. absurd (c.requires.found none);
+  };
 })
 
 pub grant-found-requires-clause-parcel : goal.grant-found-requires-clause-parcel
@@ -30,8 +34,8 @@ loop-passed-preserved g c =
     c.requires.nodes.1 c.clear.ensures.same c.clear.ensures.cleared y.1 y.3 c.grant-found.ensures.same c.grant-found.ensures.goes_on c.grant-found.ensures.ended c.grant-found.ensures.home c.grant-found.ensures.passes c.cell_after-cell.ensures)
 
 pub returns-clause-goes_on : goal.returns-clause-goes_on
-returns-clause-goes_on g c = walked_steps g.K.Keep.allows c.args.seat.now c.loop-passed.seat c.free_passed.new.seat c.loop-passed.passed.items c.loop-passed.cell c.loop-passed.found _ _ c.loop-passed.invariant c.free_passed.ensures.goes_on (ap length (search rules)) (omega arith)
+returns-clause-goes_on g c = walked_steps g.K.Keep.allows c.args.seat.now c.loop-passed.seat c.free_passed.new.seat c.loop-passed.passed.items _ c.loop-passed.found _ _ _ c.loop-passed.invariant.walking c.free_passed.ensures.goes_on (ap length (search rules)) (omega arith)
 
 pub returns-clause-walks_on : goal.returns-clause-walks_on
 returns-clause-walks_on g c = let done : c.loop-passed.found ≡ 0 = search rules in
-    walk_over (entry_of c.args.seat.now) (entry_of c.loop-passed.seat) (entry_of c.free_passed.new.seat) c.loop-passed.passed.items c.loop-passed.invariant.walked (c.loop-passed.invariant.home done).1 c.free_passed.ensures.frees
+    walk_over (entry_of c.args.seat.now) (entry_of c.loop-passed.seat) (entry_of c.free_passed.new.seat) c.loop-passed.passed.items c.loop-passed.invariant.walking.walked (c.loop-passed.invariant.walking.home done).1 c.free_passed.ensures.frees

@@ -1,6 +1,6 @@
 use Rattle.std.proofs.Common.{rules, arith, ap, ◌∙◌, inl, inr, ⊎_elim}
-use Rattle.ring_line.specs.Words.{cell_at}
-use Rattle.ring_line.specs.Steps.{entry_of}
+use Rattle.array_line.specs.Words.{cell_at}
+use Rattle.array_line.specs.Steps.{entry_of}
 use Rattle.ring_line.proofs.Clear.{clears_next}
 use Rattle.ring_line.proofs.steps.clear.Goals as goal
 

@@ -1,6 +1,6 @@
-use Rattle.ticket_line.specs.Steps.{entry_of}
-use Rattle.ticket_line.proofs.Turning.{goes_trans}
-use Rattle.ticket_line.proofs.Releasing.{lets_on}
+use Rattle.array_line.specs.Steps.{entry_of}
+use Rattle.array_line.proofs.Turning.{goes_trans}
+use Rattle.array_line.proofs.Releasing.{lets_on}
 use Rattle.ticket_line.proofs.release.release.Goals as goal
 
 pub returns-then-node-ne0-clause-goes_on : goal.returns-then-node-ne0-clause-goes_on

@@ -1,4 +1,4 @@
-use Rattle.ticket_line.proofs.Turning.{goes_trans, goes_reset}
+use Rattle.array_line.proofs.Turning.{goes_trans, goes_reset}
 use Rattle.ticket_line.proofs.release.renew.Goals as goal
 
 pub returns-clause-goes_on : goal.returns-clause-goes_on

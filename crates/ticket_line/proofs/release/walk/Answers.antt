@@ -1,26 +1,29 @@
 use Rattle.std.proofs.Common.{rules, refl, sym, subst, ap, arith, ◌≡◌, ◌≢◌, ◌∙◌, ℕ, List, length}
 use Rattle.ticket_line.specs.Words.{ticket_after}
-use Rattle.ticket_line.specs.Steps.{entry_of}
+use Rattle.array_line.specs.Steps.{entry_of}
 use Rattle.ticket_line.proofs.Numbers.{ticket_next}
-use Rattle.ticket_line.proofs.Turning.{goes_none}
-use Rattle.ticket_line.proofs.Walking.{IsWalking, walk_begins, stands_first, walk_carries, walk_step, walked_steps, walk_over}
+use Rattle.array_line.proofs.Turning.{goes_none}
+use Rattle.array_line.proofs.Walking.{walk_begins, stands_first, walk_carries, walked_steps, walk_over}
+use Rattle.ticket_line.proofs.Walking.{IsWalking, walk_step}
 use Rattle.ticket_line.proofs.release.walk.Goals as goal
 
 pub loop-node-init : goal.loop-node-init
 loop-node-init g c = subst (λ (nodes : List ℕ). IsWalking g.K.Keep.allows c.args.seat.now nodes c.args.ticket c.args.node c.args.seat.now) (sym c.new-passed.ensures) (record {
-  same = (refl, refl);
-  goes_on = goes_none g.K.Keep.allows c.args.seat.now.me c.requires.ready.0;
   ticket_is = c.requires.ticket;
-  walked = walk_begins (entry_of c.args.seat.now) c.requires.passed c.requires.nodes.0;
-  stands = λ more. (refl, stands_first (entry_of c.args.seat.now) c.args.node c.requires.ready.1 c.requires.passed c.requires.first);
-  home = λ none. absurd (c.requires.some none);
+  walking = record {
+    same = (refl, refl);
+    goes_on = goes_none g.K.Keep.allows c.args.seat.now.me c.requires.ready.0;
+    walked = walk_begins (entry_of c.args.seat.now) c.requires.passed c.requires.nodes.0;
+    stands = λ more. (refl, stands_first (entry_of c.args.seat.now) c.args.node c.requires.ready.1 c.requires.passed c.requires.first);
+    home = λ none. absurd (c.requires.some none);
+  };
 })
 
 pub grant-node-requires-clause-parcel : goal.grant-node-requires-clause-parcel
 grant-node-requires-clause-parcel g c =
     let more : c.loop-node.node ≢ 0 = search rules in
     let y = c.requires.parcel in
-    let all = walk_carries g.K.Keep.allows c.args.seat.now c.loop-node.seat c.loop-node.passed.items c.loop-node.ticket c.loop-node.node y.0 c.loop-node.invariant more y.1 y.2 in
+    let all = walk_carries g.K.Keep.allows c.args.seat.now c.loop-node.seat c.loop-node.passed.items _ c.loop-node.node c.loop-node.node y.0 c.loop-node.invariant.walking more y.1 y.2 in
     (y.0, all.0, all.1)
 
 pub grant-node-requires-clause-next : goal.grant-node-requires-clause-next
@@ -35,8 +38,8 @@ loop-node-preserved g c =
     c.requires.nodes.1 y.1 y.3 c.grant-node.ensures.same c.grant-node.ensures.goes_on c.grant-node.ensures.ended c.grant-node.ensures.home c.grant-node.ensures.passes c.ticket_after-ticket.ensures)
 
 pub returns-clause-goes_on : goal.returns-clause-goes_on
-returns-clause-goes_on g c = walked_steps g.K.Keep.allows c.args.seat.now c.loop-node.seat c.free_passed.new.seat c.loop-node.passed.items c.loop-node.ticket c.loop-node.node _ _ c.loop-node.invariant c.free_passed.ensures.goes_on (ap length (search rules)) (omega arith)
+returns-clause-goes_on g c = walked_steps g.K.Keep.allows c.args.seat.now c.loop-node.seat c.free_passed.new.seat c.loop-node.passed.items _ c.loop-node.node _ _ _ c.loop-node.invariant.walking c.free_passed.ensures.goes_on (ap length (search rules)) (omega arith)
 
 pub returns-clause-walks_on : goal.returns-clause-walks_on
 returns-clause-walks_on g c = let done : c.loop-node.node ≡ 0 = search rules in
-    walk_over (entry_of c.args.seat.now) (entry_of c.loop-node.seat) (entry_of c.free_passed.new.seat) c.loop-node.passed.items c.loop-node.invariant.walked (c.loop-node.invariant.home done).1 c.free_passed.ensures.frees
+    walk_over (entry_of c.args.seat.now) (entry_of c.loop-node.seat) (entry_of c.free_passed.new.seat) c.loop-node.passed.items c.loop-node.invariant.walking.walked (c.loop-node.invariant.walking.home done).1 c.free_passed.ensures.frees

@@ -1,6 +1,6 @@
 use Rattle.qolb_model.proofs.Going.{asks_from, asks_goes}
-use Rattle.ring_line.specs.Steps.{entry_of}
-use Rattle.ring_line.proofs.Turning.{goes_trans}
+use Rattle.array_line.specs.Steps.{entry_of}
+use Rattle.array_line.proofs.Turning.{goes_trans}
 use Rattle.ring_line.proofs.queue.RingDiscipline.ask.Goals as goal
 
 pub returns-clause-goes_on : goal.returns-clause-goes_on

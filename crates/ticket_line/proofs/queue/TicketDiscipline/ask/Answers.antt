@@ -1,6 +1,6 @@
 use Rattle.qolb_model.proofs.Going.{asks_from, asks_goes}
-use Rattle.ticket_line.specs.Steps.{entry_of}
-use Rattle.ticket_line.proofs.Turning.{goes_trans}
+use Rattle.array_line.specs.Steps.{entry_of}
+use Rattle.array_line.proofs.Turning.{goes_trans}
 use Rattle.ticket_line.proofs.queue.TicketDiscipline.ask.Goals as goal
 
 pub returns-clause-goes_on : goal.returns-clause-goes_on

@@ -1,0 +1,442 @@
+-- A release grants the next cell: the request at its turn has ended. Where the next one is not withdrawn the line is at home, else it
+-- stays with the node, which passes that request.
+use Rattle.std.proofs.Common.{◌≡◌, ◌≢◌, ◌⊎◌, ℕ, zero, suc, ◌+◌, ◌*◌, ◌%◌, ◌^◌, ◌<◌, ◌≤◌, List, [], ◌∷◌, ◌++◌, length, set, slice_index, Bool, true, false, sym, refl, ap, ◌∙◌, subst, inl, inr, ⊎_elim, arith, length-append, length-set, mod-lt}
+use mathlib.Core.Logic.{dite}
+use mathlib.Core.List.{IsPrefix}
+use mathlib.Core.Option.{none, some, some-ne-none}
+use native.Mathlib.Decide.{ℕ_discrete}
+use lib.ListN.{get_elem?}
+use Rattle.std.proofs.lemmas.Option.{slice_get_within}
+use Rattle.atomic_table.specs.Table.{step, keeps, gives, Allows}
+use Rattle.atomic_table.proofs.Lists.{set_here}
+use Rattle.qolb_model.specs.declared.request.Request.{Request}
+use Rattle.qolb_model.specs.declared.end.End.{End}
+use Rattle.qolb_model.specs.Requests.{Has, Lacks}
+use Rattle.qolb_model.specs.Ends.{is_closed, bytes_after, MayEnd}
+use Rattle.qolb_model.specs.EndKinds.{is_gone}
+use Rattle.qolb_model.specs.Views.{own}
+use Rattle.qolb_model.specs.Kept.{AreAllowed}
+use Rattle.qolb_model.specs.Sound.{Continues}
+use Rattle.qolb_model.proofs.Lists.{push_cases, never, at_same}
+use Rattle.qolb_model.proofs.Requests.{has_last, lacks_from, same_place}
+use Rattle.qolb_model.specs.declared.terms.TheConstants.{MOST_NODES}
+use Rattle.qolb_model.proofs.Prefixes.{prefix_more}
+use Rattle.qolb_model.proofs.Updates.{put, put_here, put_else}
+use Rattle.array_line.specs.declared.words.TheConstants.{CELLS}
+use Rattle.array_line.specs.declared.own.Point.TheVariants.{Idle, Queued, Holding, Passing, Rolled}
+use Rattle.shared_line.specs.declared.rule.Setup.{Setup}
+use Rattle.shared_line.specs.declared.rule.Parcel.{Parcel}
+use Rattle.array_line.specs.Words.{cell_at, cells_in, cell_of}
+use Rattle.array_line.specs.Array.{ArrayEntry, ArrayState, At, Cells, Past, HasPassed, Walks, NodeOk, PastOk, ArrayRule, has_line, lets_go, is_kept, is_cleared}
+use Rattle.array_line.specs.Steps.{Contents, next_end, after_walk, CarriesNext, Ended, GoesHome, Passes, granted}
+use Rattle.array_line.proofs.OneNode.{clash_at, passed_goes, placed_at, knows_whole, hand_none}
+use Rattle.array_line.proofs.Nodes.{others_end, others_clear, others_hand, freed_so}
+use Rattle.array_line.proofs.Histories.{marked_at, continues}
+use Rattle.array_line.proofs.Keeping.{rule_step, mine_ok, mine_low, blank, cell_shown}
+use Rattle.array_line.proofs.Taking.{at_turn, line_kept}
+use Rattle.array_line.proofs.Clearing.{not_after, no_line_after, goes_after, clear_with, more_clear, still_unclear, fine_clear}
+use Rattle.array_line.proofs.Ending.{not_holding, own_not_gone, passed_gone, fine_end, fine_home}
+use Rattle.array_line.proofs.Passed.{few_passed}
+use Rattle.array_line.proofs.Turning.{goes_step}
+use Rattle.qolb_model.specs.Leases.{turns_left, is_last_turn}
+use Rattle.qolb_model.specs.declared.terms.Terms.{Terms}
+use Rattle.qolb_model.specs.PortStates.{left_by}
+use Rattle.qolb_model.proofs.Clearing.{clears_ended}
+
+abbrev pub carried_parcel : Parcel → List (ℕ × Parcel) → Parcel
+carried_parcel d [] = d
+carried_parcel d ((k, p) ∷ xs) = p
+
+some_list : (l : List ℕ) (q : ℕ) → l ++ q ∷ [] ≢ []
+some_list [] q e = cc
+some_list (p ∷ ps) q e = cc
+
+elem_within : {A : Type 0} (xs : List A) (p : ℕ) (x : A) → get_elem? xs p ≡ some x → p < length xs
+elem_within [] p x e = absurd (some-ne-none x (sym e))
+elem_within (y ∷ ys) zero x e = omega arith
+elem_within (y ∷ ys) (suc p) x e = let h = elem_within ys p x e in omega arith
+
+-- What a queue shows where so many requests have ended and the next cell is changed so, to grant it. Where nobody withdrew there, it reads 0 of
+-- what the cell said, and the line goes home; else it reads who withdrew, and the line stays in that hand.
+abbrev pub GrantsNext : Cells → (ℕ → ℕ → ℕ) → (ℕ → ℕ → ℕ) → ℕ → Bool → (ℕ → ℕ) → Type 0
+GrantsNext cells seen withdrawn_by ended cleared change = (hand : ℕ) (marks says : ℕ → ℕ) → marks (ended + CELLS) ≡ 0 → cells ended hand cleared marks says
+    → (marks (ended + 1) ≡ 0 → (seen (ended + 1) (says (cell_of (ended + 1))) ≡ 0) × cells (ended + 1) 0 false marks (put says (cell_of (ended + 1)) (change (says (cell_of (ended + 1))))))
+      × (0 < marks (ended + 1) → marks (ended + 1) ≤ MOST_NODES → 0 < hand
+      → (seen (ended + 1) (says (cell_of (ended + 1))) ≢ 0) × (withdrawn_by (ended + 1) (says (cell_of (ended + 1))) ≡ marks (ended + 1)) × cells (ended + 1) hand false marks (put says (cell_of (ended + 1)) (change (says (cell_of (ended + 1))))))
+
+module _ (cells : Cells) (good : List ℕ → Type 0) (allows : List ℕ → List ℕ → Type 0) (about : Setup) (goes : (a b : List ℕ) → good a → allows a b → good b) (v : ArrayEntry) (has_it : has_line v.own.point ≡ true) (y : Parcel) (carries : CarriesNext allows v y) where
+  abbrev Rule : ArrayState → Type 0
+  Rule = ArrayRule cells good allows about
+
+  abbrev e : End
+  e = next_end v y
+
+  abbrev walk_past : Past → Past
+  walk_past x = record x { ends = x.ends ++ e ∷ []; cleared = false; passer = put x.passer (length (x.ends ++ e ∷ [])) v.view.node }
+
+  abbrev walk_entry : Past → ArrayEntry
+  walk_entry x = record v { view = record v.view { state = left_by y.closed; order = x.order; ends = x.ends ++ e ∷ []; clear = x.clear }; own = record v.own { point = Passing; passed = v.own.passed ++ length (x.ends ++ e ∷ []) ∷ [] }; steps = v.steps + 1 }
+
+  abbrev home_past : Past → Past
+  home_past x = record x { ends = x.ends ++ e ∷ []; clear = clear_with (own v.view) v.own.passed x.clear; hand = 0; cleared = false }
+
+  abbrev home_entry : Past → ArrayEntry
+  home_entry x = record v { view = record v.view { state = left_by y.closed; order = x.order; ends = x.ends ++ e ∷ []; clear = clear_with (own v.view) v.own.passed x.clear }; own = record v.own { point = after_walk v.own.passed }; steps = v.steps + 1 }
+
+  keeps_it : is_kept v.own.point ≡ true
+  keeps_it = line_kept v.own.point has_it
+
+  not_idle : v.own.point ≢ Idle
+  not_idle i = clash_at has_line Idle has_it i refl
+
+  not_rolled : v.own.point ≢ Rolled
+  not_rolled i = clash_at has_line Rolled has_it i refl
+
+  module _ (x : Past) (f : PastOk good allows about x) (ok : NodeOk about x v.view.node v) where
+    longer : length (x.ends ++ e ∷ []) ≡ length x.ends + 1
+    longer = length-append x.ends (e ∷ [])
+
+    ends : v.view.ends ≡ x.ends
+    ends = (ok.hand.holds has_it).0
+
+    hand : x.hand ≡ v.view.node
+    hand = (ok.hand.holds has_it).1
+
+    was_cleared : x.cleared ≡ is_cleared v.own.point
+    was_cleared = (ok.hand.holds has_it).2
+
+    walks : Walks (length x.ends) x.marks v
+    walks = at_turn about x v.view.node v ok has_it
+
+    unmarked : x.marks v.own.place ≡ 0
+    unmarked = ok.marks.unmarked keeps_it
+
+    unclear : Lacks x.clear (own v.view)
+    unclear = ok.marks.unclear keeps_it
+
+    placed : At x.order v.own.place (own v.view)
+    placed = placed_at about x v.view.node v ok (ok.stance.asked not_idle)
+
+    below : v.own.place < length (x.ends ++ e ∷ [])
+    below = ⊎_elim (λ z. let a = z.0 in let l = longer in omega arith) (λ z. let a = z.0 in let l = longer in omega arith) walks
+
+    -- the request at its turn
+    turn : (t : Request) × At x.order (length x.ends) t × ((t.node ≡ v.view.node) ⊎ (0 < x.marks (length x.ends)))
+    turn = ⊎_elim (λ z. (own v.view, subst (λ q. At x.order q (own v.view)) z.0 placed, inl refl)) (λ z. let k = f.marked (length x.ends) z.1 in (k.0, k.1, inr z.1)) walks
+
+    -- the end is Gone exactly where that request is marked
+    gone : is_gone e ≡ true → 0 < x.marks (length x.ends)
+    gone g = ⊎_elim (λ z. absurd (never g (own_not_gone v.own.passed (is_closed v.view.ends) y z.1))) (λ z. z.1) walks
+
+    marked : 0 < x.marks (length x.ends) → is_gone e ≡ true
+    marked h = ⊎_elim (λ z. let w : x.marks (length x.ends) ≡ 0 = ap x.marks (sym z.0) ∙ unmarked in absurd (omega arith)) (λ z. passed_gone v.own.passed (is_closed v.view.ends) y z.2) walks
+
+    allowed : AreAllowed allows (bytes_after about.terms.opening.bytes x.ends) (e ∷ [])
+    allowed = subst (λ b. AreAllowed allows b (e ∷ [])) (λ j. bytes_after (ok.who.terms j).opening.bytes (ends j)) carries.allowed
+
+    bytes : y.bytes.bytes ≡ bytes_after about.terms.opening.bytes (x.ends ++ e ∷ [])
+    bytes = sym carries.bytes ∙ (λ j. bytes_after (ok.who.terms j).opening.bytes (ends j ++ e ∷ []))
+
+    left : y.turns_left ≡ turns_left about.terms.lease (x.ends ++ e ∷ [])
+    left = sym carries.turns ∙ (λ j. turns_left (ok.who.terms j).lease (ends j ++ e ∷ []))
+
+    follows : MayEnd (is_closed x.ends) (is_last_turn about.terms.lease x.ends) e
+    follows = subst (λ (z : List End × Terms). MayEnd (is_closed z.0) (is_last_turn z.1.lease z.0) e) (λ j. (ends j, ok.who.terms j)) carries.may_end
+
+    shut : y.closed ≡ is_closed (x.ends ++ e ∷ [])
+    shut = sym carries.closed ∙ (λ j. is_closed (ends j ++ e ∷ []))
+
+    module _ (low : 0 < v.view.node) where
+      ended_fine : (passer : ℕ → ℕ) → PastOk good allows about (record x { ends = x.ends ++ e ∷ []; cleared = false; passer = passer })
+      ended_fine passer = fine_end good allows about goes x e passer f (λ z. let h = hand in omega arith) (slice_get_within x.order (length x.ends) turn.0 turn.1)
+          follows allowed gone marked
+
+      ended_others : (passer : ℕ → ℕ) → ((p : ℕ) → p ≤ length x.ends → passer p ≡ x.passer p) → (n : ℕ) (u : ArrayEntry) → n ≢ v.view.node → NodeOk about x n u → NodeOk about (record x { ends = x.ends ++ e ∷ []; cleared = false; passer = passer }) n u
+      ended_others passer passes n u ne k = others_end about x n u k v.view.node turn.0 e passer turn.1 turn.2 marked ne hand passes
+
+      -- the next request is withdrawn
+      module _ (rolled : 0 < x.marks (length (x.ends ++ e ∷ []))) where
+        passed_request : (r : Request) × At x.order (length (x.ends ++ e ∷ [])) r × (r.node ≡ x.marks (length (x.ends ++ e ∷ [])))
+        passed_request = f.marked (length (x.ends ++ e ∷ [])) rolled
+
+        new_passed : HasPassed (length (x.ends ++ e ∷ [])) x.clear x.marks (put x.passer (length (x.ends ++ e ∷ [])) v.view.node) v.view.node (walk_entry x) (length (x.ends ++ e ∷ []))
+        new_passed = record {
+          in_release = refl;
+          passer_is = put_here x.passer (length (x.ends ++ e ∷ [])) v.view.node;
+          within = omega arith;
+          marked = rolled;
+          request = passed_request.0;
+          at = passed_request.1;
+          unclear = lacks_from x.clear passed_request.0 (λ h. let o = clears_ended f.cleared passed_request.0 h in
+              let s = same_place x.order f.legal.numbered o.0 (length (x.ends ++ e ∷ [])) passed_request.0 o.2 passed_request.1 in let b = o.1 in let l = longer in omega arith);
+        }
+
+        walk_node : NodeOk about (walk_past x) v.view.node (walk_entry x)
+        walk_node = record {
+          who = record { node = refl; label = ok.who.label; terms = ok.who.terms };
+          knows = knows_whole x.order (x.ends ++ e ∷ []) x.clear v.view.node (walk_entry x).view refl refl refl ok.knows.counts (freed_so about x v.view.node v ok);
+          stance = record {
+            asked = λ _. ok.stance.asked not_idle;
+            placed = λ _. placed;
+            last_open = λ p r at mine h. ok.stance.last_open p r at mine (let l = longer in omega arith);
+            idle = λ i. cc;
+            queued = λ i. cc;
+            holding = λ i. cc;
+            freeing = λ i. cc;
+            waits = λ _ h. absurd (let b = below in omega arith);
+          };
+          hand = record {
+            holds = λ _. (refl, hand, refl);
+            lacks = λ i. cc;
+            holder = λ i. absurd (not_holding y.closed i);
+          };
+          passes = record {
+            walking = λ _ _. inr (below, rolled, some_list v.own.passed (length (x.ends ++ e ∷ [])));
+            freeing = λ i. cc;
+            passed = λ i p at. ⊎_elim
+                (λ z. let h = ok.passes.passed i p z.1 in passed_goes v.view.node p v (walk_entry x) (length x.ends) (length (x.ends ++ e ∷ [])) x.clear x.clear x.marks x.marks x.passer (put x.passer (length (x.ends ++ e ∷ [])) v.view.node) h refl (put_else x.passer (length (x.ends ++ e ∷ [])) v.view.node p (λ q. let w = h.within in let l = longer in omega arith)) (let l = longer in omega arith) h.marked ok.knows.orders h.unclear)
+                (λ z. subst (HasPassed (length (x.ends ++ e ∷ [])) x.clear x.marks (put x.passer (length (x.ends ++ e ∷ [])) v.view.node) v.view.node (walk_entry x)) (sym z.1) new_passed)
+                (push_cases v.own.passed (length (x.ends ++ e ∷ [])) i p at);
+            once = λ i j p a b. ⊎_elim
+                (λ z. ⊎_elim (λ w. ok.passes.once i j p z.1 w.1) (λ w. absurd (old i p z.1 w.1)) (push_cases v.own.passed (length (x.ends ++ e ∷ [])) j p b))
+                (λ z. ⊎_elim (λ w. absurd (old j p w.1 z.1)) (λ w. z.0 ∙ sym w.0) (push_cases v.own.passed (length (x.ends ++ e ∷ [])) j p b))
+                (push_cases v.own.passed (length (x.ends ++ e ∷ [])) i p a);
+          };
+          marks = record {
+            unmarked = λ _. unmarked;
+            unclear = λ _. unclear;
+            rolled = λ i. cc;
+            known = ok.marks.known;
+            last = λ p r at mine h lacks. absurd (not_rolled (ok.marks.last p r at mine h lacks).0);
+            all = ok.marks.all;
+          };
+          flag = record {
+            rolled = λ i. cc;
+            not_rolled = λ _. ok.flag.not_rolled not_rolled;
+          };
+          joins = ok.joins;
+        }
+          where
+            old : (i p : ℕ) → At v.own.passed i p → p ≡ length (x.ends ++ e ∷ []) → ⊥
+            old i p at q = let h = (ok.passes.passed i p at).within in let l = longer in omega arith
+
+        walk_others : (n : ℕ) (u : ArrayEntry) → n ≢ v.view.node → NodeOk about x n u → NodeOk about (walk_past x) n u
+        walk_others n u ne k = ended_others (put x.passer (length (x.ends ++ e ∷ [])) v.view.node) (λ p le. put_else x.passer (length (x.ends ++ e ∷ [])) v.view.node p (λ q. let l = longer in omega arith)) n u ne k
+
+        walk_fine : PastOk good allows about (walk_past x)
+        walk_fine = ended_fine (put x.passer (length (x.ends ++ e ∷ [])) v.view.node)
+
+        learns_walk : Continues allows v.view (walk_entry x).view
+        learns_walk = continues good allows about x (walk_past x) walk_fine v.view.node v.view.node v (walk_entry x) ok walk_node refl ok.knows.orders (prefix_more v.view.ends x.ends (e ∷ []) ok.knows.endings) ok.knows.clears (λ q h. h) (λ q h. h) (λ q h. h)
+
+      -- the next request is not withdrawn
+      module _ (free : x.marks (length (x.ends ++ e ∷ [])) ≡ 0) where
+        more : (r : Request) → Has x.clear r → Has (clear_with (own v.view) v.own.passed x.clear) r
+        more r h = more_clear (own v.view) v.own.passed x.clear r h
+
+        own_clear : (l : List ℕ) → after_walk l ≡ Idle → Has (clear_with (own v.view) l x.clear) (own v.view)
+        own_clear [] i = has_last x.clear (own v.view)
+        own_clear (p ∷ l) i = absurd (cc i)
+
+        own_kept : (l : List ℕ) → is_kept (after_walk l) ≡ true → Lacks (clear_with (own v.view) l x.clear) (own v.view)
+        own_kept [] i = absurd (cc i)
+        own_kept (p ∷ l) i = unclear
+
+        home_node : NodeOk about (home_past x) v.view.node (home_entry x)
+        home_node = record {
+          who = record { node = refl; label = ok.who.label; terms = ok.who.terms };
+          knows = knows_whole x.order (x.ends ++ e ∷ []) (clear_with (own v.view) v.own.passed x.clear) v.view.node (home_entry x).view refl refl refl ok.knows.counts (λ r h. more r (freed_so about x v.view.node v ok r h));
+          stance = record {
+            asked = λ _. ok.stance.asked not_idle;
+            placed = λ _. placed;
+            last_open = λ p r at mine h. ok.stance.last_open p r at mine (let l = longer in omega arith);
+            idle = λ i _. (below, own_clear v.own.passed i);
+            queued = λ i. absurd (not_after v.own.passed Queued (λ z. cc) (λ z. cc) i);
+            holding = λ i. absurd (not_after v.own.passed Holding (λ z. cc) (λ z. cc) i);
+            freeing = λ _. below;
+            waits = λ _ h. absurd (let b = below in omega arith);
+          };
+          hand = hand_none (x.ends ++ e ∷ []) 0 false v.view.node (home_entry x) (no_line_after v.own.passed) (λ z. omega arith) (not_holding y.closed);
+          passes = record {
+            walking = λ _ l. absurd (never l (no_line_after v.own.passed));
+            freeing = λ _ i p at. let h = (ok.passes.passed i p at).within in let l = longer in omega arith;
+            passed = λ i p at. let h = ok.passes.passed i p at in passed_goes v.view.node p v (home_entry x) (length x.ends) (length (x.ends ++ e ∷ [])) x.clear (clear_with (own v.view) v.own.passed x.clear) x.marks x.marks x.passer x.passer h (goes_after v.own.passed i p at) refl (let l = longer in omega arith) h.marked ok.knows.orders (still_unclear (own v.view) v.own.passed x.clear h.request i p at h.unclear);
+            once = ok.passes.once;
+          };
+          marks = record {
+            unmarked = λ _. unmarked;
+            unclear = λ k. own_kept v.own.passed k;
+            rolled = λ i. absurd (not_after v.own.passed Rolled (λ z. cc) (λ z. cc) i);
+            known = ok.marks.known;
+            last = λ p r at mine h lacks. absurd (not_rolled (ok.marks.last p r at mine h (lacks_from x.clear r (λ was. never (more r was) lacks))).0);
+            all = ok.marks.all;
+          };
+          flag = record {
+            rolled = λ i. absurd (not_after v.own.passed Rolled (λ z. cc) (λ z. cc) i);
+            not_rolled = λ _. ok.flag.not_rolled not_rolled;
+          };
+          joins = ok.joins;
+        }
+
+        home_others : (n : ℕ) (u : ArrayEntry) → 0 < n → n ≢ v.view.node → NodeOk about x n u → NodeOk about (home_past x) n u
+        home_others n u above ne k = others_hand about (record x { ends = x.ends ++ e ∷ []; cleared = false; clear = clear_with (own v.view) v.own.passed x.clear }) n u (go v.own.passed) 0 false (λ q. ne (sym q ∙ hand)) (λ q. absurd (some_node q))
+          where
+            one : NodeOk about (record x { ends = x.ends ++ e ∷ []; cleared = false }) n u
+            one = ended_others x.passer (λ p le. refl) n u ne k
+
+            -- each node has a number above 0
+            some_node : 0 ≡ n → ⊥
+            some_node q = omega arith
+
+            go : (l : List ℕ) → NodeOk about (record x { ends = x.ends ++ e ∷ []; cleared = false; clear = clear_with (own v.view) l x.clear }) n u
+            go [] = others_clear about (record x { ends = x.ends ++ e ∷ []; cleared = false }) n u one (own v.view) v.own.place (λ q. ne (sym q)) placed unmarked (ended_fine x.passer).legal
+            go (p ∷ l) = one
+
+        home_fine : PastOk good allows about (home_past x)
+        home_fine = fine_home good allows about (record x { ends = x.ends ++ e ∷ []; cleared = false; clear = clear_with (own v.view) v.own.passed x.clear }) (go v.own.passed) free settled
+          where
+            one : PastOk good allows about (record x { ends = x.ends ++ e ∷ []; cleared = false })
+            one = ended_fine x.passer
+
+            go : (l : List ℕ) → PastOk good allows about (record x { ends = x.ends ++ e ∷ []; cleared = false; clear = clear_with (own v.view) l x.clear })
+            go [] = fine_clear good allows about (record x { ends = x.ends ++ e ∷ []; cleared = false }) v.own.place (own v.view) one below placed unclear
+            go (p ∷ l) = one
+
+            -- what ended just now is the own request, or a withdrawn one
+            settled : (p : ℕ) (r : Request) (end : End) → p + 1 ≡ length (x.ends ++ e ∷ []) → At x.order p r → At (x.ends ++ e ∷ []) p end → is_gone end ≡ false → Has (clear_with (own v.view) v.own.passed x.clear) r
+            settled p r end last at en kind = let here : p ≡ length x.ends = (let l = longer in omega arith) in
+                let same : end ≡ e = ⊎_elim (λ z. absurd (let a = z.0 in omega arith)) (λ z. z.1) (push_cases x.ends e p end en) in
+                ⊎_elim (λ z. subst (Has (clear_with (own v.view) v.own.passed x.clear)) (at_same x.order (length x.ends) (own v.view) r (subst (λ q. At x.order q (own v.view)) z.0 placed) (subst (λ q. At x.order q r) here at)) (own_clear v.own.passed (ap after_walk z.1)))
+                (λ z. absurd (never (ap is_gone same ∙ marked z.1) kind)) walks
+
+        learns_home : Continues allows v.view (home_entry x).view
+        learns_home = continues good allows about x (home_past x) home_fine v.view.node v.view.node v (home_entry x) ok home_node refl ok.knows.orders (prefix_more v.view.ends x.ends (e ∷ []) ok.knows.endings) (wider v.own.passed) (λ q h. h) (λ q h. h) (λ q h. h)
+          where
+            wider : (l : List ℕ) → IsPrefix v.view.clear (clear_with (own v.view) l x.clear)
+            wider [] = prefix_more v.view.clear x.clear (own v.view ∷ []) ok.knows.clears
+            wider (p ∷ l) = ok.knows.clears
+
+        goes_home : GoesHome v (home_entry x)
+        goes_home = record {
+          point = refl;
+          passed = refl;
+          unmarked = λ r at. lacks_from v.view.marked r (λ h. let m = marked_at good allows about x f v.view.node v ok (length (x.ends ++ e ∷ [])) r at h in omega arith);
+          clear = λ empty. own_clear v.own.passed (ap after_walk empty);
+        }
+
+  own_turn_of : (x : Past) (ok : NodeOk about x v.view.node v) → v.own.passed ≡ [] → At x.order (length v.view.ends) (own v.view)
+  own_turn_of x ok empty = ⊎_elim (λ z. subst (λ q. At x.order q (own v.view)) (z.0 ∙ ap length (sym (ok.hand.holds has_it).0)) (placed_at about x v.view.node v ok (ok.stance.asked not_idle)))
+      (λ z. absurd (z.2 empty)) (at_turn about x v.view.node v ok has_it)
+
+  -- the word i is that of the next cell, and becomes z
+  module _ (s : ArrayState) (r : Rule s) (me i z : ℕ) (at : get_elem? s.views me ≡ some (v ∷ [])) (word : i ≡ cell_at (cell_of (length v.view.ends + 1))) where
+    ok : NodeOk about r.past v.view.node v
+    ok = mine_ok cells good allows about s r me v at
+
+    above : 0 < v.view.node
+    above = (mine_low cells good allows about s r me v at).0
+
+    same_ends : v.view.ends ≡ r.past.ends
+    same_ends = ends r.past r.fine ok
+
+    -- the place behind the turn
+    abbrev next : ℕ
+    next = length (r.past.ends ++ e ∷ [])
+
+    next_is : length v.view.ends + 1 ≡ next
+    next_is = ap (λ es. length es + 1) same_ends ∙ sym (longer r.past r.fine ok)
+
+    small : cell_of (length v.view.ends + 1) < CELLS
+    small = mod-lt (length v.view.ends + 1) (omega arith)
+
+    -- what the cells say, as far as the node knows the turn
+    said : cells (length v.view.ends) r.past.hand (is_cleared v.own.point) r.past.marks (cells_in s.words)
+    said = subst (λ (z : ℕ × Bool). cells z.0 r.past.hand z.1 r.past.marks (cells_in s.words)) (λ j. (length (sym same_ends j), was_cleared r.past r.fine ok j)) r.shown.said
+
+    far : r.past.marks (length v.view.ends + CELLS) ≡ 0
+    far = ap (λ es. r.past.marks (length es + CELLS)) same_ends ∙ blank cells good allows about s r
+
+    homes_rule : r.past.marks next ≡ 0 → cells (length v.view.ends + 1) 0 false r.past.marks (put (cells_in s.words) (cell_of (length v.view.ends + 1)) z)
+        → Rule record { words = set s.words i z; homes = set s.homes 0 (some y); views = set s.views me (home_entry r.past ∷ []) }
+    homes_rule free says = rule_step cells good allows about s r me v (home_entry r.past) (home_past r.past) (set s.words i z) (set s.homes 0 (some y)) at refl
+        (home_fine r.past r.fine ok above free)
+        (cell_shown cells good allows about r.past s.words s.homes (set s.homes 0 (some y)) i (cell_of (length v.view.ends + 1)) z word small r.shown (length-set s.homes 0 (some y))
+        0 false (r.past.ends ++ e ∷ []) (clear_with (own v.view) v.own.passed r.past.clear) r.past.marks r.past.passer
+        (subst (λ q. cells q 0 false r.past.marks (put (cells_in s.words) (cell_of (length v.view.ends + 1)) z)) next_is says)
+        (λ _. (y, set_here s.homes 0 (some y) (let d = r.shown.deep in omega arith), bytes r.past r.fine ok, shut r.past r.fine ok, left r.past r.fine ok)))
+        (home_node r.past r.fine ok above free)
+        (λ n a b ne. home_others r.past r.fine ok above free n (r.who n) a ne (r.each n a b))
+
+    walks_rule : 0 < r.past.marks next → cells (length v.view.ends + 1) r.past.hand false r.past.marks (put (cells_in s.words) (cell_of (length v.view.ends + 1)) z)
+        → Rule record { words = set s.words i z; homes = s.homes; views = set s.views me (walk_entry r.past ∷ []) }
+    walks_rule rolled says = rule_step cells good allows about s r me v (walk_entry r.past) (walk_past r.past) (set s.words i z) s.homes at refl
+        (walk_fine r.past r.fine ok above rolled)
+        (cell_shown cells good allows about r.past s.words s.homes s.homes i (cell_of (length v.view.ends + 1)) z word small r.shown refl
+        r.past.hand false (r.past.ends ++ e ∷ []) r.past.clear r.past.marks (put r.past.passer next v.view.node)
+        (subst (λ q. cells q r.past.hand false r.past.marks (put (cells_in s.words) (cell_of (length v.view.ends + 1)) z)) next_is says)
+        (λ nobody. absurd (held nobody)))
+        (walk_node r.past r.fine ok above rolled)
+        (λ n a b ne. walk_others r.past r.fine ok above rolled n (r.who n) ne (r.each n a b))
+      where
+        held : r.past.hand ≡ 0 → ⊥
+        held nobody = let h = hand r.past r.fine ok in let l = above in omega arith
+
+    passes : (by_node : ℕ) → by_node ≡ r.past.marks next → (rolled : 0 < r.past.marks next) → cells (length v.view.ends + 1) r.past.hand false r.past.marks (put (cells_in s.words) (cell_of (length v.view.ends + 1)) z) → Passes v by_node (walk_entry r.past)
+    passes by_node is rolled says = let k = passed_request r.past r.fine ok above rolled in record {
+      point = refl;
+      passed = refl;
+      request = k.0;
+      at = k.1;
+      is_by = k.2 ∙ sym is;
+      high = subst (λ (t : Terms). k.0.node ≤ t.nodes) (sym ok.who.terms) (r.fine.nodes next k.0 k.1).1;
+      few = subst (λ (t : Terms). length (v.own.passed ++ next ∷ []) + 1 ≤ t.nodes) (sym ok.who.terms)
+          (few_passed cells good allows about (record { words = set s.words i z; homes = s.homes; views = set s.views me (walk_entry r.past ∷ []) }) (walks_rule rolled says) me (walk_entry r.past) (set_here s.views me (walk_entry r.past ∷ []) (elem_within s.views me (v ∷ []) at)) refl);
+      nodes = subst (λ (t : Terms). t.nodes ≤ MOST_NODES) (sym ok.who.terms) r.may_open.nodes.few;
+    }
+
+    -- a node that withdrew is one of the line's
+    high : 0 < r.past.marks next → r.past.marks next ≤ MOST_NODES
+    high rolled = let k = r.fine.marked next rolled in let h = (r.fine.nodes next k.0 k.1).1 in let same = k.2 in let few = r.may_open.nodes.few in omega arith
+
+    ended_home : Ended v (home_entry r.past) y
+    ended_home = record { known = (ended_fine r.past r.fine ok above r.past.passer).legal.ended; ends = ap (λ l. l ++ e ∷ []) (sym same_ends); state = refl; count = refl; own_turn = own_turn_of r.past ok }
+
+    ended_walk : Ended v (walk_entry r.past) y
+    ended_walk = record { known = (ended_fine r.past r.fine ok above r.past.passer).legal.ended; ends = ap (λ l. l ++ e ∷ []) (sym same_ends); state = refl; count = refl; own_turn = own_turn_of r.past ok }
+
+  module _ (seen withdrawn_by : ℕ → ℕ → ℕ) (change : ℕ → ℕ) (grants : GrantsNext cells seen withdrawn_by (length v.view.ends) (is_cleared v.own.point) change) where
+    pub grants_next : (me slots i : ℕ) (m : Contents) → m ≡ (v ∷ [], (0, y) ∷ []) → i ≡ cell_at (cell_of (length v.view.ends + 1)) → Allows Rule slots me m i change (granted allows seen withdrawn_by (step slots i 0 0 none) m)
+    grants_next me slots i m is word = subst (λ (z : Contents). Allows Rule slots me z i change (granted allows seen withdrawn_by (step slots i 0 0 none) z)) (sym is) (λ s r deep at small.
+        let new : ℕ = change (slice_index s.words i) in
+        let found : slice_index s.words i ≡ cells_in s.words (cell_of (length v.view.ends + 1)) = ap (slice_index s.words) word in
+        let step_of = next_is s r me i new at word in
+        let all = grants r.past.hand r.past.marks (cells_in s.words) (far s r me i new at word) (said s r me i new at word) in
+        dite (ℕ_discrete (r.past.marks (length (r.past.ends ++ e ∷ []))) 0)
+        (λ free. let both = all.0 (ap r.past.marks step_of ∙ free) in (
+          home_entry r.past ∷ [],
+          gives,
+          tt,
+          homes_rule s r me i new at word free (subst (λ k. cells (length v.view.ends + 1) 0 false r.past.marks (put (cells_in s.words) (cell_of (length v.view.ends + 1)) (change k))) (sym found) both.1),
+          (
+            goes_step allows (v ∷ [], (0, y) ∷ []) v (home_entry r.past) [] refl (learns_home r.past r.fine (ok s r me i new at word) (above s r me i new at word) free) refl,
+            (λ z c. subst (λ (u : Parcel). Ended v (home_entry r.past) u) (ap (carried_parcel y) c) (ended_home s r me i new at word)),
+            (λ _. ((λ z c. refl), goes_home r.past r.fine (ok s r me i new at word) (above s r me i new at word) free)),
+            (λ ne. absurd (ne (ap (seen (length v.view.ends + 1)) found ∙ both.0))),
+          ),
+        ))
+        (λ ne. let rolled : 0 < r.past.marks (length (r.past.ends ++ e ∷ [])) = omega arith in
+            let marked : r.past.marks (length v.view.ends + 1) ≡ r.past.marks (length (r.past.ends ++ e ∷ [])) = ap r.past.marks step_of in
+            let held = (hand r.past r.fine (ok s r me i new at word)) in let up = above s r me i new at word in let some_node : 0 < r.past.hand = omega arith in
+            let told = all.1 (subst (λ k. 0 < k) (sym marked) rolled) (subst (λ k. k ≤ MOST_NODES) (sym marked) (high s r me i new at word rolled)) some_node in
+            let says = subst (λ k. cells (length v.view.ends + 1) r.past.hand false r.past.marks (put (cells_in s.words) (cell_of (length v.view.ends + 1)) (change k))) (sym found) told.2 in (
+          walk_entry r.past ∷ [],
+          keeps,
+          tt,
+          walks_rule s r me i new at word rolled says,
+          (
+            goes_step allows (v ∷ [], (0, y) ∷ []) v (walk_entry r.past) ((0, y) ∷ []) refl (learns_walk r.past r.fine (ok s r me i new at word) (above s r me i new at word) rolled) refl,
+            (λ z c. subst (λ (u : Parcel). Ended v (walk_entry r.past) u) (ap (carried_parcel y) c) (ended_walk s r me i new at word)),
+            (λ z. absurd (told.0 (ap (seen (length v.view.ends + 1)) (sym found) ∙ z))),
+            (λ _. (refl, passes s r me i new at word (withdrawn_by (length v.view.ends + 1) (slice_index s.words i)) (ap (withdrawn_by (length v.view.ends + 1)) found ∙ told.1 ∙ marked) rolled says)),
+          ),
+        )))

@@ -1,0 +1,175 @@
+-- A waiting node writes that it withdraws into its cell: the line has come, or its request is withdrawn.
+use Rattle.std.proofs.Common.{◌≡◌, ◌≢◌, ℕ, ◌+◌, ◌*◌, ◌%◌, ◌^◌, ◌<◌, ◌≤◌, List, [], ◌∷◌, ◌++◌, length, set, slice_index, get_or, Bool, if◌then◌else◌, sym, refl, ap, ◌∙◌, subst, ⊎_elim, arith, length-set, mod-lt, get_or-set_same, get_or-set_other}
+use mathlib.Core.Logic.{dite}
+use mathlib.Core.Option.{none, some}
+use native.Mathlib.Decide.{ℕ_discrete, dec_le}
+use lib.ListN.{get_elem?}
+use Rattle.std.proofs.lemmas.Option.{slice_get_within}
+use Rattle.atomic_table.specs.Table.{step, keeps, takes, Allows}
+use Rattle.qolb_model.specs.declared.answer.PortState.TheVariants as shows
+use Rattle.qolb_model.specs.Requests.{Has}
+use Rattle.qolb_model.specs.Views.{own}
+use Rattle.qolb_model.specs.Sound.{Continues}
+use Rattle.qolb_model.proofs.Requests.{has_left, has_last, has_push}
+use Rattle.qolb_model.specs.declared.terms.TheConstants.{MOST_NODES}
+use Rattle.qolb_model.proofs.Lists.{at_same}
+use Rattle.qolb_model.proofs.Updates.{put, put_here, put_else}
+use Rattle.array_line.specs.declared.own.Point.TheVariants.{Queued, Rolled}
+use Rattle.shared_line.specs.declared.rule.Setup.{Setup}
+use Rattle.shared_line.specs.declared.rule.Parcel.{Parcel}
+use Rattle.array_line.specs.declared.words.TheConstants.{CELLS}
+use Rattle.array_line.specs.Words.{cell_at, cells_in, cell_of}
+use Rattle.array_line.specs.Array.{ArrayEntry, ArrayState, At, Cells, Past, NodeOk, PastOk, ArrayRule, has_line, lets_go, is_kept}
+use Rattle.array_line.specs.Steps.{sole, Contents, IsRolled, Comes, rolled}
+use Rattle.array_line.proofs.OneNode.{knows_whole, hand_none}
+use Rattle.array_line.proofs.Nodes.{others_roll, passes_none, freed_so}
+use Rattle.array_line.proofs.Histories.{continues}
+use Rattle.array_line.proofs.Keeping.{rule_step, mine_ok, mine_low, few_open, cell_shown}
+use Rattle.array_line.proofs.Taking.{Takes, StaysBehind, take_entry, asked_at, near, behind, found_is, home, comes, learns_take, taken_not_waits, taken_rule}
+use Rattle.array_line.proofs.Turning.{goes_step, same_count}
+
+-- What a queue shows where the node n withdraws its request at this place, which is behind the turn, by a step that changes the cell so.
+abbrev pub Withdraws : Cells → ℕ → ℕ → (ℕ → ℕ) → Type 0
+Withdraws cells place n change = (ended hand : ℕ) (cleared : Bool) (marks says : ℕ → ℕ) → 0 < n → n ≤ MOST_NODES → ended < place → place < ended + CELLS → marks place ≡ 0 → cells ended hand cleared marks says
+    → cells ended hand cleared (put marks place n) (put says (cell_of place) (change (says (cell_of place))))
+
+module _ (cells : Cells) (good : List ℕ → Type 0) (allows : List ℕ → List ℕ → Type 0) (about : Setup) (v : ArrayEntry) (queued : v.own.point ≡ Queued) where
+  abbrev Rule : ArrayState → Type 0
+  Rule = ArrayRule cells good allows about
+
+  abbrev pub roll_past : Past → Past
+  roll_past x = record x { marks = put x.marks v.own.place v.view.node }
+
+  abbrev pub roll_entry : Past → ArrayEntry
+  roll_entry x = record v { view = record v.view { state = shows.Rolled; order = x.order; ends = x.ends; clear = x.clear; marked = v.view.marked ++ own v.view ∷ [] }; own = record v.own { point = Rolled }; steps = v.steps + 1 }
+
+  module _ (x : Past) (fine : PastOk good allows about x) (ok : NodeOk about x v.view.node v) (low : 0 < v.view.node) (later : length x.ends < v.own.place) where
+    here : put x.marks v.own.place v.view.node v.own.place ≡ v.view.node
+    here = put_here x.marks v.own.place v.view.node
+
+    elsewhere : (p : ℕ) → p ≢ v.own.place → put x.marks v.own.place v.view.node p ≡ x.marks p
+    elsewhere p ne = put_else x.marks v.own.place v.view.node p ne
+
+    placed : At x.order v.own.place (own v.view)
+    placed = asked_at cells good allows about v queued x ok
+
+    -- marks only grow
+    more : (p : ℕ) → 0 < x.marks p → 0 < put x.marks v.own.place v.view.node p
+    more p h = dite (ℕ_discrete p v.own.place) (λ e. subst (λ k. 0 < k) (sym (ap (put x.marks v.own.place v.view.node) e ∙ here)) low) (λ ne. subst (λ k. 0 < k) (sym (elsewhere p ne)) h)
+
+    roll_node : NodeOk about (roll_past x) v.view.node (roll_entry x)
+    roll_node = record {
+      who = record { node = refl; label = ok.who.label; terms = ok.who.terms };
+      knows = knows_whole x.order x.ends x.clear v.view.node (roll_entry x).view refl refl refl ok.knows.counts (freed_so about x v.view.node v ok);
+      stance = record {
+        asked = λ _. ok.stance.asked (λ e. let q = queued in cc);
+        placed = λ _. placed;
+        last_open = ok.stance.last_open;
+        idle = λ e. cc;
+        queued = λ e. cc;
+        holding = λ e. cc;
+        freeing = λ e. cc;
+        waits = λ e. cc;
+      };
+      hand = hand_none x.ends x.hand x.cleared v.view.node (roll_entry x) refl (ok.hand.lacks (ap has_line queued)) (λ e. cc);
+      passes = passes_none ok.passes (ap lets_go queued) (roll_entry x) (length x.ends) x.clear (put x.marks v.own.place v.view.node) x.passer refl refl;
+      marks = record {
+        unmarked = λ e. cc;
+        unclear = λ e. cc;
+        rolled = λ _. here;
+        known = λ p r at mine h. dite (ℕ_discrete p v.own.place)
+            (λ e. subst (Has (v.view.marked ++ own v.view ∷ [])) (at_same x.order v.own.place (own v.view) r placed (subst (λ q. At x.order q r) e at)) (has_last v.view.marked (own v.view)))
+            (λ ne. has_left v.view.marked (own v.view ∷ []) r (ok.marks.known p r at mine (subst (λ q. 0 < q) (elsewhere p ne) h)));
+        last = λ p r at mine h lacks. dite (ℕ_discrete p v.own.place) (λ e. (refl, sym e))
+            (λ ne. let k = (ok.marks.last p r at mine (subst (λ q. 0 < q) (elsewhere p ne) h) lacks).0 in let q = queued in absurd (cc));
+        all = λ r h. ⊎_elim (λ z. let k = ok.marks.all r z in (k.0, k.1, more k.0 k.2)) (λ z. (v.own.place, subst (At x.order v.own.place) (sym z) placed, subst (λ q. 0 < q) (sym here) low)) (has_push v.view.marked (own v.view) r h);
+      };
+      flag = record {
+        rolled = λ _. ok.flag.not_rolled (λ e. let q = queued in cc) ∙ ap (λ b. if b then 1 else 0) (sym (ok.marks.unclear (ap is_kept queued)));
+        not_rolled = λ ne. absurd (ne refl);
+      };
+      joins = ok.joins;
+    }
+
+    roll_fine : PastOk good allows about (roll_past x)
+    roll_fine = record {
+      legal = fine.legal;
+      nodes = fine.nodes;
+      kept = fine.kept;
+      sound = fine.sound;
+      within = fine.within;
+      cleared = fine.cleared;
+      nobody = λ h. let k = fine.nobody h in (k.0, elsewhere (length x.ends) (λ e. omega arith) ∙ k.1);
+      settled = fine.settled;
+      marked = λ p h. dite (ℕ_discrete p v.own.place)
+          (λ e. (own v.view, subst (λ q. At x.order q (own v.view)) (sym e) placed, sym (ap (put x.marks v.own.place v.view.node) e ∙ here)))
+          (λ ne. let s = elsewhere p ne in let k = fine.marked p (subst (λ q. 0 < q) s h) in (k.0, k.1, k.2 ∙ sym s));
+      gone = λ p e en. let h = slice_get_within x.ends p e en in let s = elsewhere p (λ q. omega arith) in let g = fine.gone p e en in
+          ((λ z. subst (λ q. 0 < q) (sym s) (g.0 z)), (λ z. g.1 (subst (λ q. 0 < q) s z)));
+    }
+
+  module _ (s : ArrayState) (r : Rule s) (me i z : ℕ) (at : get_elem? s.views me ≡ some (v ∷ [])) (word : i ≡ cell_at (cell_of v.own.place)) (later : v.own.place ≢ length r.past.ends)
+      (said : cells (length r.past.ends) r.past.hand r.past.cleared (put r.past.marks v.own.place v.view.node) (put (cells_in s.words) (cell_of v.own.place) z)) where
+    ok : NodeOk about r.past v.view.node v
+    ok = mine_ok cells good allows about s r me v at
+
+    low : 0 < v.view.node
+    low = (mine_low cells good allows about s r me v at).0
+
+    after : length r.past.ends < v.own.place
+    after = let q = ok.stance.queued queued in omega arith
+
+    -- the rule once the cell has become z
+    pub rolls_rule : Rule record { words = set s.words i z; homes = s.homes; views = set s.views me (roll_entry r.past ∷ []) }
+    rolls_rule = rule_step cells good allows about s r me v (roll_entry r.past) (roll_past r.past) (set s.words i z) s.homes at refl (roll_fine r.past r.fine ok low after)
+        (cell_shown cells good allows about r.past s.words s.homes s.homes i (cell_of v.own.place) z word (mod-lt v.own.place (omega arith)) r.shown refl
+        r.past.hand r.past.cleared r.past.ends r.past.clear (put r.past.marks v.own.place v.view.node) r.past.passer said r.shown.home) (roll_node r.past r.fine ok low after)
+        (λ n a b ne. others_roll about r.past n (r.who n) (r.each n a b) v.view.node v.own.place (own v.view) (asked_at cells good allows about v queued r.past ok) refl low ne)
+
+    pub learns_roll : Continues allows v.view (roll_entry r.past).view
+    learns_roll = continues good allows about r.past (roll_past r.past) (roll_fine r.past r.fine ok low after) v.view.node v.view.node v (roll_entry r.past) ok (roll_node r.past r.fine ok low after) refl
+        ok.knows.orders ok.knows.endings ok.knows.clears (λ q h. h) (λ q h. has_left v.view.marked (own v.view ∷ []) q h) (λ q h. h)
+
+    pub is_rolled : (mark_of : ℕ → ℕ) → IsRolled mark_of (mark_of v.own.place) (roll_entry r.past)
+    is_rolled mark_of = record {
+      stands = refl;
+      withdrawn = record {
+        state = refl;
+        waits = (v.own.place, after, asked_at cells good allows about v queued r.past ok);
+        near = few_open cells good allows about s r v.view.terms ok.who.terms;
+        marked = has_last v.view.marked (own v.view);
+      };
+    }
+
+  module _ (mark_of : ℕ → ℕ) (waits comes_to : ℕ → ℕ → Type 0) (change : ℕ → ℕ) (takes_line : Takes cells waits v.own.place v.view.node change) (stays : StaysBehind cells comes_to v.own.place) (withdraws : Withdraws cells v.own.place v.view.node change) where
+    pub rolls_next : (me slots i : ℕ) (m : Contents) → m.0 ≡ v ∷ [] → i ≡ cell_at (cell_of v.own.place) → Allows Rule slots me m i change (rolled allows mark_of waits comes_to (step slots i 0 0 none) m)
+    rolls_next me slots i m is word s r deep at small = let at' : get_elem? s.views me ≡ some (v ∷ []) = at ∙ ap some is in dite (ℕ_discrete v.own.place (length r.past.ends))
+        (λ here. let y = home cells good allows about v queued s r me i at' word here in (
+          take_entry cells good allows about v queued r.past ∷ [],
+          takes 0 y.0,
+          y.1,
+          taken_rule cells good allows about v queued s r me i at' word here waits change takes_line,
+          (
+            goes_step allows m v (take_entry cells good allows about v queued r.past) ((0, y.0) ∷ m.1) is (learns_take cells good allows about v queued s r me i at' word here) refl,
+            same_count m v (take_entry cells good allows about v queued r.past) is refl,
+            (λ w. absurd (taken_not_waits cells good allows about v queued s r me i at' word here waits change takes_line (subst (λ u. waits (sole u).own.place (slice_index s.words i)) is w))),
+            (λ _. (y.0, refl, subst (λ u. Comes mark_of (mark_of (sole u).own.place) (take_entry cells good allows about v queued r.past) y.0) (sym is) (comes cells good allows about v queued s r me i at' word here mark_of))),
+          ),
+        ))
+        (λ later. let b = behind cells good allows about v queued s r me i at' word later in let n = near cells good allows about v queued s r me i at' word in
+            let found = found_is cells good allows about v queued s r me i at' word in
+            let low = mine_low cells good allows about s r me v at' in let low_node = low.0 in let high_node = low.1 in let few = r.may_open.nodes.few in
+            let said = subst (λ k. cells (length r.past.ends) r.past.hand r.past.cleared (put r.past.marks v.own.place v.view.node) (put (cells_in s.words) (cell_of v.own.place) (change k))) (sym found)
+            (withdraws (length r.past.ends) r.past.hand r.past.cleared r.past.marks (cells_in s.words) low.0 (omega arith) b.0 n b.1 r.shown.said) in (
+          roll_entry r.past ∷ [],
+          keeps,
+          tt,
+          rolls_rule s r me i (change (slice_index s.words i)) at' word later said,
+          (
+            goes_step allows m v (roll_entry r.past) m.1 is (learns_roll s r me i (change (slice_index s.words i)) at' word later said) refl,
+            same_count m v (roll_entry r.past) is refl,
+            (λ _. (refl, subst (λ u. IsRolled mark_of (mark_of (sole u).own.place) (roll_entry r.past)) (sym is) (is_rolled s r me i (change (slice_index s.words i)) at' word later said mark_of))),
+            (λ c. absurd (stays (length r.past.ends) r.past.hand r.past.cleared r.past.marks (cells_in s.words) b.0 n b.1 r.shown.said
+                (subst (comes_to v.own.place) found (subst (λ u. comes_to (sole u).own.place (slice_index s.words i)) is c)))),
+          ),
+        ))

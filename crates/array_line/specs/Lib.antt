@@ -1,0 +1,5 @@
+pub mod Words
+pub mod Stances
+pub mod Array
+pub mod Steps
+pub mod Releases

@@ -1,0 +1,8 @@
+//! What queues share whose nodes draw tickets, and wait at cells of an array.
+#![tactic(auto)]
+
+mod own;
+mod words;
+
+pub use own::{Own, Point};
+pub use words::{CELLS, TICKET, WORDS, cell_word, is_freed, node_word};

@@ -1,0 +1,88 @@
+-- What the steps on cells leave them to say.
+use Rattle.std.proofs.Common.{◌≡◌, ◌≢◌, ℕ, ◌+◌, ◌-◌, ◌*◌, ◌/◌, ◌%◌, ◌^◌, ◌<◌, ◌≤◌, Bool, true, false, sym, refl, ap, ◌∙◌, subst, arith}
+use mathlib.Core.Logic.{dite}
+use native.Mathlib.Decide.{ℕ_discrete, dec_le}
+use Rattle.atomic_table.proofs.Lists.{one_turn}
+use Rattle.qolb_model.specs.declared.terms.TheConstants.{MOST_NODES}
+use Rattle.qolb_model.proofs.Updates.{put, put_here, put_else}
+use Rattle.array_line.specs.declared.words.TheConstants.{CELLS}
+use Rattle.array_line.specs.Words.{cell_of}
+use Rattle.array_line.proofs.Taking.{Takes, StaysBehind, cells_apart}
+use Rattle.array_line.proofs.Roll.{Withdraws}
+use Rattle.array_line.proofs.Grant.{GrantsNext}
+use Rattle.ring_line.specs.declared.words.TheConstants.{WITHDRAWN}
+use Rattle.ring_line.specs.Ring.{RingCells}
+use Rattle.ring_line.specs.Steps.{is_blank, is_granted, seen, withdrawn_by}
+
+-- a granted cell is not blank, and whoever takes the line may leave it as he likes
+pub takes : (place n : ℕ) (change : ℕ → ℕ) → Takes RingCells is_blank place n change
+takes place n change cleared marks says low free c = (
+  (λ z. let g = c.granted refl in absurd (omega arith)),
+  record {
+    blank = λ e. absurd (cc e);
+    granted = λ e. absurd (omega arith);
+    later = λ k a b. put_else says (cell_of place) (change (says (cell_of place))) (cell_of (place + k)) (cells_apart place k a b) ∙ c.later k a b;
+  },
+)
+
+-- behind the turn a cell with no mark is blank
+blank_behind : (ended hand place : ℕ) (cleared : Bool) (marks says : ℕ → ℕ) → ended < place → place < ended + CELLS → marks place ≡ 0 → RingCells ended hand cleared marks says → says (cell_of place) ≡ 0
+blank_behind ended hand place cleared marks says below near free c = let k : ended + (place - ended) ≡ place = omega arith in
+    ap (λ q. says (cell_of q)) (sym k) ∙ c.later (place - ended) (omega arith) (omega arith) ∙ ap (λ q. WITHDRAWN * marks q) k ∙ ap (λ m. WITHDRAWN * m) free
+
+pub stays : (place : ℕ) → StaysBehind RingCells is_granted place
+stays place ended hand cleared marks says below near free c some = some (blank_behind ended hand place cleared marks says below near free c)
+
+-- what a word becomes to which a number is added
+abbrev pub added : ℕ → ℕ → ℕ
+added word d = (word + d) % 2 ^ 64
+
+-- a number is added to a blank cell
+pub withdraws : (place n d : ℕ) → d ≡ WITHDRAWN * n → Withdraws RingCells place n (λ w. added w d)
+withdraws place n d add ended hand cleared marks says low high below near free c = record {
+  blank = λ e. put_else says (cell_of place) (added (says (cell_of place)) d) (cell_of ended) (apart ended (omega arith) (omega arith) (λ z. omega arith)) ∙ c.blank e;
+  granted = λ e. put_else says (cell_of place) (added (says (cell_of place)) d) (cell_of ended) (apart ended (omega arith) (omega arith) (λ z. omega arith)) ∙ c.granted e;
+  later = λ k a b. dite (ℕ_discrete (ended + k) place)
+      (λ e. ap (λ q. put says (cell_of place) (added (says (cell_of place)) d) (cell_of q)) e ∙ put_here says (cell_of place) (added (says (cell_of place)) d) ∙ sum ∙ ap (λ q. WITHDRAWN * q) (sym (ap (put marks place n) e ∙ put_here marks place n)))
+      (λ ne. put_else says (cell_of place) (added (says (cell_of place)) d) (cell_of (ended + k)) (apart (ended + k) (omega arith) (omega arith) ne) ∙ c.later k a b ∙ ap (λ q. WITHDRAWN * q) (sym (put_else marks place n (ended + k) ne)));
+}
+  where
+    apart : (p : ℕ) → ended ≤ p → p < ended + CELLS → p ≢ place → cell_of p ≢ cell_of place
+    apart p a b ne e = dite (dec_le p place) (λ l. ne (one_turn p place CELLS l (omega arith) e)) (λ g. ne (sym (one_turn place p CELLS (omega arith) (omega arith) (sym e))))
+
+    sum : added (says (cell_of place)) d ≡ WITHDRAWN * n
+    sum = let blank = blank_behind ended hand place cleared marks says below near free c in omega arith
+
+-- once the cell at its turn is cleared, the next one is granted
+pub grants : (ended : ℕ) → GrantsNext RingCells seen withdrawn_by ended true (λ w. added w 1)
+grants ended hand marks says far c = (
+  (λ free. (
+    (let f = found in omega arith),
+    record {
+      blank = λ e. absurd (cc e);
+      granted = λ _. put_here says (cell_of (ended + 1)) (added (says (cell_of (ended + 1))) 1) ∙ (let f = found in let one : added (says (cell_of (ended + 1))) 1 ≡ 1 = omega arith in one);
+      later = later_cells;
+    },
+  )),
+  (λ rolled high held. (
+    (λ z. let f = found in absurd (omega arith)),
+    (let f = found in let by : says (cell_of (ended + 1)) / WITHDRAWN ≡ marks (ended + 1) = omega arith in by),
+    record {
+      blank = λ e. absurd (cc e);
+      granted = λ e. absurd (omega arith);
+      later = later_cells;
+    },
+  )),
+)
+  where
+    found : says (cell_of (ended + 1)) ≡ WITHDRAWN * marks (ended + 1)
+    found = c.later 1 (omega arith) (omega arith)
+
+    -- the last cell is the one that was cleared
+    old : (k : ℕ) → 0 < k → k < CELLS → Dec (k + 1 ≡ CELLS) → says (cell_of (ended + 1 + k)) ≡ WITHDRAWN * marks (ended + 1 + k)
+    old k a b (yes last) = let n : ended + 1 + k ≡ ended + CELLS = omega arith in let w : cell_of (ended + 1 + k) ≡ cell_of ended = omega arith in
+        let m : marks (ended + 1 + k) ≡ 0 = ap marks n ∙ far in ap says w ∙ c.blank refl ∙ (let z : 0 ≡ WITHDRAWN * marks (ended + 1 + k) = omega arith in z)
+    old k a b (no ne) = let n : ended + (k + 1) ≡ ended + 1 + k = omega arith in subst (λ q. says (cell_of q) ≡ WITHDRAWN * marks q) n (c.later (k + 1) (omega arith) (omega arith))
+
+    later_cells : (k : ℕ) → 0 < k → k < CELLS → put says (cell_of (ended + 1)) (added (says (cell_of (ended + 1))) 1) (cell_of (ended + 1 + k)) ≡ WITHDRAWN * marks (ended + 1 + k)
+    later_cells k a b = put_else says (cell_of (ended + 1)) (added (says (cell_of (ended + 1))) 1) (cell_of (ended + 1 + k)) (cells_apart (ended + 1) k a b) ∙ old k a b (ℕ_discrete (k + 1) CELLS)

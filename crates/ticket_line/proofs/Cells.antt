@@ -1,0 +1,115 @@
+-- What the steps on cells leave them to say.
+use Rattle.std.proofs.Common.{◌≡◌, ◌≢◌, ℕ, ◌+◌, ◌-◌, ◌/◌, ◌%◌, ◌<◌, ◌≤◌, Bool, false, sym, refl, ap, ◌∙◌, subst, arith}
+use mathlib.Core.Logic.{dite}
+use native.Mathlib.Decide.{ℕ_discrete, dec_le}
+use Rattle.atomic_table.proofs.Lists.{one_turn}
+use Rattle.qolb_model.specs.declared.terms.TheConstants.{MOST_NODES}
+use Rattle.qolb_model.proofs.Updates.{put, put_here, put_else}
+use Rattle.array_line.specs.declared.words.TheConstants.{CELLS}
+use Rattle.array_line.specs.Words.{ticket_of, cell_of}
+use Rattle.array_line.proofs.Taking.{Takes, StaysBehind, cells_apart}
+use Rattle.array_line.proofs.Roll.{Withdraws}
+use Rattle.array_line.proofs.Grant.{GrantsNext}
+use Rattle.ticket_line.specs.declared.words.TheConstants.{UNIT, NUMBERS}
+use Rattle.ticket_line.specs.Words.{number, granted, withdrawn}
+use Rattle.ticket_line.specs.Ticket.{IsLater, TicketCells}
+use Rattle.ticket_line.specs.Steps.{is_other, is_granted, withdrawn_by}
+use Rattle.ticket_line.proofs.Numbers.{granted_ticket, withdrawn_ticket, not_granted, number_of_granted, number_of_withdrawn, by_nobody, by_node}
+
+-- a granted cell has the own ticket, and whoever takes the line leaves it that number
+pub takes : (place n : ℕ) (change : ℕ → ℕ) → ((word : ℕ) → word ≡ granted place → change word / UNIT ≡ number place) → Takes TicketCells is_other place n change
+takes place n change keeps cleared marks says low free c = (
+  (λ other. other (c.granted refl ∙ sym (granted_ticket place))),
+  record {
+    kept = refl;
+    turn = ap (λ q. q / UNIT) (put_here says (cell_of place) (change (says (cell_of place)))) ∙ keeps (says (cell_of place)) (c.granted refl);
+    granted = λ e. absurd (omega arith);
+    later = λ k a b. subst (IsLater (place + k) (marks (place + k))) (sym (put_else says (cell_of place) (change (says (cell_of place))) (cell_of (place + k)) (cells_apart place k a b))) (c.later k a b);
+  },
+)
+
+-- as by a look, and by a withdrawal that comes too late
+pub looked : (place word : ℕ) → word ≡ granted place → word / UNIT ≡ number place
+looked place word e = number_of_granted place word e
+
+pub written : (place n new : ℕ) → n ≤ MOST_NODES → new ≡ withdrawn (ticket_of place) n → new / UNIT ≡ number place
+written place n new high e = number_of_withdrawn place n new high (e ∙ withdrawn_ticket place n)
+
+-- behind the turn a cell is a later one
+later_at : (ended hand place : ℕ) (cleared : Bool) (marks says : ℕ → ℕ) → ended < place → place < ended + CELLS → TicketCells ended hand cleared marks says → IsLater place (marks place) (says (cell_of place))
+later_at ended hand place cleared marks says below near c = let k : ended + (place - ended) ≡ place = omega arith in
+    subst (λ q. IsLater q (marks q) (says (cell_of q))) k (c.later (place - ended) (omega arith) (omega arith))
+
+pub stays : (place : ℕ) → StaysBehind TicketCells is_granted place
+stays place ended hand cleared marks says below near free c e = not_granted place (marks place) (says (cell_of place)) (later_at ended hand place cleared marks says below near c) free (e ∙ granted_ticket place)
+
+-- the own number is written into the own cell, with the node
+pub withdraws : (place n new : ℕ) → new ≡ withdrawn (ticket_of place) n → Withdraws TicketCells place n (λ _. new)
+withdraws place n new add ended hand cleared marks says low high below near free c = record {
+  kept = c.kept;
+  turn = ap (λ q. q / UNIT) at_turn ∙ c.turn;
+  granted = λ e. at_turn ∙ c.granted e;
+  later = λ k a b. dite (ℕ_discrete (ended + k) place)
+      (λ e. subst (λ p. IsLater p (put marks place n p) (put says (cell_of place) new (cell_of p))) (sym e) own_cell)
+      (λ ne. subst (λ (z : ℕ × ℕ). IsLater (ended + k) z.0 z.1) (λ j. (sym (put_else marks place n (ended + k) ne) j, sym (put_else says (cell_of place) new (cell_of (ended + k)) (apart (ended + k) (omega arith) (omega arith) ne)) j)) (c.later k a b));
+}
+  where
+    apart : (p : ℕ) → ended ≤ p → p < ended + CELLS → p ≢ place → cell_of p ≢ cell_of place
+    apart p a b ne e = dite (dec_le p place) (λ l. ne (one_turn p place CELLS l (omega arith) e)) (λ g. ne (sym (one_turn place p CELLS (omega arith) (omega arith) (sym e))))
+
+    at_turn : put says (cell_of place) new (cell_of ended) ≡ says (cell_of ended)
+    at_turn = put_else says (cell_of place) new (cell_of ended) (apart ended (omega arith) (omega arith) (λ z. omega arith))
+
+    -- the own cell names the node
+    own_cell : IsLater place (put marks place n place) (put says (cell_of place) new (cell_of place))
+    own_cell = record {
+      withdrawn = λ _. put_here says (cell_of place) new ∙ add ∙ withdrawn_ticket place n ∙ ap (withdrawn place) (sym (put_here marks place n));
+      before = λ none. absurd (let k = put_here marks place n in omega arith);
+    }
+
+-- the next number is written into the next cell
+pub grants : (ended new : ℕ) (cleared : Bool) → new ≡ granted (ticket_of (ended + 1)) → GrantsNext TicketCells withdrawn_by withdrawn_by ended cleared (λ _. new)
+grants ended new cleared is hand marks says far c = (
+  (λ free. (
+    by_nobody (ended + 1) (marks (ended + 1)) (says (cell_of (ended + 1))) found free,
+    record {
+      kept = refl;
+      turn = number_of_granted (ended + 1) _ granted_cell;
+      granted = λ _. granted_cell;
+      later = later_cells;
+    },
+  )),
+  (λ rolled high held. let by = by_node (ended + 1) (marks (ended + 1)) (says (cell_of (ended + 1))) found rolled high in (
+    (λ z. absurd (above (sym by ∙ z) rolled)),
+    by,
+    record {
+      kept = refl;
+      turn = number_of_granted (ended + 1) _ granted_cell;
+      granted = λ e. absurd (omega arith);
+      later = later_cells;
+    },
+  )),
+)
+  where
+    above : marks (ended + 1) ≡ 0 → 0 < marks (ended + 1) → ⊥
+    above z low = omega arith
+
+    found : IsLater (ended + 1) (marks (ended + 1)) (says (cell_of (ended + 1)))
+    found = c.later 1 (omega arith) (omega arith)
+
+    granted_cell : put says (cell_of (ended + 1)) new (cell_of (ended + 1)) ≡ granted (ended + 1)
+    granted_cell = put_here says (cell_of (ended + 1)) new ∙ is ∙ granted_ticket (ended + 1)
+
+    -- the last cell is the one that the turn has left
+    left : (p : ℕ) → p ≡ ended + CELLS → IsLater p (marks p) (says (cell_of p))
+    left p n = record {
+      withdrawn = λ m. absurd (let z : marks p ≡ 0 = ap marks n ∙ far in omega arith);
+      before = λ _. ap (λ q. says q / UNIT) (let w : cell_of p ≡ cell_of ended = omega arith in w) ∙ c.turn ∙ ap (λ q. q % NUMBERS) (let w : ended + 1 ≡ p + 1 - CELLS = omega arith in w);
+    }
+
+    old : (k : ℕ) → 0 < k → k < CELLS → Dec (k + 1 ≡ CELLS) → IsLater (ended + 1 + k) (marks (ended + 1 + k)) (says (cell_of (ended + 1 + k)))
+    old k a b (yes last) = left (ended + 1 + k) (omega arith)
+    old k a b (no ne) = let n : ended + (k + 1) ≡ ended + 1 + k = omega arith in subst (λ q. IsLater q (marks q) (says (cell_of q))) n (c.later (k + 1) (omega arith) (omega arith))
+
+    later_cells : (k : ℕ) → 0 < k → k < CELLS → IsLater (ended + 1 + k) (marks (ended + 1 + k)) (put says (cell_of (ended + 1)) new (cell_of (ended + 1 + k)))
+    later_cells k a b = subst (IsLater (ended + 1 + k) (marks (ended + 1 + k))) (sym (put_else says (cell_of (ended + 1)) new (cell_of (ended + 1 + k)) (cells_apart (ended + 1) k a b))) (old k a b (ℕ_discrete (k + 1) CELLS))
