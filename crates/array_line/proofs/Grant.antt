@@ -1,6 +1,6 @@
 -- A release grants the next cell: the request at its turn has ended. Where the next one is not withdrawn the line is at home, else it
 -- stays with the node, which passes that request.
-use Rattle.std.proofs.Common.{◌≡◌, ◌≢◌, ◌⊎◌, ℕ, zero, suc, ◌+◌, ◌*◌, ◌%◌, ◌^◌, ◌<◌, ◌≤◌, List, [], ◌∷◌, ◌++◌, length, set, slice_index, Bool, true, false, sym, refl, ap, ◌∙◌, subst, inl, inr, ⊎_elim, arith, length-append, length-set, mod-lt}
+use Rattle.std.proofs.Common.{◌≡◌, ◌≢◌, ◌⊎◌, ℕ, zero, suc, ◌+◌, ◌<◌, ◌≤◌, List, [], ◌∷◌, ◌++◌, length, set, slice_index, Bool, true, false, sym, refl, ap, ◌∙◌, subst, inl, inr, ⊎_elim, arith, length-append, length-set, mod-lt}
 use mathlib.Core.Logic.{dite}
 use mathlib.Core.List.{IsPrefix}
 use mathlib.Core.Option.{none, some, some-ne-none}
@@ -27,7 +27,7 @@ use Rattle.array_line.specs.declared.own.Point.TheVariants.{Idle, Queued, Holdin
 use Rattle.shared_line.specs.declared.rule.Setup.{Setup}
 use Rattle.shared_line.specs.declared.rule.Parcel.{Parcel}
 use Rattle.array_line.specs.Words.{cell_at, cells_in, cell_of}
-use Rattle.array_line.specs.Array.{ArrayEntry, ArrayState, At, Cells, Past, HasPassed, Walks, NodeOk, PastOk, ArrayRule, has_line, lets_go, is_kept, is_cleared}
+use Rattle.array_line.specs.Array.{ArrayEntry, ArrayState, At, Cells, Past, HasPassed, Walks, NodeOk, PastOk, ArrayRule, has_line, is_kept, is_cleared}
 use Rattle.array_line.specs.Steps.{Contents, next_end, after_walk, CarriesNext, Ended, GoesHome, Passes, granted}
 use Rattle.array_line.proofs.OneNode.{clash_at, passed_goes, placed_at, knows_whole, hand_none}
 use Rattle.array_line.proofs.Nodes.{others_end, others_clear, others_hand, freed_so}
@@ -61,8 +61,8 @@ elem_within (y ∷ ys) (suc p) x e = let h = elem_within ys p x e in omega arith
 abbrev pub GrantsNext : Cells → (ℕ → ℕ → ℕ) → (ℕ → ℕ → ℕ) → ℕ → Bool → (ℕ → ℕ) → Type 0
 GrantsNext cells seen withdrawn_by ended cleared change = (hand : ℕ) (marks says : ℕ → ℕ) → marks (ended + CELLS) ≡ 0 → cells ended hand cleared marks says
     → (marks (ended + 1) ≡ 0 → (seen (ended + 1) (says (cell_of (ended + 1))) ≡ 0) × cells (ended + 1) 0 false marks (put says (cell_of (ended + 1)) (change (says (cell_of (ended + 1))))))
-      × (0 < marks (ended + 1) → marks (ended + 1) ≤ MOST_NODES → 0 < hand
-      → (seen (ended + 1) (says (cell_of (ended + 1))) ≢ 0) × (withdrawn_by (ended + 1) (says (cell_of (ended + 1))) ≡ marks (ended + 1)) × cells (ended + 1) hand false marks (put says (cell_of (ended + 1)) (change (says (cell_of (ended + 1))))))
+    × (0 < marks (ended + 1) → marks (ended + 1) ≤ MOST_NODES → 0 < hand
+    → (seen (ended + 1) (says (cell_of (ended + 1))) ≢ 0) × (withdrawn_by (ended + 1) (says (cell_of (ended + 1))) ≡ marks (ended + 1)) × cells (ended + 1) hand false marks (put says (cell_of (ended + 1)) (change (says (cell_of (ended + 1))))))
 
 module _ (cells : Cells) (good : List ℕ → Type 0) (allows : List ℕ → List ℕ → Type 0) (about : Setup) (goes : (a b : List ℕ) → good a → allows a b → good b) (v : ArrayEntry) (has_it : has_line v.own.point ≡ true) (y : Parcel) (carries : CarriesNext allows v y) where
   abbrev Rule : ArrayState → Type 0
@@ -425,10 +425,10 @@ module _ (cells : Cells) (good : List ℕ → Type 0) (allows : List ℕ → Lis
           ),
         ))
         (λ ne. let rolled : 0 < r.past.marks (length (r.past.ends ++ e ∷ [])) = omega arith in
-            let marked : r.past.marks (length v.view.ends + 1) ≡ r.past.marks (length (r.past.ends ++ e ∷ [])) = ap r.past.marks step_of in
-            let held = (hand r.past r.fine (ok s r me i new at word)) in let up = above s r me i new at word in let some_node : 0 < r.past.hand = omega arith in
-            let told = all.1 (subst (λ k. 0 < k) (sym marked) rolled) (subst (λ k. k ≤ MOST_NODES) (sym marked) (high s r me i new at word rolled)) some_node in
-            let says = subst (λ k. cells (length v.view.ends + 1) r.past.hand false r.past.marks (put (cells_in s.words) (cell_of (length v.view.ends + 1)) (change k))) (sym found) told.2 in (
+        let marked : r.past.marks (length v.view.ends + 1) ≡ r.past.marks (length (r.past.ends ++ e ∷ [])) = ap r.past.marks step_of in
+        let held = (hand r.past r.fine (ok s r me i new at word)) in let up = above s r me i new at word in let some_node : 0 < r.past.hand = omega arith in
+        let told = all.1 (subst (λ k. 0 < k) (sym marked) rolled) (subst (λ k. k ≤ MOST_NODES) (sym marked) (high s r me i new at word rolled)) some_node in
+        let says = subst (λ k. cells (length v.view.ends + 1) r.past.hand false r.past.marks (put (cells_in s.words) (cell_of (length v.view.ends + 1)) (change k))) (sym found) told.2 in (
           walk_entry r.past ∷ [],
           keeps,
           tt,

@@ -12,8 +12,8 @@ pub mod Clearing
 pub mod Ending
 pub mod Passed
 pub mod Ask
-pub mod Free
-pub mod Reset
+pub mod Freeing
+pub mod Renewing
 pub mod Taking
 pub mod Load
 pub mod Roll

@@ -1,8 +1,8 @@
 -- A waiting node writes that it withdraws into its cell: the line has come, or its request is withdrawn.
-use Rattle.std.proofs.Common.{◌≡◌, ◌≢◌, ℕ, ◌+◌, ◌*◌, ◌%◌, ◌^◌, ◌<◌, ◌≤◌, List, [], ◌∷◌, ◌++◌, length, set, slice_index, get_or, Bool, if◌then◌else◌, sym, refl, ap, ◌∙◌, subst, ⊎_elim, arith, length-set, mod-lt, get_or-set_same, get_or-set_other}
+use Rattle.std.proofs.Common.{◌≡◌, ◌≢◌, ℕ, ◌+◌, ◌<◌, ◌≤◌, List, [], ◌∷◌, ◌++◌, length, set, slice_index, Bool, if◌then◌else◌, sym, refl, ap, ◌∙◌, subst, ⊎_elim, arith, mod-lt}
 use mathlib.Core.Logic.{dite}
 use mathlib.Core.Option.{none, some}
-use native.Mathlib.Decide.{ℕ_discrete, dec_le}
+use native.Mathlib.Decide.{ℕ_discrete}
 use lib.ListN.{get_elem?}
 use Rattle.std.proofs.lemmas.Option.{slice_get_within}
 use Rattle.atomic_table.specs.Table.{step, keeps, takes, Allows}
@@ -16,7 +16,6 @@ use Rattle.qolb_model.proofs.Lists.{at_same}
 use Rattle.qolb_model.proofs.Updates.{put, put_here, put_else}
 use Rattle.array_line.specs.declared.own.Point.TheVariants.{Queued, Rolled}
 use Rattle.shared_line.specs.declared.rule.Setup.{Setup}
-use Rattle.shared_line.specs.declared.rule.Parcel.{Parcel}
 use Rattle.array_line.specs.declared.words.TheConstants.{CELLS}
 use Rattle.array_line.specs.Words.{cell_at, cells_in, cell_of}
 use Rattle.array_line.specs.Array.{ArrayEntry, ArrayState, At, Cells, Past, NodeOk, PastOk, ArrayRule, has_line, lets_go, is_kept}
@@ -157,10 +156,10 @@ module _ (cells : Cells) (good : List ℕ → Type 0) (allows : List ℕ → Lis
           ),
         ))
         (λ later. let b = behind cells good allows about v queued s r me i at' word later in let n = near cells good allows about v queued s r me i at' word in
-            let found = found_is cells good allows about v queued s r me i at' word in
-            let low = mine_low cells good allows about s r me v at' in let low_node = low.0 in let high_node = low.1 in let few = r.may_open.nodes.few in
-            let said = subst (λ k. cells (length r.past.ends) r.past.hand r.past.cleared (put r.past.marks v.own.place v.view.node) (put (cells_in s.words) (cell_of v.own.place) (change k))) (sym found)
-            (withdraws (length r.past.ends) r.past.hand r.past.cleared r.past.marks (cells_in s.words) low.0 (omega arith) b.0 n b.1 r.shown.said) in (
+        let found = found_is cells good allows about v queued s r me i at' word in
+        let low = mine_low cells good allows about s r me v at' in let low_node = low.0 in let high_node = low.1 in let few = r.may_open.nodes.few in
+        let said = subst (λ k. cells (length r.past.ends) r.past.hand r.past.cleared (put r.past.marks v.own.place v.view.node) (put (cells_in s.words) (cell_of v.own.place) (change k))) (sym found)
+        (withdraws (length r.past.ends) r.past.hand r.past.cleared r.past.marks (cells_in s.words) low.0 (omega arith) b.0 n b.1 r.shown.said) in (
           roll_entry r.past ∷ [],
           keeps,
           tt,

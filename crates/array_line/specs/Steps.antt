@@ -19,7 +19,7 @@ use Rattle.shared_line.specs.Entries as entries
 use Rattle.shared_line.specs.Steps as line
 use Rattle.shared_line.specs.Steps.{own_end}
 use Rattle.array_line.specs.declared.own.Point.{Point}
-use Rattle.array_line.specs.declared.own.Point.TheVariants.{Idle, Queued, Passing, Cleared, Freeing, Rolled}
+use Rattle.array_line.specs.declared.own.Point.TheVariants.{Idle, Queued, Passing, Freeing, Rolled}
 use Rattle.array_line.specs.declared.own.Own.{Own}
 use Rattle.array_line.specs.Words.{ticket_of}
 use Rattle.array_line.specs.Stances.{fresh, rests, holding, refused}

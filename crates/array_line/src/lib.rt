@@ -2,7 +2,9 @@
 #![tactic(auto)]
 
 mod own;
+mod plays;
 mod words;
 
 pub use own::{Own, Point};
+pub use plays::{Draw, Entries, Free, LoadNode, Reset};
 pub use words::{CELLS, TICKET, WORDS, cell_word, is_freed, node_word};

@@ -1,9 +1,8 @@
 -- A node that has the line clears the cell at its turn.
-use Rattle.std.proofs.Common.{◌≡◌, ◌≢◌, ◌⊎◌, ℕ, ◌+◌, ◌<◌, List, [], ◌∷◌, length, set, get_or, true, sym, refl, ap, ◌∙◌, inl, ⊎_elim, arith, length-set, mod-lt, get_or-set_same, get_or-set_other}
+use Rattle.std.proofs.Common.{◌≡◌, ◌≢◌, ◌⊎◌, ℕ, ◌+◌, ◌<◌, List, [], ◌∷◌, length, set, true, sym, refl, ap, ◌∙◌, ⊎_elim, arith, mod-lt}
 use mathlib.Core.Option.{none, some}
 use lib.ListN.{get_elem?}
 use Rattle.atomic_table.specs.Table.{step, keeps, Allows}
-use Rattle.array_line.specs.declared.words.TheConstants.{CELLS}
 use Rattle.array_line.specs.declared.own.Point.TheVariants.{Idle, Holding, Passing, Rolled}
 use Rattle.shared_line.specs.declared.rule.Setup.{Setup}
 use Rattle.array_line.specs.Words.{cell_at, cells_in, cell_of}

@@ -1,25 +1,11 @@
-//! What each step tells.
-ghost use Rattle.array_line.specs.Steps.{drawn, freed, loaded_node, reset};
+//! What each step on a cell tells.
 ghost use Rattle.ring_line.specs.Steps.{loaded, rolled, cleared, granted};
 
-use array_line::Own;
+use array_line::Entries;
 use atomic_table::Play;
 use qolb_model::Keep;
-use shared_line::{Entry, Parcel};
-use std::collections::LinkedList;
+use shared_line::Parcel;
 use std::marker::PhantomData;
-
-/// The entries of a seat.
-type Entries = LinkedList<Entry<Own>>;
-
-/// A ticket is drawn.
-pub(crate) struct Draw<K> {
-    law: PhantomData<K>,
-}
-
-impl<K: Keep> Play<Parcel, Entries> for Draw<K> {
-    ghost then = { drawn K.allows };
-}
 
 /// The own cell is read.
 pub(crate) struct Load<K> {
@@ -53,29 +39,4 @@ pub(crate) struct Grant<K> {
 
 impl<K: Keep> Play<Parcel, Entries> for Grant<K> {
     ghost then = { granted K.allows };
-}
-
-/// A passed node is freed.
-pub(crate) struct Free<K> {
-    law: PhantomData<K>,
-}
-
-impl<K: Keep> Play<Parcel, Entries> for Free<K> {
-    ghost then = { freed K.allows };
-}
-
-/// The own node's word is read.
-pub(crate) struct LoadNode<K> {
-    law: PhantomData<K>,
-}
-
-impl<K: Keep> Play<Parcel, Entries> for LoadNode<K> {
-    ghost then = { loaded_node K.allows };
-}
-
-/// The own node's word is cleared.
-pub(crate) struct Reset;
-
-impl Play<Parcel, Entries> for Reset {
-    ghost then = { reset };
 }

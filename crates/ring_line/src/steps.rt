@@ -13,10 +13,10 @@ ghost use Rattle.ring_line.specs.Words.{withdrawn_by};
 ghost use Rattle.ring_line.specs.Steps.{own_cell, turn_cell, IsEarly, Comes, IsRolled, after_clear};
 ghost use Rattle.array_line.specs.declared.own.Point.TheVariants.{Idle, Queued, Holding, Passing, Cleared, Freeing, Rolled};
 
-use crate::plays::{Clear, Draw, Free, Grant, Load, LoadNode, Reset, Roll};
+use crate::plays::{Clear, Grant, Load, Roll};
 use crate::rule::{Ground, RingSeat};
 use crate::words::{GRANTED, WITHDRAWN, cell_after, cell_of, is_granted};
-use array_line::{TICKET, cell_word, node_word};
+use array_line::{Draw, Free, LoadNode, Reset, TICKET, cell_word, node_word};
 use qolb_model::Keep;
 
 /// Draws a ticket, and returns its cell.

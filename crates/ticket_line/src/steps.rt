@@ -12,10 +12,10 @@ ghost use Rattle.array_line.specs.Steps.{IsAt, IsOwnNode, entry_of, GoesOn, Draw
 ghost use Rattle.ticket_line.specs.Steps.{own_ticket, next_ticket, IsEarly, Comes, IsRolled};
 ghost use Rattle.array_line.specs.declared.own.Point.TheVariants.{Idle, Queued, Holding, Passing, Freeing, Rolled};
 
-use crate::plays::{Draw, Free, Grant, Load, LoadNode, Reset, Roll};
+use crate::plays::{Grant, Load, Roll};
 use crate::rule::{Ground, TicketSeat};
 use crate::words::{cell_word, granted, is_granted, withdrawn, withdrawn_by};
-use array_line::{TICKET, node_word};
+use array_line::{Draw, Free, LoadNode, Reset, TICKET, node_word};
 use qolb_model::Keep;
 
 /// Draws a ticket.

@@ -2,7 +2,7 @@ use Rattle.std.proofs.Common.{rules, arith, sym, ap, subst, ◌∙◌, ◌≤◌
 use Rattle.qolb_model.specs.declared.terms.TheConstants.{MOST_NODES}
 use Rattle.array_line.specs.Words.{node_at}
 use Rattle.array_line.specs.Steps.{entry_of}
-use Rattle.array_line.proofs.Free.{frees_next}
+use Rattle.array_line.proofs.Freeing.{frees_next}
 use Rattle.ring_line.specs.Ring.{RingCells}
 use Rattle.ring_line.proofs.steps.free.Goals as goal
 

@@ -1,9 +1,7 @@
 -- A release frees the node of the first request that it passed.
-use Rattle.std.proofs.Common.{◌≡◌, ◌≢◌, ℕ, suc, ◌+◌, ◌<◌, ◌≤◌, List, [], ◌∷◌, ◌++◌, length, set, get_or, true, sym, refl, ap, ◌∙◌, subst, ⊎_elim, arith, length-set, get_or-set_same, get_or-set_other}
-use mathlib.Core.Logic.{dite}
+use Rattle.std.proofs.Common.{◌≡◌, ◌≢◌, ℕ, suc, ◌+◌, ◌<◌, ◌≤◌, List, [], ◌∷◌, ◌++◌, length, set, true, sym, refl, ap, ◌∙◌, subst, ⊎_elim, arith}
 use mathlib.Core.List.{IsPrefix}
 use mathlib.Core.Option.{none, some}
-use native.Mathlib.Decide.{ℕ_discrete}
 use lib.ListN.{get_elem?}
 use Rattle.atomic_table.specs.Table.{step, keeps, Allows}
 use Rattle.qolb_model.specs.declared.request.Request.{Request}
@@ -14,7 +12,7 @@ use Rattle.qolb_model.proofs.Prefixes.{prefix_self, prefix_get, prefix_more}
 use Rattle.qolb_model.proofs.Requests.{has_left, has_last, has_push, lacks_from, same_place, has_prefix, lacks_push}
 use Rattle.qolb_model.proofs.Lists.{never, at_same}
 use Rattle.qolb_model.specs.declared.terms.TheConstants.{MOST_NODES}
-use Rattle.qolb_model.proofs.Updates.{put, put_here, put_else}
+use Rattle.qolb_model.proofs.Updates.{put, put_else}
 use Rattle.array_line.specs.declared.own.Point.TheVariants.{Idle, Queued, Holding, Freeing, Rolled}
 use Rattle.shared_line.specs.declared.rule.Setup.{Setup}
 use Rattle.array_line.specs.Words.{node_at}

@@ -1,8 +1,6 @@
 -- A node whose withdrawn request was passed reads its own word, and clears it before it asks again.
-use Rattle.std.proofs.Common.{◌≡◌, ◌≢◌, ℕ, ◌+◌, ◌<◌, ◌≤◌, List, [], ◌∷◌, length, set, slice_index, get_or, Bool, true, false, if◌then◌else◌, sym, refl, ap, ◌∙◌, subst, arith, length-set, get_or-set_same, get_or-set_other}
-use mathlib.Core.Logic.{dite}
+use Rattle.std.proofs.Common.{◌≡◌, ◌≢◌, ℕ, ◌<◌, ◌≤◌, List, [], ◌∷◌, length, set, slice_index, Bool, true, false, if◌then◌else◌, sym, refl, ap, ◌∙◌, subst, arith}
 use mathlib.Core.Option.{none, some}
-use native.Mathlib.Decide.{ℕ_discrete}
 use lib.ListN.{get_elem?}
 use lib.Seq.{set-get_or}
 use Rattle.atomic_table.specs.Table.{step, keeps, Allows}
@@ -11,12 +9,11 @@ use Rattle.qolb_model.specs.Views.{own}
 use Rattle.qolb_model.specs.Sound.{Continues}
 use Rattle.qolb_model.proofs.Requests.{same_place, has_prefix}
 use Rattle.qolb_model.proofs.Lists.{never, at_same}
-use Rattle.qolb_model.specs.declared.terms.TheConstants.{MOST_NODES}
-use Rattle.qolb_model.proofs.Updates.{put, put_here, put_else}
+use Rattle.qolb_model.proofs.Updates.{put, put_here}
 use Rattle.array_line.specs.declared.own.Point.TheVariants.{Rolled}
 use Rattle.shared_line.specs.declared.rule.Setup.{Setup}
 use Rattle.array_line.specs.Words.{node_at}
-use Rattle.array_line.specs.Array.{ArrayEntry, ArrayState, At, Cells, Past, NodeOk, PastOk, Shown, ArrayRule, has_line, lets_go, is_kept}
+use Rattle.array_line.specs.Array.{ArrayEntry, ArrayState, At, Cells, Past, NodeOk, PastOk, ArrayRule, has_line, lets_go, is_kept}
 use Rattle.array_line.specs.Steps.{sole, Contents, IsStill, loaded_node, reset, after_reset}
 use Rattle.array_line.proofs.OneNode.{clash_at, placed_at, hand_none}
 use Rattle.array_line.proofs.Nodes.{others_reset, learned, learned_ok, passes_none}
