@@ -34,7 +34,8 @@ use Rattle.line_board.specs.Law.{Changes}
 use Rattle.line_board.specs.declared.board.TheConstants.{MOST_TASKS}
 use Rattle.line_board.specs.Board.{Stand}
 use Rattle.line_board.specs.PutsAndTakes.{standing}
-use Rattle.line_board.specs.Calls.{HadTurn, HasFound, IsUnserved, Puts, Takes}
+use Rattle.qolb_model.specs.Patience.{IsUnserved}
+use Rattle.line_board.specs.Calls.{HadTurn, HasFound, Puts, Takes}
 use Rattle.line_board.proofs.Boards.{laid-stand}
 use Rattle.line_board.proofs.Steps.{standing-stand}
 use Rattle.qolb_run.specs.BoardWork.{Turn, turn_between, node_turns, turns_of, HasTurns, HasStored, FoundFull, HasTakenOne, FoundNone}
