@@ -76,6 +76,7 @@ pub record HasBanked {Line Port : Type 0} (belongs : Line → Port → Type 0) (
 pub record AreBanked {Line Port : Type 0} (belongs : Line → Port → Type 0) (view : Port → View) (terms_of : Line → Terms) (work : WorkScript) (paid_in paid_out : ℕ) : Type 0 where
   pub lines : List Line
   pub desks : List (DeskOf Port)
+  pub count : length lines ≡ work.lines
   pub opened : All (λ line. terms_of line ≡ work_terms work.workers) lines
   pub each : length desks ≡ work.workers
   pub done : AreDone (HasBanked belongs view) lines work.jobs desks

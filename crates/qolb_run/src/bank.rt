@@ -109,6 +109,7 @@ where
     requires kind { work.now.kind ≡ WorkKind.Bank }
     requires terms { All (λ line. L.terms_of line ≡ work_terms work.now.workers) bank.lines.items }
     requires limits { IsWithinLimits work.now }
+    requires lines { vec_len bank.lines ≡ work.now.lines }
     requires as_many { vec_len desks ≡ work.now.workers }
     requires done { AreDone (HasBanked L.belongs L.view) bank.lines.items work.now.jobs desks.items }
     ensures report { IfOk result (IsReportOf work.now) }

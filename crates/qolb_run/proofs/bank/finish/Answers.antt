@@ -48,6 +48,7 @@ pub returns-clause-banked : goal.returns-clause-banked
 returns-clause-banked g c = record {
   lines = c.args.bank.lines.items;
   desks = c.args.desks.items;
+  count = sym c.args.bank.lines.ok.0 ∙ c.requires.lines;
   opened = c.requires.terms;
   each = sym c.args.desks.ok.0 ∙ c.requires.as_many;
   done = c.requires.done;
