@@ -1,21 +1,28 @@
 -- Waiting for a line: one request after tries that were busy.
-use Rattle.std.proofs.Common.{◌≡◌, ◌≢◌, ◌⊎◌, inl, inr, ℕ, true, List, ap, ◌∙◌}
+use Rattle.std.proofs.Common.{◌≡◌, ◌≢◌, ◌⊎◌, inl, inr, ℕ, ◌+◌, ◌<◌, ◌≤◌, true, List, length, ap, ◌∙◌, arith}
 use Rattle.qolb_model.specs.declared.answer.Enq.{Enq}
 use Rattle.qolb_model.specs.declared.answer.Enq.TheVariants as enq
 use Rattle.qolb_model.specs.declared.answer.PortState.TheVariants.{Left, Rolled}
+use Rattle.qolb_model.specs.declared.terms.Terms.{Terms}
 use Rattle.qolb_model.specs.declared.write.Write.{Write}
 use Rattle.qolb_model.specs.declared.view.View.{View}
 use Rattle.qolb_model.specs.PortStates.{may_ask}
 use Rattle.qolb_model.specs.Views.{Extends}
 use Rattle.qolb_model.specs.Sound.{Continues}
 use Rattle.qolb_model.specs.Asking.{IsBusy}
-use Rattle.qolb_model.specs.Turns.{IsGranted}
+use Rattle.qolb_model.specs.Turns.{IsGranted, IsWithdrawn}
 use Rattle.qolb_model.specs.LettingGo.{IsTold}
 use Rattle.qolb_model.specs.Calls.{Enqueues}
 use Rattle.qolb_model.proofs.Going.{continues_on, asks_goes, asks_from, joined_goes}
+use Rattle.line_threads.specs.declared.asleep.Within.{Within}
+use Rattle.line_threads.specs.declared.asleep.Within.TheVariants as within
 use Rattle.line_threads.specs.declared.waiting.Got.{Got}
 use Rattle.line_threads.specs.declared.waiting.Got.TheVariants.{Granted, Closed}
-use Rattle.line_threads.specs.Acquiring.{Acquires}
+use Rattle.line_threads.specs.Acquiring.{Acquires, AcquiresWithin}
+
+-- a line has a node
+pub some_node : (v : View) (terms : Terms) → v.terms ≡ terms → 1 ≤ v.node → v.node ≤ terms.nodes → length v.ends < length v.ends + v.terms.nodes
+some_node v terms is low high = let e = ap (λ (t : Terms). t.nodes) is in omega arith
 
 -- a port that was busy may ask again
 pub quiet_busy : (old new : View) → IsBusy old new → may_ask new.state ≡ true
@@ -48,4 +55,34 @@ acquired_waiting allows old mid now new first turn got e same q c count granted 
       joined = joined_goes now new (q.joined some) c.extends count;
       granted = granted;
       told = told;
+    }
+
+-- granted or told at once, within a time
+pub acquired_at_once : (allows : List ℕ → List ℕ → Type 0) (old mid new : View) (turn : Write) (answer : Enq) (got : Within)
+    → Extends old mid → mid.count ≡ old.count → Enqueues allows mid new turn answer → answer ≢ enq.Busy
+    → (got ≡ within.Granted → answer ≡ enq.Granted) → (got ≡ within.Closed → answer ≡ enq.Closed) → got ≢ within.Late → AcquiresWithin allows old new turn got
+acquired_at_once allows old mid new turn answer got e same q asked granted closed some = record {
+  continues = continues_on allows old mid new e q.continues;
+  asks = λ _. asks_from old mid new e same (q.asks asked);
+  joined = λ _. q.joined asked;
+  granted = λ is. q.granted (granted is);
+  told = λ is. q.told (closed is);
+  late = λ is. absurd (some is);
+}
+
+-- granted, told or withdrawn after a wait
+pub acquired_within : (allows : List ℕ → List ℕ → Type 0) (old mid now new : View) (first turn : Write) (got : Within)
+    → Extends old mid → mid.count ≡ old.count → Enqueues allows mid now first enq.Queued
+    → Continues allows now new → new.count ≡ now.count → (got ≡ within.Granted → IsGranted new turn) → (got ≡ within.Closed → IsTold new)
+    → (got ≡ within.Late → IsWithdrawn new) → AcquiresWithin allows old new turn got
+acquired_within allows old mid now new first turn got e same q c count granted told late =
+    let some : enq.Queued ≢ enq.Busy = λ is. cc is in
+    let asks = asks_from old mid new e same (asks_goes mid now new (q.asks some) c.extends count) in
+    let joined = joined_goes now new (q.joined some) c.extends count in record {
+      continues = continues_on allows old mid new e (continues_on allows mid now new q.continues.extends c);
+      asks = λ _. asks;
+      joined = λ _. joined;
+      granted = granted;
+      told = told;
+      late = λ is. inl (asks, joined, late is);
     }

@@ -1,11 +1,13 @@
 //! What programs with threads over lines take: waiting for a line, a thread for each part of what is shared, and ports that meet.
 #![tactic(auto)]
 
+mod asleep;
 mod meetings;
 #[cfg(test)]
 mod tests;
 pub mod together;
 mod waiting;
 
+pub use asleep::{Within, acquire_asleep, acquire_within};
 pub use meetings::{meet_all, meet_others};
 pub use waiting::{Got, acquire};

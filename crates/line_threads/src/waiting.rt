@@ -12,7 +12,7 @@ use std::sync::Wait;
 use std::thread::yield_now;
 
 /// How often a waiter looks with a single pause in between, before it gives its processor away between looks.
-const LOOKS: u32 = 64;
+pub(crate) const LOOKS: u32 = 64;
 
 /// How the wait for a line ended.
 #[derive(Clone, Copy, Debug, PartialEq, Eq)]
@@ -38,12 +38,17 @@ impl Pauses {
     fn pause(&mut self) {
         if self.short > 0 {
             self.short -= 1;
-            // A fresh backoff pauses once; one that is kept pauses twice as long each time, which costs a third of the speed.
-            Backoff::new().spin();
+            short_pause();
         } else {
             yield_now();
         }
     }
+}
+
+/// A single pause.
+pub(crate) fn short_pause() {
+    // A fresh backoff pauses once; one that is kept pauses twice as long each time, which costs a third of the speed.
+    Backoff::new().spin();
 }
 
 /// Asks for the line until it is not busy, and then looks until it is granted or closed. Waits for the nodes before it.

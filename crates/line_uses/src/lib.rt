@@ -7,3 +7,4 @@ pub mod mailbox;
 pub mod seats;
 #[cfg(test)]
 mod tests;
+pub mod timed;

@@ -1,4 +1,6 @@
 //! The uses, over all lines.
+mod asleep;
+
 use crate::mailbox::Asked;
 use crate::{counter, fair, mailbox, seats};
 use line_lanes::Line64;

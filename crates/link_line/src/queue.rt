@@ -9,7 +9,7 @@ use crate::asking::request;
 use crate::release::release;
 use crate::rule::{Ground, LinkSeat, Links};
 use crate::steps::{link, load, roll};
-use crate::words::WORDS;
+use crate::words::{WORDS, entry_word, is_granted};
 use atomic_table::Closed;
 use qolb_model::{Keep, PortState};
 use shared_line::{
@@ -82,6 +82,17 @@ impl<K: Keep> Discipline<K> for Links {
         closed: bool,
     ) -> Released {
         release(ground, seat, node, closed)
+    }
+
+    #[inline]
+    fn awaited(node: u64, _mark: u64) -> usize {
+        entry_word(node)
+    }
+
+    /// A link to the entry is no grant.
+    #[inline]
+    fn may_have_come(_mark: u64, word: u64) -> bool {
+        is_granted(word)
     }
 
     ghost cuts = { seats.cuts K.good K.allows };

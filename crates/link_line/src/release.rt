@@ -1,5 +1,5 @@
 //! How a line is let go.
-ghost use Rattle.std.specs.Prelude.{◌≡◌, ◌≢◌, ℕ, ◌+◌, ◌*◌, ◌≤◌, [], ◌∷◌, length};
+ghost use Rattle.std.specs.Prelude.{◌≡◌, ◌≢◌, ℕ, ◌+◌, ◌*◌, ◌<◌, ◌≤◌, [], ◌∷◌, length};
 ghost use Rattle.qolb_model.specs.declared.request.Request.{Request};
 ghost use Rattle.qolb_model.specs.declared.terms.TheConstants.{MOST_NODES};
 ghost use Rattle.qolb_model.specs.PortStates as states;
@@ -8,11 +8,13 @@ ghost use Rattle.shared_line.specs.declared.rule.Parcel.{Parcel};
 ghost use Rattle.shared_line.specs.Steps.{SameSeat, HasSlot, HasNoSlot};
 ghost use Rattle.link_line.specs.Links.{At};
 ghost use Rattle.link_line.specs.Stances.{lets_go_in};
+ghost use Rattle.link_line.specs.Words as layout;
 ghost use Rattle.link_line.specs.Steps.{IsSeatOf, IsAt, IsOwnNode, Alone, known_of, GoesOn, MayLetGo};
 ghost use Rattle.link_line.specs.Releases.{AreFew, HandsOn, LetsLineGo, WalksOn, AreNodesAt, FreesAll};
 
 use crate::rule::{Ground, LinkSeat};
 use crate::steps::{done, free, grant, home};
+use crate::words::{HOME, entry_word};
 use arrayvec::ArrayVec;
 use qolb_model::{Keep, MOST_NODES, PortState};
 use shared_line::Released;
@@ -50,38 +52,53 @@ pub(crate) fn release<K: Keep>(
     ensures goes_on { GoesOn K.allows seat.old.me seat.new.me result.steps }
     ensures lets_go { (y : Parcel) → HasSlot seat.old y → LetsLineGo (known_of seat.old) y result.state (known_of seat.new) }
     ensures counted { lets_go_in (length (known_of seat.old).view.ends) (length (known_of seat.new).view.ends) result.steps }
+    ensures granted { result.granted < layout.word_count }
     ensures bound { result.steps + 3 ≤ 4 * (known_of seat.old).view.terms.nodes }
 {
     let mut steps = 0;
-    match hand_on(ground, seat, &mut steps, node) {
+    let mut granted = HOME;
+    match hand_on(ground, seat, &mut steps, &mut granted, node) {
         Handed::On => Released {
             state: left_by(closed),
             steps,
+            granted,
         },
         Handed::Left => Released {
             state: PortState::Left,
             steps,
+            granted,
         },
         Handed::Passed(next) => {
-            let steps = walk(ground, seat, steps, next);
+            let mut last = HOME;
+            let steps = walk(ground, seat, steps, &mut last, next);
             Released {
                 state: left_by(closed),
                 steps,
+                granted: last,
             }
         }
     }
 }
 
-/// Lets the line go at the entry of the node `at`: home where nobody is behind it, else to the next request.
+/// Lets the line go at the entry of the node `at`: home where nobody is behind it, else to the next request. `granted` is then the word that
+/// was granted.
 #[inline]
-fn hand_on<K: Keep>(ground: &Ground<K>, seat: &mut LinkSeat, steps: &mut u64, at: u64) -> Handed
+fn hand_on<K: Keep>(
+    ground: &Ground<K>,
+    seat: &mut LinkSeat,
+    steps: &mut u64,
+    granted: &mut usize,
+    at: u64,
+) -> Handed
     requires table { IsSeatOf ground.now.table_id seat.old }
     requires alone { Alone seat.old.me }
     requires high { at ≤ MOST_NODES }
     requires few { AreFew steps.old }
+    requires granted { granted.old < layout.word_count }
     requires parcel { (y : Parcel) × HasSlot seat.old y × MayLetGo K.allows (known_of seat.old) y at }
     ensures same { SameSeat seat.old seat.new }
     ensures handed { (n : ℕ) × (steps.new ≡ steps.old + n) × GoesOn K.allows seat.old.me seat.new.me n × ((y : Parcel) → HasSlot seat.old y → HandsOn seat.old y seat.new n result) }
+    ensures granted { granted.new < layout.word_count }
 {
     // Home first: only where home names another node does a link come, so that a done entry without one is left for somebody.
     *steps += 1;
@@ -94,6 +111,7 @@ fn hand_on<K: Keep>(ground: &Ground<K>, seat: &mut LinkSeat, steps: &mut u64, at
         return Handed::Left;
     }
     *steps += 1;
+    *granted = entry_word(next);
     if grant(ground, seat, next) {
         Handed::Passed(next)
     } else {
@@ -102,12 +120,18 @@ fn hand_on<K: Keep>(ground: &Ground<K>, seat: &mut LinkSeat, steps: &mut u64, at
 }
 
 /// Passes withdrawn requests, from that of the node `first` on up to one that is not, and frees their nodes. So many steps were taken before;
-/// returns how many there are now.
+/// returns how many there are now. `granted` is then the word that was granted last.
 ///
 /// It is apart, and cold: room for the passed nodes is cleared at its entry, which a release that meets no withdrawn request need not pay.
 #[cold]
 #[inline(never)]
-fn walk<K: Keep>(ground: &Ground<K>, seat: &mut LinkSeat, steps: u64, first: u64) -> u64
+fn walk<K: Keep>(
+    ground: &Ground<K>,
+    seat: &mut LinkSeat,
+    steps: u64,
+    granted: &mut usize,
+    first: u64,
+) -> u64
     requires table { IsSeatOf ground.now.table_id seat.old }
     requires ready { IsAt (Leaving first) seat.old }
     requires high { first ≤ MOST_NODES }
@@ -115,6 +139,7 @@ fn walk<K: Keep>(ground: &Ground<K>, seat: &mut LinkSeat, steps: u64, first: u64
     requires first { (r : Request) × At (known_of seat.old).view.order (length (known_of seat.old).view.ends) r × (r.node ≡ first) }
     requires nodes { (2 ≤ (known_of seat.old).view.terms.nodes) × ((known_of seat.old).view.terms.nodes ≤ MOST_NODES) }
     requires few { steps ≤ 6 }
+    requires granted { granted.old < layout.word_count }
     requires parcel { HasSlot seat.old (known_of seat.old).own.line }
     requires state { (known_of seat.old).view.state ≡ states.left_by (known_of seat.old).own.line.closed }
     ensures same { SameSeat seat.old seat.new }
@@ -122,6 +147,7 @@ fn walk<K: Keep>(ground: &Ground<K>, seat: &mut LinkSeat, steps: u64, first: u64
     ensures goes_on { (n : ℕ) × (result ≡ steps + n) × GoesOn K.allows seat.old.me seat.new.me n }
     ensures walks_on { WalksOn (known_of seat.old) (known_of seat.new) }
     ensures counted { (n : ℕ) × (result ≡ steps + n) × (4 * length (known_of seat.new).view.ends ≤ 4 * length (known_of seat.old).view.ends + n + 2) × (n + 4 * length (known_of seat.old).view.ends ≤ 4 * length (known_of seat.new).view.ends) }
+    ensures granted { granted.new < layout.word_count }
     ensures bound { result + 6 ≤ steps + 4 * (known_of seat.old).view.terms.nodes }
 {
     let mut steps = steps;
@@ -129,7 +155,7 @@ fn walk<K: Keep>(ground: &Ground<K>, seat: &mut LinkSeat, steps: u64, first: u64
     let mut handed = Handed::Passed(first);
     while let Handed::Passed(node) = handed {
         passed.push(node);
-        handed = hand_on(ground, seat, &mut steps, node);
+        handed = hand_on(ground, seat, &mut steps, granted, node);
     }
     // Freed only now: a node that is freed may ask, and its new request must not be passed by this walk.
     free_passed(ground, seat, &passed);

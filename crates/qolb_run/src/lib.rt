@@ -21,7 +21,7 @@ mod workers;
 pub use gate::{AlwaysOpen, Gate, MOST_REFUSALS};
 pub use input::{InputError, MOST_BYTES, read_all};
 pub use line::ReplayLine;
-pub use line_threads::{Got, acquire, meet_all, together};
+pub use line_threads::{Got, Within, acquire, acquire_asleep, acquire_within, meet_all, together};
 pub use locks::Lines;
 pub use progress::Progress;
 pub use replay::{Kind, ReplayError, run_schedule, run_schedule_over};

@@ -12,8 +12,8 @@ ghost use Rattle.ring_line.specs.Laws.{first_cells};
 use crate::release::{release, renew};
 use crate::rule::{Ground, Ring, RingSeat};
 use crate::steps::{draw, load, roll};
-use crate::words::first_words;
-use array_line::WORDS;
+use crate::words::{cell_of, first_words, is_granted};
+use array_line::{WORDS, cell_word};
 use atomic_table::Closed;
 use qolb_model::{Keep, PortState};
 use shared_line::{
@@ -93,11 +93,22 @@ impl<K: Keep> Discipline<K> for Ring {
         mark: u64,
         closed: bool,
     ) -> Released {
-        let steps = release(ground, seat, mark);
+        let gone = release(ground, seat, mark);
         Released {
             state: left_by(closed),
-            steps,
+            steps: gone.steps,
+            granted: cell_word(gone.cell),
         }
+    }
+
+    #[inline]
+    fn awaited(_node: u64, mark: u64) -> usize {
+        cell_word(cell_of(mark))
+    }
+
+    #[inline]
+    fn may_have_come(_mark: u64, word: u64) -> bool {
+        is_granted(word)
     }
 
     ghost cuts = { seats.cuts RingCells K.good K.allows };

@@ -1,10 +1,11 @@
 //! How a line is let go.
-ghost use Rattle.std.specs.Prelude.{◌≡◌, ◌≢◌, ◌+◌, ◌*◌, ◌≤◌, [], ◌∷◌, length};
+ghost use Rattle.std.specs.Prelude.{◌≡◌, ◌≢◌, ◌+◌, ◌*◌, ◌<◌, ◌≤◌, [], ◌∷◌, length};
 ghost use Rattle.qolb_model.specs.declared.request.Request.{Request};
 ghost use Rattle.qolb_model.specs.declared.terms.TheConstants.{MOST_NODES};
 ghost use Rattle.qolb_model.specs.PortStates.{left_by};
 ghost use Rattle.shared_line.specs.declared.rule.Parcel.{Parcel};
 ghost use Rattle.shared_line.specs.Steps.{SameSeat, IsSeatOf, HasSlot, HasNoSlot};
+ghost use Rattle.array_line.specs.declared.words.TheConstants.{CELLS};
 ghost use Rattle.array_line.specs.Words.{word_count};
 ghost use Rattle.array_line.specs.Array.{At};
 ghost use Rattle.array_line.specs.Steps.{IsAt, IsOwnNode, entry_of, GoesOn, CarriesNext};
@@ -22,6 +23,13 @@ use qolb_model::{Keep, MOST_NODES, PortState};
 
 /// The most requests that a release passes: those of all nodes but its own.
 const MOST_PASSED: usize = MOST_NODES as usize - 1;
+
+/// A line that was let go: how many word steps it took, and the cell that was granted last.
+#[derive(Clone, Copy)]
+pub(crate) struct LetGo {
+    pub(crate) steps: u64,
+    pub(crate) cell: u64,
+}
 
 /// Makes a node ready to ask, and returns how many word steps that took. A withdrawn request that still stands in the queue keeps
 /// it from asking: then `None`.
@@ -51,9 +59,9 @@ pub(crate) fn renew<K: Keep>(
     Some(2)
 }
 
-/// Lets the line go that lies in the slot, and returns how many word steps that took.
+/// Lets the line go that lies in the slot.
 #[inline]
-pub(crate) fn release<K: Keep>(ground: &Ground<K>, seat: &mut RingSeat, cell: u64) -> u64
+pub(crate) fn release<K: Keep>(ground: &Ground<K>, seat: &mut RingSeat, cell: u64) -> LetGo
     requires table { IsSeatOf word_count ground.now.table_id seat.old }
     requires ready { IsAt Holding seat.old }
     requires none_passed { (entry_of seat.old).own.passed ≡ [] }
@@ -62,27 +70,35 @@ pub(crate) fn release<K: Keep>(ground: &Ground<K>, seat: &mut RingSeat, cell: u6
     requires parcel { (y : Parcel) × HasSlot seat.old y × CarriesNext K.allows (entry_of seat.old) y }
     ensures same { SameSeat seat.old seat.new }
     ensures slot { HasNoSlot seat.new }
-    ensures goes_on { GoesOn K.allows seat.old.me seat.new.me result }
+    ensures goes_on { GoesOn K.allows seat.old.me seat.new.me result.steps }
     ensures lets_go { (y : Parcel) → HasSlot seat.old y → LetsLineGo (entry_of seat.old) y (entry_of seat.new) }
-    ensures counted { result + 1 + 3 * length (entry_of seat.old).view.ends ≡ 3 * length (entry_of seat.new).view.ends }
-    ensures bound { result + 1 ≤ 3 * (entry_of seat.old).view.terms.nodes }
+    ensures cell { result.cell < CELLS }
+    ensures counted { result.steps + 1 + 3 * length (entry_of seat.old).view.ends ≡ 3 * length (entry_of seat.new).view.ends }
+    ensures bound { result.steps + 1 ≤ 3 * (entry_of seat.old).view.terms.nodes }
 {
     // The own cell is cleared before the next is granted: once that is done, others may come round to this cell.
     clear(ground, seat, cell);
     let found = grant(ground, seat, cell);
     if is_withdrawn(found) {
-        2 + walk(ground, seat, cell_after(cell), found)
+        let walked = walk(ground, seat, cell_after(cell), found);
+        LetGo {
+            steps: 2 + walked.steps,
+            cell: walked.cell,
+        }
     } else {
-        2
+        LetGo {
+            steps: 2,
+            cell: cell_after(cell),
+        }
     }
 }
 
-/// Passes withdrawn requests, up to one that is not, and frees their nodes. Returns how many word steps that took.
+/// Passes withdrawn requests, up to one that is not, and frees their nodes.
 ///
 /// It is apart, and cold: room for the passed nodes is cleared at its entry, which a release that meets no withdrawn request need not pay.
 #[cold]
 #[inline(never)]
-fn walk<K: Keep>(ground: &Ground<K>, seat: &mut RingSeat, cell: u64, found: u64) -> u64
+fn walk<K: Keep>(ground: &Ground<K>, seat: &mut RingSeat, cell: u64, found: u64) -> LetGo
     requires table { IsSeatOf word_count ground.now.table_id seat.old }
     requires ready { IsAt Passing seat.old }
     requires cell { cell ≡ turn_cell seat.old }
@@ -93,10 +109,11 @@ fn walk<K: Keep>(ground: &Ground<K>, seat: &mut RingSeat, cell: u64, found: u64)
     requires parcel { (y : Parcel) × HasSlot seat.old y × IsBare (entry_of seat.old) y × ((entry_of seat.old).view.state ≡ left_by y.closed) }
     ensures same { SameSeat seat.old seat.new }
     ensures slot { HasNoSlot seat.new }
-    ensures goes_on { GoesOn K.allows seat.old.me seat.new.me result }
+    ensures goes_on { GoesOn K.allows seat.old.me seat.new.me result.steps }
     ensures walks_on { WalksOn (entry_of seat.old) (entry_of seat.new) }
-    ensures counted { result + 3 * length (entry_of seat.old).view.ends ≡ 3 * length (entry_of seat.new).view.ends }
-    ensures bound { result + 3 ≤ 3 * (entry_of seat.old).view.terms.nodes }
+    ensures cell { result.cell < CELLS }
+    ensures counted { result.steps + 3 * length (entry_of seat.old).view.ends ≡ 3 * length (entry_of seat.new).view.ends }
+    ensures bound { result.steps + 3 ≤ 3 * (entry_of seat.old).view.terms.nodes }
 {
     let mut passed = ArrayVec::<u64, MOST_PASSED>::new();
     let mut cell = cell;
@@ -109,7 +126,10 @@ fn walk<K: Keep>(ground: &Ground<K>, seat: &mut RingSeat, cell: u64, found: u64)
     }
     // Freed only now: a node that is freed may ask, and its new request must not be passed by this walk.
     free_passed(ground, seat, &passed);
-    3 * passed.len() as u64
+    LetGo {
+        steps: 3 * passed.len() as u64,
+        cell,
+    }
 }
 
 /// Frees the nodes of all requests that were passed, in their order.

@@ -1,5 +1,5 @@
 -- What became of a line that has come to a port.
-use Rattle.std.specs.Prelude.{◌≢◌, ℕ, Option}
+use Rattle.std.specs.Prelude.{◌≢◌, ◌<◌, ℕ, Option}
 use Rattle.qolb_model.specs.declared.answer.PortState.{PortState}
 use Rattle.qolb_model.specs.declared.answer.PortState.TheVariants as shows
 use Rattle.shared_line.specs.declared.arriving.Arrival.{Arrival}
@@ -18,3 +18,8 @@ steps_of (PassedOn gone) = gone.steps
 abbrev pub HasArrived : {O : Type 0} → O → (PortState → ℕ → O → Type 0) → (ℕ → ℕ → O → Type 0) → (ℕ → Option ℕ → Slots → Type 0) → LineSeat O → Parcel → ℕ → Arrival → Type 0
 HasArrived fresh rests holding keeps s y mark Held = IsHeld fresh holding keeps s y mark
 HasArrived fresh rests holding keeps s y mark (PassedOn gone) = IsPassedOn fresh rests s gone.state × (gone.state ≢ shows.Holding)
+
+-- what was granted by the way is a word of the line
+abbrev pub GrantsWithin : ℕ → Arrival → Type 0
+GrantsWithin words Held = Unit {0}
+GrantsWithin words (PassedOn gone) = gone.granted < words

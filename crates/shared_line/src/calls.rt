@@ -11,10 +11,11 @@ use crate::line::Line;
 use crate::meeting::meet_seats;
 use crate::port::Port;
 use crate::queue::{Asked, Discipline};
+use crate::sleeping::Waking;
 use crate::slot::park;
 use qolb_model::{Enq, Keep, Out, Poll, PortState};
 
-impl<K: Keep, Q: Discipline<K>> Line<K, Q> {
+impl<K: Keep, Q: Discipline<K>, W: Waking> Line<K, Q, W> {
     /// How many turns are left of the line's lease, with the holder's own: at least 1. `None` without a lease.
     pub fn turns_left(&self, port: &Port<Q>) -> Option<u64>
         requires belongs { BelongsTo K.good K.allows self.now.table.shared.key self.now.table.shared.table_id port.now }
@@ -61,6 +62,7 @@ impl<K: Keep, Q: Discipline<K>> Line<K, Q> {
                         Enq::Granted
                     }
                     Arrival::PassedOn(gone) => {
+                        self.wake(gone.granted);
                         port.steps += gone.steps;
                         port.state = gone.state;
                         Enq::Closed
@@ -101,6 +103,7 @@ impl<K: Keep, Q: Discipline<K>> Line<K, Q> {
                 Poll::Granted
             }
             Arrival::PassedOn(gone) => {
+                self.wake(gone.granted);
                 port.steps = 1 + gone.steps;
                 port.state = gone.state;
                 Poll::Closed
@@ -138,6 +141,7 @@ impl<K: Keep, Q: Discipline<K>> Line<K, Q> {
                 Out::Granted
             }
             Arrival::PassedOn(gone) => {
+                self.wake(gone.granted);
                 port.steps = 1 + gone.steps;
                 port.state = gone.state;
                 Out::Closed
@@ -193,6 +197,7 @@ impl<K: Keep, Q: Discipline<K>> Line<K, Q> {
         let closed = port.parcel.closes(shut);
         Q::put(ground, &mut port.seat, port.mark, &port.parcel, closed);
         let gone = Q::release(ground, &mut port.seat, port.node, port.mark, closed);
+        self.wake(gone.granted);
         port.steps = gone.steps;
         port.state = gone.state;
     }

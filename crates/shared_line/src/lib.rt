@@ -12,6 +12,7 @@ mod plays;
 mod port;
 mod queue;
 mod rule;
+mod sleeping;
 mod slot;
 mod sync;
 
@@ -19,4 +20,5 @@ pub use line::{Line, Width};
 pub use port::Port;
 pub use queue::{Asked, Discipline, Linked, Released, Requested, Ruled, Shape};
 pub use rule::{Entry, Ground, LineSeat, Parcel, Rule, Setup};
+pub use sleeping::{NoSleepers, Sleepers, Waking};
 pub use slot::{put_alone, take_alone, unlay_alone};

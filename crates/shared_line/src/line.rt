@@ -6,6 +6,7 @@ ghost use Rattle.qolb_model.specs.declared.terms.TheConstants.{MOST_NODES};
 use crate::port::Port;
 use crate::queue::Discipline;
 use crate::rule::{Entry, Ground, Parcel, Rule, Setup};
+use crate::sleeping::{Sleepers, Waking};
 use atomic_table::Table;
 use line_lanes::{Line64, Mask, merge};
 use qolb_model::{Keep, PortState};
@@ -29,11 +30,12 @@ pub struct Width<K: Keep, Q: Discipline<K>> {
 /// nobody has the line it lies in the slot as those ends leave it. Each port knows a beginning of this history, and each node has at
 /// most one open request.
 #[derive(Drop)]
-pub struct Line<K: Keep, Q: Discipline<K>> {
+pub struct Line<K: Keep, Q: Discipline<K>, W: Waking = Sleepers> {
     pub(crate) table: Table<Parcel, LinkedList<Entry<Q::Own>>, Setup, Rule<K, Q>, Global>,
     pub(crate) label: u64,
     pub(crate) nodes: u64,
     pub(crate) width: Width<K, Q>,
+    pub(crate) sleepers: W,
     ghost sized: { table.shared.table_id.words ≡ width.words },
     ghost labelled: { label ≡ table.shared.key.label },
     ghost counted: { nodes ≡ table.shared.key.terms.nodes },
@@ -41,7 +43,7 @@ pub struct Line<K: Keep, Q: Discipline<K>> {
     ghost few_nodes: { nodes ≤ MOST_NODES },
 }
 
-impl<K: Keep, Q: Discipline<K>> Line<K, Q> {
+impl<K: Keep, Q: Discipline<K>, W: Waking> Line<K, Q, W> {
     /// The label that the line was opened with.
     pub fn label(&self) -> u64
         ensures { result ≡ self.now.table.shared.key.label }

@@ -8,9 +8,10 @@ use crate::arriving::{Arrival, arrive};
 use crate::line::Line;
 use crate::port::Port;
 use crate::queue::{Asked, Linked};
+use crate::sleeping::Waking;
 use qolb_model::{Enq, Keep, PortState, Prep};
 
-impl<K: Keep, Q: Linked<K>> Line<K, Q> {
+impl<K: Keep, Q: Linked<K>, W: Waking> Line<K, Q, W> {
     /// The first half of `enqolb`: makes a request. Behind another it is `Linking`, still to be linked to that one.
     pub fn prepend(&self, port: &mut Port<Q>) -> Prep
         requires belongs { BelongsTo K.good K.allows self.now.table.shared.key self.now.table.shared.table_id port.old }
@@ -48,6 +49,7 @@ impl<K: Keep, Q: Linked<K>> Line<K, Q> {
                         Prep::Granted
                     }
                     Arrival::PassedOn(gone) => {
+                        self.wake(gone.granted);
                         port.steps += gone.steps;
                         port.state = gone.state;
                         Prep::Closed
@@ -87,6 +89,7 @@ impl<K: Keep, Q: Linked<K>> Line<K, Q> {
                 Enq::Granted
             }
             Arrival::PassedOn(gone) => {
+                self.wake(gone.granted);
                 port.steps = 1 + gone.steps;
                 port.state = gone.state;
                 Enq::Closed

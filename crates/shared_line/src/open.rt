@@ -9,6 +9,7 @@ use crate::plays::Cut;
 use crate::port::Port;
 use crate::queue::Discipline;
 use crate::rule::{Ground, LineSeat, Parcel, Setup};
+use crate::sleeping::Waking;
 use atomic_table::Table;
 use line_lanes::{Line64, Mask};
 use qolb_model::{Keep, Looks, OpenError, PortState, Terms};
@@ -16,14 +17,14 @@ use std::alloc::{AllocError, Global};
 use std::marker::PhantomData;
 use std::mem;
 
-impl<K: Keep, Q: Discipline<K>> Line<K, Q> {
+impl<K: Keep, Q: Discipline<K>, W: Waking> Line<K, Q, W> {
     /// A line with these bytes, and a port for each of the nodes 1 to `nodes`, in this order.
     pub fn open(
         alloc: Global,
         label: u64,
         nodes: u64,
         opening: Line64,
-    ) -> Result<(Line<K, Q>, Vec<Port<Q>>), OpenError>
+    ) -> Result<(Line<K, Q, W>, Vec<Port<Q>>), OpenError>
         requires { K.good opening.bytes }
         ensures opens { IfOk result (λ r. IsOpened K.good K.allows r.0.table.shared.key r.0.table.shared.table_id label (record { nodes = nodes; opening = opening; lease = None }) r.1.items) }
         ensures unused { IfOk result (λ r. AreUnused r.1.items) }
@@ -45,7 +46,7 @@ impl<K: Keep, Q: Discipline<K>> Line<K, Q> {
         nodes: u64,
         opening: Line64,
         lease: u64,
-    ) -> Result<(Line<K, Q>, Vec<Port<Q>>), OpenError>
+    ) -> Result<(Line<K, Q, W>, Vec<Port<Q>>), OpenError>
         requires { K.good opening.bytes }
         ensures opens { IfOk result (λ r. IsOpened K.good K.allows r.0.table.shared.key r.0.table.shared.table_id label (record { nodes = nodes; opening = opening; lease = Some lease }) r.1.items) }
         ensures unused { IfOk result (λ r. AreUnused r.1.items) }
@@ -65,7 +66,7 @@ impl<K: Keep, Q: Discipline<K>> Line<K, Q> {
         alloc: Global,
         label: u64,
         terms: Terms,
-    ) -> Result<(Line<K, Q>, Vec<Port<Q>>), OpenError>
+    ) -> Result<(Line<K, Q, W>, Vec<Port<Q>>), OpenError>
         requires { K.good terms.opening.bytes }
         ensures opens { IfOk result (λ r. IsOpened K.good K.allows r.0.table.shared.key r.0.table.shared.table_id label terms r.1.items) }
         ensures unused { IfOk result (λ r. AreUnused r.1.items) }
@@ -84,7 +85,7 @@ impl<K: Keep, Q: Discipline<K>> Line<K, Q> {
     }
 
     /// The line, and one seat for all nodes.
-    fn new_table(alloc: Global, setup: &Setup) -> Result<(Line<K, Q>, LineSeat<Q::Own>), AllocError>
+    fn new_table(alloc: Global, setup: &Setup) -> Result<(Line<K, Q, W>, LineSeat<Q::Own>), AllocError>
         requires terms { MayOpen setup.now.terms }
         requires line { length setup.now.terms.opening.bytes ≡ 64 }
         requires good { K.good setup.now.terms.opening.bytes }
@@ -110,6 +111,7 @@ impl<K: Keep, Q: Discipline<K>> Line<K, Q> {
                     label,
                     nodes: terms.nodes,
                     width,
+                    sleepers: W::none(),
                 },
                 seat,
             )),

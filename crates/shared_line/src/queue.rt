@@ -55,6 +55,8 @@ pub struct Requested {
 pub struct Released {
     pub state: PortState,
     pub steps: u64,
+    /// The word at which the one waits to whom the line went, whom the release may have to wake. Any word where it went to nobody.
+    pub granted: usize,
 }
 
 /// How the nodes of a queue stand, whatever the law of the line.
@@ -242,7 +244,16 @@ pub trait Discipline<K: Keep>: Ruled<K> {
         ensures goes_on { GoesOn K.allows Self.fresh seat.old.me seat.new.me result.steps }
         ensures lets_go { (y : Parcel) → Self.lays mark y seat.old.me.1 → EndsTurn (entry_of Self.fresh seat.old).view (own_end (is_closed (entry_of Self.fresh seat.old).view.ends) y) (states.left_by y.closed) (entry_of Self.fresh seat.new).view }
         ensures counted { Self.lets_go_in (length (entry_of Self.fresh seat.old).view.ends) (length (entry_of Self.fresh seat.new).view.ends) result.steps }
+        ensures granted { result.granted < word_count }
         ensures bound { result.steps + 1 ≤ Self.most (entry_of Self.fresh seat.old).view.terms.nodes };
+
+    /// The word at which a waiting node looks. When its turn comes, the lower 32 bits of this word change.
+    fn awaited(node: u64, mark: u64) -> usize
+        requires { node ≤ MOST_NODES }
+        ensures { result < word_count };
+
+    /// Whether the turn may have come of a node that waits, and finds this in its word.
+    fn may_have_come(mark: u64, word: u64) -> bool;
 
     /// A seat is cut behind its first entry; a new one has none; and one takes in those of another.
     ghost cuts: { (about : Setup) (id : ℕ) (es : List (Entry Self.Own)) → Splits (Self.holds about) id es (front es) (behind es) };

@@ -12,7 +12,7 @@ ghost use Rattle.ticket_line.specs.Laws.{first_cells};
 use crate::release::{release, renew};
 use crate::rule::{Ground, Ticket, TicketSeat};
 use crate::steps::{draw, load, roll};
-use crate::words::first_words;
+use crate::words::{cell_word, first_words, is_granted};
 use array_line::WORDS;
 use atomic_table::Closed;
 use qolb_model::{Keep, PortState};
@@ -93,11 +93,22 @@ impl<K: Keep> Discipline<K> for Ticket {
         mark: u64,
         closed: bool,
     ) -> Released {
-        let steps = release(ground, seat, mark);
+        let gone = release(ground, seat, mark);
         Released {
             state: left_by(closed),
-            steps,
+            steps: gone.steps,
+            granted: cell_word(gone.ticket),
         }
+    }
+
+    #[inline]
+    fn awaited(_node: u64, mark: u64) -> usize {
+        cell_word(mark)
+    }
+
+    #[inline]
+    fn may_have_come(mark: u64, word: u64) -> bool {
+        is_granted(word, mark)
     }
 
     ghost cuts = { seats.cuts TicketCells K.good K.allows };

@@ -22,6 +22,13 @@ use qolb_model::{Keep, MOST_NODES, PortState};
 /// The most requests that a release passes: those of all nodes but its own.
 const MOST_PASSED: usize = MOST_NODES as usize - 1;
 
+/// A line that was let go: how many word steps it took, and the ticket that was granted last.
+#[derive(Clone, Copy)]
+pub(crate) struct LetGo {
+    pub(crate) steps: u64,
+    pub(crate) ticket: u64,
+}
+
 /// Makes a node ready to ask, and returns how many word steps that took. A withdrawn request that still stands in the queue keeps
 /// it from asking: then `None`.
 #[inline]
@@ -50,9 +57,9 @@ pub(crate) fn renew<K: Keep>(
     Some(2)
 }
 
-/// Lets the line go that lies in the slot, and returns how many word steps that took.
+/// Lets the line go that lies in the slot.
 #[inline]
-pub(crate) fn release<K: Keep>(ground: &Ground<K>, seat: &mut TicketSeat, ticket: u64) -> u64
+pub(crate) fn release<K: Keep>(ground: &Ground<K>, seat: &mut TicketSeat, ticket: u64) -> LetGo
     requires table { IsSeatOf word_count ground.now.table_id seat.old }
     requires ready { IsAt Holding seat.old }
     requires none_passed { (entry_of seat.old).own.passed ≡ [] }
@@ -61,26 +68,33 @@ pub(crate) fn release<K: Keep>(ground: &Ground<K>, seat: &mut TicketSeat, ticket
     requires parcel { (y : Parcel) × HasSlot seat.old y × CarriesNext K.allows (entry_of seat.old) y }
     ensures same { SameSeat seat.old seat.new }
     ensures slot { HasNoSlot seat.new }
-    ensures goes_on { GoesOn K.allows seat.old.me seat.new.me result }
+    ensures goes_on { GoesOn K.allows seat.old.me seat.new.me result.steps }
     ensures lets_go { (y : Parcel) → HasSlot seat.old y → LetsLineGo (entry_of seat.old) y (entry_of seat.new) }
-    ensures counted { result + 1 + 2 * length (entry_of seat.old).view.ends ≡ 2 * length (entry_of seat.new).view.ends }
-    ensures bound { result + 1 ≤ 2 * (entry_of seat.old).view.terms.nodes }
+    ensures counted { result.steps + 1 + 2 * length (entry_of seat.old).view.ends ≡ 2 * length (entry_of seat.new).view.ends }
+    ensures bound { result.steps + 1 ≤ 2 * (entry_of seat.old).view.terms.nodes }
 {
     let next = ticket_after(ticket);
     let node = grant(ground, seat, next);
     if node != 0 {
-        1 + walk(ground, seat, next, node)
+        let walked = walk(ground, seat, next, node);
+        LetGo {
+            steps: 1 + walked.steps,
+            ticket: walked.ticket,
+        }
     } else {
-        1
+        LetGo {
+            steps: 1,
+            ticket: next,
+        }
     }
 }
 
-/// Passes withdrawn requests, up to one that is not, and frees their nodes. Returns how many word steps that took.
+/// Passes withdrawn requests, up to one that is not, and frees their nodes.
 ///
 /// It is apart, and cold: room for the passed nodes is cleared at its entry, which a release that meets no withdrawn request need not pay.
 #[cold]
 #[inline(never)]
-fn walk<K: Keep>(ground: &Ground<K>, seat: &mut TicketSeat, ticket: u64, node: u64) -> u64
+fn walk<K: Keep>(ground: &Ground<K>, seat: &mut TicketSeat, ticket: u64, node: u64) -> LetGo
     requires table { IsSeatOf word_count ground.now.table_id seat.old }
     requires ready { IsAt Passing seat.old }
     requires ticket { ticket ≡ turn_ticket seat.old }
@@ -91,10 +105,10 @@ fn walk<K: Keep>(ground: &Ground<K>, seat: &mut TicketSeat, ticket: u64, node: u
     requires parcel { (y : Parcel) × HasSlot seat.old y × IsBare (entry_of seat.old) y × ((entry_of seat.old).view.state ≡ left_by y.closed) }
     ensures same { SameSeat seat.old seat.new }
     ensures slot { HasNoSlot seat.new }
-    ensures goes_on { GoesOn K.allows seat.old.me seat.new.me result }
+    ensures goes_on { GoesOn K.allows seat.old.me seat.new.me result.steps }
     ensures walks_on { WalksOn (entry_of seat.old) (entry_of seat.new) }
-    ensures counted { result + 2 * length (entry_of seat.old).view.ends ≡ 2 * length (entry_of seat.new).view.ends }
-    ensures bound { result + 2 ≤ 2 * (entry_of seat.old).view.terms.nodes }
+    ensures counted { result.steps + 2 * length (entry_of seat.old).view.ends ≡ 2 * length (entry_of seat.new).view.ends }
+    ensures bound { result.steps + 2 ≤ 2 * (entry_of seat.old).view.terms.nodes }
 {
     let mut passed = ArrayVec::<u64, MOST_PASSED>::new();
     let mut ticket = ticket;
@@ -106,7 +120,10 @@ fn walk<K: Keep>(ground: &Ground<K>, seat: &mut TicketSeat, ticket: u64, node: u
     }
     // Freed only now: a node that is freed may ask, and its new request must not be passed by this walk.
     free_passed(ground, seat, &passed);
-    2 * passed.len() as u64
+    LetGo {
+        steps: 2 * passed.len() as u64,
+        ticket,
+    }
 }
 
 /// Frees the nodes of all requests that were passed, in their order.

@@ -1,14 +1,8 @@
-use Rattle.std.proofs.Common.{◌≡◌, ◌+◌, ◌<◌, ◌≤◌, length, ap, refl, ◌∙◌, arith}
-use Rattle.qolb_model.specs.declared.terms.Terms.{Terms}
-use Rattle.qolb_model.specs.declared.view.View.{View}
+use Rattle.std.proofs.Common.{refl, ◌∙◌}
 use Rattle.qolb_model.proofs.Going.{asks_from, extends_self}
 use Rattle.qolb_model.proofs.Nearness.{few_turns}
-use Rattle.line_threads.proofs.Acquiring.{acquired_once, acquired_waiting}
+use Rattle.line_threads.proofs.Acquiring.{some_node, acquired_once, acquired_waiting}
 use Rattle.line_threads.proofs.waiting.acquire.Goals as goal
-
--- a line has a node
-some_node : (v : View) (terms : Terms) → v.terms ≡ terms → 1 ≤ v.node → v.node ≤ terms.nodes → length v.ends < length v.ends + v.terms.nodes
-some_node v terms is low high = let e = ap (λ (t : Terms). t.nodes) is in omega arith
 
 pub returns-in-Closed-clause-acquires : goal.returns-in-Closed-clause-acquires
 returns-in-Closed-clause-acquires g c =

@@ -8,13 +8,15 @@ use Rattle.link_line.proofs.release.walk.Goals as goal
 pub loop-handed-preserved : goal.loop-handed-preserved
 loop-handed-preserved g c =
     let on = c.hand_on-handed.ensures.handed in
-    let was = subst (λ (h : Handed). IsWalking g.K.Keep.allows c.args.seat.now c.args.steps c.loop-handed.passed.items h c.loop-handed.seat c.loop-handed.steps) c.in-Passed.is c.loop-handed.invariant in
-    subst (λ (nodes : List ℕ). IsWalking g.K.Keep.allows c.args.seat.now c.args.steps nodes c.hand_on-handed.result c.hand_on-handed.new.seat c.hand_on-handed.new.steps) (sym c.push.ensures.items)
-    (walking_on g.K.Keep.allows c.args.seat.now c.loop-handed.seat c.hand_on-handed.new.seat c.args.steps c.loop-handed.passed.items c.in-Passed.node c.loop-handed.steps c.hand_on-handed.new.steps on.0 c.hand_on-handed.result was c.requires.parcel c.requires.state c.hand_on-handed.ensures.same on.1 on.2 on.3)
+    let was = subst (λ (h : Handed). IsWalking g.K.Keep.allows c.args.seat.now c.args.steps c.loop-handed.passed.items h c.loop-handed.seat c.loop-handed.steps) c.in-Passed.is c.loop-handed.invariant.0 in (
+      subst (λ (nodes : List ℕ). IsWalking g.K.Keep.allows c.args.seat.now c.args.steps nodes c.hand_on-handed.result c.hand_on-handed.new.seat c.hand_on-handed.new.steps) (sym c.push.ensures.items)
+          (walking_on g.K.Keep.allows c.args.seat.now c.loop-handed.seat c.hand_on-handed.new.seat c.args.steps c.loop-handed.passed.items c.in-Passed.node c.loop-handed.steps c.hand_on-handed.new.steps on.0 c.hand_on-handed.result was c.requires.parcel c.requires.state c.hand_on-handed.ensures.same on.1 on.2 on.3),
+      c.hand_on-handed.ensures.granted,
+    )
 
 pub returns : goal.returns
 returns g c =
-    let k = c.loop-handed.invariant in
+    let k = c.loop-handed.invariant.0 in
     let away = away_by g.K.Keep.allows c.args.seat.now c.loop-handed.seat c.args.steps c.loop-handed.passed.items c.loop-handed.handed c.loop-handed.steps c.in_default.not-Passed k in
     let freed : GoesOn g.K.Keep.allows c.loop-handed.seat.me c.free_passed.new.seat.me (length c.loop-handed.passed.items) = subst (GoesOn g.K.Keep.allows c.loop-handed.seat.me c.free_passed.new.seat.me) (ap length c.deref.ensures.0) c.free_passed.ensures.goes_on in
     record {
@@ -28,5 +30,6 @@ returns g c =
         omega (arith, walked_long (known_of c.args.seat.now) (known_of c.loop-handed.seat) (known_of c.free_passed.new.seat) c.loop-handed.passed.items k.walked c.free_passed.ensures.frees, away.3),
         omega (arith, walked_long (known_of c.args.seat.now) (known_of c.loop-handed.seat) (known_of c.free_passed.new.seat) c.loop-handed.passed.items k.walked c.free_passed.ensures.frees, away.4),
       );
+      granted = c.loop-handed.invariant.1;
       bound = omega (arith, k.counted, c.len.ensures.value, away.2);
     }

@@ -1,10 +1,11 @@
-use Rattle.std.proofs.Common.{◌-◌, length}
+use Rattle.std.proofs.Common.{◌-◌, ◌<◌, length}
 use Rattle.qolb_model.specs.declared.terms.TheConstants.{MOST_NODES}
+use Rattle.link_line.specs.Words.{word_count}
 use Rattle.link_line.proofs.Walking.{IsWalking}
 use Rattle.link_line.proofs.release.walk.Given as goal
 
 abbrev pub invariant-loop-handed : goal.invariant-loop-handed
-invariant-loop-handed g l = IsWalking g.K.Keep.allows l.initial.seat l.initial.steps l.passed.items l.handed l.seat l.steps
+invariant-loop-handed g l = IsWalking g.K.Keep.allows l.initial.seat l.initial.steps l.passed.items l.handed l.seat l.steps × (l.granted < word_count)
 
 abbrev pub decreases-loop-handed : goal.decreases-loop-handed
 decreases-loop-handed g l = MOST_NODES - length l.passed.items

@@ -10,11 +10,11 @@ pub returns-else-is_withdrawn-clause-goes_on : goal.returns-else-is_withdrawn-cl
 returns-else-is_withdrawn-clause-goes_on g c = goes_trans g.K.Keep.allows c.args.seat.now.me c.clear.new.seat.me c.grant-found.new.seat.me 1 1 (goes_clear g.K.Keep.allows c.args.seat.now.me c.clear.new.seat.me c.clear.ensures.cleared) c.grant-found.ensures.goes_on
 
 pub returns-then-is_withdrawn-clause-goes_on : goal.returns-then-is_withdrawn-clause-goes_on
-returns-then-is_withdrawn-clause-goes_on g c = goes_trans g.K.Keep.allows c.args.seat.now.me c.grant-found.new.seat.me c.walk.new.seat.me 2 c.walk.result
+returns-then-is_withdrawn-clause-goes_on g c = goes_trans g.K.Keep.allows c.args.seat.now.me c.grant-found.new.seat.me c.walk-walked.new.seat.me 2 c.walk-walked.result.steps
     (goes_trans g.K.Keep.allows c.args.seat.now.me c.clear.new.seat.me c.grant-found.new.seat.me 1 1 (goes_clear g.K.Keep.allows c.args.seat.now.me c.clear.new.seat.me c.clear.ensures.cleared) c.grant-found.ensures.goes_on)
-    c.walk.ensures.goes_on
+    c.walk-walked.ensures.goes_on
 
 pub returns-then-is_withdrawn-clause-lets_go : goal.returns-then-is_withdrawn-clause-lets_go
 returns-then-is_withdrawn-clause-lets_go g c y slot =
     let ended = cleared_ended (entry_of c.args.seat.now) (entry_of c.grant-found.new.seat) y (subst (λ (e : ArrayEntry). Ended e (entry_of c.grant-found.new.seat) y) (cleared_entry c.args.seat.now c.clear.new.seat c.clear.ensures.cleared) (c.grant-found.ensures.ended y (cleared_slot c.args.seat.now c.clear.new.seat c.clear.ensures.cleared ∙ slot))) in
-    lets_on (entry_of c.args.seat.now) (entry_of c.grant-found.new.seat) (entry_of c.walk.new.seat) y c.requires.none_passed ended c.walk.ensures.goes_on.extends c.walk.ensures.walks_on
+    lets_on (entry_of c.args.seat.now) (entry_of c.grant-found.new.seat) (entry_of c.walk-walked.new.seat) y c.requires.none_passed ended c.walk-walked.ensures.goes_on.extends c.walk-walked.ensures.walks_on

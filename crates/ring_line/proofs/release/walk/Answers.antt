@@ -39,3 +39,6 @@ returns-clause-goes_on g c = walked_steps g.K.Keep.allows c.args.seat.now c.loop
 pub returns-clause-walks_on : goal.returns-clause-walks_on
 returns-clause-walks_on g c = let done : c.loop-passed.found ≡ 0 = search rules in
     walk_over (entry_of c.args.seat.now) (entry_of c.loop-passed.seat) (entry_of c.free_passed.new.seat) c.loop-passed.passed.items c.loop-passed.invariant.walking.walked (c.loop-passed.invariant.walking.home done).1 c.free_passed.ensures.frees
+
+pub returns-clause-cell : goal.returns-clause-cell
+returns-clause-cell g c = omega (arith, c.loop-passed.invariant.cell_is)

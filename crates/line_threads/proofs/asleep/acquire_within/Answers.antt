@@ -1,0 +1,38 @@
+use Rattle.std.proofs.Common.{refl, ◌∙◌}
+use Rattle.qolb_model.proofs.Going.{asks_from, extends_self}
+use Rattle.qolb_model.proofs.Nearness.{few_turns}
+use Rattle.line_threads.proofs.Acquiring.{some_node, acquired_at_once, acquired_within}
+use Rattle.line_threads.proofs.asleep.acquire_within.Goals as goal
+
+pub returns-in-Closed-clause-acquires : goal.returns-in-Closed-clause-acquires
+returns-in-Closed-clause-acquires g c =
+    acquired_at_once _ _ _ _ _ _ _ c.loop.invariant.extends c.loop.invariant.count c.in-Closed.ensures.enqueues (λ e. cc e) (λ e. cc e) (λ e. refl) (λ e. cc e)
+
+pub returns-in-Queued-clause-acquires : goal.returns-in-Queued-clause-acquires
+returns-in-Queued-clause-acquires g c =
+    acquired_within _ _ _ _ _ _ _ _ c.loop.invariant.extends c.loop.invariant.count c.in-Queued.ensures.enqueues c.wait_within.ensures.continues c.wait_within.ensures.count c.wait_within.ensures.granted c.wait_within.ensures.told c.wait_within.ensures.late
+
+-- granted at once: nothing ended in between
+pub returns-in-Granted-clause-soon : goal.returns-in-Granted-clause-soon
+returns-in-Granted-clause-soon g c _ =
+    let sound = g.met.L.LineSync.sound c.args.line.now c.enqolb.new.port c.in-Granted.ensures.belongs in
+    let asks = c.in-Granted.ensures.enqueues.asks (λ e. cc e) in
+    record {
+      asked = c.enqolb.new.port;
+      unlooked = c.in-Granted.ensures.looks ∙ c.loop.invariant.looks;
+      asks = asks_from _ _ _ c.loop.invariant.extends c.loop.invariant.count asks;
+      goes_on = extends_self _;
+      few = some_node (g.L.LineSync.view c.enqolb.new.port) _ sound.terms_are sound.first_node sound.last_node;
+    }
+
+-- granted after a wait
+pub returns-in-Queued-clause-soon : goal.returns-in-Queued-clause-soon
+returns-in-Queued-clause-soon g c got =
+    let waits = c.in-Queued.ensures.enqueues in
+    record {
+      asked = c.enqolb.new.port;
+      unlooked = c.in-Queued.ensures.looks ∙ c.loop.invariant.looks;
+      asks = asks_from _ _ _ c.loop.invariant.extends c.loop.invariant.count (waits.asks (λ e. cc e));
+      goes_on = c.wait_within.ensures.continues.extends;
+      few = few_turns _ _ _ (waits.queued refl) c.wait_within.ensures.continues.extends c.wait_within.ensures.count c.wait_within.ensures.continues.history (c.wait_within.ensures.granted got);
+    }

@@ -1,0 +1,239 @@
+//! Waiting for a line by waiters that sleep, with no time limit and with one.
+ghost use Rattle.std.specs.Prelude.{◌≡◌, IsTrue};
+ghost use Rattle.qolb_model.specs.PortStates.{may_ask};
+ghost use Rattle.qolb_model.specs.Sound.{Continues};
+ghost use Rattle.qolb_model.specs.Turns.{IsGranted, IsWithdrawn};
+ghost use Rattle.qolb_model.specs.LettingGo.{IsTold};
+ghost use Rattle.line_threads.specs.Acquiring.{Acquires, AcquiresWithin, ComesSoon};
+
+use crate::waiting::{Got, LOOKS, short_pause};
+use qolb_model::{Enq, Keep, LineSync, Out, Poll, PortState, Sleeping};
+use std::rt::Clock;
+use std::sync::Wait;
+use std::sync::atomic::AtomicU64;
+use std::thread::yield_now;
+use std::time::{Duration, Instant};
+
+/// How often a waiter that has looked so often gives its processor away between looks, before it sleeps.
+const YIELDS: u32 = 8;
+
+/// How many microseconds a port sleeps at most that may not ask yet. Nobody wakes it.
+const NAP_MICROS: u64 = 200;
+
+/// How a wait for a line ended that had a time limit.
+#[derive(Clone, Copy, Debug, PartialEq, Eq)]
+pub enum Within {
+    /// The node holds the line.
+    Granted,
+    /// The line is closed, and the node was told so.
+    Closed,
+    /// The time was over. The node holds nothing, and does not wait.
+    Late,
+}
+
+/// How long a waiter still stays awake between its looks.
+#[derive(Drop)]
+struct Patience {
+    short: u32,
+    yields: u32,
+}
+
+impl Patience {
+    fn new() -> Patience {
+        Patience {
+            short: LOOKS,
+            yields: YIELDS,
+        }
+    }
+
+    /// A pause: a short one at first, and then as long as other threads want the processor. At last there is none, and it returns `false`:
+    /// it is time to sleep.
+    fn pause(&mut self) -> bool {
+        if self.short > 0 {
+            self.short -= 1;
+            short_pause();
+            true
+        } else if self.yields > 0 {
+            self.yields -= 1;
+            yield_now();
+            true
+        } else {
+            false
+        }
+    }
+}
+
+/// Sleeps for a moment, and no longer than so much time.
+fn nap<R: Wait>(rt: &R, at_most: Duration) {
+    let short = Duration::from_micros(NAP_MICROS);
+    let time = if at_most < short { at_most } else { short };
+    AtomicU64::new(0).park_timeout(rt, 0, time);
+}
+
+/// A span of time that has begun.
+#[derive(Clone, Copy)]
+struct Span {
+    since: Option<Instant>,
+    at_most: Duration,
+}
+
+impl Span {
+    fn begin<R: Clock>(rt: &R, at_most: Duration) -> Span {
+        Span {
+            since: Instant::now(rt).ok(),
+            at_most,
+        }
+    }
+
+    /// What is left of it. Where the clock can't be read, it counts as over.
+    fn left<R: Clock>(&self, rt: &R) -> Duration {
+        let Some(since) = self.since else {
+            return Duration::ZERO;
+        };
+        match since.elapsed(rt) {
+            Ok(gone) => self.at_most.saturating_sub(gone),
+            Err(_) => Duration::ZERO,
+        }
+    }
+}
+
+/// As `acquire`, by a waiter that sleeps where the wait is long: it looks some times with a pause in between, and then sleeps until whoever
+/// lets the line go to it wakes it.
+pub fn acquire_asleep<R: Wait, K: Keep, L: Sleeping<K>>(rt: &R, line: &L, port: &mut L::Port) -> Got
+    requires belongs { L.belongs line.now port.old }
+    requires state { IsTrue (may_ask (L.view port.old).state) }
+    ensures belongs { L.belongs line.now port.new }
+    ensures acquires { Acquires K.allows (L.view port.old) (L.view port.new) (L.turn port.new) result }
+    ensures soon { result ≡ Got.Granted → ComesSoon L.view L.looks port.old port.new }
+{
+    let mut patience = Patience::new();
+    for _ in rt.forever() {
+        match line.enqolb(port) {
+            Enq::Granted => return Got::Granted,
+            Enq::Closed => return Got::Closed,
+            Enq::Queued => return wait_asleep(rt, line, port),
+            Enq::Busy => {
+                if !patience.pause() {
+                    nap(rt, Duration::MAX);
+                }
+            }
+        }
+    }
+    unreachable!()
+}
+
+/// Looks, and later sleeps between looks, until the request is granted or told.
+fn wait_asleep<R: Wait, K: Keep, L: Sleeping<K>>(rt: &R, line: &L, port: &mut L::Port) -> Got
+    requires belongs { L.belongs line.now port.old }
+    requires state { (L.view port.old).state ≡ PortState.Queued }
+    ensures belongs { L.belongs line.now port.new }
+    ensures continues { Continues K.allows (L.view port.old) (L.view port.new) }
+    ensures count { (L.view port.new).count ≡ (L.view port.old).count }
+    ensures granted { result ≡ Got.Granted → IsGranted (L.view port.new) (L.turn port.new) }
+    ensures told { result ≡ Got.Closed → IsTold (L.view port.new) }
+{
+    let mut patience = Patience::new();
+    for _ in rt.forever() {
+        match line.poll(port) {
+            Poll::Granted => return Got::Granted,
+            Poll::Closed => return Got::Closed,
+            Poll::Waiting => {
+                if !patience.pause() {
+                    line.sleep(rt, port, Duration::MAX);
+                }
+            }
+        }
+    }
+    unreachable!()
+}
+
+/// As `acquire_asleep`, and no longer than so much time: then the request is withdrawn. A port whose last request is not clear asks again
+/// and again within that time.
+///
+/// It looks at least once, and gives up only after a look. Where the turn has come by then, it is granted after all. A clock that can't be
+/// read counts as time that is over.
+pub fn acquire_within<R: Wait + Clock, K: Keep, L: Sleeping<K>>(
+    rt: &R,
+    line: &L,
+    port: &mut L::Port,
+    at_most: Duration,
+) -> Within
+    requires belongs { L.belongs line.now port.old }
+    requires state { IsTrue (may_ask (L.view port.old).state) }
+    ensures belongs { L.belongs line.now port.new }
+    ensures acquires { AcquiresWithin K.allows (L.view port.old) (L.view port.new) (L.turn port.new) result }
+    ensures soon { result ≡ Within.Granted → ComesSoon L.view L.looks port.old port.new }
+{
+    let span = Span::begin(rt, at_most);
+    let mut patience = Patience::new();
+    for _ in rt.forever() {
+        match line.enqolb(port) {
+            Enq::Granted => return Within::Granted,
+            Enq::Closed => return Within::Closed,
+            Enq::Queued => return wait_within(rt, line, port, &span),
+            Enq::Busy => {
+                let left = span.left(rt);
+                if left == Duration::ZERO {
+                    return Within::Late;
+                }
+                if !patience.pause() {
+                    nap(rt, left);
+                }
+            }
+        }
+    }
+    unreachable!()
+}
+
+/// Looks, and later sleeps between looks, until the request is granted or told, or the time is over.
+fn wait_within<R: Wait + Clock, K: Keep, L: Sleeping<K>>(
+    rt: &R,
+    line: &L,
+    port: &mut L::Port,
+    span: &Span,
+) -> Within
+    requires belongs { L.belongs line.now port.old }
+    requires state { (L.view port.old).state ≡ PortState.Queued }
+    ensures belongs { L.belongs line.now port.new }
+    ensures continues { Continues K.allows (L.view port.old) (L.view port.new) }
+    ensures count { (L.view port.new).count ≡ (L.view port.old).count }
+    ensures granted { result ≡ Within.Granted → IsGranted (L.view port.new) (L.turn port.new) }
+    ensures told { result ≡ Within.Closed → IsTold (L.view port.new) }
+    ensures late { result ≡ Within.Late → IsWithdrawn (L.view port.new) }
+{
+    let mut patience = Patience::new();
+    for _ in rt.forever() {
+        match line.poll(port) {
+            Poll::Granted => return Within::Granted,
+            Poll::Closed => return Within::Closed,
+            Poll::Waiting => {
+                let left = span.left(rt);
+                if left == Duration::ZERO {
+                    return give_up(line, port);
+                }
+                if !patience.pause() {
+                    line.sleep(rt, port, left);
+                }
+            }
+        }
+    }
+    unreachable!()
+}
+
+/// Withdraws the request, unless it has come to its turn.
+fn give_up<K: Keep, L: LineSync<K>>(line: &L, port: &mut L::Port) -> Within
+    requires belongs { L.belongs line.now port.old }
+    requires state { (L.view port.old).state ≡ PortState.Queued }
+    ensures belongs { L.belongs line.now port.new }
+    ensures continues { Continues K.allows (L.view port.old) (L.view port.new) }
+    ensures count { (L.view port.new).count ≡ (L.view port.old).count }
+    ensures granted { result ≡ Within.Granted → IsGranted (L.view port.new) (L.turn port.new) }
+    ensures told { result ≡ Within.Closed → IsTold (L.view port.new) }
+    ensures late { result ≡ Within.Late → IsWithdrawn (L.view port.new) }
+{
+    match line.withdraw(port) {
+        Out::Withdrawn => Within::Late,
+        Out::Granted => Within::Granted,
+        Out::Closed => Within::Closed,
+    }
+}

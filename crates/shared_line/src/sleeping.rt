@@ -1,0 +1,98 @@
+//! Waiters that sleep, and whoever wakes them. None of it is a step of the queue: the table stays as it is.
+ghost use Rattle.std.specs.Prelude.{◌≡◌, ◌<◌};
+ghost use Rattle.shared_line.specs.Ports.{BelongsTo};
+
+use crate::line::Line;
+use crate::port::Port;
+use crate::queue::Discipline;
+use crate::rule::Ground;
+use crossbeam_utils::CachePadded;
+use qolb_model::{Keep, PortState};
+use std::sync::Wait;
+use std::sync::atomic::{AtomicU64, Ordering};
+use std::time::Duration;
+
+/// Who wakes the waiters of a line that sleep, if any may.
+pub trait Waking {
+    /// That of a new line, at which nobody sleeps.
+    fn none() -> Self;
+
+    /// Wakes who sleeps at the word that was granted.
+    fn wake<K: Keep, Q: Discipline<K>>(&self, ground: &Ground<K, Q>, word: usize)
+        requires word { word < ground.now.table_id.words };
+}
+
+/// Nobody sleeps at the line, and no release wakes: what a lock takes that may not call the system.
+#[derive(Drop)]
+pub struct NoSleepers;
+
+impl Waking for NoSleepers {
+    fn none() -> NoSleepers {
+        NoSleepers
+    }
+
+    #[inline(always)]
+    fn wake<K: Keep, Q: Discipline<K>>(&self, _ground: &Ground<K, Q>, _word: usize) {}
+}
+
+/// How many waiters of a line sleep, or are about to.
+///
+/// It is no word of the table, so no rule speaks of it. Each release reads it, so nothing else that is written lies on its cache line.
+#[derive(Drop)]
+pub struct Sleepers {
+    count: CachePadded<AtomicU64>,
+}
+
+impl Waking for Sleepers {
+    fn none() -> Sleepers {
+        Sleepers {
+            count: CachePadded::new(AtomicU64::new(0)),
+        }
+    }
+
+    #[inline(always)]
+    fn wake<K: Keep, Q: Discipline<K>>(&self, ground: &Ground<K, Q>, word: usize) {
+        if self.count.load(Ordering::SeqCst) != 0 {
+            wake_at(ground, word);
+        }
+    }
+}
+
+/// Ends each sleep at the word. It is apart, and cold: where nobody sleeps a release is as short as without it.
+#[cold]
+#[inline(never)]
+fn wake_at<K: Keep, Q: Discipline<K>>(ground: &Ground<K, Q>, word: usize)
+    requires word { word < ground.now.table_id.words }
+{
+    ground.wake_all(word);
+}
+
+impl<K: Keep, Q: Discipline<K>> Line<K, Q> {
+    /// Sleeps until the request's turn may have come, or so much time is over. It may also return for no reason.
+    ///
+    /// It counts itself before it looks, and a release looks at the count after its grant. So either this finds the grant, or the release
+    /// finds a sleeper; and as the sleep begins only where the word is what was seen, a wake between look and sleep is not slept over.
+    pub fn sleep<R: Wait>(&self, rt: &R, port: &Port<Q>, at_most: Duration)
+        requires belongs { BelongsTo K.good K.allows self.now.table.shared.key self.now.table.shared.table_id port.now }
+        requires state { port.now.view.state ≡ PortState.Queued }
+    {
+        let word = Q::awaited(port.node, port.mark);
+        self.sleepers.count.fetch_add(1, Ordering::SeqCst);
+        let seen = self.table.shared.peek(word);
+        if !Q::may_have_come(port.mark, seen) {
+            let low = (seen % (1 << 32)) as u32;
+            self.table.shared.park_timeout(rt, word, low, at_most);
+        }
+        self.sleepers.count.fetch_sub(1, Ordering::SeqCst);
+    }
+}
+
+impl<K: Keep, Q: Discipline<K>, W: Waking> Line<K, Q, W> {
+    /// Wakes who sleeps at the word that was granted.
+    #[inline(always)]
+    pub(crate) fn wake(&self, word: usize)
+        requires { word < Q.word_count }
+    {
+        self.sleepers.wake(&self.table.shared, word);
+    }
+}
