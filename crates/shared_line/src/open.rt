@@ -36,7 +36,7 @@ impl<K: Keep, Q: Discipline<K>, W: Waking> Line<K, Q, W> {
             opening,
             lease: None,
         };
-        Line::<K, Q>::with_terms(alloc, label, terms)
+        Line::<K, Q, W>::with_terms(alloc, label, terms)
     }
 
     /// As `open`, for so many served turns: the last of them closes the line.
@@ -58,7 +58,7 @@ impl<K: Keep, Q: Discipline<K>, W: Waking> Line<K, Q, W> {
             opening,
             lease: Some(lease),
         };
-        Line::<K, Q>::with_terms(alloc, label, terms)
+        Line::<K, Q, W>::with_terms(alloc, label, terms)
     }
 
     /// The same, for these terms.
@@ -75,7 +75,7 @@ impl<K: Keep, Q: Discipline<K>, W: Waking> Line<K, Q, W> {
     {
         terms.check()?;
         let setup = Setup { label, terms };
-        let Ok((line, rest)) = Line::<K, Q>::new_table(alloc, &setup) else {
+        let Ok((line, rest)) = Line::<K, Q, W>::new_table(alloc, &setup) else {
             return Err(OpenError::Memory);
         };
         let Ok(ports) = split_ports(alloc, &line.table.shared, rest, &setup) else {

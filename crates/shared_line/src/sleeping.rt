@@ -13,7 +13,7 @@ use std::sync::atomic::{AtomicU64, Ordering};
 use std::time::Duration;
 
 /// Who wakes the waiters of a line that sleep, if any may.
-pub trait Waking {
+pub trait Waking: Drop {
     /// That of a new line, at which nobody sleeps.
     fn none() -> Self;
 
