@@ -17,7 +17,7 @@ use crate::steps::{done, free, grant, home};
 use crate::words::{HOME, entry_word};
 use arrayvec::ArrayVec;
 use qolb_model::{Keep, MOST_NODES, PortState};
-use shared_line::Released;
+use shared_line::{Released, ToWake};
 
 /// The most requests that a release passes: those of all nodes but its own.
 const MOST_PASSED: usize = MOST_NODES as usize - 1;
@@ -52,7 +52,7 @@ pub(crate) fn release<K: Keep>(
     ensures goes_on { GoesOn K.allows seat.old.me seat.new.me result.steps }
     ensures lets_go { (y : Parcel) → HasSlot seat.old y → LetsLineGo (known_of seat.old) y result.state (known_of seat.new) }
     ensures counted { lets_go_in (length (known_of seat.old).view.ends) (length (known_of seat.new).view.ends) result.steps }
-    ensures granted { result.granted < layout.word_count }
+    ensures to_wake { result.to_wake.word < layout.word_count }
     ensures bound { result.steps + 3 ≤ 4 * (known_of seat.old).view.terms.nodes }
 {
     let mut steps = 0;
@@ -61,12 +61,12 @@ pub(crate) fn release<K: Keep>(
         Handed::On => Released {
             state: left_by(closed),
             steps,
-            granted,
+            to_wake: ToWake { word: granted },
         },
         Handed::Left => Released {
             state: PortState::Left,
             steps,
-            granted,
+            to_wake: ToWake { word: granted },
         },
         Handed::Passed(next) => {
             let mut last = HOME;
@@ -74,7 +74,7 @@ pub(crate) fn release<K: Keep>(
             Released {
                 state: left_by(closed),
                 steps,
-                granted: last,
+                to_wake: ToWake { word: last },
             }
         }
     }

@@ -5,7 +5,7 @@ ghost use Rattle.link_line.specs.Stances as stances;
 
 use crate::own::LinkOwn;
 use qolb_model::Keep;
-use shared_line::{Entry, Line, LineSeat, Ruled, Shape};
+use shared_line::{Entry, Line, LineSeat, Ruled, Shape, Sleepers};
 use std::collections::LinkedList;
 
 /// The discipline of a list: a node asks by a swap of the home word, and the younger of two neighbours makes the link.
@@ -61,7 +61,7 @@ impl<K: Keep> Ruled<K> for Links {
 }
 
 /// A line that nodes queue at by a list of links.
-pub type LinkLine<K> = Line<K, Links>;
+pub type LinkLine<K, W = Sleepers> = Line<K, Links, W>;
 
 /// A node's end of the line.
 pub type Port = shared_line::Port<Links>;

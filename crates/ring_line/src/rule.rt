@@ -7,7 +7,7 @@ ghost use Rattle.ring_line.specs.Laws as laws;
 
 use array_line::Own;
 use qolb_model::Keep;
-use shared_line::{LineSeat, Ruled, Shape};
+use shared_line::{LineSeat, Ruled, Shape, Sleepers};
 
 /// The discipline of a ring: nodes queue by tickets, and each waits at a cell of its own.
 ///
@@ -60,7 +60,7 @@ impl<K: Keep> Ruled<K> for Ring {
 }
 
 /// A line that nodes queue at by tickets.
-pub type RingLine<K> = shared_line::Line<K, Ring>;
+pub type RingLine<K, W = Sleepers> = shared_line::Line<K, Ring, W>;
 
 /// A node's end of such a line.
 pub type Port = shared_line::Port<Ring>;

@@ -19,7 +19,7 @@ abbrev pub HasArrived : {O : Type 0} → O → (PortState → ℕ → O → Type
 HasArrived fresh rests holding keeps s y mark Held = IsHeld fresh holding keeps s y mark
 HasArrived fresh rests holding keeps s y mark (PassedOn gone) = IsPassedOn fresh rests s gone.state × (gone.state ≢ shows.Holding)
 
--- what was granted by the way is a word of the line
-abbrev pub GrantsWithin : ℕ → Arrival → Type 0
-GrantsWithin words Held = Unit {0}
-GrantsWithin words (PassedOn gone) = gone.granted < words
+-- who is to be woken by the way waits at a word of the line
+abbrev pub WakesWithin : ℕ → Arrival → Type 0
+WakesWithin words Held = Unit {0}
+WakesWithin words (PassedOn gone) = gone.to_wake.word < words

@@ -4,7 +4,7 @@ ghost use Rattle.qolb_model.specs.declared.terms.TheConstants.{MOST_NODES};
 ghost use Rattle.shared_line.specs.declared.rule.Parcel.{Parcel};
 ghost use Rattle.shared_line.specs.Steps.{SameSeat, IsSeatOf, IsOwnNode, Alone, entry_of, GoesOn, Comes};
 ghost use Rattle.shared_line.specs.Ports.{IsPassedOn};
-ghost use Rattle.shared_line.specs.Arrivals.{steps_of, HasArrived, GrantsWithin};
+ghost use Rattle.shared_line.specs.Arrivals.{steps_of, HasArrived, WakesWithin};
 
 use crate::queue::{Discipline, Released};
 use crate::rule::{Ground, LineSeat, Parcel};
@@ -36,7 +36,7 @@ pub(crate) fn arrive<K: Keep, Q: Discipline<K>>(
     ensures goes_on { GoesOn K.allows Q.fresh seat.old.me seat.new.me (steps_of result) }
     ensures count { (entry_of Q.fresh seat.new).view.count ≡ (entry_of Q.fresh seat.old).view.count }
     ensures arrived { HasArrived Q.fresh Q.rests Q.holding Q.keeps seat.new parcel.new mark result }
-    ensures granted { GrantsWithin Q.word_count result }
+    ensures to_wake { WakesWithin Q.word_count result }
     ensures bound { steps_of result + 1 ≤ Q.most (entry_of Q.fresh seat.old).view.terms.nodes }
 {
     Q::take(ground, seat, mark, parcel);
@@ -66,7 +66,7 @@ fn pass_on<K: Keep, Q: Discipline<K>>(
     ensures count { (entry_of Q.fresh seat.new).view.count ≡ (entry_of Q.fresh seat.old).view.count }
     ensures told { IsPassedOn Q.fresh Q.rests seat.new result.state }
     ensures not_held { result.state ≢ PortState.Holding }
-    ensures granted { result.granted < Q.word_count }
+    ensures to_wake { result.to_wake.word < Q.word_count }
     ensures bound { result.steps + 1 ≤ Q.most (entry_of Q.fresh seat.old).view.terms.nodes }
 {
     Q::release(ground, seat, node, mark, true)

@@ -10,7 +10,7 @@ use crate::arriving::{Arrival, arrive};
 use crate::line::Line;
 use crate::meeting::meet_seats;
 use crate::port::Port;
-use crate::queue::{Asked, Discipline};
+use crate::queue::{Asked, Discipline, Released};
 use crate::sleeping::Waking;
 use crate::slot::park;
 use qolb_model::{Enq, Keep, Out, Poll, PortState};
@@ -62,9 +62,14 @@ impl<K: Keep, Q: Discipline<K>, W: Waking> Line<K, Q, W> {
                         Enq::Granted
                     }
                     Arrival::PassedOn(gone) => {
-                        self.wake(gone.granted);
-                        port.steps += gone.steps;
-                        port.state = gone.state;
+                        let Released {
+                            state,
+                            steps,
+                            to_wake,
+                        } = gone;
+                        port.steps += steps;
+                        port.state = state;
+                        self.wake(to_wake);
                         Enq::Closed
                     }
                 }
@@ -103,9 +108,14 @@ impl<K: Keep, Q: Discipline<K>, W: Waking> Line<K, Q, W> {
                 Poll::Granted
             }
             Arrival::PassedOn(gone) => {
-                self.wake(gone.granted);
-                port.steps = 1 + gone.steps;
-                port.state = gone.state;
+                let Released {
+                    state,
+                    steps,
+                    to_wake,
+                } = gone;
+                port.steps = 1 + steps;
+                port.state = state;
+                self.wake(to_wake);
                 Poll::Closed
             }
         }
@@ -141,9 +151,14 @@ impl<K: Keep, Q: Discipline<K>, W: Waking> Line<K, Q, W> {
                 Out::Granted
             }
             Arrival::PassedOn(gone) => {
-                self.wake(gone.granted);
-                port.steps = 1 + gone.steps;
-                port.state = gone.state;
+                let Released {
+                    state,
+                    steps,
+                    to_wake,
+                } = gone;
+                port.steps = 1 + steps;
+                port.state = state;
+                self.wake(to_wake);
                 Out::Closed
             }
         }
@@ -197,9 +212,14 @@ impl<K: Keep, Q: Discipline<K>, W: Waking> Line<K, Q, W> {
         let closed = port.parcel.closes(shut);
         Q::put(ground, &mut port.seat, port.mark, &port.parcel, closed);
         let gone = Q::release(ground, &mut port.seat, port.node, port.mark, closed);
-        self.wake(gone.granted);
-        port.steps = gone.steps;
-        port.state = gone.state;
+        let Released {
+            state,
+            steps,
+            to_wake,
+        } = gone;
+        port.steps = steps;
+        port.state = state;
+        self.wake(to_wake);
     }
 
     /// Two ports of the line tell each other what they know.

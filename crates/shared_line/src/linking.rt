@@ -7,7 +7,7 @@ ghost use Rattle.shared_line.specs.Ports.{BelongsTo};
 use crate::arriving::{Arrival, arrive};
 use crate::line::Line;
 use crate::port::Port;
-use crate::queue::{Asked, Linked};
+use crate::queue::{Asked, Linked, Released};
 use crate::sleeping::Waking;
 use qolb_model::{Enq, Keep, PortState, Prep};
 
@@ -49,9 +49,14 @@ impl<K: Keep, Q: Linked<K>, W: Waking> Line<K, Q, W> {
                         Prep::Granted
                     }
                     Arrival::PassedOn(gone) => {
-                        self.wake(gone.granted);
-                        port.steps += gone.steps;
-                        port.state = gone.state;
+                        let Released {
+                            state,
+                            steps,
+                            to_wake,
+                        } = gone;
+                        port.steps += steps;
+                        port.state = state;
+                        self.wake(to_wake);
                         Prep::Closed
                     }
                 }
@@ -89,9 +94,14 @@ impl<K: Keep, Q: Linked<K>, W: Waking> Line<K, Q, W> {
                 Enq::Granted
             }
             Arrival::PassedOn(gone) => {
-                self.wake(gone.granted);
-                port.steps = 1 + gone.steps;
-                port.state = gone.state;
+                let Released {
+                    state,
+                    steps,
+                    to_wake,
+                } = gone;
+                port.steps = 1 + steps;
+                port.state = state;
+                self.wake(to_wake);
                 Enq::Closed
             }
         }

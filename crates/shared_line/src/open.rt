@@ -85,7 +85,10 @@ impl<K: Keep, Q: Discipline<K>, W: Waking> Line<K, Q, W> {
     }
 
     /// The line, and one seat for all nodes.
-    fn new_table(alloc: Global, setup: &Setup) -> Result<(Line<K, Q, W>, LineSeat<Q::Own>), AllocError>
+    fn new_table(
+        alloc: Global,
+        setup: &Setup,
+    ) -> Result<(Line<K, Q, W>, LineSeat<Q::Own>), AllocError>
         requires terms { MayOpen setup.now.terms }
         requires line { length setup.now.terms.opening.bytes ≡ 64 }
         requires good { K.good setup.now.terms.opening.bytes }

@@ -50,13 +50,18 @@ pub struct Requested {
     pub steps: u64,
 }
 
-/// A line that was let go: the state that its port is left in, and how many word steps it took.
-#[derive(Clone, Copy)]
+/// A line that was let go: the state that its port is left in, how many word steps it took, and whom to wake.
 pub struct Released {
     pub state: PortState,
     pub steps: u64,
-    /// The word at which the one waits to whom the line went, whom the release may have to wake. Any word where it went to nobody.
-    pub granted: usize,
+    pub to_wake: ToWake,
+}
+
+/// The word at which the one waits to whom a line went, and may sleep. Any word where it went to nobody.
+///
+/// It is not `Drop`, so that no call that lets a line go can forget to wake: only what takes it apart is rid of it.
+pub struct ToWake {
+    pub word: usize,
 }
 
 /// How the nodes of a queue stand, whatever the law of the line.
@@ -244,7 +249,7 @@ pub trait Discipline<K: Keep>: Ruled<K> {
         ensures goes_on { GoesOn K.allows Self.fresh seat.old.me seat.new.me result.steps }
         ensures lets_go { (y : Parcel) → Self.lays mark y seat.old.me.1 → EndsTurn (entry_of Self.fresh seat.old).view (own_end (is_closed (entry_of Self.fresh seat.old).view.ends) y) (states.left_by y.closed) (entry_of Self.fresh seat.new).view }
         ensures counted { Self.lets_go_in (length (entry_of Self.fresh seat.old).view.ends) (length (entry_of Self.fresh seat.new).view.ends) result.steps }
-        ensures granted { result.granted < word_count }
+        ensures to_wake { result.to_wake.word < word_count }
         ensures bound { result.steps + 1 ≤ Self.most (entry_of Self.fresh seat.old).view.terms.nodes };
 
     /// The word at which a waiting node looks. When its turn comes, the lower 32 bits of this word change.

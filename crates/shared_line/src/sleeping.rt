@@ -4,7 +4,7 @@ ghost use Rattle.shared_line.specs.Ports.{BelongsTo};
 
 use crate::line::Line;
 use crate::port::Port;
-use crate::queue::Discipline;
+use crate::queue::{Discipline, ToWake};
 use crate::rule::Ground;
 use crossbeam_utils::CachePadded;
 use qolb_model::{Keep, PortState};
@@ -18,8 +18,8 @@ pub trait Waking: Drop {
     fn none() -> Self;
 
     /// Wakes who sleeps at the word that was granted.
-    fn wake<K: Keep, Q: Discipline<K>>(&self, ground: &Ground<K, Q>, word: usize)
-        requires word { word < ground.now.table_id.words };
+    fn wake<K: Keep, Q: Discipline<K>>(&self, ground: &Ground<K, Q>, to_wake: ToWake)
+        requires word { to_wake.word < ground.now.table_id.words };
 }
 
 /// Nobody sleeps at the line, and no release wakes: what a lock takes that may not call the system.
@@ -32,7 +32,9 @@ impl Waking for NoSleepers {
     }
 
     #[inline(always)]
-    fn wake<K: Keep, Q: Discipline<K>>(&self, _ground: &Ground<K, Q>, _word: usize) {}
+    fn wake<K: Keep, Q: Discipline<K>>(&self, _ground: &Ground<K, Q>, to_wake: ToWake) {
+        let ToWake { word: _ } = to_wake;
+    }
 }
 
 /// How many waiters of a line sleep, or are about to.
@@ -51,7 +53,8 @@ impl Waking for Sleepers {
     }
 
     #[inline(always)]
-    fn wake<K: Keep, Q: Discipline<K>>(&self, ground: &Ground<K, Q>, word: usize) {
+    fn wake<K: Keep, Q: Discipline<K>>(&self, ground: &Ground<K, Q>, to_wake: ToWake) {
+        let ToWake { word } = to_wake;
         if self.count.load(Ordering::SeqCst) != 0 {
             wake_at(ground, word);
         }
@@ -90,9 +93,9 @@ impl<K: Keep, Q: Discipline<K>> Line<K, Q> {
 impl<K: Keep, Q: Discipline<K>, W: Waking> Line<K, Q, W> {
     /// Wakes who sleeps at the word that was granted.
     #[inline(always)]
-    pub(crate) fn wake(&self, word: usize)
-        requires { word < Q.word_count }
+    pub(crate) fn wake(&self, to_wake: ToWake)
+        requires { to_wake.word < Q.word_count }
     {
-        self.sleepers.wake(&self.table.shared, word);
+        self.sleepers.wake(&self.table.shared, to_wake);
     }
 }

@@ -17,7 +17,7 @@ use array_line::WORDS;
 use atomic_table::Closed;
 use qolb_model::{Keep, PortState};
 use shared_line::{
-    Asked, Discipline, Parcel, Released, Requested, put_alone, take_alone, unlay_alone,
+    Asked, Discipline, Parcel, Released, Requested, ToWake, put_alone, take_alone, unlay_alone,
 };
 use std::alloc::{AllocError, Global};
 
@@ -97,7 +97,9 @@ impl<K: Keep> Discipline<K> for Ticket {
         Released {
             state: left_by(closed),
             steps: gone.steps,
-            granted: cell_word(gone.ticket),
+            to_wake: ToWake {
+                word: cell_word(gone.ticket),
+            },
         }
     }
 

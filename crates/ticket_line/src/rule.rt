@@ -7,7 +7,7 @@ ghost use Rattle.ticket_line.specs.Laws as laws;
 
 use array_line::Own;
 use qolb_model::Keep;
-use shared_line::{LineSeat, Ruled, Shape};
+use shared_line::{LineSeat, Ruled, Shape, Sleepers};
 
 /// The discipline of partitioned tickets: nodes queue by tickets, and each waits at a cell of its own for its ticket's number.
 ///
@@ -60,7 +60,7 @@ impl<K: Keep> Ruled<K> for Ticket {
 }
 
 /// A line that nodes queue at by tickets.
-pub type TicketLine<K> = shared_line::Line<K, Ticket>;
+pub type TicketLine<K, W = Sleepers> = shared_line::Line<K, Ticket, W>;
 
 /// A node's end of such a line.
 pub type Port = shared_line::Port<Ticket>;
