@@ -5,13 +5,11 @@ ghost use Rattle.qolb_c.specs.Calls.{view_of, turn_of, state_of, Enqolbs, Polls,
 ghost use Rattle.qolb_c.specs.declared.any_node.AnyNode.{AnyNode};
 
 use crate::answer::{Answer, turns_number};
+use crate::kinds::{List, Ring, Ticket};
 use crate::lanes::for_lane;
 use crate::node::Node;
 use line_lanes::{Line64, Mask, lane, placed};
-use link_line::LinkLine;
 use qolb_model::{Free, PortState};
-use ring_line::RingLine;
-use ticket_line::TicketLine;
 
 /// How many lanes a line has.
 const LANES: u64 = 8;
@@ -20,11 +18,11 @@ const LANES: u64 = 8;
 #[derive(Drop)]
 pub enum AnyNode {
     /// Of a ring.
-    Ring(Node<RingLine<Free>>),
+    Ring(Node<Ring>),
     /// Of a list.
-    List(Node<LinkLine<Free>>),
+    List(Node<List>),
     /// Of a ticket line.
-    Ticket(Node<TicketLine<Free>>),
+    Ticket(Node<Ticket>),
 }
 
 /// Does this with the node, of whichever kind it is.
@@ -201,7 +199,7 @@ impl AnyNode {
 ///
 /// It is apart, so that the calls for other lines save no registers for it.
 #[inline(never)]
-fn ask_list(node: &mut Node<LinkLine<Free>>) -> Answer
+fn ask_list(node: &mut Node<List>) -> Answer
     ensures { Enqolbs (AnyNode.List node.old) (AnyNode.List node.new) result }
 {
     Answer::of_enq(node.enqolb())
@@ -217,7 +215,7 @@ pub trait IntoAny: Drop {
         ensures { result ≡ as_any self };
 }
 
-impl IntoAny for Node<RingLine<Free>> {
+impl IntoAny for Node<Ring> {
     ghost as_any = { λ node. AnyNode.Ring node };
 
     fn into_any(self) -> AnyNode {
@@ -225,7 +223,7 @@ impl IntoAny for Node<RingLine<Free>> {
     }
 }
 
-impl IntoAny for Node<LinkLine<Free>> {
+impl IntoAny for Node<List> {
     ghost as_any = { λ node. AnyNode.List node };
 
     fn into_any(self) -> AnyNode {
@@ -233,7 +231,7 @@ impl IntoAny for Node<LinkLine<Free>> {
     }
 }
 
-impl IntoAny for Node<TicketLine<Free>> {
+impl IntoAny for Node<Ticket> {
     ghost as_any = { λ node. AnyNode.Ticket node };
 
     fn into_any(self) -> AnyNode {

@@ -13,6 +13,7 @@ ghost use Rattle.qolb_c.specs.Calls.{Calls, Enqolbs, Polls, Waits, Prepends, Lin
 mod answer;
 mod any_node;
 mod handle;
+mod kinds;
 mod lanes;
 mod node;
 mod opening;

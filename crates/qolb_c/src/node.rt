@@ -8,8 +8,8 @@ ghost use Rattle.qolb_model.specs.PortStates.{may_ask};
 ghost use Rattle.qolb_c.specs.Nodes.{anything, PollsWithin};
 
 use crate::answer::Misuse;
+use crate::kinds::List;
 use line_lanes::{Line64, Mask};
-use link_line::LinkLine;
 use qolb_model::{Enq, Free, LineSync, Out, Poll, PortState, Prep};
 use std::alloc::Global;
 use std::hint::spin_loop;
@@ -215,7 +215,7 @@ impl<L: LineSync<Free>> Node<L> {
     }
 }
 
-impl Node<LinkLine<Free>> {
+impl Node<List> {
     /// The first half of asking: makes a request, and leaves it to be linked to the one before.
     ///
     /// # Errors

@@ -6,13 +6,11 @@ ghost use Rattle.qolb_c.specs.Opens.{AreOfLine, AreNewNodes, held_by, AreEmpty, 
 use crate::answer::Answer;
 use crate::any_node::{AnyNode, IntoAny};
 use crate::handle::Handle;
+use crate::kinds::{List, Ring, Ticket};
 use crate::node::Node;
-use link_line::LinkLine;
 use qolb_model::{Free, OpenError, OpenLine, Terms};
-use ring_line::RingLine;
 use std::alloc::Global;
 use std::sync::Arc;
-use ticket_line::TicketLine;
 
 /// C's number for a ring.
 const RING: u32 = 0;
@@ -92,11 +90,11 @@ fn nodes_of_kind(
     ensures why { IfErr result (λ error. MayNotOpen terms error) }
 {
     if kind == RING {
-        boxed(alloc, new_nodes::<RingLine<Free>>(alloc, label, terms)?)
+        boxed(alloc, new_nodes::<Ring>(alloc, label, terms)?)
     } else if kind == LIST {
-        boxed(alloc, new_nodes::<LinkLine<Free>>(alloc, label, terms)?)
+        boxed(alloc, new_nodes::<List>(alloc, label, terms)?)
     } else {
-        boxed(alloc, new_nodes::<TicketLine<Free>>(alloc, label, terms)?)
+        boxed(alloc, new_nodes::<Ticket>(alloc, label, terms)?)
     }
 }
 
