@@ -1,7 +1,8 @@
 //! Waiting for a line by waiters that sleep, with no time limit and with one.
-ghost use Rattle.std.specs.Prelude.{◌≡◌, IsTrue};
+ghost use Rattle.std.specs.Prelude.{◌≡◌, ◌⊎◌, ◌+◌, ◌≤◌, IsTrue};
 ghost use Rattle.qolb_model.specs.PortStates.{may_ask};
 ghost use Rattle.qolb_model.specs.Sound.{Continues};
+ghost use Rattle.qolb_model.specs.Asking.{IsBusy};
 ghost use Rattle.qolb_model.specs.Turns.{IsGranted, IsWithdrawn};
 ghost use Rattle.qolb_model.specs.LettingGo.{IsTold};
 ghost use Rattle.line_threads.specs.Acquiring.{Acquires, AcquiresWithin, ComesSoon};
@@ -163,6 +164,7 @@ pub fn acquire_within<R: Wait + Clock, K: Keep, L: Sleeping<K>>(
     ensures belongs { L.belongs line.now port.new }
     ensures acquires { AcquiresWithin K.allows (L.view port.old) (L.view port.new) (L.turn port.new) result }
     ensures soon { result ≡ Within.Granted → ComesSoon L.view L.looks port.old port.new }
+    ensures looked { result ≡ Within.Late → IsBusy (L.view port.old) (L.view port.new) ⊎ (L.looks port.old + 1 ≤ L.looks port.new) }
 {
     let span = Span::begin(rt, at_most);
     let mut patience = Patience::new();
@@ -200,6 +202,7 @@ fn wait_within<R: Wait + Clock, K: Keep, L: Sleeping<K>>(
     ensures granted { result ≡ Within.Granted → IsGranted (L.view port.new) (L.turn port.new) }
     ensures told { result ≡ Within.Closed → IsTold (L.view port.new) }
     ensures late { result ≡ Within.Late → IsWithdrawn (L.view port.new) }
+    ensures looked { L.looks port.old + 1 ≤ L.looks port.new }
 {
     let mut patience = Patience::new();
     for _ in rt.forever() {
@@ -230,6 +233,7 @@ fn give_up<K: Keep, L: LineSync<K>>(line: &L, port: &mut L::Port) -> Within
     ensures granted { result ≡ Within.Granted → IsGranted (L.view port.new) (L.turn port.new) }
     ensures told { result ≡ Within.Closed → IsTold (L.view port.new) }
     ensures late { result ≡ Within.Late → IsWithdrawn (L.view port.new) }
+    ensures looks { L.looks port.new ≡ L.looks port.old }
 {
     match line.withdraw(port) {
         Out::Withdrawn => Within::Late,

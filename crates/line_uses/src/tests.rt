@@ -1,5 +1,6 @@
 //! The uses, over all lines.
 mod asleep;
+mod passing;
 
 use crate::mailbox::Asked;
 use crate::{counter, fair, mailbox, seats};

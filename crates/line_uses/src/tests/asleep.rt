@@ -4,6 +4,7 @@ ghost use Rattle.qolb_model.specs.PortStates.{may_ask};
 ghost use Rattle.qolb_model.specs.Turns.{IsGranted};
 
 use crate::counter::add_one;
+use crate::tests::passing::whoever_passes_a_closed_line_on_wakes;
 use crate::timed::add_within;
 use line_lanes::{Line64, lane};
 use line_threads::together::{Work, together};
@@ -330,6 +331,7 @@ where
     no_grant_is_lost_to_a_time_limit::<R, L>(rt, alloc);
     sleepers_and_late_ones_share_a_lease::<R, L>(rt, alloc);
     whoever_is_late_asks_again::<R, L>(rt, alloc);
+    whoever_passes_a_closed_line_on_wakes::<R, L>(rt, alloc);
 }
 
 #[test]

@@ -1,4 +1,4 @@
-use Rattle.std.proofs.Common.{◌≡◌}
+use Rattle.std.proofs.Common.{◌≡◌, ◌≤◌}
 use Rattle.qolb_model.specs.declared.answer.PortState.TheVariants.{Queued}
 use Rattle.qolb_model.specs.Views.{Extends}
 use Rattle.line_threads.proofs.asleep.wait_within.Given as goal
@@ -8,5 +8,6 @@ invariant-loop g l = record {
   belongs : g.L.LineSync.belongs l.line l.port;
   state : (g.L.LineSync.view l.port).state ≡ Queued;
   extends : Extends (g.L.LineSync.view l.initial.port) (g.L.LineSync.view l.port);
+  looks : g.L.LineSync.looks l.initial.port ≤ g.L.LineSync.looks l.port;
   count : (g.L.LineSync.view l.port).count ≡ (g.L.LineSync.view l.initial.port).count;
 }

@@ -1,0 +1,147 @@
+//! A closed line is passed on by a node that gives its request up, while the next one sleeps.
+ghost use Rattle.std.specs.Prelude.{IsTrue};
+ghost use Rattle.qolb_model.specs.PortStates.{may_ask};
+
+use line_lanes::Line64;
+use line_threads::together::{Work, together};
+use line_threads::{Got, acquire_asleep};
+use qolb_model::{Enq, Free, OpenLine, Out, Sleeping, Terms};
+use std::alloc::Global;
+use std::process::Abort;
+use std::rt::Clock;
+use std::sync::Wait;
+use std::sync::atomic::{AtomicU64, Ordering};
+use std::thread;
+use std::thread::{Threads, yield_now};
+use std::time::Duration;
+
+/// How many milliseconds the third is left to fall asleep.
+const NAP_MILLIS: u64 = 30;
+
+/// The first has the line, the second stands behind it, and the third sleeps behind both. Then the first closes the line, and the second
+/// withdraws, and so passes it on.
+#[derive(Drop)]
+struct Passing {
+    /// How far they are.
+    stage: AtomicU64,
+}
+
+impl Passing {
+    fn new() -> Passing {
+        Passing {
+            stage: AtomicU64::new(0),
+        }
+    }
+
+    /// Waits until they are so far.
+    fn wait<R: Wait>(&self, rt: &R, stage: u64) {
+        for _ in rt.forever() {
+            if self.stage.load(Ordering::SeqCst) == stage {
+                return;
+            }
+            yield_now();
+        }
+    }
+
+    /// Now they are so far.
+    fn go_on(&self, stage: u64) {
+        self.stage.store(stage, Ordering::SeqCst);
+    }
+
+    /// The first node: whether it had the line, and closed it.
+    fn close<R: Wait + Clock, L: Sleeping<Free>>(
+        &self,
+        rt: &R,
+        line: &L,
+        port: &mut L::Port,
+    ) -> bool
+        requires belongs { L.belongs line.now port.old }
+        requires state { IsTrue (may_ask (L.view port.old).state) }
+    {
+        let Enq::Granted = line.enqolb(port) else {
+            return false;
+        };
+        self.go_on(1);
+        self.wait(rt, 3);
+        thread::sleep(rt, Duration::from_millis(NAP_MILLIS));
+        line.shut(port);
+        self.go_on(4);
+        true
+    }
+
+    /// The second node: whether it was told that the line is closed when it withdrew.
+    fn give_up<R: Wait, L: Sleeping<Free>>(&self, rt: &R, line: &L, port: &mut L::Port) -> bool
+        requires belongs { L.belongs line.now port.old }
+        requires state { IsTrue (may_ask (L.view port.old).state) }
+    {
+        self.wait(rt, 1);
+        let Enq::Queued = line.enqolb(port) else {
+            return false;
+        };
+        self.go_on(2);
+        self.wait(rt, 4);
+        line.withdraw(port) == Out::Closed
+    }
+
+    /// The third node: whether it was told so too.
+    fn sleep<R: Wait, L: Sleeping<Free>>(&self, rt: &R, line: &L, port: &mut L::Port) -> bool
+        requires belongs { L.belongs line.now port.old }
+        requires state { IsTrue (may_ask (L.view port.old).state) }
+    {
+        self.wait(rt, 2);
+        self.go_on(3);
+        acquire_asleep(rt, line, port) == Got::Closed
+    }
+}
+
+impl<R: Wait + Clock, L: Sleeping<Free>> Work<R, L, L::Port> for Passing
+where
+    L::Port: Drop,
+{
+    type Back = bool;
+
+    ghost fits = { λ _ line _ port. L.belongs line port × IsTrue (may_ask (L.view port).state) };
+
+    ghost done = { λ _ _ _ _. Unit {0} };
+
+    fn work(&self, rt: &R, line: &L, place: usize, port: L::Port) -> bool {
+        let mut port = port;
+        match place {
+            0 => self.close(rt, line, &mut port),
+            1 => self.give_up(rt, line, &mut port),
+            _ => self.sleep(rt, line, &mut port),
+        }
+    }
+}
+
+/// What each of the three saw at a new line.
+fn pass<R: Threads + Wait + Clock + Sync, L: OpenLine<Free> + Sleeping<Free> + Sync + Drop>(
+    rt: &R,
+    alloc: Global,
+) -> Option<[bool; 3]>
+where
+    L::Port: Send + Drop,
+{
+    let terms = Terms {
+        nodes: 3,
+        opening: Line64::zero(),
+        lease: None,
+    };
+    let (line, ports) = L::open_with(alloc, 1, terms).ok()?;
+    let saw = together(rt, alloc, &Passing::new(), &line, ports)?;
+    match *saw.as_slice() {
+        [first, second, third] => Some([first, second, third]),
+        _ => None,
+    }
+}
+
+/// Whoever sleeps behind a node that gives its request up at a closed line is woken.
+pub(super) fn whoever_passes_a_closed_line_on_wakes<
+    R: Threads + Wait + Clock + Abort + Sync,
+    L: OpenLine<Free> + Sleeping<Free> + Sync + Drop,
+>(rt: &R, alloc: Global)
+where
+    L::Port: Send + Drop,
+{
+    assert_eq!(rt; pass::<R, L>(rt, alloc), Some([true, true, true]));
+}
