@@ -239,6 +239,24 @@ where
     }
 }
 
+/// With a limit that is much longer than all turns together nobody is late.
+fn a_long_limit_is_in_time<
+    R: Threads + Wait + Clock + Abort + Sync,
+    L: OpenLine<Free> + Sleeping<Free> + Sync + Drop,
+>(rt: &R, alloc: Global)
+where
+    L::Port: Send + Drop,
+{
+    let manner = Manner::Within(Duration::from_secs(20));
+    let sharing = Sharing::new(20, manner, Duration::from_micros(500), false);
+    let wanted = Some(Came {
+        number: 60,
+        turns: 60,
+        late: 0,
+    });
+    assert_eq!(rt; share::<R, L>(rt, alloc, 3, None, &sharing), wanted);
+}
+
 /// Two thirds of the time without a limit, and else with one, until the lease is used up.
 fn sleepers_and_late_ones_share_a_lease<
     R: Threads + Wait + Clock + Abort + Sync,
@@ -329,6 +347,7 @@ where
     a_closing_wakes_all::<R, L>(rt, alloc);
     the_last_turn_of_a_lease_wakes_all::<R, L>(rt, alloc);
     no_grant_is_lost_to_a_time_limit::<R, L>(rt, alloc);
+    a_long_limit_is_in_time::<R, L>(rt, alloc);
     sleepers_and_late_ones_share_a_lease::<R, L>(rt, alloc);
     whoever_is_late_asks_again::<R, L>(rt, alloc);
     whoever_passes_a_closed_line_on_wakes::<R, L>(rt, alloc);
