@@ -4,10 +4,10 @@ ghost use Rattle.qolb_model.specs.PortStates.{may_ask};
 ghost use Rattle.qolb_model.specs.Turns.{IsGranted};
 
 use crate::law::Rising;
-use link_line::{LinkLine, Port};
 use qolb_model::{Enq, LineSync, PortState, Prep};
 use rand::RngExt;
 use rand_xoshiro::Xoshiro256PlusPlus;
+use shared_line::{Line, Linked, Port, Waking};
 use std::hint::spin_loop;
 use std::sync::atomic::{AtomicU64, Ordering};
 use std::thread::yield_now;
@@ -56,8 +56,13 @@ impl Apart {
     }
 }
 
-impl Asking<LinkLine<Rising>> for Apart {
-    fn ask(&self, line: &LinkLine<Rising>, port: &mut Port, rng: &mut Xoshiro256PlusPlus) -> Enq {
+impl<Q: Linked<Rising>, W: Waking> Asking<Line<Rising, Q, W>> for Apart {
+    fn ask(
+        &self,
+        line: &Line<Rising, Q, W>,
+        port: &mut Port<Q>,
+        rng: &mut Xoshiro256PlusPlus,
+    ) -> Enq {
         match line.prepend(port) {
             Prep::Granted => Enq::Granted,
             Prep::Busy => Enq::Busy,
