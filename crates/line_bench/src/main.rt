@@ -1,4 +1,4 @@
-//! Times a line, or puts it under stress.
+//! Times a line, measures how long its nodes wait, or puts it under stress.
 #![tactic(auto)]
 
 ghost use Rattle.std.specs.Prelude.{All, IsTrue};
