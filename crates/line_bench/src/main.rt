@@ -1,4 +1,4 @@
-//! Times a line, measures how long its nodes wait, or puts it under stress.
+//! Times a line, or puts it under stress.
 #![tactic(auto)]
 
 ghost use Rattle.std.specs.Prelude.{All, IsTrue};
@@ -9,7 +9,6 @@ mod law;
 mod rounds;
 mod run;
 mod stress;
-mod waits;
 mod workers;
 
 use asking::{Apart, Asking, AtOnce};
@@ -18,7 +17,7 @@ use law::Rising;
 use line_lanes::lane;
 use link_line::LinkLine;
 use locks::{Lines, over_named};
-use qolb_model::{LineSync, OpenLine, Sleeping};
+use qolb_model::{LineSync, OpenLine};
 use rounds::Rounds;
 use run::{RunError, open, run_task};
 use std::alloc::{AllocError, Global};
@@ -27,20 +26,14 @@ use std::sync::Wait;
 use std::thread::Threads;
 use std::time::{Duration, Instant};
 use stress::Stress;
-use waits::{Plan, Waiter, Waits};
 
-/// How many threads are measured, in turn; how many are put under stress; and how many wait for one another's turns.
+/// How many threads are measured, in turn; and how many are put under stress.
 static THREADS: [u64; 5] = [1, 2, 3, 4, 8];
 
 static STRESSED: [u64; 3] = [4, 8, 32];
 
-static WAITING: [u64; 5] = [2, 4, 8, 32, 200];
-
 /// Rounds of each thread where the words name none: enough to see that nothing is lost.
 const FEW_ROUNDS: u64 = 100;
-
-/// For how many seconds turns of one length are taken where the words name no time.
-const WAITS_SECONDS: u64 = 1;
 
 /// The names of the kinds of line.
 static KINDS: [&str; 3] = ["ring", "link", "ticket"];
@@ -54,8 +47,6 @@ enum Wanted {
     Times(u64),
     /// To put the line under stress for so many seconds.
     Stress(u64),
-    /// To take turns of one length, and to see how long the nodes wait.
-    Waits(Plan),
 }
 
 /// The line that it is done on, and how its nodes ask under stress.
@@ -81,7 +72,6 @@ fn main(rt: HostRuntime) -> anyhow::Result<()> {
     }
     let counts = match wanted {
         Wanted::Stress(_) => STRESSED.as_slice(),
-        Wanted::Waits(_) => WAITING.as_slice(),
         _ => THREADS.as_slice(),
     };
     for &threads in counts {
@@ -117,44 +107,17 @@ fn command<'a>(alloc: Global) -> Result<Command<'a>, AllocError> {
         .value_name("THREADS")
         .help("So many threads, and no others")
         .value_parser(clap::value_parser!(u64).range(1..));
-    let command = Command::new(alloc, "line_bench")
+    Command::new(alloc, "line_bench")
         .about("Times rounds of ask, add 1 to a lane, release, by 1, 2, 3, 4 and 8 threads")
         .arg(rounds)?
         .arg(stress)?
         .arg(kind)?
         .arg(apart)?
-        .arg(threads)?;
-    with_waits(alloc, command)
-}
-
-/// The same with the words for turns of one length.
-fn with_waits<'a>(alloc: Global, command: Command<'a>) -> Result<Command<'a>, AllocError> {
-    let turns_of = Arg::new(alloc, "turns-of")
-        .long("turns-of")
-        .value_name("MICROSECONDS")
-        .help(
-            "Take turns of this length for some time, and print the longest wait; a turn of 0 only adds 1",
-        )
-        .value_parser(clap::value_parser!(u64).range(0..));
-    let seconds = Arg::new(alloc, "seconds")
-        .long("seconds")
-        .value_name("SECONDS")
-        .help("Take the turns for this time; one second, where the words name none")
-        .value_parser(clap::value_parser!(u64).range(1..))
-        .requires_arg("turns-of")?;
-    let sleep = Arg::new(alloc, "sleep")
-        .long("sleep")
-        .help("Wait for the turns by waiters that sleep")
-        .action(ArgAction::SetTrue)
-        .requires_arg("turns-of")?;
-    command.arg(turns_of)?.arg(seconds)?.arg(sleep)
+        .arg(threads)
 }
 
 /// What the words ask for.
 fn wanted_of(matches: &ArgMatches) -> Wanted {
-    if let Some(micros) = matches.get_one::<u64>("turns-of") {
-        return Wanted::Waits(plan_of(matches, micros));
-    }
     match (
         matches.get_one::<u64>("stress"),
         matches.get_one::<u64>("rounds"),
@@ -162,20 +125,6 @@ fn wanted_of(matches: &ArgMatches) -> Wanted {
         (Some(seconds), _) => Wanted::Stress(seconds),
         (None, Some(rounds)) => Wanted::Times(rounds),
         (None, None) => Wanted::Sums,
-    }
-}
-
-/// The plan for turns of so many microseconds.
-fn plan_of(matches: &ArgMatches, micros: u64) -> Plan {
-    let seconds = matches.get_one::<u64>("seconds").unwrap_or(WAITS_SECONDS);
-    Plan {
-        turn: Duration::from_micros(micros),
-        time: Duration::from_secs(seconds),
-        waiter: if matches.get_flag("sleep") {
-            Waiter::Asleep
-        } else {
-            Waiter::Awake
-        },
     }
 }
 
@@ -219,7 +168,7 @@ fn run_kind<R: Threads + Wait + Clock + Print + Sync>(
 fn bench<
     R: Threads + Wait + Clock + Print + Sync,
     A: Asking<L> + Sync + Drop,
-    L: OpenLine<Rising> + Sleeping<Rising> + Sync + Drop,
+    L: OpenLine<Rising> + Sync + Drop,
 >(rt: &R, alloc: Global, asking: A, threads: u64, wanted: Wanted) -> anyhow::Result<()>
 where
     L::Port: Send + Drop,
@@ -231,7 +180,6 @@ where
         Wanted::Stress(seconds) => {
             put_under_stress(rt, alloc, line, ports, asking, threads, seconds)
         }
-        Wanted::Waits(plan) => take_turns(rt, alloc, line, ports, threads, plan),
     }
 }
 
@@ -310,38 +258,6 @@ where
     println!(rt;
         "threads {threads} rounds {} grants {} withdrawals {} busy {} late links {late} told {} lost {lost}",
         counts.rounds, counts.grants, counts.withdrawals, counts.busy, counts.told
-    )?;
-    if lost > 0 {
-        return Err(RunError::Lost(lost).into());
-    }
-    Ok(())
-}
-
-/// Prints how many turns there were, how many of their additions were lost, which is an error, and the longest wait.
-fn take_turns<R: Threads + Wait + Clock + Print + Sync, L: Sleeping<Rising> + Sync + Drop>(
-    rt: &R,
-    alloc: Global,
-    line: L,
-    ports: Vec<L::Port>,
-    threads: u64,
-    plan: Plan,
-) -> anyhow::Result<()>
-where
-    L::Port: Send + Drop,
-    requires ports { All (λ port. L.belongs line port) ports.items }
-    requires state { All (λ port. IsTrue (may_ask (L.view port).state)) ports.items }
-{
-    let start = Instant::now(rt)?;
-    let task = Waits::new(plan, start);
-    let last = run_task(rt, alloc, line, ports, &task)?;
-    let nanos = start.elapsed(rt)?.as_nanos().max(1);
-    let turns = task.turns();
-    let each_second = u128::from(turns) * 1_000_000_000 / nanos;
-    let lost = turns.abs_diff(lane(&last, 0));
-    println!(rt;
-        "threads {threads} us a turn {} turns {turns} lost {lost} turns a second {each_second} longest wait us {}",
-        plan.turn.as_micros(),
-        task.longest().as_micros()
     )?;
     if lost > 0 {
         return Err(RunError::Lost(lost).into());
