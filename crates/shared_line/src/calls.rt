@@ -165,7 +165,7 @@ impl<K: Keep, Q: Discipline<K>, W: Waking> Line<K, Q, W> {
     }
 
     /// Releases the line: the request has been served. The last turn of a lease closes the line, as `shut` does.
-    #[inline]
+    #[inline(always)]
     pub fn deqolb(&self, port: &mut Port<Q>)
         requires belongs { BelongsTo K.good K.allows self.now.table.shared.key self.now.table.shared.table_id port.old }
         requires state { port.old.view.state ≡ PortState.Holding }
@@ -196,7 +196,7 @@ impl<K: Keep, Q: Discipline<K>, W: Waking> Line<K, Q, W> {
     }
 
     /// The holder's turn is over: the line is laid for the next, closed where the holder shuts it or the lease is used up, and let go.
-    #[inline]
+    #[inline(always)]
     fn let_go(&self, port: &mut Port<Q>, shut: bool)
         requires belongs { BelongsTo K.good K.allows self.now.table.shared.key self.now.table.shared.table_id port.old }
         requires state { port.old.view.state ≡ PortState.Holding }

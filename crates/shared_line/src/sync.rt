@@ -75,6 +75,7 @@ impl<K: Keep, Q: Discipline<K>, W: Waking> LineSync<K> for Line<K, Q, W> {
         Line::<K, Q, W>::withdraw(self, port)
     }
 
+    #[inline(always)]
     fn deqolb(&self, port: &mut Port<Q>) {
         Line::<K, Q, W>::deqolb(self, port)
     }
