@@ -19,16 +19,17 @@ use Rattle.qolb_model.proofs.Histories.{legal_ask}
 use Rattle.array_line.specs.declared.own.Point.TheVariants.{Idle, Queued}
 use Rattle.shared_line.specs.declared.rule.Setup.{Setup}
 use Rattle.array_line.specs.Words.{ticket_at, node_at}
+use Rattle.array_line.specs.Berths.{Berths, Homes}
 use Rattle.array_line.specs.Array.{ArrayEntry, At, Cells, Past, NodeOk, PastOk, Shown, ArrayRule, has_line, lets_go}
 use Rattle.array_line.specs.Steps.{sole, Contents, Draws, drawn}
 use Rattle.array_line.proofs.OneNode.{knows_whole, hand_none}
 use Rattle.array_line.proofs.Nodes.{others_ask, passes_none, freed_so}
 use Rattle.array_line.proofs.Histories.{continues}
-use Rattle.array_line.proofs.Keeping.{Homes, cells_else, rule_step, mine_ok, mine_low}
+use Rattle.array_line.proofs.Keeping.{cells_else, rule_step, mine_ok, mine_low}
 use Rattle.array_line.proofs.Turning.{goes_step}
 use Rattle.qolb_model.proofs.Clearing.{clears_ended, clears_later}
 
-module _ (cells : Cells) (good : List ℕ → Type 0) (allows : List ℕ → List ℕ → Type 0) (about : Setup) (v : ArrayEntry) (idle : v.own.point ≡ Idle) where
+module _ (cells : Cells) (berths : Berths) (good : List ℕ → Type 0) (allows : List ℕ → List ℕ → Type 0) (about : Setup) (v : ArrayEntry) (idle : v.own.point ≡ Idle) where
   abbrev new : Past → Request
   new x = next_of v.view.node x.order
 
@@ -103,7 +104,7 @@ module _ (cells : Cells) (good : List ℕ → Type 0) (allows : List ℕ → Lis
     gone = f.gone;
   }
 
-  ask_shown : (x : Past) (words : List ℕ) (homes : Homes) → Shown cells good allows about x words homes → Shown cells good allows about (ask_past x) (set words ticket_at ((slice_index words ticket_at + 1) % 2 ^ 64)) homes
+  ask_shown : (x : Past) (words : List ℕ) (homes : Homes) → Shown cells berths good allows about x words homes → Shown cells berths good allows about (ask_past x) (set words ticket_at ((slice_index words ticket_at + 1) % 2 ^ 64)) homes
   ask_shown x words homes h = let next : ℕ = (slice_index words ticket_at + 1) % 2 ^ 64 in record {
     wide = length-set words ticket_at next ∙ h.wide;
     deep = h.deep;
@@ -111,14 +112,15 @@ module _ (cells : Cells) (good : List ℕ → Type 0) (allows : List ℕ → Lis
     said = subst (cells (length x.ends) x.hand x.cleared x.marks) (sym (cells_else words ticket_at next (λ c e. omega arith))) h.said;
     flags = λ n a b. get_or-set_other words ticket_at (node_at n) next 0 (λ e. omega arith) ∙ h.flags n a b;
     home = h.home;
+    spare = h.spare;
   }
 
-  pub asks_next : (me slots : ℕ) (m : Contents) → m.0 ≡ v ∷ [] → Allows (ArrayRule cells good allows about) slots me m ticket_at (λ n. (n + 1) % 2 ^ 64) (drawn allows (step slots ticket_at 1 0 none) m)
+  pub asks_next : (me slots : ℕ) (m : Contents) → m.0 ≡ v ∷ [] → Allows (ArrayRule cells berths good allows about) slots me m ticket_at (λ n. (n + 1) % 2 ^ 64) (drawn allows (step slots ticket_at 1 0 none) m)
   asks_next me slots m is s r deep at small = (
     ask_entry r.past ∷ [],
     keeps,
     tt,
-    rule_step cells good allows about s r me v (ask_entry r.past) (ask_past r.past) (set s.words ticket_at ((slice_index s.words ticket_at + 1) % 2 ^ 64)) s.homes at' refl fine' (ask_shown r.past s.words s.homes r.shown) (ask_node r.past r.fine ok)
+    rule_step cells berths good allows about s r me v (ask_entry r.past) (ask_past r.past) (set s.words ticket_at ((slice_index s.words ticket_at + 1) % 2 ^ 64)) s.homes at' refl fine' (ask_shown r.past s.words s.homes r.shown) (ask_node r.past r.fine ok)
         (λ n a b ne. others_ask about r.past n (r.who n) (r.each n a b) (new r.past) (λ e. ne (sym e))),
     (
       refl,
@@ -141,10 +143,10 @@ module _ (cells : Cells) (good : List ℕ → Type 0) (allows : List ℕ → Lis
       at' = at ∙ ap some is
 
       ok : NodeOk about r.past v.view.node v
-      ok = mine_ok cells good allows about s r me v at'
+      ok = mine_ok cells berths good allows about s r me v at'
 
       fine' : PastOk good allows about (ask_past r.past)
-      fine' = let l = mine_low cells good allows about s r me v at' in ask_fine r.past l.0 l.1 r.fine
+      fine' = let l = mine_low cells berths good allows about s r me v at' in ask_fine r.past l.0 l.1 r.fine
 
       learns : Continues allows v.view (ask_entry r.past).view
       learns = continues good allows about r.past (ask_past r.past) fine' v.view.node v.view.node v (ask_entry r.past) ok (ask_node r.past r.fine ok) refl

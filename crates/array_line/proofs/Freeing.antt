@@ -16,18 +16,19 @@ use Rattle.qolb_model.proofs.Updates.{put, put_else}
 use Rattle.array_line.specs.declared.own.Point.TheVariants.{Idle, Queued, Holding, Freeing, Rolled}
 use Rattle.shared_line.specs.declared.rule.Setup.{Setup}
 use Rattle.array_line.specs.Words.{node_at}
+use Rattle.array_line.specs.Berths.{Berths, Homes}
 use Rattle.array_line.specs.Array.{ArrayEntry, ArrayState, At, Cells, Past, HasPassed, NodeOk, PastOk, Shown, ArrayRule, has_line, is_kept}
 use Rattle.array_line.specs.Steps.{sole, Contents, after_walk, Frees, freed}
 use Rattle.array_line.proofs.OneNode.{clash_at, passed_goes, placed_at, hand_none}
 use Rattle.array_line.proofs.Nodes.{others_clear, others_free}
 use Rattle.array_line.proofs.Histories.{continues}
-use Rattle.array_line.proofs.Keeping.{Homes, rule_step, mine_ok, flag_shown}
+use Rattle.array_line.proofs.Keeping.{rule_step, mine_ok, flag_shown}
 use Rattle.array_line.proofs.Clearing.{not_after, no_line_after, goes_after, clear_with, more_clear, still_unclear, fine_clear, fine_flags}
 use Rattle.array_line.proofs.Turning.{goes_step}
 
-module _ (cells : Cells) (good : List ℕ → Type 0) (allows : List ℕ → List ℕ → Type 0) (about : Setup) (v : ArrayEntry) (freeing : v.own.point ≡ Freeing) (q : ℕ) (ps : List ℕ) (whole : v.own.passed ≡ q ∷ ps) (r : Request) (known : At v.view.order q r) where
+module _ (cells : Cells) (berths : Berths) (good : List ℕ → Type 0) (allows : List ℕ → List ℕ → Type 0) (about : Setup) (v : ArrayEntry) (freeing : v.own.point ≡ Freeing) (q : ℕ) (ps : List ℕ) (whole : v.own.passed ≡ q ∷ ps) (r : Request) (known : At v.view.order q r) where
   abbrev Rule : ArrayState → Type 0
-  Rule = ArrayRule cells good allows about
+  Rule = ArrayRule cells berths good allows about
 
   abbrev free_past : Past → Past
   free_past x = record x { clear = clear_with (own v.view) ps (x.clear ++ r ∷ []); flags = put x.flags r.node 1 }
@@ -153,8 +154,8 @@ module _ (cells : Cells) (good : List ℕ → Type 0) (allows : List ℕ → Lis
         go [] = others_clear about (record x { clear = x.clear ++ r ∷ []; flags = put x.flags r.node 1 }) n u one (own v.view) v.own.place (λ e. ne (sym e)) placed unmarked f.legal
         go (p ∷ l) = one
 
-    free_shown : (words : List ℕ) (homes : Homes) (i : ℕ) → i ≡ node_at r.node → r.node ≤ MOST_NODES → Shown cells good allows about x words homes → Shown cells good allows about (free_past x) (set words i 1) homes
-    free_shown words homes i is high h = flag_shown cells good allows about x (clear_with (own v.view) ps (x.clear ++ r ∷ [])) words homes i r.node 1 is (f.nodes q r asked).0 high h
+    free_shown : (words : List ℕ) (homes : Homes) (i : ℕ) → i ≡ node_at r.node → r.node ≤ MOST_NODES → Shown cells berths good allows about x words homes → Shown cells berths good allows about (free_past x) (set words i 1) homes
+    free_shown words homes i is high h = flag_shown cells berths good allows about x (clear_with (own v.view) ps (x.clear ++ r ∷ [])) words homes i r.node 1 is (f.nodes q r asked).0 high h
 
     learns_free : Continues allows v.view (free_entry x).view
     learns_free = continues good allows about x (free_past x) free_fine v.view.node v.view.node v (free_entry x) ok free_node refl (prefix_self v.view.order) (prefix_self v.view.ends) (wider ps)
@@ -183,7 +184,7 @@ module _ (cells : Cells) (good : List ℕ → Type 0) (allows : List ℕ → Lis
     free_entry t.past ∷ [],
     keeps,
     tt,
-    rule_step cells good allows about s t me v (free_entry t.past) (free_past t.past) (set s.words i 1) s.homes at' refl (free_fine t.past t.fine ok) (free_shown t.past t.fine ok s.words s.homes i word high t.shown) (free_node t.past t.fine ok)
+    rule_step cells berths good allows about s t me v (free_entry t.past) (free_past t.past) (set s.words i 1) s.homes at' refl (free_fine t.past t.fine ok) (free_shown t.past t.fine ok s.words s.homes i word high t.shown) (free_node t.past t.fine ok)
         (λ n a b ne. free_others t.past t.fine ok n (t.who n) ne (t.each n a b)),
     (
       refl,
@@ -196,7 +197,7 @@ module _ (cells : Cells) (good : List ℕ → Type 0) (allows : List ℕ → Lis
       at' = at ∙ ap some is
 
       ok : NodeOk about t.past v.view.node v
-      ok = mine_ok cells good allows about s t me v at'
+      ok = mine_ok cells berths good allows about s t me v at'
 
       told : (q' : ℕ) (ps' : List ℕ) (r' : Request) → v.own.passed ≡ q' ∷ ps' → At v.view.order q' r' → Frees v ps' r' (free_entry t.past)
       told q' ps' r' e k =

@@ -1,13 +1,13 @@
 -- A release grants the next cell: the request at its turn has ended. Where the next one is not withdrawn the line is at home, else it
 -- stays with the node, which passes that request.
-use Rattle.std.proofs.Common.{◌≡◌, ◌≢◌, ◌⊎◌, ℕ, zero, suc, ◌+◌, ◌<◌, ◌≤◌, List, [], ◌∷◌, ◌++◌, length, set, slice_index, Bool, true, false, sym, refl, ap, ◌∙◌, subst, inl, inr, ⊎_elim, arith, length-append, length-set, mod-lt}
+use Rattle.std.proofs.Common.{◌≡◌, ◌≢◌, ◌⊎◌, ℕ, zero, suc, ◌+◌, ◌<◌, ◌≤◌, List, [], ◌∷◌, ◌++◌, length, set, slice_index, Bool, true, false, sym, refl, ap, ◌∙◌, subst, inl, inr, ⊎_elim, arith, length-append, mod-lt}
 use mathlib.Core.Logic.{dite}
 use mathlib.Core.List.{IsPrefix}
-use mathlib.Core.Option.{none, some, some-ne-none}
+use mathlib.Core.Option.{none, some}
 use native.Mathlib.Decide.{ℕ_discrete}
 use lib.ListN.{get_elem?}
 use Rattle.std.proofs.lemmas.Option.{slice_get_within}
-use Rattle.atomic_table.specs.Table.{step, keeps, gives, Allows}
+use Rattle.atomic_table.specs.Table.{Act, Valid, homes_after, carried_after, step, Allows}
 use Rattle.atomic_table.proofs.Lists.{set_here}
 use Rattle.qolb_model.specs.declared.request.Request.{Request}
 use Rattle.qolb_model.specs.declared.end.End.{End}
@@ -27,12 +27,15 @@ use Rattle.array_line.specs.declared.own.Point.TheVariants.{Idle, Queued, Holdin
 use Rattle.shared_line.specs.declared.rule.Setup.{Setup}
 use Rattle.shared_line.specs.declared.rule.Parcel.{Parcel}
 use Rattle.array_line.specs.Words.{cell_at, cells_in, cell_of}
+use Rattle.shared_line.specs.Slots.{Slots}
+use Rattle.array_line.specs.Berths.{Berths, Homes, IsAtHome}
 use Rattle.array_line.specs.Array.{ArrayEntry, ArrayState, At, Cells, Past, HasPassed, Walks, NodeOk, PastOk, ArrayRule, has_line, is_kept, is_cleared}
 use Rattle.array_line.specs.Steps.{Contents, next_end, after_walk, CarriesNext, Ended, GoesHome, Passes, granted}
 use Rattle.array_line.proofs.OneNode.{clash_at, passed_goes, placed_at, knows_whole, hand_none}
 use Rattle.array_line.proofs.Nodes.{others_end, others_clear, others_hand, freed_so}
 use Rattle.array_line.proofs.Histories.{marked_at, continues}
 use Rattle.array_line.proofs.Keeping.{rule_step, mine_ok, mine_low, blank, cell_shown}
+use Rattle.array_line.proofs.Slots.{MayGive, MayKeep, LaysOne, AreSpare, elem_within}
 use Rattle.array_line.proofs.Taking.{at_turn, line_kept}
 use Rattle.array_line.proofs.Clearing.{not_after, no_line_after, goes_after, clear_with, more_clear, still_unclear, fine_clear}
 use Rattle.array_line.proofs.Ending.{not_holding, own_not_gone, passed_gone, fine_end, fine_home}
@@ -43,18 +46,9 @@ use Rattle.qolb_model.specs.declared.terms.Terms.{Terms}
 use Rattle.qolb_model.specs.PortStates.{left_by}
 use Rattle.qolb_model.proofs.Clearing.{clears_ended}
 
-abbrev pub carried_parcel : Parcel → List (ℕ × Parcel) → Parcel
-carried_parcel d [] = d
-carried_parcel d ((k, p) ∷ xs) = p
-
 some_list : (l : List ℕ) (q : ℕ) → l ++ q ∷ [] ≢ []
 some_list [] q e = cc
 some_list (p ∷ ps) q e = cc
-
-elem_within : {A : Type 0} (xs : List A) (p : ℕ) (x : A) → get_elem? xs p ≡ some x → p < length xs
-elem_within [] p x e = absurd (some-ne-none x (sym e))
-elem_within (y ∷ ys) zero x e = omega arith
-elem_within (y ∷ ys) (suc p) x e = let h = elem_within ys p x e in omega arith
 
 -- What a queue shows where so many requests have ended and the next cell is changed so, to grant it. Where nobody withdrew there, it reads 0 of
 -- what the cell said, and the line goes home; else it reads who withdrew, and the line stays in that hand.
@@ -64,9 +58,9 @@ GrantsNext cells seen withdrawn_by ended cleared change = (hand : ℕ) (marks sa
     × (0 < marks (ended + 1) → marks (ended + 1) ≤ MOST_NODES → 0 < hand
     → (seen (ended + 1) (says (cell_of (ended + 1))) ≢ 0) × (withdrawn_by (ended + 1) (says (cell_of (ended + 1))) ≡ marks (ended + 1)) × cells (ended + 1) hand false marks (put says (cell_of (ended + 1)) (change (says (cell_of (ended + 1))))))
 
-module _ (cells : Cells) (good : List ℕ → Type 0) (allows : List ℕ → List ℕ → Type 0) (about : Setup) (goes : (a b : List ℕ) → good a → allows a b → good b) (v : ArrayEntry) (has_it : has_line v.own.point ≡ true) (y : Parcel) (carries : CarriesNext allows v y) where
+module _ (cells : Cells) (berths : Berths) (good : List ℕ → Type 0) (allows : List ℕ → List ℕ → Type 0) (about : Setup) (goes : (a b : List ℕ) → good a → allows a b → good b) (v : ArrayEntry) (has_it : has_line v.own.point ≡ true) (y : Parcel) (carries : CarriesNext allows v y) where
   abbrev Rule : ArrayState → Type 0
-  Rule = ArrayRule cells good allows about
+  Rule = ArrayRule cells berths good allows about
 
   abbrev e : End
   e = next_end v y
@@ -329,12 +323,12 @@ module _ (cells : Cells) (good : List ℕ → Type 0) (allows : List ℕ → Lis
       (λ z. absurd (z.2 empty)) (at_turn about x v.view.node v ok has_it)
 
   -- the word i is that of the next cell, and becomes z
-  module _ (s : ArrayState) (r : Rule s) (me i z : ℕ) (at : get_elem? s.views me ≡ some (v ∷ [])) (word : i ≡ cell_at (cell_of (length v.view.ends + 1))) where
+  module _ (may_give : MayGive berths) (may_keep : MayKeep berths) (s : ArrayState) (r : Rule s) (me i z : ℕ) (at : get_elem? s.views me ≡ some (v ∷ [])) (word : i ≡ cell_at (cell_of (length v.view.ends + 1))) where
     ok : NodeOk about r.past v.view.node v
-    ok = mine_ok cells good allows about s r me v at
+    ok = mine_ok cells berths good allows about s r me v at
 
     above : 0 < v.view.node
-    above = (mine_low cells good allows about s r me v at).0
+    above = (mine_low cells berths good allows about s r me v at).0
 
     same_ends : v.view.ends ≡ r.past.ends
     same_ends = ends r.past r.fine ok
@@ -354,45 +348,65 @@ module _ (cells : Cells) (good : List ℕ → Type 0) (allows : List ℕ → Lis
     said = subst (λ (z : ℕ × Bool). cells z.0 r.past.hand z.1 r.past.marks (cells_in s.words)) (λ j. (length (sym same_ends j), was_cleared r.past r.fine ok j)) r.shown.said
 
     far : r.past.marks (length v.view.ends + CELLS) ≡ 0
-    far = ap (λ es. r.past.marks (length es + CELLS)) same_ends ∙ blank cells good allows about s r
+    far = ap (λ es. r.past.marks (length es + CELLS)) same_ends ∙ blank cells berths good allows about s r
 
-    homes_rule : r.past.marks next ≡ 0 → cells (length v.view.ends + 1) 0 false r.past.marks (put (cells_in s.words) (cell_of (length v.view.ends + 1)) z)
-        → Rule record { words = set s.words i z; homes = set s.homes 0 (some y); views = set s.views me (home_entry r.past ∷ []) }
-    homes_rule free says = rule_step cells good allows about s r me v (home_entry r.past) (home_past r.past) (set s.words i z) (set s.homes 0 (some y)) at refl
-        (home_fine r.past r.fine ok above free)
-        (cell_shown cells good allows about r.past s.words s.homes (set s.homes 0 (some y)) i (cell_of (length v.view.ends + 1)) z word small r.shown (length-set s.homes 0 (some y))
-        0 false (r.past.ends ++ e ∷ []) (clear_with (own v.view) v.own.passed r.past.clear) r.past.marks r.past.passer
-        (subst (λ q. cells q 0 false r.past.marks (put (cells_in s.words) (cell_of (length v.view.ends + 1)) z)) next_is says)
-        (λ _. (y, set_here s.homes 0 (some y) (let d = r.shown.deep in omega arith), bytes r.past r.fine ok, shut r.past r.fine ok, left r.past r.fine ok)))
-        (home_node r.past r.fine ok above free)
-        (λ n a b ne. home_others r.past r.fine ok above free n (r.who n) a ne (r.each n a b))
+    -- the slots in hand, in which the line is laid for the next
+    module _ (slots : Slots) (laid : berths.lays (length v.view.ends) y slots) where
+      spare : AreSpare berths (length v.view.ends) s.homes
+      spare k few inside = r.shown.spare k few (λ some out. inside (subst (λ es. berths.is_out (length es) k) (sym same_ends) out))
 
-    walks_rule : 0 < r.past.marks next → cells (length v.view.ends + 1) r.past.hand false r.past.marks (put (cells_in s.words) (cell_of (length v.view.ends + 1)) z)
-        → Rule record { words = set s.words i z; homes = s.homes; views = set s.views me (walk_entry r.past ∷ []) }
-    walks_rule rolled says = rule_step cells good allows about s r me v (walk_entry r.past) (walk_past r.past) (set s.words i z) s.homes at refl
-        (walk_fine r.past r.fine ok above rolled)
-        (cell_shown cells good allows about r.past s.words s.homes s.homes i (cell_of (length v.view.ends + 1)) z word small r.shown refl
-        r.past.hand false (r.past.ends ++ e ∷ []) r.past.clear r.past.marks (put r.past.passer next v.view.node)
-        (subst (λ q. cells q r.past.hand false r.past.marks (put (cells_in s.words) (cell_of (length v.view.ends + 1)) z)) next_is says)
-        (λ nobody. absurd (held nobody)))
-        (walk_node r.past r.fine ok above rolled)
-        (λ n a b ne. walk_others r.past r.fine ok above rolled n (r.who n) ne (r.each n a b))
-      where
-        held : r.past.hand ≡ 0 → ⊥
-        held nobody = let h = hand r.past r.fine ok in let l = above in omega arith
+      pub giving : (act : Act Parcel) × Valid s.homes slots act × (length (homes_after s.homes slots act) ≡ length s.homes) × (carried_after slots act ≡ [])
+          × (get_elem? (homes_after s.homes slots act) (berths.lies (length v.view.ends + 1)) ≡ some (some y)) × ((k : ℕ) → k < berths.count → IsAtHome (homes_after s.homes slots act) k)
+      giving = may_give (length v.view.ends) s.homes slots y r.shown.deep laid spare
 
-    passes : (by_node : ℕ) → by_node ≡ r.past.marks next → (rolled : 0 < r.past.marks next) → cells (length v.view.ends + 1) r.past.hand false r.past.marks (put (cells_in s.words) (cell_of (length v.view.ends + 1)) z) → Passes v by_node (walk_entry r.past)
-    passes by_node is rolled says = let k = passed_request r.past r.fine ok above rolled in record {
-      point = refl;
-      passed = refl;
-      request = k.0;
-      at = k.1;
-      is_by = k.2 ∙ sym is;
-      high = subst (λ (t : Terms). k.0.node ≤ t.nodes) (sym ok.who.terms) (r.fine.nodes next k.0 k.1).1;
-      few = subst (λ (t : Terms). length (v.own.passed ++ next ∷ []) + 1 ≤ t.nodes) (sym ok.who.terms)
-          (few_passed cells good allows about (record { words = set s.words i z; homes = s.homes; views = set s.views me (walk_entry r.past ∷ []) }) (walks_rule rolled says) me (walk_entry r.past) (set_here s.views me (walk_entry r.past ∷ []) (elem_within s.views me (v ∷ []) at)) refl);
-      nodes = subst (λ (t : Terms). t.nodes ≤ MOST_NODES) (sym ok.who.terms) r.may_open.nodes.few;
-    }
+      pub keeping : (act : Act Parcel) × Valid s.homes slots act × (length (homes_after s.homes slots act) ≡ length s.homes) × berths.brings (length v.view.ends + 1) y (carried_after slots act) × AreSpare berths (length v.view.ends + 1) (homes_after s.homes slots act)
+      keeping = may_keep (length v.view.ends) s.homes slots y r.shown.deep laid spare
+
+      abbrev pub given : Homes
+      given = homes_after s.homes slots giving.0
+
+      abbrev pub kept : Homes
+      kept = homes_after s.homes slots keeping.0
+
+      pub homes_rule : r.past.marks next ≡ 0 → cells (length v.view.ends + 1) 0 false r.past.marks (put (cells_in s.words) (cell_of (length v.view.ends + 1)) z)
+          → Rule record { words = set s.words i z; homes = given; views = set s.views me (home_entry r.past ∷ []) }
+      homes_rule free says = rule_step cells berths good allows about s r me v (home_entry r.past) (home_past r.past) (set s.words i z) given at refl
+          (home_fine r.past r.fine ok above free)
+          (cell_shown cells berths good allows about r.past s.words s.homes given i (cell_of (length v.view.ends + 1)) z word small r.shown giving.2
+          0 false (r.past.ends ++ e ∷ []) (clear_with (own v.view) v.own.passed r.past.clear) r.past.marks r.past.passer
+          (subst (λ q. cells q 0 false r.past.marks (put (cells_in s.words) (cell_of (length v.view.ends + 1)) z)) next_is says)
+          (λ _. (y, subst (λ q. get_elem? given (berths.lies q) ≡ some (some y)) next_is giving.4, bytes r.past r.fine ok, shut r.past r.fine ok, left r.past r.fine ok))
+          (λ k few _. giving.5 k few))
+          (home_node r.past r.fine ok above free)
+          (λ n a b ne. home_others r.past r.fine ok above free n (r.who n) a ne (r.each n a b))
+
+      pub walks_rule : 0 < r.past.marks next → cells (length v.view.ends + 1) r.past.hand false r.past.marks (put (cells_in s.words) (cell_of (length v.view.ends + 1)) z)
+          → Rule record { words = set s.words i z; homes = kept; views = set s.views me (walk_entry r.past ∷ []) }
+      walks_rule rolled says = rule_step cells berths good allows about s r me v (walk_entry r.past) (walk_past r.past) (set s.words i z) kept at refl
+          (walk_fine r.past r.fine ok above rolled)
+          (cell_shown cells berths good allows about r.past s.words s.homes kept i (cell_of (length v.view.ends + 1)) z word small r.shown keeping.2
+          r.past.hand false (r.past.ends ++ e ∷ []) r.past.clear r.past.marks (put r.past.passer next v.view.node)
+          (subst (λ q. cells q r.past.hand false r.past.marks (put (cells_in s.words) (cell_of (length v.view.ends + 1)) z)) next_is says)
+          (λ nobody. absurd (held nobody))
+          (λ k few inside. keeping.4 k few (λ out. inside held (subst (λ q. berths.is_out q k) next_is out))))
+          (walk_node r.past r.fine ok above rolled)
+          (λ n a b ne. walk_others r.past r.fine ok above rolled n (r.who n) ne (r.each n a b))
+        where
+          held : r.past.hand ≡ 0 → ⊥
+          held nobody = let h = hand r.past r.fine ok in let l = above in omega arith
+
+      pub passes : (by_node : ℕ) → by_node ≡ r.past.marks next → (rolled : 0 < r.past.marks next) → cells (length v.view.ends + 1) r.past.hand false r.past.marks (put (cells_in s.words) (cell_of (length v.view.ends + 1)) z) → Passes v by_node (walk_entry r.past)
+      passes by_node is rolled says = let k = passed_request r.past r.fine ok above rolled in record {
+        point = refl;
+        passed = refl;
+        request = k.0;
+        at = k.1;
+        is_by = k.2 ∙ sym is;
+        high = subst (λ (t : Terms). k.0.node ≤ t.nodes) (sym ok.who.terms) (r.fine.nodes next k.0 k.1).1;
+        few = subst (λ (t : Terms). length (v.own.passed ++ next ∷ []) + 1 ≤ t.nodes) (sym ok.who.terms)
+            (few_passed cells berths good allows about (record { words = set s.words i z; homes = kept; views = set s.views me (walk_entry r.past ∷ []) }) (walks_rule rolled says) me (walk_entry r.past) (set_here s.views me (walk_entry r.past ∷ []) (elem_within s.views me (v ∷ []) at)) refl);
+        nodes = subst (λ (t : Terms). t.nodes ≤ MOST_NODES) (sym ok.who.terms) r.may_open.nodes.few;
+      }
 
     -- a node that withdrew is one of the line's
     high : 0 < r.past.marks next → r.past.marks next ≤ MOST_NODES
@@ -404,39 +418,45 @@ module _ (cells : Cells) (good : List ℕ → Type 0) (allows : List ℕ → Lis
     ended_walk : Ended v (walk_entry r.past) y
     ended_walk = record { known = (ended_fine r.past r.fine ok above r.past.passer).legal.ended; ends = ap (λ l. l ++ e ∷ []) (sym same_ends); state = refl; count = refl; own_turn = own_turn_of r.past ok }
 
-  module _ (seen withdrawn_by : ℕ → ℕ → ℕ) (change : ℕ → ℕ) (grants : GrantsNext cells seen withdrawn_by (length v.view.ends) (is_cleared v.own.point) change) where
-    pub grants_next : (me slots i : ℕ) (m : Contents) → m ≡ (v ∷ [], (0, y) ∷ []) → i ≡ cell_at (cell_of (length v.view.ends + 1)) → Allows Rule slots me m i change (granted allows seen withdrawn_by (step slots i 0 0 none) m)
-    grants_next me slots i m is word = subst (λ (z : Contents). Allows Rule slots me z i change (granted allows seen withdrawn_by (step slots i 0 0 none) z)) (sym is) (λ s r deep at small.
+  module _ (seen withdrawn_by : ℕ → ℕ → ℕ) (change : ℕ → ℕ) (may_give : MayGive berths) (may_keep : MayKeep berths) (lays_one : LaysOne berths) (grants : GrantsNext cells seen withdrawn_by (length v.view.ends) (is_cleared v.own.point) change) where
+    pub grants_next : (me slots i : ℕ) (m : Contents) (carried : Slots) → m ≡ (v ∷ [], carried) → berths.lays (length v.view.ends) y carried → i ≡ cell_at (cell_of (length v.view.ends + 1)) → Allows Rule slots me m i change (granted allows berths seen withdrawn_by (step slots i 0 0 none) m)
+    grants_next me slots i m carried is laid word = subst (λ (z : Contents). Allows Rule slots me z i change (granted allows berths seen withdrawn_by (step slots i 0 0 none) z)) (sym is) (λ s r deep at small.
         let new : ℕ = change (slice_index s.words i) in
         let found : slice_index s.words i ≡ cells_in s.words (cell_of (length v.view.ends + 1)) = ap (slice_index s.words) word in
-        let step_of = next_is s r me i new at word in
-        let all = grants r.past.hand r.past.marks (cells_in s.words) (far s r me i new at word) (said s r me i new at word) in
+        let step_of = next_is may_give may_keep s r me i new at word in
+        let all = grants r.past.hand r.past.marks (cells_in s.words) (far may_give may_keep s r me i new at word) (said may_give may_keep s r me i new at word) in
+        let mine = ok may_give may_keep s r me i new at word in
+        let up = above may_give may_keep s r me i new at word in
         dite (ℕ_discrete (r.past.marks (length (r.past.ends ++ e ∷ []))) 0)
-        (λ free. let both = all.0 (ap r.past.marks step_of ∙ free) in (
+        (λ free. let both = all.0 (ap r.past.marks step_of ∙ free) in let give = giving may_give may_keep s r me i new at word carried laid in (
           home_entry r.past ∷ [],
-          gives,
-          tt,
-          homes_rule s r me i new at word free (subst (λ k. cells (length v.view.ends + 1) 0 false r.past.marks (put (cells_in s.words) (cell_of (length v.view.ends + 1)) (change k))) (sym found) both.1),
+          give.0,
+          give.1,
+          homes_rule may_give may_keep s r me i new at word carried laid free (subst (λ k. cells (length v.view.ends + 1) 0 false r.past.marks (put (cells_in s.words) (cell_of (length v.view.ends + 1)) (change k))) (sym found) both.1),
           (
-            goes_step allows (v ∷ [], (0, y) ∷ []) v (home_entry r.past) [] refl (learns_home r.past r.fine (ok s r me i new at word) (above s r me i new at word) free) refl,
-            (λ z c. subst (λ (u : Parcel). Ended v (home_entry r.past) u) (ap (carried_parcel y) c) (ended_home s r me i new at word)),
-            (λ _. ((λ z c. refl), goes_home r.past r.fine (ok s r me i new at word) (above s r me i new at word) free)),
+            goes_step allows (v ∷ [], carried) v (home_entry r.past) (carried_after carried give.0) refl (learns_home r.past r.fine mine up free) refl,
+            (λ z c. subst (λ (u : Parcel). Ended v (home_entry r.past) u) (lays_one (length v.view.ends) y z carried laid c) (ended_home may_give may_keep s r me i new at word)),
+            (λ _. (give.3, goes_home r.past r.fine mine up free)),
             (λ ne. absurd (ne (ap (seen (length v.view.ends + 1)) found ∙ both.0))),
           ),
         ))
         (λ ne. let rolled : 0 < r.past.marks (length (r.past.ends ++ e ∷ [])) = omega arith in
         let marked : r.past.marks (length v.view.ends + 1) ≡ r.past.marks (length (r.past.ends ++ e ∷ [])) = ap r.past.marks step_of in
-        let held = (hand r.past r.fine (ok s r me i new at word)) in let up = above s r me i new at word in let some_node : 0 < r.past.hand = omega arith in
-        let told = all.1 (subst (λ k. 0 < k) (sym marked) rolled) (subst (λ k. k ≤ MOST_NODES) (sym marked) (high s r me i new at word rolled)) some_node in
-        let says = subst (λ k. cells (length v.view.ends + 1) r.past.hand false r.past.marks (put (cells_in s.words) (cell_of (length v.view.ends + 1)) (change k))) (sym found) told.2 in (
+        let held = (hand r.past r.fine mine) in let some_node : 0 < r.past.hand = omega arith in
+        let told = all.1 (subst (λ k. 0 < k) (sym marked) rolled) (subst (λ k. k ≤ MOST_NODES) (sym marked) (high may_give may_keep s r me i new at word rolled)) some_node in
+        let says = subst (λ k. cells (length v.view.ends + 1) r.past.hand false r.past.marks (put (cells_in s.words) (cell_of (length v.view.ends + 1)) (change k))) (sym found) told.2 in
+        let keep = keeping may_give may_keep s r me i new at word carried laid in (
           walk_entry r.past ∷ [],
-          keeps,
-          tt,
-          walks_rule s r me i new at word rolled says,
+          keep.0,
+          keep.1,
+          walks_rule may_give may_keep s r me i new at word carried laid rolled says,
           (
-            goes_step allows (v ∷ [], (0, y) ∷ []) v (walk_entry r.past) ((0, y) ∷ []) refl (learns_walk r.past r.fine (ok s r me i new at word) (above s r me i new at word) rolled) refl,
-            (λ z c. subst (λ (u : Parcel). Ended v (walk_entry r.past) u) (ap (carried_parcel y) c) (ended_walk s r me i new at word)),
+            goes_step allows (v ∷ [], carried) v (walk_entry r.past) (carried_after carried keep.0) refl (learns_walk r.past r.fine mine up rolled) refl,
+            (λ z c. subst (λ (u : Parcel). Ended v (walk_entry r.past) u) (lays_one (length v.view.ends) y z carried laid c) (ended_walk may_give may_keep s r me i new at word)),
             (λ z. absurd (told.0 (ap (seen (length v.view.ends + 1)) (sym found) ∙ z))),
-            (λ _. (refl, passes s r me i new at word (withdrawn_by (length v.view.ends + 1) (slice_index s.words i)) (ap (withdrawn_by (length v.view.ends + 1)) found ∙ told.1 ∙ marked) rolled says)),
+            (λ _. (
+              (λ z c. subst (λ (u : Parcel). berths.brings (length v.view.ends + 1) u (carried_after carried keep.0)) (lays_one (length v.view.ends) y z carried laid c) keep.3),
+              passes may_give may_keep s r me i new at word carried laid (withdrawn_by (length v.view.ends + 1) (slice_index s.words i)) (ap (withdrawn_by (length v.view.ends + 1)) found ∙ told.1 ∙ marked) rolled says,
+            )),
           ),
         )))

@@ -22,10 +22,9 @@ use Rattle.array_line.specs.declared.words.TheConstants.{CELLS}
 use Rattle.array_line.specs.Words.{word_count, ticket_at, node_at, cell_at, cells_in}
 use Rattle.shared_line.specs.declared.rule.Setup.{Setup}
 use Rattle.shared_line.specs.declared.rule.Parcel.{Parcel}
+use Rattle.array_line.specs.Berths.{Berths, Homes, IsAtHome}
 use Rattle.array_line.specs.Array.{ArrayEntry, ArrayState, At, Cells, Past, NodeOk, PastOk, Shown, ArrayRule}
 
-abbrev pub Homes : Type 0
-Homes = List (maybe.Option Parcel)
 
 -- a word that is no cell's changes none
 pub cells_else : (words : List ℕ) (i z : ℕ) → ((c : ℕ) → cell_at c ≢ i) → cells_in (set words i z) ≡ cells_in words
@@ -40,13 +39,13 @@ cells_put words q z wide small = λ j c. each c j
         (λ e. ap (λ k. slice_index (set words (cell_at q) z) (cell_at k)) e ∙ get_or-set_same words (cell_at q) z 0 (omega arith) ∙ sym (ap (put (cells_in words) q z) e ∙ put_here (cells_in words) q z))
         (λ ne. get_or-set_other words (cell_at q) (cell_at c) z 0 (λ e. ne (omega arith)) ∙ sym (put_else (cells_in words) q z c ne))
 
-module _ (cells : Cells) (good : List ℕ → Type 0) (allows : List ℕ → List ℕ → Type 0) (about : Setup) where
+module _ (cells : Cells) (berths : Berths) (good : List ℕ → Type 0) (allows : List ℕ → List ℕ → Type 0) (about : Setup) where
   abbrev Rule : ArrayState → Type 0
-  Rule = ArrayRule cells good allows about
+  Rule = ArrayRule cells berths good allows about
 
   -- the seat `me`, which has the entry v alone, gets w, and the history becomes x
   pub rule_step : (s : ArrayState) (r : Rule s) (me : ℕ) (v w : ArrayEntry) (x : Past) (words : List ℕ) (homes : Homes) → get_elem? s.views me ≡ some (v ∷ []) → w.view.node ≡ v.view.node
-      → PastOk good allows about x → Shown cells good allows about x words homes → NodeOk about x v.view.node w
+      → PastOk good allows about x → Shown cells berths good allows about x words homes → NodeOk about x v.view.node w
       → ((n : ℕ) → 0 < n → n ≤ about.terms.nodes → n ≢ v.view.node → NodeOk about x n (r.who n))
       → Rule record { words = words; homes = homes; views = set s.views me (w ∷ []) }
   rule_step s r me v w x words homes at same fine shown mine others = record {
@@ -92,7 +91,7 @@ module _ (cells : Cells) (good : List ℕ → Type 0) (allows : List ℕ → Lis
       (λ ne. let k = r.fine.marked (length r.past.ends + CELLS) (omega arith) in let h = slice_get_within r.past.order (length r.past.ends + CELLS) k.0 k.1 in let w = window s r in let f = r.may_open.nodes.few in absurd (omega arith))
 
   -- the word of a node changes
-  pub flag_shown : (x : Past) (clear : List Request) (words : List ℕ) (homes : Homes) (i n b : ℕ) → i ≡ node_at n → 0 < n → n ≤ MOST_NODES → Shown cells good allows about x words homes → Shown cells good allows about (record x { clear = clear; flags = put x.flags n b }) (set words i b) homes
+  pub flag_shown : (x : Past) (clear : List Request) (words : List ℕ) (homes : Homes) (i n b : ℕ) → i ≡ node_at n → 0 < n → n ≤ MOST_NODES → Shown cells berths good allows about x words homes → Shown cells berths good allows about (record x { clear = clear; flags = put x.flags n b }) (set words i b) homes
   flag_shown x clear words homes i n b is low high h = record {
     wide = length-set words i b ∙ h.wide;
     deep = h.deep;
@@ -102,18 +101,21 @@ module _ (cells : Cells) (good : List ℕ → Type 0) (allows : List ℕ → Lis
         (λ e. ap (λ q. slice_index (set words i b) q) (ap node_at e ∙ sym is) ∙ get_or-set_same words i b 0 (let w = h.wide in omega arith) ∙ sym (ap (put x.flags n b) e ∙ put_here x.flags n b))
         (λ ne. get_or-set_other words i (node_at k) b 0 (λ q. ne (omega arith)) ∙ h.flags k a c ∙ sym (put_else x.flags n b k ne));
     home = h.home;
+    spare = h.spare;
   }
 
   -- the word of a cell changes, and the history
-  pub cell_shown : (x : Past) (words : List ℕ) (homes homes' : Homes) (i c z : ℕ) → i ≡ cell_at c → c < CELLS → Shown cells good allows about x words homes → length homes' ≡ length homes
+  pub cell_shown : (x : Past) (words : List ℕ) (homes homes' : Homes) (i c z : ℕ) → i ≡ cell_at c → c < CELLS → Shown cells berths good allows about x words homes → length homes' ≡ length homes
       → (hand : ℕ) (cleared : Bool) (ends : List End) (clear : List Request) (marks passer : ℕ → ℕ) → cells (length ends) hand cleared marks (put (cells_in words) c z)
-      → (hand ≡ 0 → (y : Parcel) × (get_elem? homes' 0 ≡ some (some y)) × (y.bytes.bytes ≡ bytes_after about.terms.opening.bytes ends) × (y.closed ≡ is_closed ends) × (y.turns_left ≡ turns_left about.terms.lease ends))
-      → Shown cells good allows about (record x { hand = hand; cleared = cleared; ends = ends; clear = clear; marks = marks; passer = passer }) (set words i z) homes'
-  cell_shown x words homes homes' i c z is small h deep hand cleared ends clear marks passer said home = record {
+      → (hand ≡ 0 → (y : Parcel) × (get_elem? homes' (berths.lies (length ends)) ≡ some (some y)) × (y.bytes.bytes ≡ bytes_after about.terms.opening.bytes ends) × (y.closed ≡ is_closed ends) × (y.turns_left ≡ turns_left about.terms.lease ends))
+      → ((k : ℕ) → k < berths.count → (hand ≢ 0 → berths.is_out (length ends) k → ⊥) → IsAtHome homes' k)
+      → Shown cells berths good allows about (record x { hand = hand; cleared = cleared; ends = ends; clear = clear; marks = marks; passer = passer }) (set words i z) homes'
+  cell_shown x words homes homes' i c z is small h deep hand cleared ends clear marks passer said home spare = record {
     wide = length-set words i z ∙ h.wide;
     deep = deep ∙ h.deep;
     ticket = get_or-set_other words i ticket_at z 0 (λ e. omega arith) ∙ h.ticket;
     said = subst (cells (length ends) hand cleared marks) (sym (ap (λ k. cells_in (set words k z)) is ∙ cells_put words c z h.wide small)) said;
     flags = λ n a b. get_or-set_other words i (node_at n) z 0 (λ e. omega arith) ∙ h.flags n a b;
     home = home;
+    spare = spare;
   }

@@ -1,5 +1,5 @@
 -- The table at the end, when one seat has all entries and no request is open.
-use Rattle.std.proofs.Common.{◌≡◌, ◌⊎◌, inl, inr, ⊎_elim, ℕ, ◌<◌, ◌≤◌, List, length, map, true, sym, refl, ap, ◌∙◌, subst, arith}
+use Rattle.std.proofs.Common.{◌≡◌, ◌⊎◌, inl, inr, ⊎_elim, ℕ, ◌<◌, ◌≤◌, List, length, slice_index, map, true, sym, refl, ap, ◌∙◌, subst, arith}
 use mathlib.Core.Logic.{dite}
 use mathlib.Core.Option.{some}
 use native.Mathlib.Decide.{ℕ_discrete}
@@ -22,6 +22,8 @@ use Rattle.array_line.specs.declared.own.Own.{Own}
 use Rattle.array_line.specs.Stances.{rests}
 use Rattle.shared_line.specs.declared.rule.Setup.{Setup}
 use Rattle.shared_line.specs.declared.rule.Parcel.{Parcel}
+use Rattle.array_line.specs.Words.{ticket_at, ticket_of}
+use Rattle.array_line.specs.Berths.{Berths}
 use Rattle.array_line.specs.Array.{ArrayEntry, ArrayState, At, Cells, NodeOk, ArrayRule, has_line}
 use Rattle.array_line.proofs.Histories.{one_history}
 
@@ -35,9 +37,9 @@ stands_still mark_of shows.Left mark own may h = absurd h
 stands_still mark_of shows.Rolled mark own may h = inr h
 stands_still mark_of shows.Shut mark own may h = inl h
 
-module _ (cells : Cells) (good : List ℕ → Type 0) (allows : List ℕ → List ℕ → Type 0) (about : Setup) (entries : List ArrayEntry) (mark_of : ℕ → ℕ) (at_rest : AllRest (rests mark_of) about.terms.nodes entries) where
+module _ (cells : Cells) (berths : Berths) (good : List ℕ → Type 0) (allows : List ℕ → List ℕ → Type 0) (about : Setup) (entries : List ArrayEntry) (mark_of : ℕ → ℕ) (at_rest : AllRest (rests mark_of) about.terms.nodes entries) where
   abbrev Rule : ArrayState → Type 0
-  Rule = ArrayRule cells good allows about
+  Rule = ArrayRule cells berths good allows about
 
   module _ (id : ℕ) (s : ArrayState) (r : Rule s) (at : get_elem? s.views id ≡ some entries) where
     -- the node n is at rest
@@ -63,7 +65,7 @@ module _ (cells : Cells) (good : List ℕ → Type 0) (allows : List ℕ → Lis
     all_ended = let le = r.fine.legal.ended in dite (ℕ_discrete (length r.past.ends) (length r.past.order)) (λ e. e)
         (λ ne. let q = element_at r.past.order (length r.past.ends) (omega arith) in absurd (no_turn q.0 q.1))
 
-    pub finishes : (y : Parcel) × (get_elem? s.homes 0 ≡ some (some y)) × IsLast good allows about.terms (views_of entries) y.bytes.bytes
+    pub finishes : (y : Parcel) × (get_elem? s.homes (berths.lies (length r.past.ends)) ≡ some (some y)) × IsLast good allows about.terms (views_of entries) y.bytes.bytes
     finishes = let y = r.shown.home nobody in (
       y.0,
       y.1,
@@ -85,5 +87,7 @@ module _ (cells : Cells) (good : List ℕ → Type 0) (allows : List ℕ → Lis
         among : (v : View) → IsAmong (map (λ (e : ArrayEntry). e.view) entries) v → (n : ℕ) × (e : ArrayEntry) × (e.view ≡ v) × NodeOk about r.past n e
         among v i = let p = among_map_port (λ (e : ArrayEntry). e.view) entries v i in (p.1.view.node, p.1, sym p.3, ok p.0 p.1 p.2)
 
-  pub final_line : (id : ℕ) (words : List ℕ) (xs : List Parcel) → Final (λ s. Rule s × (get_elem? s.views id ≡ some entries)) words xs → (y : Parcel) × (get_elem? xs 0 ≡ some y) × IsLast good allows about.terms (views_of entries) y.bytes.bytes
-  final_line id words xs f = let s = f.0 in let h = f.1 in let t = finishes id s h.0 h.1 in (t.0, f.4 0 t.0 t.1, t.2)
+  pub final_line : (last : List ℕ → ℕ) → ((words : List ℕ) (n : ℕ) → slice_index words ticket_at ≡ ticket_of n → last words ≡ berths.lies n) → (id : ℕ) (words : List ℕ) (xs : List Parcel) → Final (λ s. Rule s × (get_elem? s.views id ≡ some entries)) words xs → (y : Parcel) × (get_elem? xs (last words) ≡ some y) × IsLast good allows about.terms (views_of entries) y.bytes.bytes
+  final_line last is_last id words xs f = let s = f.0 in let h = f.1 in let r = h.0 in let t = finishes id s r h.1 in
+      let same : last words ≡ berths.lies (length r.past.ends) = is_last words (length r.past.ends) (subst (λ ws. slice_index ws ticket_at ≡ ticket_of (length r.past.ends)) f.2 (r.shown.ticket ∙ ap ticket_of (sym (all_ended id s r h.1)))) in
+      (t.0, subst (λ k. get_elem? xs k ≡ some t.0) (sym same) (f.4 (berths.lies (length r.past.ends)) t.0 t.1), t.2)

@@ -3,6 +3,7 @@ pub mod Nodes
 pub mod Turning
 pub mod Releasing
 pub mod Standing
+pub mod Slots
 pub mod Histories
 pub mod Seats
 pub mod Meets

@@ -5,27 +5,29 @@ use mathlib.Core.Option.{none, some}
 use native.Mathlib.Decide.{ℕ_discrete}
 use lib.ListN.{get_elem?}
 use lib.Seq.{set-get_or}
-use Rattle.atomic_table.specs.Table.{step, keeps, takes, Allows}
+use Rattle.atomic_table.specs.Table.{step, keeps, carried_after, Allows}
 use Rattle.qolb_model.specs.declared.answer.PortState.TheVariants as shows
 use Rattle.qolb_model.specs.Sound.{Continues}
 use Rattle.array_line.specs.declared.own.Point.TheVariants.{Queued}
 use Rattle.shared_line.specs.declared.rule.Setup.{Setup}
 use Rattle.array_line.specs.Words.{cell_at, cells_in, cell_of}
+use Rattle.array_line.specs.Berths.{Berths}
 use Rattle.array_line.specs.Array.{ArrayEntry, ArrayState, Cells, NodeOk, ArrayRule, has_line, lets_go, is_kept}
-use Rattle.array_line.specs.Steps.{sole, Contents, IsEarly, Comes, loaded}
+use Rattle.array_line.specs.Steps.{Contents, IsEarly, Comes, loaded}
 use Rattle.array_line.proofs.Nodes.{learned, learned_ok}
 use Rattle.array_line.proofs.Histories.{not_withdrawn, continues}
 use Rattle.array_line.proofs.Keeping.{rule_step, mine_ok, few_open}
-use Rattle.array_line.proofs.Taking.{Takes, StaysBehind, take_entry, asked_at, near, behind, found_is, home, comes, learns_take, taken_not_waits, taken_rule}
-use Rattle.array_line.proofs.Turning.{goes_step, same_count}
+use Rattle.array_line.proofs.Slots.{MayTake}
+use Rattle.array_line.proofs.Taking.{Takes, StaysBehind, take_entry, asked_at, near, behind, found_is, home, act, brought, comes, learns_take, taken_not_waits, taken_rule}
+use Rattle.array_line.proofs.Turning.{goes_step}
 
-module _ (cells : Cells) (good : List ℕ → Type 0) (allows : List ℕ → List ℕ → Type 0) (about : Setup) (v : ArrayEntry) (queued : v.own.point ≡ Queued) where
+module _ (cells : Cells) (berths : Berths) (good : List ℕ → Type 0) (allows : List ℕ → List ℕ → Type 0) (about : Setup) (v : ArrayEntry) (queued : v.own.point ≡ Queued) where
   abbrev Rule : ArrayState → Type 0
-  Rule = ArrayRule cells good allows about
+  Rule = ArrayRule cells berths good allows about
 
   module _ (s : ArrayState) (r : Rule s) (me i : ℕ) (at : get_elem? s.views me ≡ some (v ∷ [])) (word : i ≡ cell_at (cell_of v.own.place)) where
     pub ok : NodeOk about r.past v.view.node v
-    ok = mine_ok cells good allows about s r me v at
+    ok = mine_ok cells berths good allows about s r me v at
 
     abbrev pub wait_entry : ArrayEntry
     wait_entry = learned about r.past v.view.node v ok shows.Queued
@@ -35,7 +37,7 @@ module _ (cells : Cells) (good : List ℕ → Type 0) (allows : List ℕ → Lis
 
     pub waits_rule : Rule record { words = set s.words i (slice_index s.words i); homes = s.homes; views = set s.views me (wait_entry ∷ []) }
     waits_rule = subst (λ ws. Rule record { words = ws; homes = s.homes; views = set s.views me (wait_entry ∷ []) }) (sym (set-get_or s.words i 0))
-        (rule_step cells good allows about s r me v wait_entry r.past s.words s.homes at refl r.fine r.shown wait_ok (λ n a b ne. r.each n a b))
+        (rule_step cells berths good allows about s r me v wait_entry r.past s.words s.homes at refl r.fine r.shown wait_ok (λ n a b ne. r.each n a b))
 
     pub learns_wait : Continues allows v.view wait_entry.view
     learns_wait = continues good allows about r.past r.past r.fine v.view.node v.view.node v wait_entry ok wait_ok refl ok.knows.orders ok.knows.endings ok.knows.clears (λ q h. h) (λ q h. h) (λ q h. h)
@@ -45,37 +47,37 @@ module _ (cells : Cells) (good : List ℕ → Type 0) (allows : List ℕ → Lis
       stands = (queued, refl);
       queued = record {
         state = refl;
-        waits = (v.own.place, (let w = ok.stance.queued queued in omega arith), asked_at cells good allows about v queued r.past ok);
-        near = few_open cells good allows about s r v.view.terms ok.who.terms;
+        waits = (v.own.place, (let w = ok.stance.queued queued in omega arith), asked_at cells berths good allows about v queued r.past ok);
+        near = few_open cells berths good allows about s r v.view.terms ok.who.terms;
         unmarked = not_withdrawn good allows about r.past r.fine v.view.node v ok (ap is_kept queued);
       };
     }
 
-  module _ (mark_of : ℕ → ℕ) (waits comes_to : ℕ → ℕ → Type 0) (takes_line : Takes cells waits v.own.place v.view.node (λ n. n)) (stays : StaysBehind cells comes_to v.own.place) where
-    pub loads_next : (me slots i : ℕ) (m : Contents) → m.0 ≡ v ∷ [] → i ≡ cell_at (cell_of v.own.place) → Allows Rule slots me m i (λ n. n) (loaded allows mark_of waits comes_to (step slots i 0 0 none) m)
-    loads_next me slots i m is word s r deep at small = let at' : get_elem? s.views me ≡ some (v ∷ []) = at ∙ ap some is in dite (ℕ_discrete v.own.place (length r.past.ends))
-        (λ here. let y = home cells good allows about v queued s r me i at' word here in (
-          take_entry cells good allows about v queued r.past ∷ [],
-          takes 0 y.0,
-          y.1,
-          taken_rule cells good allows about v queued s r me i at' word here waits (λ n. n) takes_line,
+  module _ (mark_of : ℕ → ℕ) (waits comes_to : ℕ → ℕ → Type 0) (may_take : MayTake berths) (takes_line : Takes cells waits v.own.place v.view.node (λ n. n)) (stays : StaysBehind cells comes_to v.own.place) where
+    pub loads_next : (me slots i : ℕ) (m : Contents) → m ≡ (v ∷ [], []) → i ≡ cell_at (cell_of v.own.place) → Allows Rule slots me m i (λ n. n) (loaded allows mark_of berths waits comes_to (step slots i 0 0 none) m)
+    loads_next me slots i m is word = subst (λ (z : Contents). Allows Rule slots me z i (λ n. n) (loaded allows mark_of berths waits comes_to (step slots i 0 0 none) z)) (sym is) (λ s r deep at small. dite (ℕ_discrete v.own.place (length r.past.ends))
+        (λ here. let y = home cells berths good allows about v queued s r me i at word may_take here in let taking = act cells berths good allows about v queued s r me i at word may_take here in (
+          take_entry cells berths good allows about v queued r.past ∷ [],
+          taking.0,
+          taking.1,
+          taken_rule cells berths good allows about v queued s r me i at word may_take here waits (λ n. n) takes_line,
           (
-            goes_step allows m v (take_entry cells good allows about v queued r.past) ((0, y.0) ∷ m.1) is (learns_take cells good allows about v queued s r me i at' word here) refl,
-            same_count m v (take_entry cells good allows about v queued r.past) is refl,
-            (λ w. absurd (taken_not_waits cells good allows about v queued s r me i at' word here waits (λ n. n) takes_line (subst (λ u. waits (sole u).own.place (slice_index s.words i)) is w))),
-            (λ _. (y.0, refl, subst (λ u. Comes mark_of (mark_of (sole u).own.place) (take_entry cells good allows about v queued r.past) y.0) (sym is) (comes cells good allows about v queued s r me i at' word here mark_of))),
+            goes_step allows (v ∷ [], []) v (take_entry cells berths good allows about v queued r.past) (carried_after [] taking.0) refl (learns_take cells berths good allows about v queued s r me i at word may_take here) refl,
+            refl,
+            (λ w. absurd (taken_not_waits cells berths good allows about v queued s r me i at word may_take here waits (λ n. n) takes_line w)),
+            (λ _. (y.0, brought cells berths good allows about v queued s r me i at word may_take here, comes cells berths good allows about v queued s r me i at word may_take here mark_of)),
           ),
         ))
-        (λ later. let b = behind cells good allows about v queued s r me i at' word later in (
-          wait_entry s r me i at' word ∷ [],
+        (λ later. let b = behind cells berths good allows about v queued s r me i at word later in (
+          wait_entry s r me i at word ∷ [],
           keeps,
           tt,
-          waits_rule s r me i at' word,
+          waits_rule s r me i at word,
           (
-            goes_step allows m v (wait_entry s r me i at' word) m.1 is (learns_wait s r me i at' word) refl,
-            same_count m v (wait_entry s r me i at' word) is refl,
-            (λ _. (refl, subst (λ u. IsEarly mark_of (mark_of (sole u).own.place) (wait_entry s r me i at' word)) (sym is) (early s r me i at' word mark_of later))),
-            (λ c. absurd (stays (length r.past.ends) r.past.hand r.past.cleared r.past.marks (cells_in s.words) b.0 (near cells good allows about v queued s r me i at' word) b.1 r.shown.said
-                (subst (comes_to v.own.place) (found_is cells good allows about v queued s r me i at' word) (subst (λ u. comes_to (sole u).own.place (slice_index s.words i)) is c)))),
+            goes_step allows (v ∷ [], []) v (wait_entry s r me i at word) [] refl (learns_wait s r me i at word) refl,
+            refl,
+            (λ _. (refl, early s r me i at word mark_of later)),
+            (λ c. absurd (stays (length r.past.ends) r.past.hand r.past.cleared r.past.marks (cells_in s.words) b.0 (near cells berths good allows about v queued s r me i at word) b.1 r.shown.said
+                (subst (comes_to v.own.place) (found_is cells berths good allows about v queued s r me i at word) c))),
           ),
-        ))
+        )))

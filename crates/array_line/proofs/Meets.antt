@@ -4,7 +4,7 @@ use mathlib.Core.List.{IsPrefix}
 use mathlib.Core.Option.{none, some}
 use lib.ListN.{get_elem?}
 use lib.Seq.{set-get_or}
-use Rattle.atomic_table.specs.Table.{step, keeps, gives, put_back, rest, Allows}
+use Rattle.atomic_table.specs.Table.{step, keeps, homes_after, Allows}
 use Rattle.atomic_table.proofs.Lists.{set_again}
 use Rattle.qolb_model.specs.declared.answer.PortState.TheVariants as shows
 use Rattle.qolb_model.specs.declared.end.End.{End}
@@ -24,6 +24,8 @@ use Rattle.shared_line.specs.Steps.{informed, met, parked}
 use Rattle.array_line.specs.Stances.{fresh}
 use Rattle.shared_line.specs.declared.rule.Setup.{Setup}
 use Rattle.shared_line.specs.declared.rule.Parcel.{Parcel}
+use Rattle.array_line.specs.Berths.{Berths}
+use Rattle.array_line.proofs.Slots.{MayPark}
 use Rattle.array_line.specs.Array.{ArrayEntry, ArrayState, Cells, Past, NodeOk, PastOk, ArrayRule}
 use Rattle.array_line.specs.Steps.{Contents}
 use Rattle.array_line.proofs.OneNode.{passed_goes}
@@ -89,9 +91,9 @@ module _ (good : List ℕ → Type 0) (allows : List ℕ → List ℕ → Type 0
   pair_history : (x : Past) → PastOk good allows about x → (n m : ℕ) (v u : ArrayEntry) → NodeOk about x n v → NodeOk about x m u → OneHistory (v.view ∷ u.view ∷ [])
   pair_history x f n m v u a b = one_history good allows about x f (v.view ∷ u.view ∷ []) (λ w i. elim (among_two v.view u.view w i) [ inl e ↦ (n, v, sym e, a) | inr e ↦ (m, u, sym e, b) ])
 
-module _ (cells : Cells) (good : List ℕ → Type 0) (allows : List ℕ → List ℕ → Type 0) (about : Setup) where
+module _ (cells : Cells) (berths : Berths) (good : List ℕ → Type 0) (allows : List ℕ → List ℕ → Type 0) (about : Setup) where
   abbrev Rule : ArrayState → Type 0
-  Rule = ArrayRule cells good allows about
+  Rule = ArrayRule cells berths good allows about
 
   -- two entries of one seat, which tell each other what they know
   module _ (s : ArrayState) (r : Rule s) (me : ℕ) (v u : ArrayEntry) (at : get_elem? s.views me ≡ some (v ∷ u ∷ [])) where
@@ -157,19 +159,20 @@ module _ (cells : Cells) (good : List ℕ → Type 0) (allows : List ℕ → Lis
         ),
       )
 
-  -- the holder's slot goes home, for a moment
-  pub parks_next : (me slots i : ℕ) (m : Contents) (v : ArrayEntry) (y : Parcel) → m.0 ≡ v ∷ [] → v.view.state ≡ shows.Holding → m.1 ≡ (0, y) ∷ [] → Allows Rule slots me m i (λ n. n) (parked (step slots i 0 0 none) m)
-  parks_next me slots i m v y is holding carried s r deep at small =
+  -- the holder's slots go home, for a moment
+  pub parks_next : (me slots i : ℕ) (m : Contents) (v : ArrayEntry) → m.0 ≡ v ∷ [] → v.view.state ≡ shows.Holding → MayPark berths m.1 → Allows Rule slots me m i (λ n. n) (parked (step slots i 0 0 none) m)
+  parks_next me slots i m v is holding may_park s r deep at small =
+      let park = may_park s.homes r.shown.deep in
       let at' : get_elem? s.views me ≡ some (v ∷ []) = at ∙ ap some is in
       let mb = r.members me 0 (v ∷ []) v at' refl in
       let ok : NodeOk about r.past v.view.node v = subst (NodeOk about r.past v.view.node) mb.is (r.each v.view.node mb.low mb.high) in
       let mine = (ok.hand.holds (ok.hand.holder holding).0).1 in
       let low = mb.low in (
         m.0,
-        gives,
-        tt,
-        subst (λ (z : List ℕ × List (ℕ × Parcel) × List (List ArrayEntry)). Rule record { words = z.0; homes = put_back s.homes z.1; views = z.2 })
-            (λ j. (sym (set-get_or s.words i 0) j, sym carried j, sym (set_again s.views me m.0 at) j))
+        park.0,
+        park.1,
+        subst (λ (z : List ℕ × List (List ArrayEntry)). Rule record { words = z.0; homes = homes_after s.homes m.1 park.0; views = z.1 })
+            (λ j. (sym (set-get_or s.words i 0) j, sym (set_again s.views me m.0 at) j))
             record {
               past = r.past;
               who = r.who;
@@ -177,9 +180,9 @@ module _ (cells : Cells) (good : List ℕ → Type 0) (allows : List ℕ → Lis
               may_open = r.may_open;
               line = r.line;
               fine = r.fine;
-              shown = record { wide = r.shown.wide; deep = length-set s.homes 0 (some y) ∙ r.shown.deep; ticket = r.shown.ticket; said = r.shown.said; flags = r.shown.flags; home = λ e. let l = mine in absurd (omega arith) };
+              shown = record { wide = r.shown.wide; deep = park.2 ∙ r.shown.deep; ticket = r.shown.ticket; said = r.shown.said; flags = r.shown.flags; home = λ e. let l = mine in absurd (omega arith); spare = λ k few out. park.4 k (r.shown.spare k few out) };
               each = r.each;
               members = r.members;
             },
-        (refl, ap rest carried),
+        (refl, park.3),
       )

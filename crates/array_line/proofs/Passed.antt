@@ -11,6 +11,7 @@ use Rattle.shared_line.specs.Entries.{node_of}
 use Rattle.array_line.specs.declared.own.Point.TheVariants.{Rolled}
 use Rattle.shared_line.specs.declared.rule.Setup.{Setup}
 use Rattle.qolb_model.specs.Entries.{Member}
+use Rattle.array_line.specs.Berths.{Berths}
 use Rattle.array_line.specs.Array.{ArrayEntry, ArrayState, At, Cells, Past, NodeOk, ArrayRule, lets_go}
 use Rattle.array_line.proofs.Keeping.{mine_ok}
 
@@ -31,8 +32,8 @@ passers_length : (marks : ℕ → ℕ) (ps : List ℕ) → length (passers marks
 passers_length marks [] = refl
 passers_length marks (p ∷ ps) = ap suc (passers_length marks ps)
 
-module _ (cells : Cells) (good : List ℕ → Type 0) (allows : List ℕ → List ℕ → Type 0) (about : Setup) where
-  pub few_passed : (s : ArrayState) (r : ArrayRule cells good allows about s) (me : ℕ) (v : ArrayEntry) → get_elem? s.views me ≡ some (v ∷ []) → lets_go v.own.point ≡ true → length v.own.passed + 1 ≤ about.terms.nodes
+module _ (cells : Cells) (berths : Berths) (good : List ℕ → Type 0) (allows : List ℕ → List ℕ → Type 0) (about : Setup) where
+  pub few_passed : (s : ArrayState) (r : ArrayRule cells berths good allows about s) (me : ℕ) (v : ArrayEntry) → get_elem? s.views me ≡ some (v ∷ []) → lets_go v.own.point ≡ true → length v.own.passed + 1 ≤ about.terms.nodes
   few_passed s r me v at walks = let few = few_if_once about.terms.nodes (by_node v.view.node ∷ passers x.marks v.own.passed) nodes (λ k a b. count_once k (by_node v.view.node ∷ passers x.marks v.own.passed) (once k a b)) in
       let l = passers_length x.marks v.own.passed in omega arith
     where
@@ -43,7 +44,7 @@ module _ (cells : Cells) (good : List ℕ → Type 0) (allows : List ℕ → Lis
       member = r.members me 0 (v ∷ []) v at refl
 
       ok : NodeOk about r.past v.view.node v
-      ok = mine_ok cells good allows about s r me v at
+      ok = mine_ok cells berths good allows about s r me v at
 
       -- the node of a passed place
       marked : (i p : ℕ) → At v.own.passed i p → (q : Request) × At r.past.order p q × (q.node ≡ r.past.marks p) × Lacks r.past.clear q

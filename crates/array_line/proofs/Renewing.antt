@@ -13,6 +13,7 @@ use Rattle.qolb_model.proofs.Updates.{put, put_here}
 use Rattle.array_line.specs.declared.own.Point.TheVariants.{Rolled}
 use Rattle.shared_line.specs.declared.rule.Setup.{Setup}
 use Rattle.array_line.specs.Words.{node_at}
+use Rattle.array_line.specs.Berths.{Berths}
 use Rattle.array_line.specs.Array.{ArrayEntry, ArrayState, At, Cells, Past, NodeOk, PastOk, ArrayRule, has_line, lets_go, is_kept}
 use Rattle.array_line.specs.Steps.{sole, Contents, IsStill, loaded_node, reset, after_reset}
 use Rattle.array_line.proofs.OneNode.{clash_at, placed_at, hand_none}
@@ -27,13 +28,13 @@ use Rattle.qolb_model.proofs.Clearing.{clears_ended}
 abbrev word_of : Bool → ℕ
 word_of b = if b then 1 else 0
 
-module _ (cells : Cells) (good : List ℕ → Type 0) (allows : List ℕ → List ℕ → Type 0) (about : Setup) (v : ArrayEntry) (rolled : v.own.point ≡ Rolled) where
+module _ (cells : Cells) (berths : Berths) (good : List ℕ → Type 0) (allows : List ℕ → List ℕ → Type 0) (about : Setup) (v : ArrayEntry) (rolled : v.own.point ≡ Rolled) where
   abbrev Rule : ArrayState → Type 0
-  Rule = ArrayRule cells good allows about
+  Rule = ArrayRule cells berths good allows about
 
   module _ (s : ArrayState) (r : Rule s) (me i : ℕ) (at : get_elem? s.views me ≡ some (v ∷ [])) (word : i ≡ node_at v.view.node) where
     ok : NodeOk about r.past v.view.node v
-    ok = mine_ok cells good allows about s r me v at
+    ok = mine_ok cells berths good allows about s r me v at
 
     abbrev still_entry : ArrayEntry
     still_entry = learned about r.past v.view.node v ok v.view.state
@@ -43,10 +44,10 @@ module _ (cells : Cells) (good : List ℕ → Type 0) (allows : List ℕ → Lis
 
     still_rule : Rule record { words = set s.words i (slice_index s.words i); homes = s.homes; views = set s.views me (still_entry ∷ []) }
     still_rule = subst (λ ws. Rule record { words = ws; homes = s.homes; views = set s.views me (still_entry ∷ []) }) (sym (set-get_or s.words i 0))
-        (rule_step cells good allows about s r me v still_entry r.past s.words s.homes at refl r.fine r.shown still_ok (λ n a b ne. r.each n a b))
+        (rule_step cells berths good allows about s r me v still_entry r.past s.words s.homes at refl r.fine r.shown still_ok (λ n a b ne. r.each n a b))
 
     found : slice_index s.words i ≡ (if has r.past.clear (own v.view) then 1 else 0)
-    found = let l = mine_low cells good allows about s r me v at in let f = r.may_open.nodes.few in let low = l.0 in let high = l.1 in ap (slice_index s.words) word ∙ r.shown.flags v.view.node low (omega arith) ∙ ok.flag.rolled rolled
+    found = let l = mine_low cells berths good allows about s r me v at in let f = r.may_open.nodes.few in let low = l.0 in let high = l.1 in ap (slice_index s.words) word ∙ r.shown.flags v.view.node low (omega arith) ∙ ok.flag.rolled rolled
 
     is_still : IsStill v (slice_index s.words i) still_entry
     is_still = record {
@@ -133,10 +134,10 @@ module _ (cells : Cells) (good : List ℕ → Type 0) (allows : List ℕ → Lis
       reset_entry ∷ [],
       keeps,
       tt,
-      rule_step cells good allows about s r me v reset_entry (reset_past r.past) (set s.words i 0) s.homes at' refl
+      rule_step cells berths good allows about s r me v reset_entry (reset_past r.past) (set s.words i 0) s.homes at' refl
           (fine_flags good allows about r.past (put r.past.flags v.view.node 0) r.fine)
-          (flag_shown cells good allows about r.past r.past.clear s.words s.homes i v.view.node 0 word low.0 (let l = low.1 in let f = r.may_open.nodes.few in omega arith) r.shown)
-          (reset_node r.past r.fine (mine_ok cells good allows about s r me v at'))
+          (flag_shown cells berths good allows about r.past r.past.clear s.words s.homes i v.view.node 0 word low.0 (let l = low.1 in let f = r.may_open.nodes.few in omega arith) r.shown)
+          (reset_node r.past r.fine (mine_ok cells berths good allows about s r me v at'))
           (λ n a b ne. others_reset about r.past n (r.who n) (r.each n a b) v.view.node ne),
       (λ j. (after_reset (sole (sym is j)) ∷ [], m.1)),
     )
@@ -145,4 +146,4 @@ module _ (cells : Cells) (good : List ℕ → Type 0) (allows : List ℕ → Lis
         at' = at ∙ ap some is
 
         low : (0 < v.view.node) × (v.view.node ≤ about.terms.nodes)
-        low = mine_low cells good allows about s r me v at'
+        low = mine_low cells berths good allows about s r me v at'

@@ -5,7 +5,7 @@ use mathlib.Core.Option.{none, some}
 use native.Mathlib.Decide.{ℕ_discrete}
 use lib.ListN.{get_elem?}
 use Rattle.std.proofs.lemmas.Option.{slice_get_within}
-use Rattle.atomic_table.specs.Table.{step, keeps, takes, Allows}
+use Rattle.atomic_table.specs.Table.{step, keeps, carried_after, Allows}
 use Rattle.qolb_model.specs.declared.answer.PortState.TheVariants as shows
 use Rattle.qolb_model.specs.Requests.{Has}
 use Rattle.qolb_model.specs.Views.{own}
@@ -18,23 +18,25 @@ use Rattle.array_line.specs.declared.own.Point.TheVariants.{Queued, Rolled}
 use Rattle.shared_line.specs.declared.rule.Setup.{Setup}
 use Rattle.array_line.specs.declared.words.TheConstants.{CELLS}
 use Rattle.array_line.specs.Words.{cell_at, cells_in, cell_of}
+use Rattle.array_line.specs.Berths.{Berths}
 use Rattle.array_line.specs.Array.{ArrayEntry, ArrayState, At, Cells, Past, NodeOk, PastOk, ArrayRule, has_line, lets_go, is_kept}
-use Rattle.array_line.specs.Steps.{sole, Contents, IsRolled, Comes, rolled}
+use Rattle.array_line.specs.Steps.{Contents, IsRolled, Comes, rolled}
 use Rattle.array_line.proofs.OneNode.{knows_whole, hand_none}
 use Rattle.array_line.proofs.Nodes.{others_roll, passes_none, freed_so}
 use Rattle.array_line.proofs.Histories.{continues}
 use Rattle.array_line.proofs.Keeping.{rule_step, mine_ok, mine_low, few_open, cell_shown}
-use Rattle.array_line.proofs.Taking.{Takes, StaysBehind, take_entry, asked_at, near, behind, found_is, home, comes, learns_take, taken_not_waits, taken_rule}
-use Rattle.array_line.proofs.Turning.{goes_step, same_count}
+use Rattle.array_line.proofs.Slots.{MayTake}
+use Rattle.array_line.proofs.Taking.{Takes, StaysBehind, take_entry, asked_at, near, behind, found_is, home, act, brought, comes, learns_take, taken_not_waits, taken_rule}
+use Rattle.array_line.proofs.Turning.{goes_step}
 
 -- What a queue shows where the node n withdraws its request at this place, which is behind the turn, by a step that changes the cell so.
 abbrev pub Withdraws : Cells → ℕ → ℕ → (ℕ → ℕ) → Type 0
 Withdraws cells place n change = (ended hand : ℕ) (cleared : Bool) (marks says : ℕ → ℕ) → 0 < n → n ≤ MOST_NODES → ended < place → place < ended + CELLS → marks place ≡ 0 → cells ended hand cleared marks says
     → cells ended hand cleared (put marks place n) (put says (cell_of place) (change (says (cell_of place))))
 
-module _ (cells : Cells) (good : List ℕ → Type 0) (allows : List ℕ → List ℕ → Type 0) (about : Setup) (v : ArrayEntry) (queued : v.own.point ≡ Queued) where
+module _ (cells : Cells) (berths : Berths) (good : List ℕ → Type 0) (allows : List ℕ → List ℕ → Type 0) (about : Setup) (v : ArrayEntry) (queued : v.own.point ≡ Queued) where
   abbrev Rule : ArrayState → Type 0
-  Rule = ArrayRule cells good allows about
+  Rule = ArrayRule cells berths good allows about
 
   abbrev pub roll_past : Past → Past
   roll_past x = record x { marks = put x.marks v.own.place v.view.node }
@@ -50,7 +52,7 @@ module _ (cells : Cells) (good : List ℕ → Type 0) (allows : List ℕ → Lis
     elsewhere p ne = put_else x.marks v.own.place v.view.node p ne
 
     placed : At x.order v.own.place (own v.view)
-    placed = asked_at cells good allows about v queued x ok
+    placed = asked_at cells berths good allows about v queued x ok
 
     -- marks only grow
     more : (p : ℕ) → 0 < x.marks p → 0 < put x.marks v.own.place v.view.node p
@@ -110,20 +112,20 @@ module _ (cells : Cells) (good : List ℕ → Type 0) (allows : List ℕ → Lis
   module _ (s : ArrayState) (r : Rule s) (me i z : ℕ) (at : get_elem? s.views me ≡ some (v ∷ [])) (word : i ≡ cell_at (cell_of v.own.place)) (later : v.own.place ≢ length r.past.ends)
       (said : cells (length r.past.ends) r.past.hand r.past.cleared (put r.past.marks v.own.place v.view.node) (put (cells_in s.words) (cell_of v.own.place) z)) where
     ok : NodeOk about r.past v.view.node v
-    ok = mine_ok cells good allows about s r me v at
+    ok = mine_ok cells berths good allows about s r me v at
 
     low : 0 < v.view.node
-    low = (mine_low cells good allows about s r me v at).0
+    low = (mine_low cells berths good allows about s r me v at).0
 
     after : length r.past.ends < v.own.place
     after = let q = ok.stance.queued queued in omega arith
 
     -- the rule once the cell has become z
     pub rolls_rule : Rule record { words = set s.words i z; homes = s.homes; views = set s.views me (roll_entry r.past ∷ []) }
-    rolls_rule = rule_step cells good allows about s r me v (roll_entry r.past) (roll_past r.past) (set s.words i z) s.homes at refl (roll_fine r.past r.fine ok low after)
-        (cell_shown cells good allows about r.past s.words s.homes s.homes i (cell_of v.own.place) z word (mod-lt v.own.place (omega arith)) r.shown refl
-        r.past.hand r.past.cleared r.past.ends r.past.clear (put r.past.marks v.own.place v.view.node) r.past.passer said r.shown.home) (roll_node r.past r.fine ok low after)
-        (λ n a b ne. others_roll about r.past n (r.who n) (r.each n a b) v.view.node v.own.place (own v.view) (asked_at cells good allows about v queued r.past ok) refl low ne)
+    rolls_rule = rule_step cells berths good allows about s r me v (roll_entry r.past) (roll_past r.past) (set s.words i z) s.homes at refl (roll_fine r.past r.fine ok low after)
+        (cell_shown cells berths good allows about r.past s.words s.homes s.homes i (cell_of v.own.place) z word (mod-lt v.own.place (omega arith)) r.shown refl
+        r.past.hand r.past.cleared r.past.ends r.past.clear (put r.past.marks v.own.place v.view.node) r.past.passer said r.shown.home r.shown.spare) (roll_node r.past r.fine ok low after)
+        (λ n a b ne. others_roll about r.past n (r.who n) (r.each n a b) v.view.node v.own.place (own v.view) (asked_at cells berths good allows about v queued r.past ok) refl low ne)
 
     pub learns_roll : Continues allows v.view (roll_entry r.past).view
     learns_roll = continues good allows about r.past (roll_past r.past) (roll_fine r.past r.fine ok low after) v.view.node v.view.node v (roll_entry r.past) ok (roll_node r.past r.fine ok low after) refl
@@ -134,41 +136,41 @@ module _ (cells : Cells) (good : List ℕ → Type 0) (allows : List ℕ → Lis
       stands = refl;
       withdrawn = record {
         state = refl;
-        waits = (v.own.place, after, asked_at cells good allows about v queued r.past ok);
-        near = few_open cells good allows about s r v.view.terms ok.who.terms;
+        waits = (v.own.place, after, asked_at cells berths good allows about v queued r.past ok);
+        near = few_open cells berths good allows about s r v.view.terms ok.who.terms;
         marked = has_last v.view.marked (own v.view);
       };
     }
 
-  module _ (mark_of : ℕ → ℕ) (waits comes_to : ℕ → ℕ → Type 0) (change : ℕ → ℕ) (takes_line : Takes cells waits v.own.place v.view.node change) (stays : StaysBehind cells comes_to v.own.place) (withdraws : Withdraws cells v.own.place v.view.node change) where
-    pub rolls_next : (me slots i : ℕ) (m : Contents) → m.0 ≡ v ∷ [] → i ≡ cell_at (cell_of v.own.place) → Allows Rule slots me m i change (rolled allows mark_of waits comes_to (step slots i 0 0 none) m)
-    rolls_next me slots i m is word s r deep at small = let at' : get_elem? s.views me ≡ some (v ∷ []) = at ∙ ap some is in dite (ℕ_discrete v.own.place (length r.past.ends))
-        (λ here. let y = home cells good allows about v queued s r me i at' word here in (
-          take_entry cells good allows about v queued r.past ∷ [],
-          takes 0 y.0,
-          y.1,
-          taken_rule cells good allows about v queued s r me i at' word here waits change takes_line,
+  module _ (mark_of : ℕ → ℕ) (waits comes_to : ℕ → ℕ → Type 0) (change : ℕ → ℕ) (may_take : MayTake berths) (takes_line : Takes cells waits v.own.place v.view.node change) (stays : StaysBehind cells comes_to v.own.place) (withdraws : Withdraws cells v.own.place v.view.node change) where
+    pub rolls_next : (me slots i : ℕ) (m : Contents) → m ≡ (v ∷ [], []) → i ≡ cell_at (cell_of v.own.place) → Allows Rule slots me m i change (rolled allows mark_of berths waits comes_to (step slots i 0 0 none) m)
+    rolls_next me slots i m is word = subst (λ (z : Contents). Allows Rule slots me z i change (rolled allows mark_of berths waits comes_to (step slots i 0 0 none) z)) (sym is) (λ s r deep at small. dite (ℕ_discrete v.own.place (length r.past.ends))
+        (λ here. let y = home cells berths good allows about v queued s r me i at word may_take here in let taking = act cells berths good allows about v queued s r me i at word may_take here in (
+          take_entry cells berths good allows about v queued r.past ∷ [],
+          taking.0,
+          taking.1,
+          taken_rule cells berths good allows about v queued s r me i at word may_take here waits change takes_line,
           (
-            goes_step allows m v (take_entry cells good allows about v queued r.past) ((0, y.0) ∷ m.1) is (learns_take cells good allows about v queued s r me i at' word here) refl,
-            same_count m v (take_entry cells good allows about v queued r.past) is refl,
-            (λ w. absurd (taken_not_waits cells good allows about v queued s r me i at' word here waits change takes_line (subst (λ u. waits (sole u).own.place (slice_index s.words i)) is w))),
-            (λ _. (y.0, refl, subst (λ u. Comes mark_of (mark_of (sole u).own.place) (take_entry cells good allows about v queued r.past) y.0) (sym is) (comes cells good allows about v queued s r me i at' word here mark_of))),
+            goes_step allows (v ∷ [], []) v (take_entry cells berths good allows about v queued r.past) (carried_after [] taking.0) refl (learns_take cells berths good allows about v queued s r me i at word may_take here) refl,
+            refl,
+            (λ w. absurd (taken_not_waits cells berths good allows about v queued s r me i at word may_take here waits change takes_line w)),
+            (λ _. (y.0, brought cells berths good allows about v queued s r me i at word may_take here, comes cells berths good allows about v queued s r me i at word may_take here mark_of)),
           ),
         ))
-        (λ later. let b = behind cells good allows about v queued s r me i at' word later in let n = near cells good allows about v queued s r me i at' word in
-        let found = found_is cells good allows about v queued s r me i at' word in
-        let low = mine_low cells good allows about s r me v at' in let low_node = low.0 in let high_node = low.1 in let few = r.may_open.nodes.few in
+        (λ later. let b = behind cells berths good allows about v queued s r me i at word later in let n = near cells berths good allows about v queued s r me i at word in
+        let found = found_is cells berths good allows about v queued s r me i at word in
+        let low = mine_low cells berths good allows about s r me v at in let low_node = low.0 in let high_node = low.1 in let few = r.may_open.nodes.few in
         let said = subst (λ k. cells (length r.past.ends) r.past.hand r.past.cleared (put r.past.marks v.own.place v.view.node) (put (cells_in s.words) (cell_of v.own.place) (change k))) (sym found)
         (withdraws (length r.past.ends) r.past.hand r.past.cleared r.past.marks (cells_in s.words) low.0 (omega arith) b.0 n b.1 r.shown.said) in (
           roll_entry r.past ∷ [],
           keeps,
           tt,
-          rolls_rule s r me i (change (slice_index s.words i)) at' word later said,
+          rolls_rule s r me i (change (slice_index s.words i)) at word later said,
           (
-            goes_step allows m v (roll_entry r.past) m.1 is (learns_roll s r me i (change (slice_index s.words i)) at' word later said) refl,
-            same_count m v (roll_entry r.past) is refl,
-            (λ _. (refl, subst (λ u. IsRolled mark_of (mark_of (sole u).own.place) (roll_entry r.past)) (sym is) (is_rolled s r me i (change (slice_index s.words i)) at' word later said mark_of))),
+            goes_step allows (v ∷ [], []) v (roll_entry r.past) [] refl (learns_roll s r me i (change (slice_index s.words i)) at word later said) refl,
+            refl,
+            (λ _. (refl, is_rolled s r me i (change (slice_index s.words i)) at word later said mark_of)),
             (λ c. absurd (stays (length r.past.ends) r.past.hand r.past.cleared r.past.marks (cells_in s.words) b.0 n b.1 r.shown.said
-                (subst (comes_to v.own.place) found (subst (λ u. comes_to (sole u).own.place (slice_index s.words i)) is c)))),
+                (subst (comes_to v.own.place) found c))),
           ),
-        ))
+        )))

@@ -1,5 +1,5 @@
 -- How seats begin, are cut and are joined.
-use Rattle.std.proofs.Common.{◌≡◌, ℕ, ◌-◌, List, [], ◌∷◌, ◌++◌, length, refl, ◌∙◌, arith, false}
+use Rattle.std.proofs.Common.{◌≡◌, ℕ, ◌-◌, ◌<◌, List, [], ◌∷◌, ◌++◌, length, replicate, refl, ◌∙◌, arith, false}
 use Rattle.atomic_table.specs.Table.{Splits, Joins, opening}
 use Rattle.qolb_model.specs.Histories.{none}
 use Rattle.qolb_model.specs.Opening.{MayOpen}
@@ -11,13 +11,15 @@ use Rattle.shared_line.specs.Entries.{node_of, newcomer, newcomers}
 use Rattle.shared_line.specs.declared.rule.Setup.{Setup}
 use Rattle.shared_line.specs.declared.rule.Parcel.{Parcel}
 use Rattle.array_line.specs.Words.{word_count, AreFirst, ticket_at, node_at, cells_in}
+use Rattle.array_line.specs.Berths.{Berths}
+use Rattle.array_line.proofs.Slots.{opened_slot, opened_count}
 use Rattle.array_line.specs.Array.{ArrayEntry, ArrayState, Cells, ArrayRule}
 use Rattle.array_line.specs.Stances.{fresh}
 use Rattle.array_line.proofs.OneNode.{knows_whole, hand_none}
 
-module _ (cells : Cells) (good : List ℕ → Type 0) (allows : List ℕ → List ℕ → Type 0) (about : Setup) where
+module _ (cells : Cells) (berths : Berths) (good : List ℕ → Type 0) (allows : List ℕ → List ℕ → Type 0) (about : Setup) where
   abbrev Rule : ArrayState → Type 0
-  Rule = ArrayRule cells good allows about
+  Rule = ArrayRule cells berths good allows about
 
   -- the same entries in other seats
   reseated : (s : ArrayState) (r : Rule s) (views : List (List ArrayEntry)) (owner : ℕ → ℕ × ℕ) → AreMembers node_of about.terms.nodes r.who owner views → Rule record { words = s.words; homes = s.homes; views = views }
@@ -45,14 +47,14 @@ module _ (cells : Cells) (good : List ℕ → Type 0) (allows : List ℕ → Lis
   pub joins : (me other : ℕ) (vs ws : List ArrayEntry) → Joins Rule me vs other ws (vs ++ ws) []
   joins me other vs ws s r at apart there = reseated s r _ _ (join_members node_of about.terms.nodes r.who r.owner s.views r.members me other vs ws at apart there)
 
-  -- the table has one slot
-  pub one_slot : (s : ArrayState) → Rule s → length s.homes ≡ 1
-  one_slot s r = r.shown.deep
+  -- how many slots the table has
+  pub slot_count : (s : ArrayState) → Rule s → length s.homes ≡ berths.count
+  slot_count s r = r.shown.deep
 
   -- a new table, whose cells say what they say of an empty history
-  pub starts : (granted : ℕ) → ((words : List ℕ) → AreFirst granted words → cells 0 0 false (λ _. 0) (cells_in words)) → (words : List ℕ) (y : Parcel) → MayOpen about.terms → length about.terms.opening.bytes ≡ 64 → good about.terms.opening.bytes → length words ≡ word_count → AreFirst granted words
-      → y.bytes.bytes ≡ about.terms.opening.bytes → y.closed ≡ false → y.turns_left ≡ about.terms.lease → Rule (opening words (y ∷ []) (newcomers fresh about))
-  starts granted say words y may line fine wide first same unclosed left = record {
+  pub starts : (granted : ℕ) → berths.lies 0 < berths.count → ((words : List ℕ) → AreFirst granted words → cells 0 0 false (λ _. 0) (cells_in words)) → (words : List ℕ) (y : Parcel) → MayOpen about.terms → length about.terms.opening.bytes ≡ 64 → good about.terms.opening.bytes → length words ≡ word_count → AreFirst granted words
+      → y.bytes.bytes ≡ about.terms.opening.bytes → y.closed ≡ false → y.turns_left ≡ about.terms.lease → Rule (opening words (replicate berths.count y) (newcomers fresh about))
+  starts granted first_slot say words y may line fine wide first same unclosed left = record {
     past = record { order = []; ends = []; clear = []; hand = 0; cleared = false; marks = λ _. 0; passer = λ _. 0; flags = λ _. 0 };
     who = newcomer fresh about;
     owner = λ n. (0, n - 1);
@@ -70,7 +72,7 @@ module _ (cells : Cells) (good : List ℕ → Type 0) (allows : List ℕ → Lis
       marked = λ p h. absurd (omega arith);
       gone = λ p e at. absurd (at_none p e at);
     };
-    shown = record { wide = wide; deep = refl; ticket = first.1 ticket_at (omega arith) (λ e. omega arith); said = say words first; flags = λ n a b. first.1 (node_at n) (omega arith) (λ e. omega arith); home = λ _. (y, refl, same, unclosed, left ∙ turns_left-none about.terms.lease) };
+    shown = record { wide = wide; deep = opened_count berths.count y; ticket = first.1 ticket_at (omega arith) (λ e. omega arith); said = say words first; flags = λ n a b. first.1 (node_at n) (omega arith) (λ e. omega arith); home = λ _. (y, opened_slot berths.count (berths.lies 0) y first_slot, same, unclosed, left ∙ turns_left-none about.terms.lease); spare = λ k few _. (y, opened_slot berths.count k y few) };
     each = λ n a b. record {
       who = record { node = refl; label = refl; terms = refl };
       knows = knows_whole [] [] [] n (newcomer fresh about n).view refl refl refl refl (λ q h. absurd (cc h));

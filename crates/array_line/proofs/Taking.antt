@@ -5,6 +5,7 @@ use mathlib.Core.Option.{none, some}
 use native.Mathlib.Decide.{ℕ_discrete}
 use lib.ListN.{get_elem?}
 use Rattle.std.proofs.lemmas.Option.{slice_get_within}
+use Rattle.atomic_table.specs.Table.{Act, Valid, homes_after, carried_after}
 use Rattle.atomic_table.proofs.Lists.{one_turn}
 use Rattle.qolb_model.specs.declared.terms.Terms.{Terms}
 use Rattle.qolb_model.specs.Leases.{turns_left}
@@ -22,12 +23,14 @@ use Rattle.array_line.specs.declared.own.Point.TheVariants.{Idle, Queued, Holdin
 use Rattle.shared_line.specs.declared.rule.Setup.{Setup}
 use Rattle.shared_line.specs.declared.rule.Parcel.{Parcel}
 use Rattle.array_line.specs.Words.{cell_at, cells_in, cell_of}
+use Rattle.array_line.specs.Berths.{Berths, Homes}
 use Rattle.array_line.specs.Array.{ArrayEntry, ArrayState, At, Cells, Past, Walks, NodeOk, PastOk, Shown, ArrayRule, has_line, lets_go, is_kept}
 use Rattle.array_line.specs.Stances.{holding}
 use Rattle.array_line.specs.Steps.{Comes}
 use Rattle.array_line.proofs.OneNode.{clash_at, placed_at, knows_whole}
 use Rattle.array_line.proofs.Nodes.{none_passed, others_hand, passes_none, freed_so}
 use Rattle.array_line.proofs.Histories.{not_withdrawn, continues}
+use Rattle.array_line.proofs.Slots.{MayTake, AreSpare}
 use Rattle.array_line.proofs.Keeping.{rule_step, mine_ok, mine_low, window, cell_shown}
 use Rattle.qolb_model.proofs.Leases.{open_has_turns}
 
@@ -69,9 +72,9 @@ line_kept Cleared e = refl
 line_kept Freeing e = refl
 line_kept Rolled e = absurd (cc e)
 
-module _ (cells : Cells) (good : List ℕ → Type 0) (allows : List ℕ → List ℕ → Type 0) (about : Setup) (v : ArrayEntry) (queued : v.own.point ≡ Queued) where
+module _ (cells : Cells) (berths : Berths) (good : List ℕ → Type 0) (allows : List ℕ → List ℕ → Type 0) (about : Setup) (v : ArrayEntry) (queued : v.own.point ≡ Queued) where
   abbrev Rule : ArrayState → Type 0
-  Rule = ArrayRule cells good allows about
+  Rule = ArrayRule cells berths good allows about
 
   abbrev pub take_entry : Past → ArrayEntry
   take_entry x = record v { view = record v.view { state = shows.Holding; order = x.order; ends = x.ends; clear = x.clear }; own = record v.own { point = Holding }; steps = v.steps + 1 }
@@ -138,10 +141,10 @@ module _ (cells : Cells) (good : List ℕ → Type 0) (allows : List ℕ → Lis
   -- the state s, whose seat `me` has the entry v alone, at the word i of its cell
   module _ (s : ArrayState) (r : Rule s) (me i : ℕ) (at : get_elem? s.views me ≡ some (v ∷ [])) (word : i ≡ cell_at (cell_of v.own.place)) where
     ok : NodeOk about r.past v.view.node v
-    ok = mine_ok cells good allows about s r me v at
+    ok = mine_ok cells berths good allows about s r me v at
 
     pub near : v.own.place < length r.past.ends + CELLS
-    near = let few = r.may_open.nodes.few in let high = slice_get_within r.past.order v.own.place (own v.view) (asked_at r.past ok) in let all = window cells good allows about s r in omega arith
+    near = let few = r.may_open.nodes.few in let high = slice_get_within r.past.order v.own.place (own v.view) (asked_at r.past ok) in let all = window cells berths good allows about s r in omega arith
 
     -- a request that is not at its turn is behind it, not withdrawn, and no cell comes round so far
     pub behind : v.own.place ≢ length r.past.ends → (length r.past.ends < v.own.place) × (r.past.marks v.own.place ≡ 0)
@@ -151,11 +154,11 @@ module _ (cells : Cells) (good : List ℕ → Type 0) (allows : List ℕ → Lis
     pub found_is : slice_index s.words i ≡ cells_in s.words (cell_of v.own.place)
     found_is = ap (slice_index s.words) word
 
-    module _ (here : v.own.place ≡ length r.past.ends) where
+    module _ (may_take : MayTake berths) (here : v.own.place ≡ length r.past.ends) where
       pub hand : r.past.hand ≡ 0
       hand = at_home r.past r.fine (λ n a b. (r.who n, r.each n a b)) ok here
 
-      pub home : (y : Parcel) × (get_elem? s.homes 0 ≡ some (some y)) × (y.bytes.bytes ≡ bytes_after about.terms.opening.bytes r.past.ends) × (y.closed ≡ is_closed r.past.ends) × (y.turns_left ≡ turns_left about.terms.lease r.past.ends)
+      pub home : (y : Parcel) × (get_elem? s.homes (berths.lies (length r.past.ends)) ≡ some (some y)) × (y.bytes.bytes ≡ bytes_after about.terms.opening.bytes r.past.ends) × (y.closed ≡ is_closed r.past.ends) × (y.turns_left ≡ turns_left about.terms.lease r.past.ends)
       home = r.shown.home hand
 
       take_fine : PastOk good allows about (take_past r.past)
@@ -164,27 +167,37 @@ module _ (cells : Cells) (good : List ℕ → Type 0) (allows : List ℕ → Lis
         nodes = r.fine.nodes;
         kept = r.fine.kept;
         sound = r.fine.sound;
-        within = (mine_low cells good allows about s r me v at).1;
+        within = (mine_low cells berths good allows about s r me v at).1;
         cleared = r.fine.cleared;
-        nobody = λ h. let l = (mine_low cells good allows about s r me v at).0 in absurd (omega arith);
-        settled = λ h. let l = (mine_low cells good allows about s r me v at).0 in absurd (omega arith);
+        nobody = λ h. let l = (mine_low cells berths good allows about s r me v at).0 in absurd (omega arith);
+        settled = λ h. let l = (mine_low cells berths good allows about s r me v at).0 in absurd (omega arith);
         marked = r.fine.marked;
         gone = r.fine.gone;
       }
 
-      pub low : 0 < v.view.node
-      low = (mine_low cells good allows about s r me v at).0
+      -- the act by which the line is taken
+      pub act : (a : Act Parcel) × Valid s.homes [] a × (length (homes_after s.homes [] a) ≡ length s.homes) × berths.brings (length r.past.ends) home.0 (carried_after [] a) × AreSpare berths (length r.past.ends) (homes_after s.homes [] a)
+      act = may_take (length r.past.ends) s.homes home.0 r.shown.deep home.1 (λ k few. r.shown.spare k few (λ some out. some hand))
 
-      take_shown : (z : ℕ) → cells (length r.past.ends) v.view.node false r.past.marks (put (cells_in s.words) (cell_of v.own.place) z) → Shown cells good allows about (take_past r.past) (set s.words i z) (set s.homes 0 none)
-      take_shown z said = cell_shown cells good allows about r.past s.words s.homes (set s.homes 0 none) i (cell_of v.own.place) z word (mod-lt v.own.place (omega arith)) r.shown (length-set s.homes 0 none)
-          v.view.node false r.past.ends r.past.clear r.past.marks r.past.passer said (λ e. absurd (held e))
+      abbrev pub after : Homes
+      after = homes_after s.homes [] act.0
+
+      pub brought : berths.brings v.own.place home.0 (carried_after [] act.0)
+      brought = subst (λ q. berths.brings q home.0 (carried_after [] act.0)) (sym here) act.3
+
+      pub low : 0 < v.view.node
+      low = (mine_low cells berths good allows about s r me v at).0
+
+      take_shown : (z : ℕ) → cells (length r.past.ends) v.view.node false r.past.marks (put (cells_in s.words) (cell_of v.own.place) z) → Shown cells berths good allows about (take_past r.past) (set s.words i z) after
+      take_shown z said = cell_shown cells berths good allows about r.past s.words s.homes after i (cell_of v.own.place) z word (mod-lt v.own.place (omega arith)) r.shown act.2
+          v.view.node false r.past.ends r.past.clear r.past.marks r.past.passer said (λ e. absurd (held e)) (λ k few out. act.4 k few (out (λ e. held e)))
         where
           held : v.view.node ≡ 0 → ⊥
           held e = let l = low in omega arith
 
       -- the rule once the line has come, and the cell has become z
-      pub takes_rule : (z : ℕ) → cells (length r.past.ends) v.view.node false r.past.marks (put (cells_in s.words) (cell_of v.own.place) z) → Rule record { words = set s.words i z; homes = set s.homes 0 none; views = set s.views me (take_entry r.past ∷ []) }
-      takes_rule z said = rule_step cells good allows about s r me v (take_entry r.past) (take_past r.past) (set s.words i z) (set s.homes 0 none) at refl take_fine (take_shown z said) (take_node r.past here ok)
+      pub takes_rule : (z : ℕ) → cells (length r.past.ends) v.view.node false r.past.marks (put (cells_in s.words) (cell_of v.own.place) z) → Rule record { words = set s.words i z; homes = after; views = set s.views me (take_entry r.past ∷ []) }
+      takes_rule z said = rule_step cells berths good allows about s r me v (take_entry r.past) (take_past r.past) (set s.words i z) after at refl take_fine (take_shown z said) (take_node r.past here ok)
           (λ n a b ne. others_hand about r.past n (r.who n) (r.each n a b) v.view.node false (λ e. let h = hand in omega arith) (λ e. ne (sym e)))
 
       pub comes : (mark_of : ℕ → ℕ) → Comes mark_of (mark_of v.own.place) (take_entry r.past) home.0
@@ -216,6 +229,6 @@ module _ (cells : Cells) (good : List ℕ → Type 0) (allows : List ℕ → Lis
         pub taken_not_waits : waits v.own.place (slice_index s.words i) → ⊥
         taken_not_waits w = taken.0 (subst (waits v.own.place) found_is w)
 
-        pub taken_rule : Rule record { words = set s.words i (change (slice_index s.words i)); homes = set s.homes 0 none; views = set s.views me (take_entry r.past ∷ []) }
+        pub taken_rule : Rule record { words = set s.words i (change (slice_index s.words i)); homes = after; views = set s.views me (take_entry r.past ∷ []) }
         taken_rule = takes_rule (change (slice_index s.words i))
             (subst (λ (z : ℕ × ℕ). cells z.0 v.view.node false r.past.marks (put (cells_in s.words) (cell_of v.own.place) (change z.1))) (λ j. (here j, sym found_is j)) taken.1)

@@ -20,7 +20,8 @@ use Rattle.qolb_model.proofs.Lists.{element_at, drop_with, push_cases, same_some
 use Rattle.qolb_model.proofs.Prefixes.{prefix_get}
 use Rattle.qolb_model.proofs.Histories.{bytes_after-append, is_closed-append}
 use Rattle.qolb_model.proofs.Writes.{bytes_after-passed}
-use Rattle.shared_line.specs.Steps.{SameSeat, HasSlot, HasNoSlot}
+use Rattle.shared_line.specs.Steps.{SameSeat, HasNoSlot}
+use Rattle.array_line.specs.Berths.{Berths}
 use Rattle.qolb_model.specs.declared.terms.TheConstants.{MOST_NODES}
 use Rattle.array_line.specs.declared.own.Point.TheVariants.{Passing, Freeing}
 use Rattle.shared_line.specs.declared.rule.Parcel.{Parcel}
@@ -343,40 +344,44 @@ walk_over v w x nodes k h f =
         let one = element_at w.own.passed i (omega (arith, low, high)) in
         (i, subst (At w.own.passed i) (k.run i one.0 one.1 ∙ omega (arith, low)) one.1)
 
+-- who has passed a request has the line as if it had come for that one's turn
+abbrev pub Carried : Berths → ArraySeat → ArraySeat → Type 0
+Carried berths s t = (y : Parcel) → berths.brings (length (entry_of s).view.ends) y s.me.1 → berths.brings (length (entry_of t).view.ends) y t.me.1
+
 -- What a walk that began at the seat s has done so far, by so many word steps. Its last grant found a word that is 0 where the line went
 -- home, and else says that this node withdrew.
-pub record IsWalking (allows : List ℕ → List ℕ → Type 0) (s : ArraySeat) (nodes : List ℕ) (steps found node : ℕ) (t : ArraySeat) : Type 0 where
+pub record IsWalking (berths : Berths) (allows : List ℕ → List ℕ → Type 0) (s : ArraySeat) (nodes : List ℕ) (steps found node : ℕ) (t : ArraySeat) : Type 0 where
   pub same : SameSeat s t
   pub goes_on : GoesOn allows s.me t.me steps
   pub walked : Walked (entry_of s) nodes (entry_of t)
-  pub stands : found ≢ 0 → (t.me.1 ≡ s.me.1) × StandsAt nodes node (entry_of t)
+  pub stands : found ≢ 0 → Carried berths s t × StandsAt nodes node (entry_of t)
   pub home : found ≡ 0 → HasNoSlot t × IsHome nodes (entry_of t)
 
 -- what it carries to the next grant
-pub walk_carries : (allows : List ℕ → List ℕ → Type 0) (s t : ArraySeat) (nodes : List ℕ) (steps found node : ℕ) (y : Parcel) → IsWalking allows s nodes steps found node t → found ≢ 0 → HasSlot s y → IsBare (entry_of s) y
-    → HasSlot t y × CarriesNext allows (entry_of t) y
-walk_carries allows s t nodes steps found node y k more slot bare =
-    let here = k.stands more in (here.0 ∙ slot, carries_gone allows (entry_of s) (entry_of t) nodes node y k.walked here.1 bare)
+pub walk_carries : (berths : Berths) (allows : List ℕ → List ℕ → Type 0) (s t : ArraySeat) (nodes : List ℕ) (steps found node : ℕ) (y : Parcel) → IsWalking berths allows s nodes steps found node t → found ≢ 0 → berths.brings (length (entry_of s).view.ends) y s.me.1 → IsBare (entry_of s) y
+    → berths.brings (length (entry_of t).view.ends) y t.me.1 × CarriesNext allows (entry_of t) y
+walk_carries berths allows s t nodes steps found node y k more slot bare =
+    let here = k.stands more in (here.0 y slot, carries_gone allows (entry_of s) (entry_of t) nodes node y k.walked here.1 bare)
 
 -- the turn moves on by a grant
 pub ended_longer : (v w : ArrayEntry) (y : Parcel) → Ended v w y → length w.view.ends ≡ length v.view.ends + 1
 ended_longer v w y e = omega (arith, ap length e.ends, length-append v.view.ends (next_end v y ∷ []))
 
 -- and what it has done after that
-pub walk_step : (allows : List ℕ → List ℕ → Type 0) (s t u : ArraySeat) (nodes : List ℕ) (steps more all found node next by_node : ℕ) (y : Parcel) → IsWalking allows s nodes steps found node t → found ≢ 0 → (entry_of s).view.terms.nodes ≤ MOST_NODES
+pub walk_step : (berths : Berths) (allows : List ℕ → List ℕ → Type 0) (s t u : ArraySeat) (nodes : List ℕ) (steps more all found node next by_node : ℕ) (y : Parcel) → IsWalking berths allows s nodes steps found node t → found ≢ 0 → (entry_of s).view.terms.nodes ≤ MOST_NODES
     → (entry_of s).view.state ≡ left_by y.closed → SameSeat t u → GoesOn allows t.me u.me more → Ended (entry_of t) (entry_of u) y
-    → (next ≡ 0 → HasNoSlot u × GoesHome (entry_of t) (entry_of u)) → (next ≢ 0 → (u.me.1 ≡ t.me.1) × Passes (entry_of t) by_node (entry_of u)) → steps + more ≡ all
-    → IsWalking allows s (nodes ++ node ∷ []) all next by_node u
-walk_step allows s t u nodes steps more all found node next by_node y k some low state same went ended home passes sum =
+    → (next ≡ 0 → HasNoSlot u × GoesHome (entry_of t) (entry_of u)) → (next ≢ 0 → Carried berths t u × Passes (entry_of t) by_node (entry_of u)) → steps + more ≡ all
+    → IsWalking berths allows s (nodes ++ node ∷ []) all next by_node u
+walk_step berths allows s t u nodes steps more all found node next by_node y k some low state same went ended home passes sum =
     let here = k.stands some in
     record {
       same = (same.0 ∙ k.same.0, same.1 ∙ k.same.1);
       goes_on = subst (GoesOn allows s.me u.me) sum (goes_trans allows s.me t.me u.me steps more k.goes_on went);
       walked = walked_on (entry_of s) (entry_of t) (entry_of u) nodes node next by_node y low k.walked here.1 ended went.extends (ended.state ∙ (sym state ∙ sym k.walked.state)) (λ z. (home z).1) (λ z. (passes z).1);
-      stands = λ z. ((passes z).0 ∙ here.0, stands_next (entry_of t) (entry_of u) nodes node by_node here.1 (passes z).1);
+      stands = λ z. ((λ x slot. (passes z).0 x (here.0 x slot)), stands_next (entry_of t) (entry_of u) nodes node by_node here.1 (passes z).1);
       home = λ z. ((home z).0, is_home (entry_of t) (entry_of u) nodes node y here.1 ended (home z).1);
     }
 
 -- all its steps, with those that freed the nodes, one for each
-pub walked_steps : (allows : List ℕ → List ℕ → Type 0) (s t u : ArraySeat) (nodes : List ℕ) (steps found node freed all : ℕ) → IsWalking allows s nodes steps found node t → GoesOn allows t.me u.me freed → freed ≡ length nodes → steps + length nodes ≡ all → GoesOn allows s.me u.me all
-walked_steps allows s t u nodes steps found node freed all k went each sum = let whole : steps + freed ≡ all = omega arith in subst (GoesOn allows s.me u.me) whole (goes_trans allows s.me t.me u.me steps freed k.goes_on went)
+pub walked_steps : (berths : Berths) (allows : List ℕ → List ℕ → Type 0) (s t u : ArraySeat) (nodes : List ℕ) (steps found node freed all : ℕ) → IsWalking berths allows s nodes steps found node t → GoesOn allows t.me u.me freed → freed ≡ length nodes → steps + length nodes ≡ all → GoesOn allows s.me u.me all
+walked_steps berths allows s t u nodes steps found node freed all k went each sum = let whole : steps + freed ≡ all = omega arith in subst (GoesOn allows s.me u.me) whole (goes_trans allows s.me t.me u.me steps freed k.goes_on went)

@@ -27,6 +27,7 @@ use Rattle.shared_line.specs.declared.rule.Setup.{Setup}
 use Rattle.shared_line.specs.declared.rule.Parcel.{Parcel}
 use Rattle.shared_line.specs.Entries.{node_of}
 use Rattle.array_line.specs.declared.own.Own.{Own}
+use Rattle.array_line.specs.Berths.{Berths, Homes, IsAtHome}
 use Rattle.array_line.specs.Words.{word_count, ticket_at, node_at, cells_in, ticket_of}
 
 -- the member of the list at the place
@@ -199,15 +200,16 @@ module _ (good : List ℕ → Type 0) (allows : List ℕ → List ℕ → Type 0
     pub marked : (p : ℕ) → 0 < x.marks p → (r : Request) × At x.order p r × (r.node ≡ x.marks p)
     pub gone : (p : ℕ) (end : End) → At x.ends p end → (is_gone end ≡ true → 0 < x.marks p) × (0 < x.marks p → is_gone end ≡ true)
 
-module _ (cells : Cells) (good : List ℕ → Type 0) (allows : List ℕ → List ℕ → Type 0) (about : Setup) where
-  -- the words and the slot
-  pub record Shown (x : Past) (words : List ℕ) (homes : List (maybe.Option Parcel)) : Type 0 where
+module _ (cells : Cells) (berths : Berths) (good : List ℕ → Type 0) (allows : List ℕ → List ℕ → Type 0) (about : Setup) where
+  -- the words and the slots
+  pub record Shown (x : Past) (words : List ℕ) (homes : Homes) : Type 0 where
     pub wide : length words ≡ word_count
-    pub deep : length homes ≡ 1
+    pub deep : length homes ≡ berths.count
     pub ticket : slice_index words ticket_at ≡ ticket_of (length x.order)
     pub said : cells (length x.ends) x.hand x.cleared x.marks (cells_in words)
     pub flags : (n : ℕ) → 0 < n → n ≤ MOST_NODES → slice_index words (node_at n) ≡ x.flags n
-    pub home : x.hand ≡ 0 → (y : Parcel) × (get_elem? homes 0 ≡ some (some y)) × (y.bytes.bytes ≡ bytes_after about.terms.opening.bytes x.ends) × (y.closed ≡ is_closed x.ends) × (y.turns_left ≡ turns_left about.terms.lease x.ends)
+    pub home : x.hand ≡ 0 → (y : Parcel) × (get_elem? homes (berths.lies (length x.ends)) ≡ some (some y)) × (y.bytes.bytes ≡ bytes_after about.terms.opening.bytes x.ends) × (y.closed ≡ is_closed x.ends) × (y.turns_left ≡ turns_left about.terms.lease x.ends)
+    pub spare : (k : ℕ) → k < berths.count → (x.hand ≢ 0 → berths.is_out (length x.ends) k → ⊥) → IsAtHome homes k
 
   pub record ArrayRule (s : ArrayState) : Type 0 where
     pub past : Past

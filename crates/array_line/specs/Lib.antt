@@ -1,4 +1,5 @@
 pub mod Words
+pub mod Berths
 pub mod Stances
 pub mod Array
 pub mod Steps

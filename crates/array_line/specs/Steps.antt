@@ -21,6 +21,7 @@ use Rattle.shared_line.specs.Steps.{own_end}
 use Rattle.array_line.specs.declared.own.Point.{Point}
 use Rattle.array_line.specs.declared.own.Point.TheVariants.{Idle, Queued, Passing, Freeing, Rolled}
 use Rattle.array_line.specs.declared.own.Own.{Own}
+use Rattle.array_line.specs.Berths.{Berths}
 use Rattle.array_line.specs.Words.{ticket_of}
 use Rattle.array_line.specs.Stances.{fresh, rests, holding, refused}
 use Rattle.array_line.specs.Array.{ArrayEntry, At}
@@ -159,21 +160,21 @@ module _ (allows : List ℕ → List ℕ → Type 0) where
   loaded_node st m n m' = (m'.1 ≡ m.1) × GoesOn allows m m' 1 × IsStill (sole m.0) n (sole m'.0)
 
   -- The own cell is read, or written. By the place of the own request, what it said means that the node waits on, or that the line comes.
-  module _ (mark_of : ℕ → ℕ) (waits comes : ℕ → ℕ → Type 0) where
+  module _ (mark_of : ℕ → ℕ) (berths : Berths) (waits comes : ℕ → ℕ → Type 0) where
     abbrev pub loaded : Step Parcel → Contents → ℕ → Contents → Type 0
     loaded st m n m' = GoesOn allows m m' 1 × ((sole m'.0).view.count ≡ (sole m.0).view.count)
         × (waits (sole m.0).own.place n → (m'.1 ≡ m.1) × IsEarly mark_of (mark_of (sole m.0).own.place) (sole m'.0))
-        × (comes (sole m.0).own.place n → (y : Parcel) × (m'.1 ≡ (0, y) ∷ m.1) × Comes mark_of (mark_of (sole m.0).own.place) (sole m'.0) y)
+        × (comes (sole m.0).own.place n → (y : Parcel) × berths.brings (sole m.0).own.place y m'.1 × Comes mark_of (mark_of (sole m.0).own.place) (sole m'.0) y)
 
     abbrev pub rolled : Step Parcel → Contents → ℕ → Contents → Type 0
     rolled st m n m' = GoesOn allows m m' 1 × ((sole m'.0).view.count ≡ (sole m.0).view.count)
         × (waits (sole m.0).own.place n → (m'.1 ≡ m.1) × IsRolled mark_of (mark_of (sole m.0).own.place) (sole m'.0))
-        × (comes (sole m.0).own.place n → (y : Parcel) × (m'.1 ≡ (0, y) ∷ m.1) × Comes mark_of (mark_of (sole m.0).own.place) (sole m'.0) y)
+        × (comes (sole m.0).own.place n → (y : Parcel) × berths.brings (sole m.0).own.place y m'.1 × Comes mark_of (mark_of (sole m.0).own.place) (sole m'.0) y)
 
   -- The next cell is granted. By its place, what it said is read as 0 where nobody withdrew there, and else names the node that did.
-  module _ (seen withdrawn_by : ℕ → ℕ → ℕ) where
+  module _ (berths : Berths) (seen withdrawn_by : ℕ → ℕ → ℕ) where
     abbrev pub granted : Step Parcel → Contents → ℕ → Contents → Type 0
     granted st m n m' = GoesOn allows m m' 1
-        × ((y : Parcel) → m.1 ≡ (0, y) ∷ [] → Ended (sole m.0) (sole m'.0) y)
-        × (seen (length (sole m.0).view.ends + 1) n ≡ 0 → ((y : Parcel) → m.1 ≡ (0, y) ∷ [] → m'.1 ≡ []) × GoesHome (sole m.0) (sole m'.0))
-        × (seen (length (sole m.0).view.ends + 1) n ≢ 0 → (m'.1 ≡ m.1) × Passes (sole m.0) (withdrawn_by (length (sole m.0).view.ends + 1) n) (sole m'.0))
+        × ((y : Parcel) → berths.lays (length (sole m.0).view.ends) y m.1 → Ended (sole m.0) (sole m'.0) y)
+        × (seen (length (sole m.0).view.ends + 1) n ≡ 0 → (m'.1 ≡ []) × GoesHome (sole m.0) (sole m'.0))
+        × (seen (length (sole m.0).view.ends + 1) n ≢ 0 → ((y : Parcel) → berths.lays (length (sole m.0).view.ends) y m.1 → berths.brings (length (sole m.0).view.ends + 1) y m'.1) × Passes (sole m.0) (withdrawn_by (length (sole m.0).view.ends + 1) n) (sole m'.0))

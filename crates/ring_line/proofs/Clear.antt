@@ -7,13 +7,14 @@ use Rattle.array_line.specs.declared.own.Point.TheVariants.{Idle, Holding, Passi
 use Rattle.shared_line.specs.declared.rule.Setup.{Setup}
 use Rattle.array_line.specs.Words.{cell_at, cells_in, cell_of}
 use Rattle.array_line.specs.Array.{ArrayEntry, Past, Walks, NodeOk, Shown, has_line, is_kept}
+use Rattle.array_line.specs.Berths.{Homes, one_slot}
 use Rattle.ring_line.specs.Ring.{RingCells, RingRule}
 use Rattle.array_line.specs.Steps.{sole, Contents}
 use Rattle.ring_line.specs.Steps.{cleared, after_clear}
 use Rattle.qolb_model.proofs.Prefixes.{prefix_self}
 use Rattle.array_line.proofs.OneNode.{clash_at, passed_goes}
 use Rattle.array_line.proofs.Nodes.{others_hand}
-use Rattle.array_line.proofs.Keeping.{Homes, rule_step, mine_ok, mine_low, cell_shown}
+use Rattle.array_line.proofs.Keeping.{rule_step, mine_ok, mine_low, cell_shown}
 use Rattle.array_line.proofs.Taking.{cells_apart, at_turn, line_kept}
 use Rattle.qolb_model.proofs.Updates.{put_here, put_else}
 
@@ -79,21 +80,22 @@ module _ (good : List ℕ → Type 0) (allows : List ℕ → List ℕ → Type 0
       walks : Walks (length x.ends) x.marks v
       walks = at_turn about x v.view.node v ok has_it
 
-  cleared_shown : (x : Past) (words : List ℕ) (homes : Homes) (i : ℕ) → i ≡ cell_at (cell_of (length x.ends)) → x.hand ≡ v.view.node → 0 < v.view.node → Shown RingCells good allows about x words homes → Shown RingCells good allows about (cleared_past x) (set words i 0) homes
-  cleared_shown x words homes i is mine low h = cell_shown RingCells good allows about x words homes homes i (cell_of (length x.ends)) 0 is (mod-lt (length x.ends) (omega arith)) h refl x.hand true x.ends x.clear x.marks x.passer
+  cleared_shown : (x : Past) (words : List ℕ) (homes : Homes) (i : ℕ) → i ≡ cell_at (cell_of (length x.ends)) → x.hand ≡ v.view.node → 0 < v.view.node → Shown RingCells one_slot good allows about x words homes → Shown RingCells one_slot good allows about (cleared_past x) (set words i 0) homes
+  cleared_shown x words homes i is mine low h = cell_shown RingCells one_slot good allows about x words homes homes i (cell_of (length x.ends)) 0 is (mod-lt (length x.ends) (omega arith)) h refl x.hand true x.ends x.clear x.marks x.passer
       (record {
         blank = λ _. put_here (cells_in words) (cell_of (length x.ends)) 0;
         granted = λ e. absurd (omega arith);
         later = λ k a b. put_else (cells_in words) (cell_of (length x.ends)) 0 (cell_of (length x.ends + k)) (cells_apart (length x.ends) k a b) ∙ h.said.later k a b;
       })
       h.home
+      h.spare
 
   pub clears_next : (me slots i : ℕ) (m : Contents) → m.0 ≡ v ∷ [] → i ≡ cell_at (cell_of (length v.view.ends)) → Allows (RingRule good allows about) slots me m i (λ _. 0) (λ _. cleared (step slots i 0 0 none) m 0)
   clears_next me slots i m is word s r deep at small = (
     cleared_entry ∷ [],
     keeps,
     tt,
-    rule_step RingCells good allows about s r me v cleared_entry (cleared_past r.past) (set s.words i 0) s.homes at' refl
+    rule_step RingCells one_slot good allows about s r me v cleared_entry (cleared_past r.past) (set s.words i 0) s.homes at' refl
         (record { legal = r.fine.legal; nodes = r.fine.nodes; kept = r.fine.kept; sound = r.fine.sound; within = r.fine.within; cleared = r.fine.cleared; nobody = λ e. absurd (held e); settled = λ e. absurd (held e); marked = r.fine.marked; gone = r.fine.gone })
         (cleared_shown r.past s.words s.homes i (word ∙ ap (λ es. cell_at (cell_of (length es))) (ok.hand.holds has_it).0) mine low r.shown)
         (cleared_node r.past ok)
@@ -105,10 +107,10 @@ module _ (good : List ℕ → Type 0) (allows : List ℕ → List ℕ → Type 0
       at' = at ∙ ap some is
 
       ok : NodeOk about r.past v.view.node v
-      ok = mine_ok RingCells good allows about s r me v at'
+      ok = mine_ok RingCells one_slot good allows about s r me v at'
 
       low : 0 < v.view.node
-      low = (mine_low RingCells good allows about s r me v at').0
+      low = (mine_low RingCells one_slot good allows about s r me v at').0
 
       mine : r.past.hand ≡ v.view.node
       mine = (ok.hand.holds has_it).1

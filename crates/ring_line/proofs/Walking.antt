@@ -5,6 +5,7 @@ use Rattle.qolb_model.specs.PortStates.{left_by}
 use Rattle.shared_line.specs.declared.rule.Parcel.{Parcel}
 use Rattle.shared_line.specs.Steps.{SameSeat, HasSlot, HasNoSlot}
 use Rattle.array_line.specs.Words.{cell_of}
+use Rattle.array_line.specs.Berths.{one_slot}
 use Rattle.array_line.specs.Array.{ArrayEntry}
 use Rattle.array_line.specs.Steps.{ArraySeat, Contents, entry_of, sole, CarriesNext, Ended, GoesHome, Passes, GoesOn}
 use Rattle.array_line.specs.Releases.{IsBare}
@@ -43,30 +44,30 @@ cleared_passes v w node p = record { point = p.point; passed = p.passed; request
 -- what a walk that began at the seat s has done so far: two steps for each request that it passed
 pub record IsWalking (allows : List ℕ → List ℕ → Type 0) (s : ArraySeat) (nodes : List ℕ) (cell found : ℕ) (t : ArraySeat) : Type 0 where
   pub cell_is : cell ≡ turn_cell t
-  pub walking : walk.IsWalking allows s nodes (2 * length nodes) found (withdrawn_by found) t
+  pub walking : walk.IsWalking one_slot allows s nodes (2 * length nodes) found (withdrawn_by found) t
 
 -- what the next grant asks, once the cell is cleared
 pub walk_carries : (allows : List ℕ → List ℕ → Type 0) (s t d : ArraySeat) (nodes : List ℕ) (cell found : ℕ) (y : Parcel) → IsWalking allows s nodes cell found t → found ≢ 0 → IsCleared t d → HasSlot s y → IsBare (entry_of s) y
     → HasSlot d y × CarriesNext allows (entry_of d) y
 walk_carries allows s t d nodes cell found y k more cleared slot bare =
-    let both = walk.walk_carries allows s t nodes (2 * length nodes) found (withdrawn_by found) y k.walking more slot bare in
+    let both = walk.walk_carries one_slot allows s t nodes (2 * length nodes) found (withdrawn_by found) y k.walking more slot bare in
     (cleared_slot t d cleared ∙ both.0, subst (λ e. CarriesNext allows e y) (sym (cleared_entry t d cleared)) (cleared_carries allows (entry_of t) y both.1))
 
 -- and what the walk has done after it
 pub walk_step : (allows : List ℕ → List ℕ → Type 0) (s t d u : ArraySeat) (nodes : List ℕ) (cell found after next : ℕ) (y : Parcel) → IsWalking allows s nodes cell found t → found ≢ 0 → (entry_of s).view.terms.nodes ≤ MOST_NODES → SameSeat t d → IsCleared t d
     → HasSlot s y → (entry_of s).view.state ≡ left_by y.closed → SameSeat d u → GoesOn allows d.me u.me 1 → ((x : Parcel) → HasSlot d x → Ended (entry_of d) (entry_of u) x)
-    → (next ≡ 0 → HasNoSlot u × GoesHome (entry_of d) (entry_of u)) → (next ≢ 0 → (u.me.1 ≡ d.me.1) × Passes (entry_of d) (withdrawn_by next) (entry_of u)) → after ≡ cell_of (cell + 1)
+    → (next ≡ 0 → HasNoSlot u × GoesHome (entry_of d) (entry_of u)) → (next ≢ 0 → ((x : Parcel) → HasSlot d x → HasSlot u x) × Passes (entry_of d) (withdrawn_by next) (entry_of u)) → after ≡ cell_of (cell + 1)
     → IsWalking allows s (nodes ++ withdrawn_by found ∷ []) after next u
 walk_step allows s t d u nodes cell found after next y k more low same cleared slot state same' went end home passes step =
     let entry = cleared_entry t d cleared in
     let carried : d.me.1 ≡ t.me.1 = cleared_slot t d cleared in
-    let ended : Ended (entry_of t) (entry_of u) y = cleared_ended (entry_of t) (entry_of u) y (subst (λ e. Ended e (entry_of u) y) entry (end y (carried ∙ ((k.walking.stands more).0 ∙ slot)))) in
+    let ended : Ended (entry_of t) (entry_of u) y = cleared_ended (entry_of t) (entry_of u) y (subst (λ e. Ended e (entry_of u) y) entry (end y (carried ∙ (k.walking.stands more).0 y slot))) in
     let longer = walk.ended_longer (entry_of t) (entry_of u) y ended in
     record {
       cell_is = omega (arith, step, k.cell_is, longer);
-      walking = walk.walk_step allows s t u nodes (2 * length nodes) 2 (2 * length (nodes ++ withdrawn_by found ∷ [])) found (withdrawn_by found) next (withdrawn_by next) y k.walking more low state
+      walking = walk.walk_step one_slot allows s t u nodes (2 * length nodes) 2 (2 * length (nodes ++ withdrawn_by found ∷ [])) found (withdrawn_by found) next (withdrawn_by next) y k.walking more low state
           (same'.0 ∙ same.0, same'.1 ∙ same.1) (goes_trans allows t.me d.me u.me 1 1 (goes_clear allows t.me d.me cleared) went) ended
           (λ z. ((home z).0, cleared_home (entry_of t) (entry_of u) (subst (λ e. GoesHome e (entry_of u)) entry (home z).1)))
-          (λ z. ((passes z).0 ∙ carried, cleared_passes (entry_of t) (entry_of u) (withdrawn_by next) (subst (λ e. Passes e (withdrawn_by next) (entry_of u)) entry (passes z).1)))
+          (λ z. ((λ x has. (passes z).0 x (carried ∙ has)), cleared_passes (entry_of t) (entry_of u) (withdrawn_by next) (subst (λ e. Passes e (withdrawn_by next) (entry_of u)) entry (passes z).1)))
           (omega (arith, length-append nodes (withdrawn_by found ∷ [])));
     }

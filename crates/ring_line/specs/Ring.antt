@@ -3,6 +3,7 @@ use Rattle.std.specs.Prelude.{◌≡◌, ℕ, ◌+◌, ◌*◌, ◌<◌, List, B
 use Rattle.shared_line.specs.declared.rule.Setup.{Setup}
 use Rattle.array_line.specs.declared.words.TheConstants.{CELLS}
 use Rattle.array_line.specs.Words.{cell_of}
+use Rattle.array_line.specs.Berths.{one_slot}
 use Rattle.array_line.specs.Array.{ArrayState, ArrayRule}
 use Rattle.ring_line.specs.declared.words.TheConstants.{WITHDRAWN}
 
@@ -15,4 +16,4 @@ pub record RingCells (ended hand : ℕ) (cleared : Bool) (marks says : ℕ → �
 
 -- that of any table of tickets and cells, over these
 abbrev pub RingRule : (List ℕ → Type 0) → (List ℕ → List ℕ → Type 0) → Setup → ArrayState → Type 0
-RingRule good allows about s = ArrayRule RingCells good allows about s
+RingRule good allows about s = ArrayRule RingCells one_slot good allows about s

@@ -4,6 +4,7 @@ use Rattle.atomic_table.specs.Table.{Step}
 use Rattle.shared_line.specs.declared.rule.Parcel.{Parcel}
 use Rattle.array_line.specs.declared.own.Point.TheVariants.{Cleared}
 use Rattle.array_line.specs.Words.{cell_of}
+use Rattle.array_line.specs.Berths.{one_slot}
 use Rattle.array_line.specs.Array.{ArrayEntry}
 use Rattle.array_line.specs.Steps as array
 use Rattle.array_line.specs.Steps.{ArraySeat, Contents, sole, entry_of}
@@ -49,10 +50,10 @@ withdrawn_by place found = layout.withdrawn_by found
 
 module _ (allows : List ℕ → List ℕ → Type 0) where
   abbrev pub loaded : Step Parcel → Contents → ℕ → Contents → Type 0
-  loaded st m n m' = array.loaded allows cell_of is_blank is_granted st m n m'
+  loaded st m n m' = array.loaded allows cell_of one_slot is_blank is_granted st m n m'
 
   abbrev pub rolled : Step Parcel → Contents → ℕ → Contents → Type 0
-  rolled st m n m' = array.rolled allows cell_of is_blank is_granted st m n m'
+  rolled st m n m' = array.rolled allows cell_of one_slot is_blank is_granted st m n m'
 
   abbrev pub granted : Step Parcel → Contents → ℕ → Contents → Type 0
-  granted st m n m' = array.granted allows seen withdrawn_by st m n m'
+  granted st m n m' = array.granted allows one_slot seen withdrawn_by st m n m'

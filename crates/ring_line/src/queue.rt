@@ -6,6 +6,8 @@ ghost use Rattle.array_line.proofs.Seats as seats;
 ghost use Rattle.array_line.proofs.Meets as meeting;
 ghost use Rattle.array_line.proofs.Lasting as lasting;
 ghost use Rattle.ring_line.specs.Words as layout;
+ghost use Rattle.array_line.specs.Berths.{one_slot};
+ghost use Rattle.array_line.proofs.Slots.{one_park, one_first, one_last};
 ghost use Rattle.ring_line.specs.Ring.{RingCells};
 ghost use Rattle.ring_line.specs.Laws.{first_cells};
 
@@ -113,21 +115,21 @@ impl<K: Keep> Discipline<K> for Ring {
         is_granted(word)
     }
 
-    ghost cuts = { seats.cuts RingCells K.good K.allows };
+    ghost cuts = { seats.cuts RingCells one_slot K.good K.allows };
 
-    ghost blanks = { seats.blanks RingCells K.good K.allows };
+    ghost blanks = { seats.blanks RingCells one_slot K.good K.allows };
 
-    ghost joins = { seats.joins RingCells K.good K.allows };
+    ghost joins = { seats.joins RingCells one_slot K.good K.allows };
 
-    ghost slots = { seats.one_slot RingCells K.good K.allows };
+    ghost slots = { seats.slot_count RingCells one_slot K.good K.allows };
 
-    ghost starts = { λ about. seats.starts RingCells K.good K.allows about 1 first_cells };
+    ghost starts = { λ about. seats.starts RingCells one_slot K.good K.allows about 1 one_first first_cells };
 
-    ghost meets = { meeting.meets_next RingCells K.good K.allows };
+    ghost meets = { meeting.meets_next RingCells one_slot K.good K.allows };
 
-    ghost parks = { λ about id slots i m v _ _ is holding kept. meeting.parks_next RingCells K.good K.allows about id slots i m v kept.0 is holding kept.1 };
+    ghost parks = { λ about id slots i m v _ _ is holding kept. meeting.parks_next RingCells one_slot K.good K.allows about id slots i m v is holding (one_park m.1 kept.0 kept.1) };
 
-    ghost finishes = { λ about es id words xs at_rest. lasting.final_line RingCells K.good K.allows about es cell_of at_rest id words xs };
+    ghost finishes = { λ about es id words xs at_rest. lasting.final_line RingCells one_slot K.good K.allows about es cell_of at_rest (λ _. 0) one_last id words xs };
 }
 
 /// The state that a turn leaves which closed the line or did not.

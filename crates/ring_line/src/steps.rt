@@ -87,7 +87,7 @@ pub(crate) fn grant<K: Keep>(ground: &Ground<K>, seat: &mut RingSeat, cell: u64)
     ensures goes_on { GoesOn K.allows seat.old.me seat.new.me 1 }
     ensures ended { (y : Parcel) → HasSlot seat.old y → Ended (entry_of seat.old) (entry_of seat.new) y }
     ensures home { result ≡ 0 → HasNoSlot seat.new × GoesHome (entry_of seat.old) (entry_of seat.new) }
-    ensures passes { result ≢ 0 → (seat.new.me.1 ≡ seat.old.me.1) × Passes (entry_of seat.old) (withdrawn_by result) (entry_of seat.new) }
+    ensures passes { result ≢ 0 → ((y : Parcel) → HasSlot seat.old y → HasSlot seat.new y) × Passes (entry_of seat.old) (withdrawn_by result) (entry_of seat.new) }
 {
     ground.fetch_add::<Grant<K>>(seat, cell_word(cell_after(cell)), GRANTED)
 }

@@ -23,4 +23,4 @@ pub record TicketCells (ended hand : ℕ) (cleared : Bool) (marks says : ℕ →
 
 -- that of any table of tickets and cells, over these
 abbrev pub TicketRule : (List ℕ → Type 0) → (List ℕ → List ℕ → Type 0) → Setup → ArrayState → Type 0
-TicketRule good allows about s = ArrayRule TicketCells good allows about s
+TicketRule good allows about s = ArrayRule TicketCells berths good allows about s

@@ -113,21 +113,21 @@ impl<K: Keep> Discipline<K> for Ticket {
         is_granted(word, mark)
     }
 
-    ghost cuts = { seats.cuts TicketCells K.good K.allows };
+    ghost cuts = { seats.cuts TicketCells berths K.good K.allows };
 
-    ghost blanks = { seats.blanks TicketCells K.good K.allows };
+    ghost blanks = { seats.blanks TicketCells berths K.good K.allows };
 
-    ghost joins = { seats.joins TicketCells K.good K.allows };
+    ghost joins = { seats.joins TicketCells berths K.good K.allows };
 
-    ghost slots = { seats.one_slot TicketCells K.good K.allows };
+    ghost slots = { seats.one_slot TicketCells berths K.good K.allows };
 
-    ghost starts = { λ about. seats.starts TicketCells K.good K.allows about (layout.granted 0) first_cells };
+    ghost starts = { λ about. seats.starts TicketCells berths K.good K.allows about (layout.granted 0) first_cells };
 
-    ghost meets = { meeting.meets_next TicketCells K.good K.allows };
+    ghost meets = { meeting.meets_next TicketCells berths K.good K.allows };
 
-    ghost parks = { λ about id slots i m v _ _ is holding kept. meeting.parks_next TicketCells K.good K.allows about id slots i m v kept.0 is holding kept.1 };
+    ghost parks = { λ about id slots i m v _ _ is holding kept. meeting.parks_next TicketCells berths K.good K.allows about id slots i m v kept.0 is holding kept.1 };
 
-    ghost finishes = { λ about es id words xs at_rest. lasting.final_line TicketCells K.good K.allows about es ticket_of at_rest id words xs };
+    ghost finishes = { λ about es id words xs at_rest. lasting.final_line TicketCells berths K.good K.allows about es ticket_of at_rest id words xs };
 }
 
 /// The state that a turn leaves which closed the line or did not.

@@ -1,5 +1,6 @@
 use Rattle.std.proofs.Common.{rules, refl, sym, subst, ap, arith, ◌≡◌, ◌≢◌, ◌∙◌, ◌++◌, ◌∷◌, [], ℕ, List, length}
 use Rattle.array_line.specs.Steps.{entry_of}
+use Rattle.array_line.specs.Berths.{one_slot}
 use Rattle.array_line.proofs.Turning.{goes_none}
 use Rattle.array_line.proofs.Walking.{walk_begins, stands_first, walked_steps, walk_over}
 use Rattle.ring_line.specs.Words.{withdrawn_by}
@@ -13,7 +14,7 @@ loop-passed-init g c = subst (λ (nodes : List ℕ). IsWalking g.K.Keep.allows c
     same = (refl, refl);
     goes_on = goes_none g.K.Keep.allows c.args.seat.now.me c.requires.ready.0;
     walked = walk_begins (entry_of c.args.seat.now) c.requires.passed c.requires.nodes.0;
-    stands = λ more. (refl, stands_first (entry_of c.args.seat.now) (withdrawn_by c.args.found) c.requires.ready.1 c.requires.passed c.requires.first);
+    stands = λ more. ((λ x slot. slot), stands_first (entry_of c.args.seat.now) (withdrawn_by c.args.found) c.requires.ready.1 c.requires.passed c.requires.first);
     home = λ none. absurd (c.requires.found none);
   };
 })
@@ -34,7 +35,7 @@ loop-passed-preserved g c =
     c.requires.nodes.1 c.clear.ensures.same c.clear.ensures.cleared y.1 y.3 c.grant-found.ensures.same c.grant-found.ensures.goes_on c.grant-found.ensures.ended c.grant-found.ensures.home c.grant-found.ensures.passes c.cell_after-cell.ensures)
 
 pub returns-clause-goes_on : goal.returns-clause-goes_on
-returns-clause-goes_on g c = walked_steps g.K.Keep.allows c.args.seat.now c.loop-passed.seat c.free_passed.new.seat c.loop-passed.passed.items _ c.loop-passed.found _ _ _ c.loop-passed.invariant.walking c.free_passed.ensures.goes_on (ap length (search rules)) (omega arith)
+returns-clause-goes_on g c = walked_steps one_slot g.K.Keep.allows c.args.seat.now c.loop-passed.seat c.free_passed.new.seat c.loop-passed.passed.items _ c.loop-passed.found _ _ _ c.loop-passed.invariant.walking c.free_passed.ensures.goes_on (ap length (search rules)) (omega arith)
 
 pub returns-clause-walks_on : goal.returns-clause-walks_on
 returns-clause-walks_on g c = let done : c.loop-passed.found ≡ 0 = search rules in

@@ -14,7 +14,7 @@ pub swap-found-requires : goal.swap-found-requires
 swap-found-requires g c = let y = c.requires.parcel in let v = entry_of c.args.seat.now in let says = c.granted.ensures ∙ ap granted c.requires.next in (
   search rules,
   omega arith,
-  grants_next TicketCells g.K.Keep.good g.K.Keep.allows c.args.ground.now.key g.K.Keep.stays_good v (⊎_elim (λ a. ap has_line a.1) (λ a. ap has_line a.1) c.requires.ready) y.0 y.2 withdrawn_by withdrawn_by (λ _. c.granted.result)
+  grants_next TicketCells berths g.K.Keep.good g.K.Keep.allows c.args.ground.now.key g.K.Keep.stays_good v (⊎_elim (λ a. ap has_line a.1) (λ a. ap has_line a.1) c.requires.ready) y.0 y.2 withdrawn_by withdrawn_by (λ _. c.granted.result)
       (grants (length v.view.ends) c.granted.result (is_cleared v.own.point) says) _ _ _ c.args.seat.now.me
       (λ i. (⊎_elim (λ a. a.0) (λ a. a.0) c.requires.ready i, y.1 i))
       (c.cell_word.ensures ∙ ap (λ t. cell_at (cell_of t)) c.requires.next ∙ ap cell_at (cell_ticket (length v.view.ends + 1))),

@@ -12,7 +12,7 @@ pub load-requires : goal.load-requires
 load-requires g c = (
   search rules,
   omega arith,
-  loads_next TicketCells g.K.Keep.good g.K.Keep.allows c.args.ground.now.key (entry_of c.args.seat.now) c.requires.ready.1 ticket_of is_other is_granted
+  loads_next TicketCells berths g.K.Keep.good g.K.Keep.allows c.args.ground.now.key (entry_of c.args.seat.now) c.requires.ready.1 ticket_of is_other is_granted
       (takes (entry_of c.args.seat.now).own.place (entry_of c.args.seat.now).view.node (λ n. n) (looked (entry_of c.args.seat.now).own.place)) (stays (entry_of c.args.seat.now).own.place) _ _ _ c.args.seat.now.me c.requires.ready.0
       (c.cell_word.ensures ∙ ap (λ t. cell_at (cell_of t)) c.requires.ticket ∙ ap cell_at (cell_ticket (entry_of c.args.seat.now).own.place)),
 )

@@ -1,0 +1,91 @@
+-- What a queue must show of its slots, and that one slot for all turns does.
+use Rattle.std.proofs.Common.{◌≡◌, ◌≢◌, ℕ, zero, suc, ◌+◌, ◌<◌, List, [], ◌∷◌, length, slice_index, map, replicate, refl, ap, sym, ◌∙◌, subst, arith, length-set}
+use mathlib.Core.Option.{none, some, some-ne-none}
+use lib.ListN.{get_elem?}
+use Rattle.atomic_table.specs.Table.{Act, keeps, takes, gives, Valid, homes_after, carried_after}
+use Rattle.atomic_table.proofs.Lists.{set_here}
+use Rattle.shared_line.specs.declared.rule.Parcel.{Parcel}
+use Rattle.shared_line.specs.Slots.{Slots}
+use Rattle.array_line.specs.Words.{ticket_at, ticket_of}
+use Rattle.array_line.specs.Berths.{Berths, Homes, IsAtHome, one_slot}
+
+module _ (berths : Berths) where
+  -- all slots but those that are out are at home
+  abbrev pub AreSpare : ℕ → Homes → Type 0
+  AreSpare ended homes = (k : ℕ) → k < berths.count → (berths.is_out ended k → ⊥) → IsAtHome homes k
+
+  -- where nobody has the line, a node may take it, and then has it as it came
+  abbrev pub MayTake : Type 0
+  MayTake = (ended : ℕ) (homes : Homes) (y : Parcel) → length homes ≡ berths.count → get_elem? homes (berths.lies ended) ≡ some (some y) → ((k : ℕ) → k < berths.count → IsAtHome homes k)
+      → (act : Act Parcel) × Valid homes [] act × (length (homes_after homes [] act) ≡ length homes) × berths.brings ended y (carried_after [] act) × AreSpare ended (homes_after homes [] act)
+
+  -- a node that has laid the line for the next may give it back: nobody has it, at the next turn
+  abbrev pub MayGive : Type 0
+  MayGive = (ended : ℕ) (homes : Homes) (slots : Slots) (y : Parcel) → length homes ≡ berths.count → berths.lays ended y slots → AreSpare ended homes
+      → (act : Act Parcel) × Valid homes slots act × (length (homes_after homes slots act) ≡ length homes) × (carried_after slots act ≡ [])
+      × (get_elem? (homes_after homes slots act) (berths.lies (ended + 1)) ≡ some (some y)) × ((k : ℕ) → k < berths.count → IsAtHome (homes_after homes slots act) k)
+
+  -- or it may keep the line for the next turn, as if it had come then
+  abbrev pub MayKeep : Type 0
+  MayKeep = (ended : ℕ) (homes : Homes) (slots : Slots) (y : Parcel) → length homes ≡ berths.count → berths.lays ended y slots → AreSpare ended homes
+      → (act : Act Parcel) × Valid homes slots act × (length (homes_after homes slots act) ≡ length homes) × berths.brings (ended + 1) y (carried_after slots act) × AreSpare (ended + 1) (homes_after homes slots act)
+
+  -- no other line is laid there
+  abbrev pub LaysOne : Type 0
+  LaysOne = (ended : ℕ) (y z : Parcel) (slots : Slots) → berths.lays ended y slots → berths.lays ended z slots → y ≡ z
+
+  -- these slots may go home, and no other is moved
+  abbrev pub MayPark : Slots → Type 0
+  MayPark slots = (homes : Homes) → length homes ≡ berths.count
+      → (act : Act Parcel) × Valid homes slots act × (length (homes_after homes slots act) ≡ length homes) × (carried_after slots act ≡ []) × ((k : ℕ) → IsAtHome homes k → IsAtHome (homes_after homes slots act) k)
+
+pub elem_within : {A : Type 0} (xs : List A) (p : ℕ) (x : A) → get_elem? xs p ≡ some x → p < length xs
+elem_within [] p x e = absurd (some-ne-none x (sym e))
+elem_within (y ∷ ys) zero x e = omega arith
+elem_within (y ∷ ys) (suc p) x e = let h = elem_within ys p x e in omega arith
+
+-- slots that a table is opened with are at home
+pub opened_slot : (n k : ℕ) (y : Parcel) → k < n → get_elem? (map some (replicate n y)) k ≡ some (some y)
+opened_slot zero k y h = absurd (omega arith)
+opened_slot (suc n) zero y h = refl
+opened_slot (suc n) (suc k) y h = opened_slot n k y (omega arith)
+
+pub opened_count : (n : ℕ) (y : Parcel) → length (map some (replicate n y)) ≡ n
+opened_count zero y = refl
+opened_count (suc n) y = ap suc (opened_count n y)
+
+-- one slot
+
+abbrev first_parcel : Parcel → Slots → Parcel
+first_parcel d [] = d
+first_parcel d (x ∷ xs) = x.1
+
+-- the line lies in it at first, and at the end
+pub one_first : one_slot.lies 0 < one_slot.count
+one_first = omega arith
+
+pub one_last : (words : List ℕ) (n : ℕ) → slice_index words ticket_at ≡ ticket_of n → 0 ≡ one_slot.lies n
+one_last words n is = refl
+
+pub one_take : MayTake one_slot
+one_take ended homes y deep here all = (takes 0 y, here, length-set homes 0 none, refl, λ k b out. absurd (out tt))
+
+pub one_lays : LaysOne one_slot
+one_lays ended y z slots a b = ap (first_parcel y) (sym a ∙ b)
+
+given : (homes : Homes) (y : Parcel) → length homes ≡ 1 → (k : ℕ) → k < 1 → IsAtHome (homes_after homes ((0, y) ∷ []) gives) k
+given homes y deep zero b = (y, set_here homes 0 (some y) (omega arith))
+given homes y deep (suc k) b = absurd (omega arith)
+
+pub one_give : MayGive one_slot
+one_give ended homes slots y deep is spare = subst
+    (λ (xs : Slots). (act : Act Parcel) × Valid homes xs act × (length (homes_after homes xs act) ≡ length homes) × (carried_after xs act ≡ []) × (get_elem? (homes_after homes xs act) 0 ≡ some (some y)) × ((k : ℕ) → k < 1 → IsAtHome (homes_after homes xs act) k))
+    (sym is) (gives, tt, length-set homes 0 (some y), refl, set_here homes 0 (some y) (omega arith), given homes y deep)
+
+pub one_keep : MayKeep one_slot
+one_keep ended homes slots y deep is spare = (keeps, tt, refl, is, λ k b out. absurd (out tt))
+
+pub one_park : (slots : Slots) (y : Parcel) → slots ≡ (0, y) ∷ [] → MayPark one_slot slots
+one_park slots y is homes deep = subst
+    (λ (xs : Slots). (act : Act Parcel) × Valid homes xs act × (length (homes_after homes xs act) ≡ length homes) × (carried_after xs act ≡ []) × ((k : ℕ) → IsAtHome homes k → IsAtHome (homes_after homes xs act) k))
+    (sym is) (gives, tt, length-set homes 0 (some y), refl, λ k h. let w = elem_within homes k (some h.0) h.1 in given homes y deep k (omega arith))
