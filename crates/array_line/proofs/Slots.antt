@@ -1,9 +1,11 @@
 -- What a queue must show of its slots, and that one slot for all turns does.
-use Rattle.std.proofs.Common.{◌≡◌, ◌≢◌, ℕ, zero, suc, ◌+◌, ◌<◌, List, [], ◌∷◌, length, slice_index, map, replicate, refl, ap, sym, ◌∙◌, subst, arith, length-set}
+use Rattle.std.proofs.Common.{◌≡◌, ◌≢◌, ℕ, zero, suc, ◌+◌, ◌<◌, List, [], ◌∷◌, length, set, slice_index, map, replicate, refl, ap, sym, ◌∙◌, subst, arith, length-set}
 use mathlib.Core.Option.{none, some, some-ne-none}
+use mathlib.Core.Logic.{dite}
+use native.Mathlib.Decide.{ℕ_discrete}
 use lib.ListN.{get_elem?}
 use Rattle.atomic_table.specs.Table.{Act, keeps, takes, gives, Valid, homes_after, carried_after}
-use Rattle.atomic_table.proofs.Lists.{set_here}
+use Rattle.atomic_table.proofs.Lists.{set_here, set_else}
 use Rattle.shared_line.specs.declared.rule.Parcel.{Parcel}
 use Rattle.shared_line.specs.Slots.{Slots}
 use Rattle.array_line.specs.Words.{ticket_at, ticket_of}
@@ -53,6 +55,12 @@ opened_slot (suc n) (suc k) y h = opened_slot n k y (omega arith)
 pub opened_count : (n : ℕ) (y : Parcel) → length (map some (replicate n y)) ≡ n
 opened_count zero y = refl
 opened_count (suc n) y = ap suc (opened_count n y)
+
+-- what goes home moves no other slot from there
+pub stays_home : (homes : Homes) (j k : ℕ) (y : Parcel) → IsAtHome homes k → IsAtHome (set homes j (some y)) k
+stays_home homes j k y h = dite (ℕ_discrete k j)
+    (λ e. (y, subst (λ q. get_elem? (set homes j (some y)) q ≡ some (some y)) (sym e) (set_here homes j (some y) (subst (λ q. q < length homes) e (elem_within homes k (some h.0) h.1)))))
+    (λ ne. (h.0, set_else homes j k (some y) ne ∙ h.1))
 
 -- one slot
 

@@ -1,3 +1,5 @@
 pub mod Numbers
+pub mod Berths
+pub mod Emptying
 pub mod Cells
 pub mod Walking

@@ -1,4 +1,5 @@
 pub mod Words
+pub mod Slots
 pub mod Ticket
 pub mod Steps
 pub mod Laws

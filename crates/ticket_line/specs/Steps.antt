@@ -7,6 +7,7 @@ use Rattle.array_line.specs.Array.{ArrayEntry}
 use Rattle.array_line.specs.Steps as array
 use Rattle.array_line.specs.Steps.{ArraySeat, Contents, entry_of}
 use Rattle.ticket_line.specs.Words as layout
+use Rattle.ticket_line.specs.Slots.{berths, brings, lays}
 
 -- the ticket of the node's last request, the one at its turn, as far as the node knows, and the one behind that
 abbrev pub own_ticket : ArraySeat → ℕ
@@ -28,6 +29,13 @@ Comes ticket w y = array.Comes ticket_of ticket w y
 abbrev pub IsRolled : ℕ → ArrayEntry → Type 0
 IsRolled ticket w = array.IsRolled ticket_of ticket w
 
+-- the line has come to this ticket, in the seat's slots; it is laid there for the next one
+abbrev pub HasCome : ℕ → ArraySeat → Parcel → Type 0
+HasCome ticket seat y = brings ticket y seat.me.1
+
+abbrev pub HasLaid : ℕ → ArraySeat → Parcel → Type 0
+HasLaid ticket seat y = lays ticket y seat.me.1
+
 -- the own cell is granted to the own ticket, or it is not
 abbrev pub is_other : ℕ → ℕ → Type 0
 is_other place found = found ≢ layout.granted (ticket_of place)
@@ -41,10 +49,10 @@ withdrawn_by place found = layout.withdrawn_by (ticket_of place) found
 
 module _ (allows : List ℕ → List ℕ → Type 0) where
   abbrev pub loaded : Step Parcel → Contents → ℕ → Contents → Type 0
-  loaded st m n m' = array.loaded allows ticket_of is_other is_granted st m n m'
+  loaded st m n m' = array.loaded allows ticket_of berths is_other is_granted st m n m'
 
   abbrev pub rolled : Step Parcel → Contents → ℕ → Contents → Type 0
-  rolled st m n m' = array.rolled allows ticket_of is_other is_granted st m n m'
+  rolled st m n m' = array.rolled allows ticket_of berths is_other is_granted st m n m'
 
   abbrev pub handed : Step Parcel → Contents → ℕ → Contents → Type 0
-  handed st m n m' = array.granted allows withdrawn_by withdrawn_by st m n m'
+  handed st m n m' = array.granted allows berths withdrawn_by withdrawn_by st m n m'

@@ -7,6 +7,7 @@ use Rattle.array_line.specs.Array.{ArrayState, ArrayRule}
 use Rattle.ticket_line.specs.declared.words.TheConstants.{UNIT}
 use Rattle.ticket_line.specs.Words.{number, number_before}
 use Rattle.ticket_line.specs.Words as layout
+use Rattle.ticket_line.specs.Slots.{berths}
 
 -- What the cell of a place behind the one at its turn says. It names the node that withdrew there; or it was not granted since the place
 -- before that has the same cell, and has that one's number.

@@ -5,6 +5,7 @@ mod plays;
 mod queue;
 mod release;
 mod rule;
+mod slots;
 mod steps;
 mod words;
 

@@ -6,19 +6,20 @@ ghost use Rattle.array_line.proofs.Seats as seats;
 ghost use Rattle.array_line.proofs.Meets as meeting;
 ghost use Rattle.array_line.proofs.Lasting as lasting;
 ghost use Rattle.ticket_line.specs.Words as layout;
+ghost use Rattle.ticket_line.specs.Slots as slots;
+ghost use Rattle.ticket_line.specs.Slots.{berths, last};
 ghost use Rattle.ticket_line.specs.Ticket.{TicketCells};
-ghost use Rattle.ticket_line.specs.Laws.{first_cells};
+ghost use Rattle.ticket_line.specs.Laws.{first_cells, first_slot, may_park, is_last};
 
 use crate::release::{release, renew};
 use crate::rule::{Ground, Ticket, TicketSeat};
+use crate::slots::{put, take, unlay};
 use crate::steps::{draw, load, roll};
-use crate::words::{cell_word, first_words, is_granted};
+use crate::words::{SLOTS, cell_word, first_words, is_granted};
 use array_line::WORDS;
 use atomic_table::Closed;
 use qolb_model::{Keep, PortState};
-use shared_line::{
-    Asked, Discipline, Parcel, Released, Requested, ToWake, put_alone, take_alone, unlay_alone,
-};
+use shared_line::{Asked, Discipline, Parcel, Released, Requested, ToWake};
 use std::alloc::{AllocError, Global};
 
 impl<K: Keep> Discipline<K> for Ticket {
@@ -30,26 +31,26 @@ impl<K: Keep> Discipline<K> for Ticket {
         first_words(alloc, WORDS)
     }
 
-    ghost slot_count = { 1 };
+    ghost slot_count = { slots.slot_count };
 
-    ghost last = { λ _. 0 };
+    ghost last = { last };
 
     fn slot_count() -> usize {
-        1
+        SLOTS
     }
 
     #[inline]
-    fn take(ground: &Ground<K>, seat: &mut TicketSeat, _mark: u64, parcel: &mut Parcel) {
-        take_alone(ground, seat, parcel);
+    fn take(ground: &Ground<K>, seat: &mut TicketSeat, mark: u64, parcel: &mut Parcel) {
+        take(ground, seat, mark, parcel);
     }
 
     #[inline]
-    fn put(ground: &Ground<K>, seat: &mut TicketSeat, _mark: u64, parcel: &Parcel, closed: bool) {
-        put_alone(ground, seat, parcel, closed);
+    fn put(ground: &Ground<K>, seat: &mut TicketSeat, mark: u64, parcel: &Parcel, closed: bool) {
+        put(ground, seat, mark, parcel, closed);
     }
 
     fn unlay(closed: Closed<Parcel, Global>) -> Parcel {
-        unlay_alone(closed)
+        unlay(closed)
     }
 
     /// Draws a ticket, and looks at its cell.
@@ -119,15 +120,15 @@ impl<K: Keep> Discipline<K> for Ticket {
 
     ghost joins = { seats.joins TicketCells berths K.good K.allows };
 
-    ghost slots = { seats.one_slot TicketCells berths K.good K.allows };
+    ghost slots = { seats.slot_count TicketCells berths K.good K.allows };
 
-    ghost starts = { λ about. seats.starts TicketCells berths K.good K.allows about (layout.granted 0) first_cells };
+    ghost starts = { λ about. seats.starts TicketCells berths K.good K.allows about (layout.granted 0) first_slot first_cells };
 
     ghost meets = { meeting.meets_next TicketCells berths K.good K.allows };
 
-    ghost parks = { λ about id slots i m v _ _ is holding kept. meeting.parks_next TicketCells berths K.good K.allows about id slots i m v kept.0 is holding kept.1 };
+    ghost parks = { λ about id slots i m v mark _ is holding kept. meeting.parks_next TicketCells berths K.good K.allows about id slots i m v is holding (may_park mark kept.0 kept.1 m.1 kept.2) };
 
-    ghost finishes = { λ about es id words xs at_rest. lasting.final_line TicketCells berths K.good K.allows about es ticket_of at_rest id words xs };
+    ghost finishes = { λ about es id words xs at_rest. lasting.final_line TicketCells berths K.good K.allows about es ticket_of at_rest last is_last id words xs };
 }
 
 /// The state that a turn leaves which closed the line or did not.

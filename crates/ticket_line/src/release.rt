@@ -4,15 +4,16 @@ ghost use Rattle.qolb_model.specs.declared.request.Request.{Request};
 ghost use Rattle.qolb_model.specs.declared.terms.TheConstants.{MOST_NODES};
 ghost use Rattle.qolb_model.specs.PortStates.{left_by};
 ghost use Rattle.shared_line.specs.declared.rule.Parcel.{Parcel};
-ghost use Rattle.shared_line.specs.Steps.{SameSeat, IsSeatOf, HasSlot, HasNoSlot};
+ghost use Rattle.shared_line.specs.Steps.{SameSeat, IsSeatOf, HasNoSlot};
 ghost use Rattle.array_line.specs.Words.{word_count};
 ghost use Rattle.array_line.specs.Array.{At};
 ghost use Rattle.array_line.specs.Steps.{IsAt, IsOwnNode, entry_of, GoesOn, CarriesNext};
 ghost use Rattle.array_line.specs.Releases.{IsRenewed, steps_to_renew, IsBare, LetsLineGo, WalksOn, AreNodesAt, FreesAll};
-ghost use Rattle.ticket_line.specs.Steps.{turn_ticket};
+ghost use Rattle.ticket_line.specs.Steps.{turn_ticket, HasCome, HasLaid};
 ghost use Rattle.array_line.specs.declared.own.Point.TheVariants.{Idle, Holding, Passing, Freeing, Rolled};
 
 use crate::rule::{Ground, TicketSeat};
+use crate::slots::carry;
 use crate::steps::{free, grant, load_node, reset};
 use crate::words::ticket_after;
 use array_line::is_freed;
@@ -57,7 +58,7 @@ pub(crate) fn renew<K: Keep>(
     Some(2)
 }
 
-/// Lets the line go that lies in the slot.
+/// Lets the line go that is laid for the next.
 #[inline]
 pub(crate) fn release<K: Keep>(ground: &Ground<K>, seat: &mut TicketSeat, ticket: u64) -> LetGo
     requires table { IsSeatOf word_count ground.now.table_id seat.old }
@@ -65,11 +66,11 @@ pub(crate) fn release<K: Keep>(ground: &Ground<K>, seat: &mut TicketSeat, ticket
     requires none_passed { (entry_of seat.old).own.passed ≡ [] }
     requires ticket { ticket ≡ turn_ticket seat.old }
     requires nodes { 1 ≤ (entry_of seat.old).view.terms.nodes }
-    requires parcel { (y : Parcel) × HasSlot seat.old y × CarriesNext K.allows (entry_of seat.old) y }
+    requires parcel { (y : Parcel) × HasLaid ticket seat.old y × CarriesNext K.allows (entry_of seat.old) y }
     ensures same { SameSeat seat.old seat.new }
     ensures slot { HasNoSlot seat.new }
     ensures goes_on { GoesOn K.allows seat.old.me seat.new.me result.steps }
-    ensures lets_go { (y : Parcel) → HasSlot seat.old y → LetsLineGo (entry_of seat.old) y (entry_of seat.new) }
+    ensures lets_go { (y : Parcel) → HasLaid ticket seat.old y → LetsLineGo (entry_of seat.old) y (entry_of seat.new) }
     ensures counted { result.steps + 1 + 2 * length (entry_of seat.old).view.ends ≡ 2 * length (entry_of seat.new).view.ends }
     ensures bound { result.steps + 1 ≤ 2 * (entry_of seat.old).view.terms.nodes }
 {
@@ -102,7 +103,7 @@ fn walk<K: Keep>(ground: &Ground<K>, seat: &mut TicketSeat, ticket: u64, node: u
     requires passed { (entry_of seat.old).own.passed ≡ length (entry_of seat.old).view.ends ∷ [] }
     requires first { (r : Request) × At (entry_of seat.old).view.order (length (entry_of seat.old).view.ends) r × (r.node ≡ node) × (r.node ≤ (entry_of seat.old).view.terms.nodes) }
     requires nodes { (2 ≤ (entry_of seat.old).view.terms.nodes) × ((entry_of seat.old).view.terms.nodes ≤ MOST_NODES) }
-    requires parcel { (y : Parcel) × HasSlot seat.old y × IsBare (entry_of seat.old) y × ((entry_of seat.old).view.state ≡ left_by y.closed) }
+    requires parcel { (y : Parcel) × HasCome ticket seat.old y × IsBare (entry_of seat.old) y × ((entry_of seat.old).view.state ≡ left_by y.closed) }
     ensures same { SameSeat seat.old seat.new }
     ensures slot { HasNoSlot seat.new }
     ensures goes_on { GoesOn K.allows seat.old.me seat.new.me result.steps }
@@ -115,6 +116,7 @@ fn walk<K: Keep>(ground: &Ground<K>, seat: &mut TicketSeat, ticket: u64, node: u
     let mut node = node;
     while node != 0 {
         passed.push(node);
+        carry(ground, seat, ticket);
         ticket = ticket_after(ticket);
         node = grant(ground, seat, ticket);
     }

@@ -1,5 +1,5 @@
 //! The queue of a ticket line: how its nodes stand, and its rule.
-ghost use Rattle.shared_line.specs.Slots.{lies_alone, kept_alone};
+ghost use Rattle.ticket_line.specs.Slots as slots;
 ghost use Rattle.array_line.specs.Words.{ticket_of};
 ghost use Rattle.array_line.specs.Stances as stances;
 ghost use Rattle.array_line.proofs.Standing as standing;
@@ -12,7 +12,7 @@ use shared_line::{LineSeat, Ruled, Shape, Sleepers};
 /// The discipline of partitioned tickets: nodes queue by tickets, and each waits at a cell of its own for its ticket's number.
 ///
 /// Between any two steps on its words there is one history of the line: an order of requests, and the ends of the first of them. Where
-/// nobody has the line it lies in the slot as those ends leave it, and the cell of the request at its turn is granted to it; a cell behind
+/// nobody has the line it lies in the slot of the request at its turn as those ends leave it, and the cell of that request is granted to it; a cell behind
 /// has the number of an earlier ticket, or its own with the node that withdrew there. No cell is ever cleared. Each port knows a beginning of
 /// this history, and each node has at most one open request, so there are always more cells than open requests.
 pub struct Ticket;
@@ -28,11 +28,11 @@ impl Shape for Ticket {
 
     ghost refused = { stances.refused ticket_of };
 
-    ghost brings = { lies_alone };
+    ghost brings = { slots.brings };
 
-    ghost keeps = { kept_alone };
+    ghost keeps = { slots.keeps };
 
-    ghost lays = { lies_alone };
+    ghost lays = { slots.lays };
 
     ghost may_show = { stances.may_show };
 

@@ -5,11 +5,11 @@ ghost use Rattle.qolb_model.specs.Requests.{Has};
 ghost use Rattle.qolb_model.specs.Views.{own};
 ghost use Rattle.qolb_model.specs.declared.terms.TheConstants.{MOST_NODES};
 ghost use Rattle.shared_line.specs.declared.rule.Parcel.{Parcel};
-ghost use Rattle.shared_line.specs.Steps.{SameSeat, IsSeatOf, HasSlot, HasNoSlot};
+ghost use Rattle.shared_line.specs.Steps.{SameSeat, IsSeatOf, HasNoSlot};
 ghost use Rattle.array_line.specs.Words.{word_count};
 ghost use Rattle.array_line.specs.Array.{At};
 ghost use Rattle.array_line.specs.Steps.{IsAt, IsOwnNode, entry_of, GoesOn, Draws, IsStill, CarriesNext, Ended, GoesHome, Passes, Frees, after_reset};
-ghost use Rattle.ticket_line.specs.Steps.{own_ticket, next_ticket, IsEarly, Comes, IsRolled};
+ghost use Rattle.ticket_line.specs.Steps.{own_ticket, turn_ticket, next_ticket, HasCome, HasLaid, IsEarly, Comes, IsRolled};
 ghost use Rattle.array_line.specs.declared.own.Point.TheVariants.{Idle, Queued, Holding, Passing, Freeing, Rolled};
 
 use crate::plays::{Grant, Load, Roll};
@@ -43,7 +43,7 @@ pub(crate) fn load<K: Keep>(ground: &Ground<K>, seat: &mut TicketSeat, ticket: u
     ensures goes_on { GoesOn K.allows seat.old.me seat.new.me 1 }
     ensures count { (entry_of seat.new).view.count ≡ (entry_of seat.old).view.count }
     ensures waits { result ≡ false → HasNoSlot seat.new × IsEarly ticket (entry_of seat.new) }
-    ensures comes { result ≡ true → (y : Parcel) × HasSlot seat.new y × Comes ticket (entry_of seat.new) y }
+    ensures comes { result ≡ true → (y : Parcel) × HasCome ticket seat.new y × Comes ticket (entry_of seat.new) y }
 {
     is_granted(ground.load::<Load<K>>(seat, cell_word(ticket)), ticket)
 }
@@ -64,7 +64,7 @@ pub(crate) fn roll<K: Keep>(
     ensures goes_on { GoesOn K.allows seat.old.me seat.new.me 1 }
     ensures count { (entry_of seat.new).view.count ≡ (entry_of seat.old).view.count }
     ensures withdrawn { result ≡ false → HasNoSlot seat.new × IsRolled ticket (entry_of seat.new) }
-    ensures comes { result ≡ true → (y : Parcel) × HasSlot seat.new y × Comes ticket (entry_of seat.new) y }
+    ensures comes { result ≡ true → (y : Parcel) × HasCome ticket seat.new y × Comes ticket (entry_of seat.new) y }
 {
     let found = ground.swap::<Roll<K>>(seat, cell_word(ticket), withdrawn(ticket, node));
     is_granted(found, ticket)
@@ -76,12 +76,12 @@ pub(crate) fn grant<K: Keep>(ground: &Ground<K>, seat: &mut TicketSeat, next: u6
     requires table { IsSeatOf word_count ground.now.table_id seat.old }
     requires ready { IsAt Holding seat.old ⊎ IsAt Passing seat.old }
     requires next { next ≡ next_ticket seat.old }
-    requires parcel { (y : Parcel) × HasSlot seat.old y × CarriesNext K.allows (entry_of seat.old) y }
+    requires parcel { (y : Parcel) × HasLaid (turn_ticket seat.old) seat.old y × CarriesNext K.allows (entry_of seat.old) y }
     ensures same { SameSeat seat.old seat.new }
     ensures goes_on { GoesOn K.allows seat.old.me seat.new.me 1 }
-    ensures ended { (y : Parcel) → HasSlot seat.old y → Ended (entry_of seat.old) (entry_of seat.new) y }
+    ensures ended { (y : Parcel) → HasLaid (turn_ticket seat.old) seat.old y → Ended (entry_of seat.old) (entry_of seat.new) y }
     ensures home { result ≡ 0 → HasNoSlot seat.new × GoesHome (entry_of seat.old) (entry_of seat.new) }
-    ensures passes { result ≢ 0 → (seat.new.me.1 ≡ seat.old.me.1) × Passes (entry_of seat.old) result (entry_of seat.new) }
+    ensures passes { result ≢ 0 → ((y : Parcel) → HasLaid (turn_ticket seat.old) seat.old y → HasCome next seat.new y) × Passes (entry_of seat.old) result (entry_of seat.new) }
 {
     let found = ground.swap::<Grant<K>>(seat, cell_word(next), granted(next));
     withdrawn_by(found, next)

@@ -3,6 +3,7 @@ ghost use Rattle.std.specs.Prelude.{◌≡◌, ◌≢◌, ◌≤◌, length, Mat
 ghost use Rattle.qolb_model.specs.declared.terms.TheConstants.{MOST_NODES};
 ghost use Rattle.array_line.specs.Words as array;
 ghost use Rattle.ticket_line.specs.Words as layout;
+ghost use Rattle.ticket_line.specs.Slots as slots;
 
 use array_line::CELLS;
 use std::alloc::{AllocError, Global};
@@ -12,6 +13,20 @@ pub(crate) const UNIT: u64 = 256;
 
 /// How many numbers there are, 2^56: with the node below, a number fills its word. Then they begin again.
 pub(crate) const NUMBERS: u64 = 0x100_0000_0000_0000;
+
+/// How many slots lie between those of two cells. The one between them has no use but to keep their lines on cache lines of their own.
+pub(crate) const SLOT_STRIDE: usize = 2;
+
+/// All slots.
+pub(crate) const SLOTS: usize = SLOT_STRIDE * CELLS as usize;
+
+/// The slot of a ticket's cell.
+#[inline]
+pub(crate) fn slot_of(ticket: u64) -> usize
+    ensures { result ≡ slots.slot_of ticket }
+{
+    SLOT_STRIDE * (ticket % CELLS) as usize
+}
 
 /// The word of a ticket's cell.
 #[inline]

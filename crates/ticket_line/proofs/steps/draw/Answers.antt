@@ -1,6 +1,7 @@
 use Rattle.std.proofs.Common.{rules}
 use Rattle.array_line.specs.Steps.{entry_of}
 use Rattle.array_line.proofs.Ask.{asks_next}
+use Rattle.ticket_line.specs.Slots.{berths}
 use Rattle.ticket_line.specs.Ticket.{TicketCells}
 use Rattle.ticket_line.proofs.steps.draw.Goals as goal
 

@@ -3,6 +3,7 @@ use Rattle.qolb_model.specs.declared.terms.TheConstants.{MOST_NODES}
 use Rattle.array_line.specs.Words.{node_at}
 use Rattle.array_line.specs.Steps.{entry_of}
 use Rattle.array_line.proofs.Freeing.{frees_next}
+use Rattle.ticket_line.specs.Slots.{berths}
 use Rattle.ticket_line.specs.Ticket.{TicketCells}
 use Rattle.ticket_line.proofs.steps.free.Goals as goal
 

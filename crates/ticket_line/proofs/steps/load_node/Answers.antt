@@ -2,6 +2,7 @@ use Rattle.std.proofs.Common.{rules, arith, ap, ◌∙◌}
 use Rattle.array_line.specs.Words.{node_at}
 use Rattle.array_line.specs.Steps.{entry_of}
 use Rattle.array_line.proofs.Renewing.{loads_node_next}
+use Rattle.ticket_line.specs.Slots.{berths}
 use Rattle.ticket_line.specs.Ticket.{TicketCells}
 use Rattle.ticket_line.proofs.steps.load_node.Goals as goal
 
