@@ -17,8 +17,6 @@ struct parcel {
     uint8_t closed;
 };
 
-static _Alignas(128) struct parcel slot;
-
 // With -DCOPIES the line is copied out and in as a program's own would be, whose turn may do anything with it. Else clang sees through both copies:
 // it adds to lane 0 in the slot, and copies nothing.
 #ifdef COPIES
@@ -27,23 +25,23 @@ static _Alignas(128) struct parcel slot;
 #define USED(held) (void)(held)
 #endif
 
-// Copies the line out of the slot, for a turn in which nothing is written yet.
-static void take(struct parcel *held) {
-    memcpy(held->bytes, slot.bytes, 64);
-    held->turns_left = slot.turns_left;
-    held->is_leased = slot.is_leased;
-    held->closed = slot.closed;
+// Copies the line out of a slot, for a turn in which nothing is written yet.
+static void take(struct parcel *held, const struct parcel *slot) {
+    memcpy(held->bytes, slot->bytes, 64);
+    held->turns_left = slot->turns_left;
+    held->is_leased = slot->is_leased;
+    held->closed = slot->closed;
     held->mask = 0;
     USED(held);
 }
 
-// Copies the line of a turn that is over into its slot.
-static void put(const struct parcel *held) {
+// Copies the line of a turn that is over back into the slot in which it came.
+static void put(const struct parcel *held, struct parcel *slot) {
     USED(held);
-    memcpy(slot.bytes, held->bytes, 64);
-    slot.mask = held->mask;
-    if (held->is_leased) slot.turns_left = held->turns_left - 1;
-    if (held->is_leased && held->turns_left == 1) slot.closed = 1;
+    memcpy(slot->bytes, held->bytes, 64);
+    slot->mask = held->mask;
+    if (held->is_leased) slot->turns_left = held->turns_left - 1;
+    if (held->is_leased && held->turns_left == 1) slot->closed = 1;
 }
 
 static void write_masked(struct parcel *held, uint64_t mask, const uint8_t bytes[64]) {

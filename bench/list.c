@@ -13,6 +13,9 @@ static _Alignas(128) _Atomic uint64_t words[WORDS];
 // How a call left its port.
 enum state { IDLE, LEFT, QUEUED, HOLDING };
 
+// All turns have one slot.
+static _Alignas(128) struct parcel slot;
+
 struct port {
     struct parcel parcel;
     uint64_t node;
@@ -23,7 +26,7 @@ struct port {
 static _Atomic uint64_t *entry_word(uint64_t node) { return &words[HOME + ENTRY_STRIDE * node]; }
 
 static int arrive(struct port *p) {
-    take(&p->parcel);
+    take(&p->parcel, &slot);
     p->state = HOLDING;
     return 1;
 }
@@ -51,7 +54,7 @@ static int enqolb(struct port *p) {
 }
 
 static void deqolb(struct port *p) {
-    put(&p->parcel);
+    put(&p->parcel, &slot);
     p->steps = 1;
     p->state = IDLE;
     uint64_t found = p->node;
@@ -80,5 +83,7 @@ static void one_round(struct port *p) {
     add_one(&p->parcel);
     deqolb(p);
 }
+
+static const struct parcel *last_line(uint64_t rounds) { return (void)rounds, &slot; }
 
 #include "rounds.h"

@@ -15,6 +15,8 @@ static _Thread_local unsigned looks;
 
 static _Alignas(128) ck_spinlock_mcs_t lock = CK_SPINLOCK_MCS_INITIALIZER;
 
+static _Alignas(128) struct parcel slot;
+
 struct port {
     _Alignas(128) ck_spinlock_mcs_context_t context;
 };
@@ -32,5 +34,7 @@ static void one_round(struct port *p) {
     memcpy(slot.bytes, &lane, 8);
     ck_spinlock_mcs_unlock(&lock, &p->context);
 }
+
+static const struct parcel *last_line(uint64_t rounds) { return (void)rounds, &slot; }
 
 #include "rounds.h"

@@ -2,6 +2,7 @@
 //   static void open_line(void);                              before any thread
 //   static void open_port(struct port *p, uint64_t node);     in the thread of the node, numbered from 1
 //   static void one_round(struct port *p);                    asks, waits, adds 1 to lane 0 of the line, releases
+//   static const struct parcel *last_line(uint64_t rounds);   where the line lies after so many rounds of all
 //
 // A program is called as NAME THREADS ROUNDS, and prints the lane sum, and nanoseconds a round and rounds a second over all threads, from before the
 // first thread is started until the last has ended.
@@ -30,9 +31,9 @@ int main(int argc, char **argv) {
         if (pthread_create(&ids[k], NULL, work, (void *)(uintptr_t)(k + 1))) return 3;
     for (int k = 0; k < threads; k++) pthread_join(ids[k], NULL);
     clock_gettime(CLOCK_MONOTONIC, &to);
-    uint64_t sum;
-    memcpy(&sum, slot.bytes, 8);
     double ns = (to.tv_sec - from.tv_sec) * 1e9 + (to.tv_nsec - from.tv_nsec), all = (double)threads * rounds;
+    uint64_t sum;
+    memcpy(&sum, last_line(threads * rounds)->bytes, 8);
     printf("threads %d rounds %.0f lane sum %llu ns a round %.1f rounds a second %.0f\n", threads, all, (unsigned long long)sum, ns / all, all / ns * 1e9);
     return sum == (uint64_t)threads * rounds ? 0 : 1;
 }

@@ -1,9 +1,24 @@
-// The ticket line in plain C, to measure the proved one against: the same words, the same steps and the same pauses.
+// The ticket line in plain C, to measure the proved one against: the same words, the same slots, the same steps and the same pauses.
 //
 //   clang -O3 -march=x86-64-v2 -pthread -o ticket bench/ticket.c && ./ticket THREADS ROUNDS
 //
 // Nobody withdraws, and the line is never closed.
 #include "cells.h"
+
+// Where the line lies: a slot for each cell, two places apart, as in the proved line.
+enum { SLOT_STRIDE = 2 };
+
+static _Alignas(128) struct parcel slots[SLOT_STRIDE * CELLS];
+
+static struct parcel *slot_of(uint64_t ticket) { return &slots[ticket % CELLS * SLOT_STRIDE]; }
+
+// Copies the line of a turn that is over into another slot.
+static void lay(const struct parcel *held, struct parcel *slot) {
+    put(held, slot);
+    if (!held->is_leased) slot->turns_left = 0;
+    slot->is_leased = held->is_leased;
+    slot->closed = held->closed || (held->is_leased && held->turns_left == 1);
+}
 
 struct port {
     struct parcel parcel;
@@ -17,7 +32,7 @@ static uint64_t granted(uint64_t ticket) { return (ticket + 1) << 8; }
 static int look(struct port *p) {
     p->steps++;
     if (atomic_load(cell_word(p->ticket)) != granted(p->ticket)) return 0;
-    take(&p->parcel);
+    take(&p->parcel, slot_of(p->ticket));
     return 1;
 }
 
@@ -28,7 +43,7 @@ static int enqolb(struct port *p) {
 }
 
 static void deqolb(struct port *p) {
-    put(&p->parcel);
+    lay(&p->parcel, slot_of(p->ticket + 1));
     p->steps = 1;
     uint64_t next = p->ticket + 1, old = atomic_exchange(cell_word(next), granted(next));
     if (old >> 8 == granted(next) >> 8) abort();  // nobody withdraws here
@@ -45,5 +60,7 @@ static void one_round(struct port *p) {
     add_one(&p->parcel);
     deqolb(p);
 }
+
+static const struct parcel *last_line(uint64_t rounds) { return slot_of(rounds); }
 
 #include "rounds.h"

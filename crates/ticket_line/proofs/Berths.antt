@@ -74,8 +74,8 @@ module _ (ended : ℕ) (homes : Homes) (y x : Parcel) (deep : length homes ≡ s
   given_home spare k few = dite (ℕ_discrete k here)
       (λ e. (x, subst (λ q. get_elem? (given ended homes y x) q ≡ some (some x)) (sym e) given_here))
       (λ ne. dite (ℕ_discrete k next)
-          (λ e. (y, subst (λ q. get_elem? (given ended homes y x) q ≡ some (some y)) (sym e) given_next))
-          (λ nf. stays_home (set homes next (some y)) here k x (stays_home homes next k y (spare k few (λ out. ⊎_elim (λ e. ne e) (λ e. nf e) out)))))
+      (λ e. (y, subst (λ q. get_elem? (given ended homes y x) q ≡ some (some y)) (sym e) given_next))
+      (λ nf. stays_home (set homes next (some y)) here k x (stays_home homes next k y (spare k few (λ out. ⊎_elim (λ e. ne e) (λ e. nf e) out)))))
 
   give_both : AreSpare berths ended homes → (act : Act Parcel) × Valid homes ((next, y) ∷ (here, x) ∷ []) act × (length (homes_after homes ((next, y) ∷ (here, x) ∷ []) act) ≡ length homes) × (carried_after ((next, y) ∷ (here, x) ∷ []) act ≡ [])
       × (get_elem? (homes_after homes ((next, y) ∷ (here, x) ∷ []) act) (slot_of (ticket_of (ended + 1))) ≡ some (some y)) × ((k : ℕ) → k < slot_count → IsAtHome (homes_after homes ((next, y) ∷ (here, x) ∷ []) act) k)

@@ -46,8 +46,7 @@ pub walk_carries : (allows : List ℕ → List ℕ → Type 0) (s t d : ArraySea
 walk_carries allows s t d nodes first ticket found y k more laid begins slot bare =
     let both = walk.walk_carries berths allows s t nodes (length nodes) found found y k.walking more (subst (λ n. HasCome n s y) begins slot) bare in
     let entry : entry_of d ≡ entry_of t = ap sole laid.entries in
-    let turn : turn_ticket d ≡ turn_ticket t = ap (λ (e : ArrayEntry). ticket_of (length e.view.ends)) entry in
-    (
+    let turn : turn_ticket d ≡ turn_ticket t = ap (λ (e : ArrayEntry). ticket_of (length e.view.ends)) entry in (
       subst (λ n. HasLaid n d y) (k.ticket_is ∙ sym turn) (laid.laid y (subst (λ n. HasCome n t y) (sym k.ticket_is) both.0)),
       subst (λ e. CarriesNext allows e y) (sym entry) both.1,
     )

@@ -46,9 +46,9 @@ is_last words n is = ap slot_of is
 -- a holder's slots may go home
 pub may_park : (ticket : ℕ) (z x : Parcel) (slots : Slots) → slots ≡ (slot_of (ticket_after ticket), z) ∷ (slot_of ticket, x) ∷ [] → MayPark berths slots
 may_park ticket z x slots is = subst (MayPark berths) (sym is) (λ homes deep. (
-    chain gives gives,
-    (tt, tt),
-    length-set (set homes (slot_of (ticket_after ticket)) (some z)) (slot_of ticket) (some x) ∙ length-set homes (slot_of (ticket_after ticket)) (some z),
-    refl,
-    λ k h. stays_home (set homes (slot_of (ticket_after ticket)) (some z)) (slot_of ticket) k x (stays_home homes (slot_of (ticket_after ticket)) k z h),
-  ))
+  chain gives gives,
+  (tt, tt),
+  length-set (set homes (slot_of (ticket_after ticket)) (some z)) (slot_of ticket) (some x) ∙ length-set homes (slot_of (ticket_after ticket)) (some z),
+  refl,
+  λ k h. stays_home (set homes (slot_of (ticket_after ticket)) (some z)) (slot_of ticket) k x (stays_home homes (slot_of (ticket_after ticket)) k z h),
+))

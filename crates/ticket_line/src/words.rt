@@ -82,11 +82,9 @@ pub(crate) fn is_granted(word: u64, ticket: u64) -> bool
 pub(crate) fn withdrawn_by(word: u64, ticket: u64) -> u64
     ensures { result ≡ layout.withdrawn_by ticket word }
 {
-    if word / UNIT == number(ticket) {
-        word % UNIT
-    } else {
-        0
-    }
+    // Only words with the ticket's number are so little above it.
+    let node = word.wrapping_sub(granted(ticket));
+    if node < UNIT { node } else { 0 }
 }
 
 /// The words of a line that nobody has asked for: cell 0 is granted to ticket 0.

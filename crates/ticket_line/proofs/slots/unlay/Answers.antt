@@ -11,8 +11,8 @@ use Rattle.ticket_line.proofs.slots.unlay.Goals.{then-at-place, else-at-place}
 pub loop-at-init : goal.loop-at-init
 loop-at-init c = let old = c.args.closed.slots in let taken = c.take-line.ensures.others in let new = c.take-line.new.self.slots in
     empties slot_count c.slot_of-place.result 0 (slots_items old) (slots_items old) (slots_filled old) (slots_len old) c.take-line.result
-        (emptied_none slot_count c.slot_of-place.result (slots_items old) (slots_filled old) (slots_len old) c.take-line.result c.requires.slots.0 c.requires.slots.1)
-        (slots_items new) (slots_filled new) (slots_len new) c.take-line.result c.take-line.result c.take-line.ensures.value taken.0 taken.1 taken.2 (λ _. refl) (λ _. refl)
+    (emptied_none slot_count c.slot_of-place.result (slots_items old) (slots_filled old) (slots_len old) c.take-line.result c.requires.slots.0 c.requires.slots.1)
+    (slots_items new) (slots_filled new) (slots_len new) c.take-line.result c.take-line.result c.take-line.ensures.value taken.0 taken.1 taken.2 (λ _. refl) (λ _. refl)
 
 pub take-parcel-requires : goal.take-parcel-requires
 take-parcel-requires c = let k = c.loop-at.invariant in (omega (arith, k.many, c.loop-at-test.true), search rules)
@@ -20,8 +20,8 @@ take-parcel-requires c = let k = c.loop-at.invariant in (omega (arith, k.many, c
 pub loop-at-preserved : goal.loop-at-preserved
 loop-at-preserved c = let now = c.loop-at.closed.slots in let taken = c.take-parcel.ensures.others in let new = c.take-parcel.new.self.slots in
     empties slot_count c.slot_of-place.result c.loop-at.at (slots_items c.args.closed.slots) (slots_items now) (slots_filled now) (slots_len now) c.loop-at.line c.loop-at.invariant
-        (slots_items new) (slots_filled new) (slots_len new) c.take-parcel.result c.if-at-place.line c.take-parcel.ensures.value taken.0 taken.1 taken.2
-        (λ e. search rules) (λ ne. search rules)
+    (slots_items new) (slots_filled new) (slots_len new) c.take-parcel.result c.if-at-place.line c.take-parcel.ensures.value taken.0 taken.1 taken.2
+    (λ e. search rules) (λ ne. search rules)
 
 pub free-requires : goal.free-requires
 free-requires c k few = c.loop-at.invariant.empty k (omega (arith, c.loop-at.invariant.many, c.loop-at-test.false))
