@@ -2,7 +2,6 @@
 use Rattle.std.proofs.Common.{◌≡◌, ◌≢◌, ℕ, ◌+◌, ◌<◌, ◌≤◌, List, [], ◌∷◌, length, drop, set, slice_index, Bool, sym, refl, ap, ◌∙◌, subst, arith, length-drop, length-set, get_or-set_same, get_or-set_other}
 use mathlib.Core.Logic.{dite}
 use mathlib.Core.Option.{some}
-use mathlib.Core.Option as maybe
 use native.Mathlib.Decide.{ℕ_discrete}
 use lib.ListN.{get_elem?}
 use Rattle.std.proofs.lemmas.Option.{slice_get_within}
@@ -24,7 +23,6 @@ use Rattle.shared_line.specs.declared.rule.Setup.{Setup}
 use Rattle.shared_line.specs.declared.rule.Parcel.{Parcel}
 use Rattle.array_line.specs.Berths.{Berths, Homes, IsAtHome}
 use Rattle.array_line.specs.Array.{ArrayEntry, ArrayState, At, Cells, Past, NodeOk, PastOk, Shown, ArrayRule}
-
 
 -- a word that is no cell's changes none
 pub cells_else : (words : List ℕ) (i z : ℕ) → ((c : ℕ) → cell_at c ≢ i) → cells_in (set words i z) ≡ cells_in words

@@ -1,5 +1,5 @@
 -- A waiting node reads its cell: the line has come, or it waits on.
-use Rattle.std.proofs.Common.{◌≡◌, ◌≢◌, ℕ, List, [], ◌∷◌, length, set, slice_index, sym, refl, ap, ◌∙◌, subst, arith}
+use Rattle.std.proofs.Common.{◌≡◌, ◌≢◌, ℕ, List, [], ◌∷◌, length, set, slice_index, sym, refl, ap, subst, arith}
 use mathlib.Core.Logic.{dite}
 use mathlib.Core.Option.{none, some}
 use native.Mathlib.Decide.{ℕ_discrete}
@@ -13,7 +13,7 @@ use Rattle.shared_line.specs.declared.rule.Setup.{Setup}
 use Rattle.array_line.specs.Words.{cell_at, cells_in, cell_of}
 use Rattle.array_line.specs.Berths.{Berths}
 use Rattle.array_line.specs.Array.{ArrayEntry, ArrayState, Cells, NodeOk, ArrayRule, has_line, lets_go, is_kept}
-use Rattle.array_line.specs.Steps.{Contents, IsEarly, Comes, loaded}
+use Rattle.array_line.specs.Steps.{Contents, IsEarly, loaded}
 use Rattle.array_line.proofs.Nodes.{learned, learned_ok}
 use Rattle.array_line.proofs.Histories.{not_withdrawn, continues}
 use Rattle.array_line.proofs.Keeping.{rule_step, mine_ok, few_open}

@@ -1,5 +1,5 @@
 -- What two entries in one seat say.
-use Rattle.std.proofs.Common.{◌≡◌, ◌≢◌, ℕ, inl, inr, List, [], ◌∷◌, length, set, slice_index, sym, refl, ap, ◌∙◌, subst, ⊎_elim, arith, length-set}
+use Rattle.std.proofs.Common.{◌≡◌, ◌≢◌, ℕ, inl, inr, List, [], ◌∷◌, length, set, slice_index, sym, refl, ap, ◌∙◌, subst, ⊎_elim, arith}
 use mathlib.Core.List.{IsPrefix}
 use mathlib.Core.Option.{none, some}
 use lib.ListN.{get_elem?}
@@ -23,7 +23,6 @@ use Rattle.shared_line.specs.Entries.{node_of}
 use Rattle.shared_line.specs.Steps.{informed, met, parked}
 use Rattle.array_line.specs.Stances.{fresh}
 use Rattle.shared_line.specs.declared.rule.Setup.{Setup}
-use Rattle.shared_line.specs.declared.rule.Parcel.{Parcel}
 use Rattle.array_line.specs.Berths.{Berths}
 use Rattle.array_line.proofs.Slots.{MayPark}
 use Rattle.array_line.specs.Array.{ArrayEntry, ArrayState, Cells, Past, NodeOk, PastOk, ArrayRule}

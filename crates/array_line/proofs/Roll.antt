@@ -20,7 +20,7 @@ use Rattle.array_line.specs.declared.words.TheConstants.{CELLS}
 use Rattle.array_line.specs.Words.{cell_at, cells_in, cell_of}
 use Rattle.array_line.specs.Berths.{Berths}
 use Rattle.array_line.specs.Array.{ArrayEntry, ArrayState, At, Cells, Past, NodeOk, PastOk, ArrayRule, has_line, lets_go, is_kept}
-use Rattle.array_line.specs.Steps.{Contents, IsRolled, Comes, rolled}
+use Rattle.array_line.specs.Steps.{Contents, IsRolled, rolled}
 use Rattle.array_line.proofs.OneNode.{knows_whole, hand_none}
 use Rattle.array_line.proofs.Nodes.{others_roll, passes_none, freed_so}
 use Rattle.array_line.proofs.Histories.{continues}

@@ -1,5 +1,5 @@
 -- How seats begin, are cut and are joined.
-use Rattle.std.proofs.Common.{◌≡◌, ℕ, ◌-◌, ◌<◌, List, [], ◌∷◌, ◌++◌, length, replicate, refl, ◌∙◌, arith, false}
+use Rattle.std.proofs.Common.{◌≡◌, ℕ, ◌-◌, ◌<◌, List, [], ◌++◌, length, replicate, refl, ◌∙◌, arith, false}
 use Rattle.atomic_table.specs.Table.{Splits, Joins, opening}
 use Rattle.qolb_model.specs.Histories.{none}
 use Rattle.qolb_model.specs.Opening.{MayOpen}

@@ -68,9 +68,9 @@ pub(crate) fn release<K: Keep>(
             steps,
             to_wake: ToWake { word: granted },
         },
-        Handed::Passed(next) => {
+        Handed::Passed(first) => {
             let mut last = HOME;
-            let steps = walk(ground, seat, steps, &mut last, next);
+            let steps = walk(ground, seat, steps, &mut last, first);
             Released {
                 state: left_by(closed),
                 steps,

@@ -1,5 +1,5 @@
 -- What a ticket line shows of its slots.
-use Rattle.std.proofs.Common.{◌≡◌, ◌≢◌, ℕ, ◌+◌, ◌<◌, List, [], ◌∷◌, length, set, refl, sym, ap, ◌∙◌, subst, inl, inr, ⊎_elim, arith, length-set}
+use Rattle.std.proofs.Common.{◌≡◌, ◌≢◌, ℕ, ◌+◌, ◌<◌, [], ◌∷◌, length, set, refl, sym, ap, ◌∙◌, subst, inl, inr, ⊎_elim, arith, length-set}
 use mathlib.Core.Logic.{dite}
 use mathlib.Core.Option.{none, some}
 use native.Mathlib.Decide.{ℕ_discrete}
@@ -8,11 +8,11 @@ use Rattle.atomic_table.specs.Table.{Act, chain, takes, gives, Valid, homes_afte
 use Rattle.atomic_table.proofs.Lists.{set_here, set_else}
 use Rattle.shared_line.specs.declared.rule.Parcel.{Parcel}
 use Rattle.shared_line.specs.Slots.{Slots}
-use Rattle.array_line.specs.Words.{cell_of, ticket_of}
+use Rattle.array_line.specs.Words.{ticket_of}
 use Rattle.array_line.specs.Berths.{Homes, IsAtHome}
 use Rattle.array_line.proofs.Slots.{MayTake, MayGive, MayKeep, LaysOne, AreSpare, stays_home}
 use Rattle.ticket_line.specs.Words.{ticket_after}
-use Rattle.ticket_line.specs.Slots.{slot_of, slot_count, berths, brings, lays}
+use Rattle.ticket_line.specs.Slots.{slot_of, slot_count, berths, brings}
 use Rattle.ticket_line.proofs.Numbers.{cell_ticket, ticket_next}
 
 -- the slot of the place p, of the next and of the next but one are three

@@ -1,7 +1,6 @@
 -- A walk over withdrawn requests, ticket by ticket.
 use Rattle.std.proofs.Common.{◌≡◌, ◌≢◌, ℕ, ◌+◌, ◌≤◌, List, [], ◌∷◌, ◌++◌, length, sym, ap, ◌∙◌, subst, length-append}
 use Rattle.qolb_model.specs.declared.terms.TheConstants.{MOST_NODES}
-use Rattle.qolb_model.specs.declared.view.View.{View}
 use Rattle.qolb_model.specs.PortStates.{left_by}
 use Rattle.qolb_model.specs.Sound.{Continues}
 use Rattle.qolb_model.specs.Views.{Extends}
@@ -13,7 +12,7 @@ use Rattle.array_line.specs.Steps.{ArraySeat, Contents, entry_of, sole, CarriesN
 use Rattle.array_line.specs.Releases.{IsBare}
 use Rattle.array_line.proofs.Walking as walk
 use Rattle.ticket_line.specs.Words.{ticket_after}
-use Rattle.ticket_line.specs.Slots.{berths, brings, lays}
+use Rattle.ticket_line.specs.Slots.{berths}
 use Rattle.ticket_line.specs.Steps.{turn_ticket, HasCome, HasLaid}
 use Rattle.ticket_line.proofs.Numbers.{ticket_next}
 

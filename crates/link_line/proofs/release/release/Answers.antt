@@ -18,7 +18,7 @@ walk-steps-requires-clause-nodes g c =
     let y = c.requires.parcel in
     let on = c.in-Passed.ensures.handed in
     let passes = (on.3 y.0 y.1).2 in
-    (walk_nodes (known_of c.args.seat.now) (known_of c.hand_on.new.seat) y.0 c.in-Passed.next c.requires.none_passed passes, omega (arith, c.requires.nodes.1, ap (λ (t : Terms). t.nodes) on.2.extends.terms))
+    (walk_nodes (known_of c.args.seat.now) (known_of c.hand_on.new.seat) y.0 c.in-Passed.first c.requires.none_passed passes, omega (arith, c.requires.nodes.1, ap (λ (t : Terms). t.nodes) on.2.extends.terms))
 
 pub returns-in-On-clause-lets_go : goal.returns-in-On-clause-lets_go
 returns-in-On-clause-lets_go g c y slot =
@@ -44,7 +44,7 @@ returns-in-Passed-clause-lets_go g c y slot =
     let on = c.in-Passed.ensures.handed.3 y slot in
     let closed = ap (λ (z : Parcel). left_by z.closed) (same_slot c.args.seat.now.me.1 y own.0 slot own.1) ∙ ap left_by own.3 in
     subst (λ (state : PortState). LetsLineGo (known_of c.args.seat.now) y state (known_of c.walk-steps.new.seat)) (closed ∙ sym c.left_by-in-Passed.ensures)
-    (lets_on (known_of c.args.seat.now) y c.requires.none_passed (known_of c.hand_on.new.seat) (known_of c.walk-steps.new.seat) c.in-Passed.next on.1 on.2 c.walk-steps.ensures.goes_on.2.extends c.walk-steps.ensures.walks_on)
+    (lets_on (known_of c.args.seat.now) y c.requires.none_passed (known_of c.hand_on.new.seat) (known_of c.walk-steps.new.seat) c.in-Passed.first on.1 on.2 c.walk-steps.ensures.goes_on.2.extends c.walk-steps.ensures.walks_on)
 
 pub returns-in-On-clause-goes_on : goal.returns-in-On-clause-goes_on
 returns-in-On-clause-goes_on g c = let on = c.in-On.ensures.handed in after_none c.args.seat.now c.hand_on.new.seat on.0 c.hand_on.new.steps on.1 on.2

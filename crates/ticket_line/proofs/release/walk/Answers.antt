@@ -7,7 +7,7 @@ use Rattle.array_line.specs.Steps.{entry_of, sole}
 use Rattle.ticket_line.proofs.Numbers.{ticket_next}
 use Rattle.array_line.proofs.Turning.{goes_none}
 use Rattle.array_line.proofs.Walking.{walk_begins, stands_first, walked_steps, walk_over}
-use Rattle.ticket_line.proofs.Walking.{IsWalking, IsLaid, walk_has, walk_carries, walk_step}
+use Rattle.ticket_line.proofs.Walking.{IsWalking, walk_has, walk_carries, walk_step}
 use Rattle.ticket_line.proofs.release.walk.Goals as goal
 
 pub loop-node-init : goal.loop-node-init
