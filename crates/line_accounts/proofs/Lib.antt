@@ -7,3 +7,4 @@ pub mod Columns
 pub mod Transferred
 pub mod Settlements
 pub mod Pairs
+pub mod Patient

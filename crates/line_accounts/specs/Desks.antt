@@ -1,5 +1,5 @@
 -- Desks: one node's ports of several lines, and what was paid in and out through them. (Of this project.)
-use Rattle.std.specs.Prelude.{◌≡◌, ℕ, ◌+◌, true, List, length, Some, slice_get}
+use Rattle.std.specs.Prelude.{◌≡◌, ◌≤◌, ℕ, ◌+◌, true, List, length, Some, slice_get}
 use Rattle.std.specs.List.{sum_by}
 use Rattle.qolb_model.specs.declared.view.View.{View}
 use Rattle.qolb_model.specs.PortStates.{may_ask}
@@ -27,3 +27,16 @@ pub record IsDeskOver {Line Port : Type 0} (belongs : Line → Port → Type 0) 
   pub over : AreOver belongs lines desk.ports
   pub at_rest : (i : ℕ) (port : Port) → slice_get desk.ports i ≡ Some port → IsAtRest (view port)
   pub paid : sum_by (λ port. paid_by (view port)) desk.ports + desk.paid_out ≡ sum_by (λ port. drawn_by (view port)) desk.ports + desk.paid_in
+
+-- no port has polled more often than the patience since then
+pub record ArePatient {Port : Type 0} (looks : Port → ℕ) (patience : ℕ) (old new : List Port) : Type 0 where
+  pub each : (i : ℕ) (before after : Port) → slice_get old i ≡ Some before → slice_get new i ≡ Some after → looks after ≤ looks before + patience
+
+-- a port has polled just so often
+pub record HasOneWaited {Port : Type 0} (looks : Port → ℕ) (patience : ℕ) (old new : List Port) : Type 0 where
+  pub place : ℕ
+  pub before : Port
+  pub after : Port
+  pub was : slice_get old place ≡ Some before
+  pub is : slice_get new place ≡ Some after
+  pub looked : looks after ≡ looks before + patience

@@ -1,5 +1,5 @@
 //! Transfers over two lines: the lower line is asked for first, and both balances are looked at before either is written.
-ghost use Rattle.std.specs.Prelude.{◌≡◌, ◌<◌, IfOk, IfErr, length};
+ghost use Rattle.std.specs.Prelude.{◌≡◌, ◌≢◌, ◌⊎◌, ◌<◌, ◌≤◌, ◌+◌, Err, IfOk, IfErr, length};
 ghost use Rattle.qolb_model.specs.Turns.{IsGranted};
 ghost use Rattle.qolb_model.specs.Views.{bytes_of};
 ghost use Rattle.line_accounts.specs.Desks.{IsAtRest};
@@ -29,6 +29,9 @@ fn ask_both<L: LineSync<AccountLaw>>(
     ensures holds_first { IfOk result (λ _. Holds (L.view first_port.old) (L.view first_port.new) (L.turn first_port.new)) }
     ensures holds_second { IfOk result (λ _. Holds (L.view second_port.old) (L.view second_port.new) (L.turn second_port.new)) }
     ensures refused { IfErr result (IsRefusedEither (L.view first_port.old) (L.view first_port.new) (L.view second_port.old) (L.view second_port.new)) }
+    ensures patient_first { L.looks first_port.new ≤ L.looks first_port.old + patience }
+    ensures patient_second { L.looks second_port.new ≤ L.looks second_port.old + patience }
+    ensures late { result ≡ Err Reply.Late → (L.looks first_port.new ≡ L.looks first_port.old + patience) ⊎ (L.looks second_port.new ≡ L.looks second_port.old + patience) }
 {
     ask(first, first_port, patience)?;
     if let Err(reply) = ask(second, second_port, patience) {
@@ -59,6 +62,9 @@ fn carry<L: LineSync<AccountLaw>>(
     ensures long_source { length (bytes_of (L.view source_port.old)) ≡ 64 }
     ensures long_target { length (bytes_of (L.view target_port.old)) ≡ 64 }
     ensures carries { Carries (L.view source_port.old) (L.view source_port.new) (L.view target_port.old) (L.view target_port.new) from to amount result }
+    ensures looks_source { L.looks source_port.new ≡ L.looks source_port.old }
+    ensures looks_target { L.looks target_port.new ≡ L.looks target_port.old }
+    ensures not_late { result ≢ Reply.Late }
 {
     let paying = held::<L>(source_port);
     let paid = held::<L>(target_port);
@@ -98,6 +104,9 @@ pub fn move_up<L: LineSync<AccountLaw>>(
     ensures belongs_target { L.belongs target.now target_port.new }
     ensures moves { MovesAcross (IsRefusedEither (L.view source_port.old) (L.view source_port.new) (L.view target_port.old) (L.view target_port.new))
         (L.view source_port.old) (L.view source_port.new) (L.view target_port.old) (L.view target_port.new) from to amount result }
+    ensures patient_source { L.looks source_port.new ≤ L.looks source_port.old + patience }
+    ensures patient_target { L.looks target_port.new ≤ L.looks target_port.old + patience }
+    ensures late { result ≡ Reply.Late → (L.looks source_port.new ≡ L.looks source_port.old + patience) ⊎ (L.looks target_port.new ≡ L.looks target_port.old + patience) }
 {
     if let Err(reply) = ask_both(source, source_port, target, target_port, patience) {
         return reply;
@@ -126,6 +135,9 @@ pub fn move_down<L: LineSync<AccountLaw>>(
     ensures belongs_target { L.belongs target.now target_port.new }
     ensures moves { MovesAcross (IsRefusedEither (L.view target_port.old) (L.view target_port.new) (L.view source_port.old) (L.view source_port.new))
         (L.view source_port.old) (L.view source_port.new) (L.view target_port.old) (L.view target_port.new) from to amount result }
+    ensures patient_source { L.looks source_port.new ≤ L.looks source_port.old + patience }
+    ensures patient_target { L.looks target_port.new ≤ L.looks target_port.old + patience }
+    ensures late { result ≡ Reply.Late → (L.looks source_port.new ≡ L.looks source_port.old + patience) ⊎ (L.looks target_port.new ≡ L.looks target_port.old + patience) }
 {
     if let Err(reply) = ask_both(target, target_port, source, source_port, patience) {
         return reply;

@@ -1,6 +1,6 @@
 //! A desk: one node's ports of several lines.
 ghost use Rattle.std.specs.Prelude.{◌≡◌, ◌<◌, All, List, [], ◌∷◌, ◌++◌, length, slice_get, Some, MatchOption};
-ghost use Rattle.line_accounts.specs.Desks.{AreOver, IsDeskOver};
+ghost use Rattle.line_accounts.specs.Desks.{AreOver, IsDeskOver, ArePatient, HasOneWaited};
 ghost use Rattle.line_accounts.specs.Calls.{Deposits, TakesOut, Transfers};
 
 use crate::across::{move_down, move_up};
@@ -85,6 +85,8 @@ pub fn deposit<L: LineSync<AccountLaw>>(
     requires over { IsDeskOver L.belongs L.view lines.now desk.old }
     ensures over { IsDeskOver L.belongs L.view lines.now desk.new }
     ensures deposits { Deposits L.view (length lines.now) account amount desk.old desk.new result }
+    ensures patient { ArePatient L.looks patience desk.old.ports desk.new.ports }
+    ensures late { result ≡ Reply.Late → HasOneWaited L.looks patience desk.old.ports desk.new.ports }
 {
     let Some((i, lane)) = place_of(account, lines.len()) else {
         return Reply::NoAccount;
@@ -110,6 +112,8 @@ pub fn take_out<L: LineSync<AccountLaw>>(
     requires over { IsDeskOver L.belongs L.view lines.now desk.old }
     ensures over { IsDeskOver L.belongs L.view lines.now desk.new }
     ensures takes_out { TakesOut L.view (length lines.now) account amount desk.old desk.new result }
+    ensures patient { ArePatient L.looks patience desk.old.ports desk.new.ports }
+    ensures late { result ≡ Reply.Late → HasOneWaited L.looks patience desk.old.ports desk.new.ports }
 {
     let Some((i, lane)) = place_of(account, lines.len()) else {
         return Reply::NoAccount;
@@ -137,6 +141,8 @@ pub fn transfer<L: LineSync<AccountLaw>>(
     requires over { IsDeskOver L.belongs L.view lines.now desk.old }
     ensures over { IsDeskOver L.belongs L.view lines.now desk.new }
     ensures transfers { Transfers L.view (length lines.now) from to amount desk.old desk.new result }
+    ensures patient { ArePatient L.looks patience desk.old.ports desk.new.ports }
+    ensures late { result ≡ Reply.Late → HasOneWaited L.looks patience desk.old.ports desk.new.ports }
 {
     let Some((i, source)) = place_of(from, lines.len()) else {
         return Reply::NoAccount;

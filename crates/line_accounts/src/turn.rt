@@ -1,5 +1,5 @@
 //! What is done at one line in one turn.
-ghost use Rattle.std.specs.Prelude.{◌≡◌, ◌≢◌, ◌<◌, length};
+ghost use Rattle.std.specs.Prelude.{◌≡◌, ◌≢◌, ◌<◌, ◌≤◌, ◌+◌, length};
 ghost use Rattle.qolb_model.specs.Turns.{IsGranted};
 ghost use Rattle.qolb_model.specs.Views.{bytes_of};
 ghost use Rattle.line_accounts.specs.Accounts.{StayBalances};
@@ -28,6 +28,7 @@ pub fn leave<L: LineSync<AccountLaw>>(line: &L, port: &mut L::Port)
     requires granted { IsGranted (L.view port.old) (L.turn port.old) }
     ensures belongs { L.belongs line.now port.new }
     ensures leaves { Leaves (L.view port.old) (L.view port.new) (bytes_of (L.view port.old)) }
+    ensures looks { L.looks port.new ≡ L.looks port.old }
 {
     line.deqolb(port);
 }
@@ -40,6 +41,7 @@ pub fn leave_with<L: LineSync<AccountLaw>>(line: &L, port: &mut L::Port, next: &
     requires allowed { StayBalances (bytes_of (L.view port.old)) next.now.bytes }
     ensures belongs { L.belongs line.now port.new }
     ensures leaves { Leaves (L.view port.old) (L.view port.new) next.now.bytes }
+    ensures looks { L.looks port.new ≡ L.looks port.old }
 {
     L::write(port, Mask(u64::MAX), next);
     line.deqolb(port);
@@ -59,6 +61,8 @@ pub fn pay_in<L: LineSync<AccountLaw>>(
     requires lane { k < 8 }
     ensures belongs { L.belongs line.now port.new }
     ensures pays { PaysIn (L.view port.old) (L.view port.new) k amount paid_in.old paid_in.new result }
+    ensures patient { L.looks port.new ≤ L.looks port.old + patience }
+    ensures late { result ≡ Reply.Late → L.looks port.new ≡ L.looks port.old + patience }
 {
     if let Err(reply) = ask(line, port, patience) {
         return reply;
@@ -91,6 +95,8 @@ pub fn pay_out<L: LineSync<AccountLaw>>(
     requires lane { k < 8 }
     ensures belongs { L.belongs line.now port.new }
     ensures pays { PaysOut (L.view port.old) (L.view port.new) k amount paid_out.old paid_out.new result }
+    ensures patient { L.looks port.new ≤ L.looks port.old + patience }
+    ensures late { result ≡ Reply.Late → L.looks port.new ≡ L.looks port.old + patience }
 {
     if let Err(reply) = ask(line, port, patience) {
         return reply;
@@ -125,6 +131,8 @@ pub fn move_within<L: LineSync<AccountLaw>>(
     requires apart { from ≢ to }
     ensures belongs { L.belongs line.now port.new }
     ensures moves { MovesWithin (L.view port.old) (L.view port.new) from to amount result }
+    ensures patient { L.looks port.new ≤ L.looks port.old + patience }
+    ensures late { result ≡ Reply.Late → L.looks port.new ≡ L.looks port.old + patience }
 {
     if let Err(reply) = ask(line, port, patience) {
         return reply;

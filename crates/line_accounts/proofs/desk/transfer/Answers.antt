@@ -3,11 +3,12 @@ use Rattle.std.specs.Vec.{with_items}
 use Rattle.std.proofs.Math.ListN.{set}
 use Rattle.std.proofs.lemmas.Option.{slice_get_read}
 use Rattle.line_accounts.specs.declared.answer.Reply.{Reply}
-use Rattle.line_accounts.specs.Desks.{DeskOf, IsDeskOver}
+use Rattle.line_accounts.specs.Desks.{DeskOf, IsDeskOver, ArePatient, HasOneWaited}
 use Rattle.line_accounts.specs.Moves.{IsRefusedEither}
 use Rattle.line_accounts.specs.Calls.{AreTwo, Transfers}
 use Rattle.line_accounts.proofs.Accounted.{at_place, moved_within_port, desk_after}
 use Rattle.line_accounts.proofs.Pairs.{both_set}
+use Rattle.line_accounts.proofs.Patient.{patient_two, waited_two}
 use Rattle.line_accounts.proofs.Transferred.{either_rests, across_ports, crossed_desk, transfers_within, transfers_up, transfers_down}
 use Rattle.line_accounts.proofs.desk.transfer.Goals as goal
 
@@ -118,3 +119,33 @@ returns-clause-transfers g c =
     subst (λ (d : DeskOf g.row.L-Port.Denot). Transfers g.L.LineSync.view (length c.args.lines.now) c.args.from c.args.to c.args.amount d (record { ports = ports.items; paid_in = c.desk.inside.paid_in; paid_out = c.desk.inside.paid_out }) c.move_down.result) c.desk.view_is
     (subst (λ (l : List g.row.L-Port.Denot). Transfers g.L.LineSync.view (length c.args.lines.now) c.args.from c.args.to c.args.amount (record { ports = c.desk.inside.ports.items; paid_in = c.desk.inside.paid_in; paid_out = c.desk.inside.paid_out }) (record { ports = l; paid_in = c.desk.inside.paid_in; paid_out = c.desk.inside.paid_out }) c.move_down.result) (sym whole)
     (transfers_down g.L.LineSync.view (length c.args.lines.now) c.args.from c.args.to c.args.amount _ c.in-Some.i c.in-Some-place_of.j c.in-Some.source c.in-Some-place_of.target two c.in-Some.ensures.1 c.in-Some-place_of.ensures.1 c.in-Some.ensures.2 c.in-Some-place_of.ensures.2 c.pair_of-paying.result.0.now c.move_down.new.source_port c.pair_of-paying.result.1.now c.move_down.new.target_port (omega (arith, c.if-i-j.false, c.if-i-j-2.false)) at_i at_j c.move_down.result c.move_down.ensures.moves))
+
+pub returns-then-i-j-2-clause-late : goal.returns-then-i-j-2-clause-late
+returns-then-i-j-2-clause-late g c late =
+    let at_i = sym (ap (λ l. slice_get l c.in-Some.i) c.deref_mut.ensures.value) ∙ c.pair_of-paying.ensures.first in
+    let at_j = sym (ap (λ l. slice_get l c.in-Some-place_of.j) c.deref_mut.ensures.value) ∙ c.pair_of-paying.ensures.second in
+    let ports = with_items c.desk.inside.ports (slice_set (slice_set c.deref_mut.result.now c.in-Some.i c.move_up.new.source_port) c.in-Some-place_of.j c.move_up.new.target_port) in
+    let whole = both_set c.desk.inside.ports c.deref_mut.result.now c.in-Some.i c.in-Some-place_of.j c.move_up.new.source_port c.move_up.new.target_port c.deref_mut.ensures.value in
+    subst (λ (d : DeskOf g.row.L-Port.Denot). HasOneWaited g.L.LineSync.looks c.args.patience d.ports ports.items) c.desk.view_is
+    (subst (λ (l : List g.row.L-Port.Denot). HasOneWaited g.L.LineSync.looks c.args.patience c.desk.inside.ports.items l) (sym whole)
+    (waited_two g.L.LineSync.looks c.args.patience c.desk.inside.ports.items c.in-Some.i c.pair_of-paying.result.0.now c.move_up.new.source_port at_i c.in-Some-place_of.j c.pair_of-paying.result.1.now c.move_up.new.target_port c.if-i-j.false at_j (c.move_up.ensures.late late)))
+
+pub returns-clause-patient : goal.returns-clause-patient
+returns-clause-patient g c =
+    let at_i = sym (ap (λ l. slice_get l c.in-Some.i) c.deref_mut.ensures.value) ∙ c.pair_of-paying.ensures.first in
+    let at_j = sym (ap (λ l. slice_get l c.in-Some-place_of.j) c.deref_mut.ensures.value) ∙ c.pair_of-paying.ensures.second in
+    let ports = with_items c.desk.inside.ports (slice_set (slice_set c.deref_mut.result.now c.in-Some.i c.move_down.new.source_port) c.in-Some-place_of.j c.move_down.new.target_port) in
+    let whole = both_set c.desk.inside.ports c.deref_mut.result.now c.in-Some.i c.in-Some-place_of.j c.move_down.new.source_port c.move_down.new.target_port c.deref_mut.ensures.value in
+    subst (λ (d : DeskOf g.row.L-Port.Denot). ArePatient g.L.LineSync.looks c.args.patience d.ports ports.items) c.desk.view_is
+    (subst (λ (l : List g.row.L-Port.Denot). ArePatient g.L.LineSync.looks c.args.patience c.desk.inside.ports.items l) (sym whole)
+    (patient_two g.L.LineSync.looks c.args.patience c.desk.inside.ports.items c.in-Some.i c.pair_of-paying.result.0.now c.move_down.new.source_port at_i c.in-Some-place_of.j c.pair_of-paying.result.1.now c.move_down.new.target_port c.if-i-j.false at_j c.move_down.ensures.patient_source c.move_down.ensures.patient_target))
+
+pub returns-clause-late : goal.returns-clause-late
+returns-clause-late g c late =
+    let at_i = sym (ap (λ l. slice_get l c.in-Some.i) c.deref_mut.ensures.value) ∙ c.pair_of-paying.ensures.first in
+    let at_j = sym (ap (λ l. slice_get l c.in-Some-place_of.j) c.deref_mut.ensures.value) ∙ c.pair_of-paying.ensures.second in
+    let ports = with_items c.desk.inside.ports (slice_set (slice_set c.deref_mut.result.now c.in-Some.i c.move_down.new.source_port) c.in-Some-place_of.j c.move_down.new.target_port) in
+    let whole = both_set c.desk.inside.ports c.deref_mut.result.now c.in-Some.i c.in-Some-place_of.j c.move_down.new.source_port c.move_down.new.target_port c.deref_mut.ensures.value in
+    subst (λ (d : DeskOf g.row.L-Port.Denot). HasOneWaited g.L.LineSync.looks c.args.patience d.ports ports.items) c.desk.view_is
+    (subst (λ (l : List g.row.L-Port.Denot). HasOneWaited g.L.LineSync.looks c.args.patience c.desk.inside.ports.items l) (sym whole)
+    (waited_two g.L.LineSync.looks c.args.patience c.desk.inside.ports.items c.in-Some.i c.pair_of-paying.result.0.now c.move_down.new.source_port at_i c.in-Some-place_of.j c.pair_of-paying.result.1.now c.move_down.new.target_port c.if-i-j.false at_j (c.move_down.ensures.late late)))
