@@ -2,7 +2,7 @@
 ghost use Rattle.std.specs.Prelude.{◌≡◌, ◌↔◌, IsOk};
 
 use anyhow::{bail, ensure};
-use qolb_run::{AlwaysOpen, Detail, Kind, Lines, report_work, run_schedule, run_steps};
+use qolb_run::{AlwaysOpen, Detail, Kind, Lines, Waits, report_work, run_schedule, run_steps};
 use qolb_script::{Watched, WorkKind};
 use std::alloc::Global;
 use std::sync::Wait;
@@ -118,6 +118,7 @@ fn report<R: Threads + Wait + Sync>(
         &mut Watched::new(&mut said),
         kind,
         lines,
+        Waits::Awake,
     );
     match done {
         Ok(()) => Ok(said),

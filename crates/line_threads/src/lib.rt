@@ -3,6 +3,7 @@
 
 mod asleep;
 mod meetings;
+mod sleeping_line;
 #[cfg(test)]
 mod tests;
 pub mod together;
@@ -10,4 +11,5 @@ mod waiting;
 
 pub use asleep::{Within, acquire_asleep, acquire_within};
 pub use meetings::{meet_all, meet_others};
+pub use sleeping_line::SleepingLine;
 pub use waiting::{Got, acquire};

@@ -16,6 +16,8 @@ use Rattle.qolb.specs.declared.command_line.Wish.{Wish}
 use Rattle.qolb.specs.declared.command_line.Wish.TheVariants.{Answer, Draw}
 use Rattle.qolb_run.specs.declared.task.Detail.{Detail}
 use Rattle.qolb_run.specs.declared.task.Detail.TheVariants as detail
+use Rattle.qolb_run.specs.declared.task.Waits.{Waits}
+use Rattle.qolb_run.specs.declared.task.Waits.TheVariants as waits
 use Rattle.qolb_run.specs.declared.task.Task.{Task}
 use Rattle.qolb_run.specs.declared.task.Task.TheVariants as task
 
@@ -58,8 +60,11 @@ steps_command = with_rule (new_app (codes "steps")) (flag_rule (codes "rank"))
 abbrev pub work_over : Text → Names → App
 work_over name names = with_rule (new_app name) (record (kind_rule names) { defaults = codes "link" ∷ [] })
 
+abbrev pub work_or_sleep : Text → Names → App
+work_or_sleep name names = with_rule (work_over name names) (flag_rule (codes "sleep"))
+
 abbrev pub work_command : Text → Names → App
-work_command name names = with_rule (work_over name names) (flag_rule (codes "progress"))
+work_command name names = with_rule (work_or_sleep name names) (flag_rule (codes "progress"))
 
 -- `draw [--svg]`
 abbrev pub draw_command : App
@@ -68,7 +73,7 @@ draw_command = with_rule (new_app (codes "draw")) (flag_rule (codes "svg"))
 abbrev pub needs_subcommand : App → App
 needs_subcommand app = record app { top = record app.top { subcommand_required = true } }
 
--- the program's command: `replay --kind KIND`, `steps [--rank]`, `board [--kind KIND] [--progress]`, `bank` with the same, or `draw [--svg]`
+-- the program's command: `replay --kind KIND`, `steps [--rank]`, `board [--kind KIND] [--sleep] [--progress]`, `bank` with the same, or `draw [--svg]`
 abbrev pub replay_or_steps : Names → App
 replay_or_steps replayed = with_subcommand (with_subcommand (needs_subcommand (new_app (codes "qolb"))) (replay_command replayed).top) steps_command.top
 
@@ -92,16 +97,21 @@ abbrev pub detail_of : Option Text → Detail
 detail_of None = detail.Words
 detail_of (Some value) = if bytes_eq value (codes "true") then detail.Ranks else detail.Words
 
+-- how workers wait, by what `--sleep` is set to
+abbrev pub waits_of : Option Text → Waits
+waits_of None = waits.Awake
+waits_of (Some value) = if bytes_eq value (codes "true") then waits.Asleep else waits.Awake
+
 -- the task of a subcommand with these arguments
-abbrev pub task_by : Text → Option Text → Detail → Task
-task_by name kind detail =
+abbrev pub task_by : Text → Option Text → Detail → Waits → Task
+task_by name kind detail waits =
     if bytes_eq name (codes "steps") then task.Steps detail
-    else if bytes_eq name (codes "board") then task.Work Board (lines_of_name kind)
-    else if bytes_eq name (codes "bank") then task.Work Bank (lines_of_name kind)
+    else if bytes_eq name (codes "board") then task.Work Board (lines_of_name kind) waits
+    else if bytes_eq name (codes "bank") then task.Work Bank (lines_of_name kind) waits
     else task.Replay (kind_of_name kind)
 
 abbrev pub task_at : Text × List Row → Task
-task_at entered = task_by entered.0 (first_of (codes "kind") entered.1) (detail_of (first_of (codes "rank") entered.1))
+task_at entered = task_by entered.0 (first_of (codes "kind") entered.1) (detail_of (first_of (codes "rank") entered.1)) (waits_of (first_of (codes "sleep") entered.1))
 
 -- the form of a picture, by what `--svg` is set to
 abbrev pub form_of : Option Text → Form

@@ -7,7 +7,7 @@ ghost use Rattle.qolb.specs.CommandLine.{KindNames, NamesWish, IsNotTaken, draw_
 use clap::error::ErrorKind;
 use clap::{Arg, ArgAction, ArgMatches, Command, Error};
 use qolb_draw::Form;
-use qolb_run::{Detail, Kind, Lines, Task};
+use qolb_run::{Detail, Kind, Lines, Task, Waits};
 use qolb_script::WorkKind;
 use std::alloc::{AllocError, Global};
 
@@ -177,6 +177,7 @@ fn task_at(name: &str, arguments: &ArgMatches<'_>) -> Task
         name,
         arguments.get_str("kind"),
         detail_of(arguments.get_str("rank")),
+        waits_of(arguments.get_str("sleep")),
     )
 }
 
@@ -190,16 +191,26 @@ fn detail_of(rank: Option<&str>) -> Detail
     }
 }
 
-/// The task of this name, on lines of the kind that is named, or with this detail.
-fn task_of(name: &str, kind: Option<&str>, detail: Detail) -> Task
-    ensures { result ≡ spec.task_by name.now (option_map (λ n. n.now) kind.entry) detail }
+/// How workers wait, by the value of `--sleep`.
+fn waits_of(sleep: Option<&str>) -> Waits
+    ensures { result ≡ spec.waits_of (option_map (λ n. n.now) sleep.entry) }
+{
+    match sleep {
+        Some("true") => Waits::Asleep,
+        _ => Waits::Awake,
+    }
+}
+
+/// The task of this name, on lines of the kind that is named, with this detail, or by workers that wait so.
+fn task_of(name: &str, kind: Option<&str>, detail: Detail, waits: Waits) -> Task
+    ensures { result ≡ spec.task_by name.now (option_map (λ n. n.now) kind.entry) detail waits }
 {
     if name == "steps" {
         Task::Steps(detail)
     } else if name == "board" {
-        Task::Work(WorkKind::Board, lines_named(kind))
+        Task::Work(WorkKind::Board, lines_named(kind), waits)
     } else if name == "bank" {
-        Task::Work(WorkKind::Bank, lines_named(kind))
+        Task::Work(WorkKind::Bank, lines_named(kind), waits)
     } else {
         Task::Replay(kind_named(kind))
     }
@@ -293,6 +304,11 @@ fn work<'a>(
         )
         .after_help(script)
         .arg(kind_argument(alloc, kinds, SHARED_HELP).default_value("link"))?
+        .arg(flag(
+            alloc,
+            "sleep",
+            "Workers sleep until they are woken, in place of looking again and again",
+        ))?
         .arg(flag(
             alloc,
             "progress",

@@ -15,7 +15,8 @@ use crate::command_line::{Request, Wish, parse_args};
 use clap::error::ErrorKind;
 use qolb_draw::{Form, draw_schedule};
 use qolb_run::{
-    AlwaysOpen, Lines, Progress, ReplayError, Task, TaskError, report_work, run_schedule, run_steps,
+    AlwaysOpen, Lines, Progress, ReplayError, Task, TaskError, Waits, report_work, run_schedule,
+    run_steps,
 };
 use qolb_script::{ScriptError, Watched, WorkKind};
 use std::alloc::Global;
@@ -141,7 +142,9 @@ fn run<T: Threads + Wait + Clock + Eprint + Sync, R: Read, W: Write>(
     match task {
         Task::Replay(kind) => Ok(run_schedule(alloc, input, output, kind)?),
         Task::Steps(detail) => Ok(run_steps(alloc, input, output, detail)?),
-        Task::Work(kind, lines) => work(rt, alloc, kind, lines, progress, input, output),
+        Task::Work(kind, lines, waits) => {
+            work(rt, alloc, kind, lines, waits, progress, input, output)
+        }
     }
 }
 
@@ -151,12 +154,13 @@ fn work<T: Threads + Wait + Clock + Eprint + Sync, R: Read, W: Write>(
     alloc: Global,
     kind: WorkKind,
     lines: Lines,
+    waits: Waits,
     progress: bool,
     input: &mut Watched<R>,
     output: &mut Watched<W>,
 ) -> Result<(), TaskError>
     ensures ok { OnOk result (IfSome (R.remaining (inner_of input.old)) (λ script. (text : List ℕ) × IsWorkReply kind script text × Appends (W.contents (inner_of output.old)) (W.contents (inner_of output.new)) text)) }
-    ensures refused { IfErr result (λ error. IfSome (R.remaining (inner_of input.old)) (λ script. MayEnd (task.Work kind lines) script error)) }
+    ensures refused { IfErr result (λ error. IfSome (R.remaining (inner_of input.old)) (λ script. MayEnd (task.Work kind lines waits) script error)) }
     ensures unwritten { IfErr result (λ error. error ≢ TaskError.Replay ReplayError.Write → output.new ≡ output.old) }
     ensures read_fault { (result ≡ Err (TaskError.Replay ReplayError.Read)) ↔ (has_failed input.new ≡ true) }
     ensures write_fault { result ≡ Err (TaskError.Replay ReplayError.Write) → has_failed output.new ≡ true }
@@ -164,10 +168,10 @@ fn work<T: Threads + Wait + Clock + Eprint + Sync, R: Read, W: Write>(
 {
     if progress {
         if let Ok(gate) = Progress::new(rt) {
-            return report_work(rt, alloc, &gate, input, output, kind, lines);
+            return report_work(rt, alloc, &gate, input, output, kind, lines, waits);
         }
     }
-    report_work(rt, alloc, &AlwaysOpen, input, output, kind, lines)
+    report_work(rt, alloc, &AlwaysOpen, input, output, kind, lines, waits)
 }
 
 /// Says why nothing was done, and answers the exit status.

@@ -1,5 +1,5 @@
 -- Desks of workers: what one call did, and what all of them paid.
-use Rattle.std.proofs.Common.{◌≡◌, ◌≢◌, ◌⊎◌, inl, inr, ℕ, zero, suc, ◌+◌, ◌*◌, ◌^◌, ◌<◌, ◌≤◌, ◌==◌, true, false, List, [], ◌∷◌, ◌++◌, length, take, lit≤, All, Vec, Some, None, slice_get, slice_set, get_or, refl, ap, sym, ◌∙◌, subst, arith, length-append}
+use Rattle.std.proofs.Common.{◌≡◌, ◌≢◌, ◌⊎◌, inl, inr, ℕ, zero, suc, ◌+◌, ◌*◌, ◌^◌, ◌<◌, ◌≤◌, ◌==◌, true, false, List, [], ◌∷◌, ◌++◌, length, take, lit≤, All, Vec, vec_len, Some, None, slice_get, slice_set, get_or, refl, ap, sym, ◌∙◌, subst, arith, length-append}
 use Rattle.std.specs.Global.{Global}
 use Rattle.std.specs.List.{sum_by}
 use Rattle.std.proofs.lemmas.Bool.{cases_eq, cases_lt}
@@ -17,7 +17,9 @@ use Rattle.line_accounts.specs.declared.answer.Reply.{Reply}
 use Rattle.line_accounts.specs.declared.answer.Reply.TheVariants.{Done, Short, Over, Late, Closed, Busy, NoAccount, SameAccount}
 use Rattle.line_accounts.specs.Accounts.{AreBalances, line_of, lane_in}
 use Rattle.line_accounts.specs.Desks.{DeskOf, IsDeskOver}
-use Rattle.line_accounts.specs.NewDesks.{IsNewPort, IsUnpaid, AreDealt}
+use Rattle.line_accounts.specs.NewDesks.{IsNewPort, IsUnpaid, AreDealt, IsFirstShort, MayHaveNoDesks}
+use Rattle.line_accounts.specs.declared.answer.DesksError.{DesksError}
+use Rattle.line_accounts.specs.declared.answer.DesksError.TheVariants.{Few}
 use Rattle.line_accounts.specs.Moves.{IsRefused, IsRefusedEither, PaysIn, PaysOut, MovesWithin, MovesAcross}
 use Rattle.line_accounts.specs.Calls.{AreTwo}
 use Rattle.line_accounts.specs.Settled.{all_paid_in, all_paid_out, all_opened, LacksPort, IsFirstMissing}
@@ -458,3 +460,11 @@ comes_to {Line} {Port} belongs view lines jobs first (desk ∷ desks) done =
         → (k : ℕ) (own : List Reply) → slice_get (replies ∷ others) k ≡ Some own → All (λ reply. is_outcome reply ≡ true) own
     own_outcomes replies others mine rest zero own at = subst (All (λ reply. is_outcome reply ≡ true)) (same_some at) mine
     own_outcomes replies others mine rest (suc k) own at = rest k own at
+
+-- lines that each have a port for each desk: none is short of them
+pub none_short : {Line Port : Type 0} (count : ℕ) (opened : List (Line × Vec Port Global)) → All (λ line. vec_len line.1 ≡ count) opened → (why : DesksError) (i : ℕ) → why ≡ Few i → MayHaveNoDesks count opened why → ⊥
+none_short {Line} {Port} count opened many why i is may =
+    let short : IsFirstShort count opened i = subst (λ (why : DesksError). MayHaveNoDesks count opened why) is may in
+    let own : vec_len short.line.1 ≡ count = subst (λ (line : Line × Vec Port Global). vec_len line.1 ≡ count) (get_or_from_slice_get opened i short.line short.line short.at) (many i short.line (slice_get_within opened i short.line short.at)) in
+    let less = short.short in
+    omega (arith, own, less)

@@ -14,3 +14,4 @@ pub mod Gathering
 pub mod Summing
 pub mod Banking
 pub mod Reported
+pub mod Inside

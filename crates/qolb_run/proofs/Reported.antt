@@ -12,23 +12,24 @@ use Rattle.qolb_run.specs.declared.replay.ReplayError.{ReplayError}
 use Rattle.qolb_run.specs.declared.report.TaskError.{TaskError}
 use Rattle.qolb_run.specs.declared.report.TaskError.TheVariants.{Replay}
 use Rattle.locks.specs.declared.Lines.{Lines}
+use Rattle.qolb_run.specs.declared.task.Waits.{Waits}
 use Rattle.qolb_run.specs.declared.task.Task.TheVariants.{Work}
 use Rattle.qolb_run.specs.Reports.{IsReportOf}
 use Rattle.qolb_run.specs.BankWork.{IsBankedOver}
 use Rattle.qolb_run.specs.BoardWork.{IsBoardedOver}
 use Rattle.qolb_run.specs.Outcome.{IsWork, IsAnswered, MayFail, MayEnd}
 
--- a script that is refused ends the task, over whatever lines
-pub refused : {T : Type 0} (kind : WorkKind) (lines : Lines) (why : ReplayError) (known : Option (List ℕ)) → IfSome known (λ input. (lines : Lines) → MayFail (Work kind lines) input why)
-    → (r : Result T TaskError) → IsErrAnd r (λ e. e ≡ Replay why) → IfErr r (λ e. IfSome known (λ input. MayEnd (Work kind lines) input e))
-refused kind lines why known may (Ok x) is = tt
-refused kind lines why None may (Err e) is = tt
-refused kind lines why (Some input) may (Err e) is = subst (λ e. MayEnd (Work kind lines) input e) (sym is) (may lines)
+-- a script that is refused ends the task, over whatever lines, however its workers wait
+pub refused : {T : Type 0} (kind : WorkKind) (lines : Lines) (waits : Waits) (why : ReplayError) (known : Option (List ℕ)) → IfSome known (λ input. (lines : Lines) (waits : Waits) → MayFail (Work kind lines waits) input why)
+    → (r : Result T TaskError) → IsErrAnd r (λ e. e ≡ Replay why) → IfErr r (λ e. IfSome known (λ input. MayEnd (Work kind lines waits) input e))
+refused kind lines waits why known may (Ok x) is = tt
+refused kind lines waits why None may (Err e) is = tt
+refused kind lines waits why (Some input) may (Err e) is = subst (λ e. MayEnd (Work kind lines waits) input e) (sym is) (may lines waits)
 
 -- a report of the work is an answer
-pub answered : (kind : WorkKind) (lines : Lines) (known : Option (List ℕ)) (work : WorkScript) (found : Report) → IfSome known (λ input. IsWork kind input work) → IsReportOf work found → IfSome known (λ input. IsAnswered (Work kind lines) input)
-answered kind lines None work found is of_work = tt
-answered kind lines (Some input) work found is of_work = (report_text found, record { work = work; is = is; report = found; of_work = of_work; text_is = refl })
+pub answered : (kind : WorkKind) (lines : Lines) (waits : Waits) (known : Option (List ℕ)) (work : WorkScript) (found : Report) → IfSome known (λ input. IsWork kind input work) → IsReportOf work found → IfSome known (λ input. IsAnswered (Work kind lines waits) input)
+answered kind lines waits None work found is of_work = tt
+answered kind lines waits (Some input) work found is of_work = (report_text found, record { work = work; is = is; report = found; of_work = of_work; text_is = refl })
 
 -- a report of a board says nothing of desks
 pub board_banked : {Line Port E : Type 0} (belongs : Line → Port → Type 0) (view : Port → View) (terms_of : Line → Terms) (work : WorkScript) (r : Result Report E) → work.kind ≡ Board → IfOk r (IsReportOf work) → IfOk r (IsBankedOver belongs view terms_of work)

@@ -44,12 +44,12 @@ pub record IsWorkReply (kind : WorkKind) (input text : List ℕ) : Type 0 where
 abbrev pub Answers : Task → List ℕ → List ℕ → Type 0
 Answers (Replay kind) input text = IsReply input text
 Answers (Steps detail) input text = IsStepReplyTo detail input text
-Answers (Work kind lines) input text = IsWorkReply kind input text
+Answers (Work kind lines waits) input text = IsWorkReply kind input text
 
 abbrev pub HasFault : Task → List ℕ → ScriptError → Type 0
 HasFault (Replay kind) input fault = reply_to input ≡ Err fault
 HasFault (Steps detail) input fault = steps_of input ≡ Err fault
-HasFault (Work kind lines) input fault = work_of kind input ≡ Err fault
+HasFault (Work kind lines waits) input fault = work_of kind input ≡ Err fault
 
 -- the bytes have a reply; and they are too many, or have a first fault
 abbrev pub IsAnswered : Task → List ℕ → Type 0
@@ -76,7 +76,7 @@ abbrev pub MayEnd : Task → List ℕ → TaskError → Type 0
 MayEnd task input (ending.Replay why) = MayFail task input why
 MayEnd (Replay kind) input (ending.Stalled worker) = ⊥
 MayEnd (Steps detail) input (ending.Stalled worker) = ⊥
-MayEnd (Work kind lines) input (ending.Stalled worker) = (work : WorkScript) × IsWork kind input work × MayStop work (run.Stalled worker)
+MayEnd (Work kind lines waits) input (ending.Stalled worker) = (work : WorkScript) × IsWork kind input work × MayStop work (run.Stalled worker)
 
 -- the error of a task whose work has no report
 abbrev pub task_error : RunError → TaskError

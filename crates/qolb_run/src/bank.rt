@@ -1,5 +1,5 @@
 //! Workers at a bank.
-ghost use Rattle.std.specs.Prelude.{◌≡◌, ◌≤◌, [], All, IfOk, IfErr, length, vec_len};
+ghost use Rattle.std.specs.Prelude.{◌≡◌, ◌≤◌, [], All, IfOk, IfErr, length, map, vec_len};
 ghost use Rattle.qolb_script.specs.declared.schedule.TheConstants.{MOST_COMMANDS};
 ghost use Rattle.qolb_model.specs.declared.terms.TheConstants.{MOST_NODES};
 ghost use Rattle.qolb_model.specs.Opening.{AreNodes};
@@ -13,15 +13,17 @@ ghost use Rattle.qolb_run.specs.Reports.{IsReportOf};
 
 use crate::gate::Gate;
 use crate::opening::open_line;
+use crate::task::Waits;
 use crate::work::RunError;
 use crate::workers::{PATIENCE, Site, all_done, work_all};
 use line_accounts::{
     AccountLaw, Desk, DesksError, Reply, SettleError, deposit, desks_over, settle, take_out,
     transfer,
 };
-use qolb_model::{LineSync, OpenLine, PortState};
+use line_threads::SleepingLine;
+use qolb_model::{LineSync, OpenLine, PortState, Sleeping};
 use qolb_script::{Job, Report, Work, WorkKind};
-use std::alloc::Global;
+use std::alloc::{AllocError, Global};
 use std::sync::Wait;
 use std::thread::{Threads, yield_now};
 
@@ -156,22 +158,40 @@ where
     Ok(all)
 }
 
-/// So many lines of a bank, and a desk over them for each worker.
-fn open_bank<L: OpenLine<AccountLaw> + Drop>(
+/// Lines that were opened, as such at which workers sleep.
+fn all_asleep<R: Wait, L: Sleeping<AccountLaw> + Drop>(
+    rt: &R,
     alloc: Global,
-    lines: u64,
+    opened: Vec<(L, Vec<L::Port>)>,
+) -> Result<Vec<(SleepingLine<'_, R, L>, Vec<L::Port>)>, AllocError>
+where
+    L::Port: Drop,
+    ensures { IfOk result (λ all. map (λ asleep. (asleep.0.line, asleep.1)) all.items ≡ opened.items) }
+{
+    let mut all = Vec::with_capacity(alloc, opened.len())?;
+    for (line, ports) in opened {
+        all.push((SleepingLine::new(rt, line), ports))?;
+    }
+    Ok(all)
+}
+
+/// Lines that were just opened, and a desk over them for each worker.
+fn desks_at<L: LineSync<AccountLaw> + Drop>(
+    alloc: Global,
+    opened: Vec<(L, Vec<L::Port>)>,
     workers: u64,
 ) -> Result<(Vec<L>, Vec<Desk<L>>), RunError>
 where
     L::Port: Drop,
-    requires { AreNodes workers }
+    requires workers { AreNodes workers }
+    requires as_many { All (λ line. vec_len line.1 ≡ workers) opened.items }
+    requires new { All (λ line. IsNewLine L.belongs L.view L.terms_of workers line.0 line.1.items) opened.items }
     ensures memory { IfErr result (λ error. error ≡ RunError.Memory) }
     ensures terms { IfOk result (λ made. All (λ line. L.terms_of line ≡ work_terms workers) made.0.items) }
-    ensures lines { IfOk result (λ made. vec_len made.0 ≡ lines) }
+    ensures lines { IfOk result (λ made. vec_len made.0 ≡ vec_len opened) }
     ensures as_many { IfOk result (λ made. vec_len made.1 ≡ workers) }
     ensures new { IfOk result (λ made. AreFresh (HasBanked L.belongs L.view) made.0.items made.1.items) }
 {
-    let opened = open_lines::<L>(alloc, lines, workers)?;
     match desks_over(alloc, opened, workers as usize) {
         Ok(made) => Ok(made),
         Err(DesksError::Memory) => Err(RunError::Memory),
@@ -184,8 +204,8 @@ where
 pub(crate) fn run_bank<
     R: Threads + Wait + Sync,
     G: Gate + Sync,
-    L: OpenLine<AccountLaw> + Sync + Drop,
->(rt: &R, alloc: Global, gate: &G, work: &Work) -> Result<Report, RunError>
+    L: OpenLine<AccountLaw> + Sleeping<AccountLaw> + Sync + Drop,
+>(rt: &R, alloc: Global, gate: &G, work: &Work, waits: Waits) -> Result<Report, RunError>
 where
     L::Port: Send + Drop,
     requires { work.now.kind ≡ WorkKind.Bank }
@@ -193,9 +213,44 @@ where
     ensures banked { IfOk result (IsBankedOver L.belongs L.view L.terms_of work.now) }
     ensures stalled { IfErr result (MayStop work.now) }
 {
-    let (lines, desks) = open_bank::<L>(alloc, work.lines(), work.workers())?;
+    let workers = work.workers();
+    let opened = open_lines::<L>(alloc, work.lines(), workers)?;
     // That a script has no more jobs than it may is a fact of its reader.
     let _ = work.jobs();
+    match waits {
+        Waits::Awake => {
+            let (lines, desks) = desks_at::<L>(alloc, opened, workers)?;
+            work_at::<R, G, L>(rt, alloc, gate, work, lines, desks)
+        }
+        Waits::Asleep => {
+            let asleep = all_asleep::<R, L>(rt, alloc, opened)?;
+            let (lines, desks) = desks_at::<SleepingLine<'_, R, L>>(alloc, asleep, workers)?;
+            work_at::<R, G, SleepingLine<'_, R, L>>(rt, alloc, gate, work, lines, desks)
+        }
+    }
+}
+
+/// Workers do their jobs at a bank over these lines, each at its desk, all of them new.
+fn work_at<R: Threads + Wait + Sync, G: Gate + Sync, L: LineSync<AccountLaw> + Sync + Drop>(
+    rt: &R,
+    alloc: Global,
+    gate: &G,
+    work: &Work,
+    lines: Vec<L>,
+    desks: Vec<Desk<L>>,
+) -> Result<Report, RunError>
+where
+    L::Port: Send + Drop,
+    requires kind { work.now.kind ≡ WorkKind.Bank }
+    requires limits { IsWithinLimits work.now }
+    requires terms { All (λ line. L.terms_of line ≡ work_terms work.now.workers) lines.items }
+    requires lines { vec_len lines ≡ work.now.lines }
+    requires as_many { vec_len desks ≡ work.now.workers }
+    requires fresh { AreFresh (HasBanked L.belongs L.view) lines.items desks.items }
+    ensures report { IfOk result (IsReportOf work.now) }
+    ensures banked { IfOk result (IsBankedOver L.belongs L.view L.terms_of work.now) }
+    ensures stalled { IfErr result (MayStop work.now) }
+{
     let room = Vec::with_capacity(alloc, desks.len())?;
     let bank = Bank { lines };
     let Some(back) = work_all(rt, alloc, gate, &bank, work, desks) else {

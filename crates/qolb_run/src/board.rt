@@ -6,17 +6,19 @@ ghost use Rattle.qolb_model.specs.LettingGo.{IsTold};
 ghost use Rattle.line_accounts.specs.Desks.{IsAtRest};
 ghost use Rattle.qolb_run.specs.Workers.{AreDone, AreFresh, MayStop, IsWithinLimits};
 ghost use Rattle.qolb_run.specs.BoardWork.{Turn, HasTurns, HasStored, FoundFull, HasTakenOne, FoundNone, HasWorked, AreWithin, AreAdded, AreSums, IsBoardedOver};
-ghost use Rattle.qolb_run.specs.JustOpened.{AreJustOpened, work_terms};
+ghost use Rattle.qolb_run.specs.JustOpened.{AreJustOpened, IsNewLine, work_terms};
 ghost use Rattle.qolb_run.specs.Jobs.{IsBoardJob};
 ghost use Rattle.qolb_run.specs.BoardRuns.{no_counts};
 ghost use Rattle.qolb_run.specs.Reports.{IsReportOf};
 
 use crate::gate::Gate;
 use crate::opening::open_line;
+use crate::task::Waits;
 use crate::work::RunError;
 use crate::workers::{PATIENCE, Site, all_done, work_all};
 use line_board::{BoardLaw, Put, Take, decode, put, take};
-use qolb_model::{FinishError, LineSync, OpenLine, PortState};
+use line_threads::SleepingLine;
+use qolb_model::{FinishError, LineSync, OpenLine, PortState, Sleeping};
 use qolb_script::{Job, Report, Work, WorkKind};
 use std::alloc::{AllocError, Global};
 use std::sync::Wait;
@@ -235,8 +237,8 @@ where
 pub(crate) fn run_board<
     R: Threads + Wait + Sync,
     G: Gate + Sync,
-    L: OpenLine<BoardLaw> + Sync + Drop,
->(rt: &R, alloc: Global, gate: &G, work: &Work) -> Result<Report, RunError>
+    L: OpenLine<BoardLaw> + Sleeping<BoardLaw> + Sync + Drop,
+>(rt: &R, alloc: Global, gate: &G, work: &Work, waits: Waits) -> Result<Report, RunError>
 where
     L::Port: Send + Drop,
     requires { work.now.kind ≡ WorkKind.Board }
@@ -247,6 +249,34 @@ where
     let (line, ports) = open_line::<BoardLaw, L>(alloc, 0, work.workers())?;
     // That a script has no more jobs than it may is a fact of its reader.
     let _ = work.jobs();
+    match waits {
+        Waits::Awake => work_at::<R, G, L>(rt, alloc, gate, work, line, ports),
+        Waits::Asleep => {
+            let line = SleepingLine::new(rt, line);
+            work_at::<R, G, SleepingLine<'_, R, L>>(rt, alloc, gate, work, line, ports)
+        }
+    }
+}
+
+/// Workers do their jobs at a board, which lies in this line, that was just opened.
+fn work_at<R: Threads + Wait + Sync, G: Gate + Sync, L: LineSync<BoardLaw> + Sync + Drop>(
+    rt: &R,
+    alloc: Global,
+    gate: &G,
+    work: &Work,
+    line: L,
+    ports: Vec<L::Port>,
+) -> Result<Report, RunError>
+where
+    L::Port: Send + Drop,
+    requires kind { work.now.kind ≡ WorkKind.Board }
+    requires limits { IsWithinLimits work.now }
+    requires as_many { vec_len ports ≡ work.now.workers }
+    requires new { IsNewLine L.belongs L.view L.terms_of work.now.workers line ports.items }
+    ensures report { IfOk result (IsReportOf work.now) }
+    ensures boarded { IfOk result (IsBoardedOver L.belongs L.view L.terms_of work.now) }
+    ensures stalled { IfErr result (MayStop work.now) }
+{
     let hands = fresh_hands(alloc, &line, ports)?;
     let room = Vec::with_capacity(alloc, hands.len())?;
     let board = Board { line };

@@ -21,11 +21,13 @@ mod workers;
 pub use gate::{AlwaysOpen, Gate, MOST_REFUSALS};
 pub use input::{InputError, MOST_BYTES, read_all};
 pub use line::ReplayLine;
-pub use line_threads::{Got, Within, acquire, acquire_asleep, acquire_within, meet_all, together};
+pub use line_threads::{
+    Got, SleepingLine, Within, acquire, acquire_asleep, acquire_within, meet_all, together,
+};
 pub use locks::Lines;
 pub use progress::Progress;
 pub use replay::{Kind, ReplayError, run_schedule, run_schedule_over};
 pub use report::{TaskError, report_work};
 pub use steps::run_steps;
-pub use task::{Detail, Task};
+pub use task::{Detail, Task, Waits};
 pub use work::{RunError, run_work, run_work_over};

@@ -4,12 +4,14 @@ ghost use Rattle.std.specs.Io.KnownBytes.{Appends};
 ghost use Rattle.qolb_script.specs.Watched.{inner_of, has_failed};
 ghost use Rattle.qolb_run.specs.declared.task.Task.TheVariants as task;
 ghost use Rattle.locks.specs.declared.Lines.{Lines};
+ghost use Rattle.qolb_run.specs.declared.task.Waits.{Waits};
 ghost use Rattle.qolb_run.specs.declared.report.TaskError.TheVariants.{Replay};
 ghost use Rattle.qolb_run.specs.Outcome.{IsWork, IsWorkReply, MayFail, MayEnd, task_error};
 
 use crate::gate::Gate;
 use crate::input::read_all;
 use crate::replay::ReplayError;
+use crate::task::Waits;
 use crate::work::{RunError, run_work};
 use locks::Lines;
 use qolb_script::{ScriptError, Watched, Work, WorkKind, read_work, write_report};
@@ -61,9 +63,10 @@ pub fn report_work<T: Threads + Wait + Sync, G: Gate + Sync, R: Read, W: Write>(
     writer: &mut Watched<W>,
     kind: WorkKind,
     lines: Lines,
+    waits: Waits,
 ) -> Result<(), TaskError>
     ensures ok { OnOk result (IfSome (R.remaining (inner_of reader.old)) (λ input. (text : List ℕ) × IsWorkReply kind input text × Appends (W.contents (inner_of writer.old)) (W.contents (inner_of writer.new)) text)) }
-    ensures refused { IfErr result (λ error. IfSome (R.remaining (inner_of reader.old)) (λ input. MayEnd (task.Work kind lines) input error)) }
+    ensures refused { IfErr result (λ error. IfSome (R.remaining (inner_of reader.old)) (λ input. MayEnd (task.Work kind lines waits) input error)) }
     ensures unwritten { IfErr result (λ error. error ≢ TaskError.Replay ReplayError.Write → writer.new ≡ writer.old) }
     ensures read_fault { (result ≡ Err (TaskError.Replay ReplayError.Read)) ↔ (has_failed reader.new ≡ true) }
     ensures write_fault { result ≡ Err (TaskError.Replay ReplayError.Write) → has_failed writer.new ≡ true }
@@ -71,7 +74,7 @@ pub fn report_work<T: Threads + Wait + Sync, G: Gate + Sync, R: Read, W: Write>(
     ensures memory { result ≢ Err (TaskError.Replay (ReplayError.Script ScriptError.Memory)) }
 {
     let work = read_script(alloc, reader, kind)?;
-    let report = run_work(rt, alloc, gate, &work, lines)?;
+    let report = run_work(rt, alloc, gate, &work, lines, waits)?;
     if write_report(&report, writer).is_err() {
         return Err(TaskError::Replay(ReplayError::Write));
     }
@@ -85,7 +88,7 @@ fn read_script<R: Read>(
     kind: WorkKind,
 ) -> Result<Work, ReplayError>
     ensures work { IfOk result (λ work. IfSome (R.remaining (inner_of reader.old)) (λ input. IsWork kind input work)) }
-    ensures refused { IfErr result (λ error. (error ≢ ReplayError.Write) × IfSome (R.remaining (inner_of reader.old)) (λ input. (lines : Lines) → MayFail (task.Work kind lines) input error)) }
+    ensures refused { IfErr result (λ error. (error ≢ ReplayError.Write) × IfSome (R.remaining (inner_of reader.old)) (λ input. (lines : Lines) (waits : Waits) → MayFail (task.Work kind lines waits) input error)) }
     ensures read_fault { (result ≡ Err ReplayError.Read) ↔ (has_failed reader.new ≡ true) }
     ensures memory { result ≢ Err (ReplayError.Script ScriptError.Memory) }
 {

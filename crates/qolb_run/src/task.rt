@@ -12,6 +12,16 @@ pub enum Detail {
     Ranks,
 }
 
+/// How a worker waits for its turn at a line.
+#[derive(Clone, Copy, Debug, Default, PartialEq, Eq)]
+pub enum Waits {
+    /// It looks again and again, and gives its processor away at times.
+    #[default]
+    Awake,
+    /// It sleeps between two looks, until whoever lets the line go to it wakes it.
+    Asleep,
+}
+
 /// A task that takes a script.
 #[derive(Clone, Copy, Debug, PartialEq, Eq)]
 pub enum Task {
@@ -19,6 +29,6 @@ pub enum Task {
     Replay(Kind),
     /// To run a step script, and to write so much of each event.
     Steps(Detail),
-    /// To do the work of a work script of this kind, over lines of that kind.
-    Work(WorkKind, Lines),
+    /// To do the work of a work script of this kind, over lines of that kind, by workers that wait so.
+    Work(WorkKind, Lines, Waits),
 }

@@ -9,10 +9,11 @@ ghost use Rattle.qolb_run.specs.BoardWork.{IsBoardedOver};
 use crate::bank::run_bank;
 use crate::board::run_board;
 use crate::gate::Gate;
+use crate::task::Waits;
 use line_accounts::AccountLaw;
 use line_board::BoardLaw;
 use locks::{Lines, over_named};
-use qolb_model::OpenLine;
+use qolb_model::{OpenLine, Sleeping};
 use qolb_script::{Report, Work, WorkKind};
 use std::alloc::{AllocError, Global};
 use std::sync::Wait;
@@ -39,7 +40,7 @@ impl From<AllocError> for RunError {
     }
 }
 
-/// A worker for each node does its jobs, all at once, each in a thread of its own. Every line is opened with zeros, and taken apart when all
+/// A worker for each node does its jobs, all at once, each in a thread of its own, and waits so for its turns. Every line is opened with zeros, and taken apart when all
 /// workers are done.
 pub fn run_work<R: Threads + Wait + Sync, G: Gate + Sync>(
     rt: &R,
@@ -47,6 +48,7 @@ pub fn run_work<R: Threads + Wait + Sync, G: Gate + Sync>(
     gate: &G,
     work: &Work,
     lines: Lines,
+    waits: Waits,
 ) -> Result<Report, RunError>
     ensures report { IfOk result (IsReportOf work.now) }
     ensures stalled { IfErr result (MayStop work.now) }
@@ -56,7 +58,7 @@ pub fn run_work<R: Threads + Wait + Sync, G: Gate + Sync>(
         run_work_over,
         [R, G],
         [BoardLaw, AccountLaw],
-        (rt, alloc, gate, work)
+        (rt, alloc, gate, work, waits)
     )
 }
 
@@ -64,9 +66,9 @@ pub fn run_work<R: Threads + Wait + Sync, G: Gate + Sync>(
 pub fn run_work_over<
     R: Threads + Wait + Sync,
     G: Gate + Sync,
-    B: OpenLine<BoardLaw> + Sync + Drop,
-    A: OpenLine<AccountLaw> + Sync + Drop,
->(rt: &R, alloc: Global, gate: &G, work: &Work) -> Result<Report, RunError>
+    B: OpenLine<BoardLaw> + Sleeping<BoardLaw> + Sync + Drop,
+    A: OpenLine<AccountLaw> + Sleeping<AccountLaw> + Sync + Drop,
+>(rt: &R, alloc: Global, gate: &G, work: &Work, waits: Waits) -> Result<Report, RunError>
 where
     B::Port: Send + Drop,
     A::Port: Send + Drop,
@@ -77,8 +79,8 @@ where
 {
     gate.begins(work.jobs().len());
     match work.kind() {
-        WorkKind::Board => run_board::<R, G, B>(rt, alloc, gate, work),
-        WorkKind::Bank => run_bank::<R, G, A>(rt, alloc, gate, work),
+        WorkKind::Board => run_board::<R, G, B>(rt, alloc, gate, work, waits),
+        WorkKind::Bank => run_bank::<R, G, A>(rt, alloc, gate, work, waits),
     }
 }
 

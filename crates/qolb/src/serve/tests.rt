@@ -71,6 +71,11 @@ fn refuses_command_lines(rt: HostRuntime) -> Result<(), Fail> {
         &["steps", "--kind", "plain"],
         &["board", "--kind", "plain"],
         &["board", "--progress", "yes"],
+        &["board", "--sleep", "yes"],
+        &["bank", "--sleep=1"],
+        &["replay", "--kind", "ring", "--sleep"],
+        &["draw", "--sleep"],
+        &["steps", "--sleep"],
         &["steps", "--progress"],
         &["steps", "--rank", "yes"],
         &["board", "--rank"],
@@ -95,13 +100,15 @@ fn refuses_command_lines(rt: HostRuntime) -> Result<(), Fail> {
     assert!(rt; help.contains("--rank"));
     let (_, _, help) = run(&rt, rt.alloc(), &["board", "--help"], "")?;
     assert!(rt; help.contains("[default: link]") && help.contains("1 put 9"));
+    assert!(rt; help.contains("--sleep") && help.contains("--progress"));
     let (_, _, help) = run(&rt, rt.alloc(), &["bank", "--help"], "")?;
     assert!(rt; help.contains("[default: link]") && help.contains("1 move 0 3 4"));
+    assert!(rt; help.contains("--sleep"));
     Ok(())
 }
 
 /// Work of this name gives this status, standard output and standard error, by either kind of lines, and by none that is
-/// named; and with its progress told, of which there is none within a second.
+/// named, by workers that sleep too; and with its progress told, of which there is none within a second.
 fn works<T: Threads + Wait + Clock + Eprint + Abort + Sync>(
     rt: &T,
     alloc: Global,
@@ -109,11 +116,15 @@ fn works<T: Threads + Wait + Clock + Eprint + Abort + Sync>(
     script: &str,
     want: (u8, &str, &str),
 ) -> Result<(), Fail> {
-    let rows: [&[&str]; 4] = [
+    let rows: [&[&str]; 8] = [
         &[name],
         &[name, "--progress"],
+        &[name, "--sleep"],
+        &[name, "--progress", "--sleep"],
         &[name, "--kind", "ring"],
         &[name, "--kind", "link"],
+        &[name, "--sleep", "--kind", "ring"],
+        &[name, "--kind", "ticket", "--sleep"],
     ];
     for words in rows {
         let (status, out, err) = run(rt, alloc, words, script)?;

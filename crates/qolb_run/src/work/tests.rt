@@ -8,7 +8,10 @@ use std::sync::atomic::{AtomicU64, Ordering};
 use std::test::Fail;
 use std::thread::yield_now;
 
-/// The workers of the script do this behind the gate, over lines of each kind.
+/// How workers may wait.
+static EITHER: [Waits; 2] = [Waits::Awake, Waits::Asleep];
+
+/// The workers of the script do this behind the gate, over lines of each kind, awake and asleep.
 fn expect<R: Threads + Wait + Abort + Sync, G: Gate + Sync>(
     rt: &R,
     alloc: Global,
@@ -19,8 +22,10 @@ fn expect<R: Threads + Wait + Abort + Sync, G: Gate + Sync>(
 ) -> Result<(), Fail> {
     let work = read_work(alloc, script.as_bytes(), kind)?;
     for lines in ALL {
-        let found = run_work(rt, alloc, gate, &work, lines);
-        assert_eq!(rt; found, want, "by {lines:?}");
+        for waits in EITHER {
+            let found = run_work(rt, alloc, gate, &work, lines, waits);
+            assert_eq!(rt; found, want, "by {lines:?}, {waits:?}");
+        }
     }
     Ok(())
 }
@@ -175,7 +180,7 @@ fn workers_stand_before_a_gate_at_the_same_time(rt: HostRuntime) -> Result<(), F
             second: AtomicU64::new(0),
             met: AtomicU64::new(0),
         };
-        let found = run_work(&rt, rt.alloc(), &gate, &work, lines);
+        let found = run_work(&rt, rt.alloc(), &gate, &work, lines, Waits::Awake);
         assert_eq!(rt; found, Ok(report), "by {lines:?}");
     }
     Ok(())
@@ -267,7 +272,7 @@ fn a_worker_asks_before_each_job_and_once_after_the_last(rt: HostRuntime) -> Res
     for lines in ALL {
         let gate = Counting::new(1);
         assert!(rt;
-            run_work(&rt, rt.alloc(), &gate, &work, lines).is_ok(),
+            run_work(&rt, rt.alloc(), &gate, &work, lines, Waits::Asleep).is_ok(),
             "by {lines:?}"
         );
         assert_eq!(rt; gate.numbers.load(Ordering::SeqCst), 123, "by {lines:?}");
@@ -293,6 +298,7 @@ fn work_that_is_reported_is_done_once(rt: HostRuntime) -> Result<(), Fail> {
             &mut writer,
             WorkKind::Board,
             lines,
+            Waits::Asleep,
         );
         assert!(rt; done.is_ok(), "by {lines:?}");
         for at in 0..3usize {
@@ -313,7 +319,7 @@ fn a_worker_waits_for_the_millionth_ask(rt: HostRuntime) -> Result<(), Fail> {
         left: 1,
     };
     let gate = Counting::new(1_000_000);
-    let found = run_work(&rt, rt.alloc(), &gate, &work, Lines::Ring);
+    let found = run_work(&rt, rt.alloc(), &gate, &work, Lines::Ring, Waits::Awake);
     assert_eq!(rt; found, Ok(report));
     assert_eq!(rt; gate.asks_for(0), 1_000_000);
     assert_eq!(rt; gate.asks_for(1), 1);
@@ -324,7 +330,7 @@ fn a_worker_waits_for_the_millionth_ask(rt: HostRuntime) -> Result<(), Fail> {
 fn a_worker_gives_up_at_the_millionth_refusal(rt: HostRuntime) -> Result<(), Fail> {
     let work = read_work(rt.alloc(), b"board workers 1\n1 put 5\n", WorkKind::Board)?;
     let gate = Counting::new(1_000_001);
-    let found = run_work(&rt, rt.alloc(), &gate, &work, Lines::Ring);
+    let found = run_work(&rt, rt.alloc(), &gate, &work, Lines::Ring, Waits::Awake);
     assert_eq!(rt; found, Err(RunError::Stalled(1)));
     assert_eq!(rt; gate.asks_for(0), 1_000_000);
     assert_eq!(rt; gate.asks_for(1), 0);
@@ -364,9 +370,11 @@ fn a_late_put_is_no_full_board(rt: HostRuntime) -> Result<(), Fail> {
         left: 7,
     };
     for lines in ALL {
-        for _ in 0..100 {
-            let found = run_work(&rt, rt.alloc(), &AlwaysOpen, &work, lines);
-            assert_eq!(rt; found, Ok(report), "by {lines:?}");
+        for waits in EITHER {
+            for _ in 0..100 {
+                let found = run_work(&rt, rt.alloc(), &AlwaysOpen, &work, lines, waits);
+                assert_eq!(rt; found, Ok(report), "by {lines:?}, {waits:?}");
+            }
         }
     }
     Ok(())

@@ -1,7 +1,22 @@
-use Rattle.qolb_run.specs.BankWork.{HasBanked}
-use Rattle.qolb_run.proofs.Gathering.{done_of}
+use Rattle.std.proofs.Common.{◌≡◌, All, Vec, vec_len, subst}
+use Rattle.std.specs.Global.{Global}
+use Rattle.line_threads.specs.declared.sleeping_line.SleepingLine.{SleepingLine}
+use Rattle.qolb_run.specs.JustOpened.{work_terms}
+use Rattle.qolb_run.proofs.Inside.{all_of_mapped, new_all_outside, banked_if_inside}
 use Rattle.qolb_run.proofs.bank.run_bank.Goals as goal
 
-pub finish-requires-clause-done : goal.finish-requires-clause-done
-finish-requires-clause-done g c =
-    done_of (HasBanked g.L.LineSync.belongs g.L.LineSync.view) c.in_ok-lines.lines.items c.args.work.now.jobs c.in-Some.back.items c.in_ok-desks.desks.items c.in_ok-desks.ensures.all c.in-Some.ensures.back
+pub desks_at-requires-in-Asleep-clause-as_many : goal.desks_at-requires-in-Asleep-clause-as_many
+desks_at-requires-in-Asleep-clause-as_many g c =
+    all_of_mapped (λ (line : g.row.L.Denot × Vec g.row.L-Port.Denot Global). vec_len line.1 ≡ c.workers-workers.result) (λ asleep. (asleep.0.line, asleep.1)) c.in_ok-asleep-in-Asleep.asleep.items c.in_ok-opened.opened.items c.in_ok-asleep-in-Asleep.ensures c.in_ok-opened.ensures.as_many
+
+pub desks_at-requires-in-Asleep-clause-new : goal.desks_at-requires-in-Asleep-clause-new
+desks_at-requires-in-Asleep-clause-new g c =
+    new_all_outside g.L.LineSync.belongs g.L.LineSync.view g.L.LineSync.terms_of (λ asleep. asleep.line) c.workers-workers.result c.in_ok-asleep-in-Asleep.asleep.items c.in_ok-opened.opened.items c.in_ok-asleep-in-Asleep.ensures c.in_ok-opened.ensures.new
+
+pub work_at-requires-in-Asleep-clause-terms : goal.work_at-requires-in-Asleep-clause-terms
+work_at-requires-in-Asleep-clause-terms g c = λ _ _.
+    subst (λ n. All (λ (asleep : SleepingLine g.row.R.Denot g.row.L.Denot). g.L.LineSync.terms_of asleep.line ≡ work_terms n) c.in_ok-lines-in-Asleep.lines.items) c.workers-workers.ensures.workers c.in_ok-lines-in-Asleep.ensures.terms
+
+pub returns-in_ok-lines-in-Asleep-clause-banked : goal.returns-in_ok-lines-in-Asleep-clause-banked
+returns-in_ok-lines-in-Asleep-clause-banked g c =
+    banked_if_inside g.L.LineSync.belongs g.L.LineSync.view g.L.LineSync.terms_of (λ asleep. asleep.line) c.args.work.now c.work_at-in-Asleep.result c.work_at-in-Asleep.ensures.banked

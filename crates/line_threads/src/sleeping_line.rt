@@ -1,0 +1,135 @@
+//! A line whose waiters sleep, whoever asks.
+ghost use Rattle.std.specs.Prelude.{◌≡◌, map, All, IfOk, IfErr};
+ghost use Rattle.qolb_model.specs.Finishing.{MayRefuse, IsFinished};
+
+use crate::waiting::{LOOKS, short_pause};
+use line_lanes::{Line64, Mask};
+use qolb_model::{Enq, Keep, LineSync, Out, Poll, PortState, Sleeping, Unfinished};
+use std::alloc::Global;
+use std::sync::Wait;
+use std::time::Duration;
+
+/// A line at which whoever finds that its request waits sleeps before it is told so.
+///
+/// It is the line that it was made of, but for `poll`, which looks once, and where the request waits, sleeps until its turn may have come.
+/// So all that asks by way of a `LineSync` sleeps between two looks, and knows nothing of that.
+#[derive(Drop)]
+pub struct SleepingLine<'r, R, L> {
+    rt: &'r R,
+    line: L,
+}
+
+impl<'r, R, L> SleepingLine<'r, R, L> {
+    /// The line, with waiters that sleep.
+    pub fn new(rt: &'r R, line: L) -> SleepingLine<'r, R, L>
+        ensures { result.line ≡ line }
+    {
+        SleepingLine { rt, line }
+    }
+}
+
+impl<'r, R: Wait, K: Keep, L: Sleeping<K>> LineSync<K> for SleepingLine<'r, R, L> {
+    type Port = L::Port;
+
+    ghost view = { L.view };
+
+    ghost turn = { L.turn };
+
+    ghost looks = { L.looks };
+
+    ghost belongs = { λ asleep port. L.belongs asleep.line port };
+
+    ghost label_of = { λ asleep. L.label_of asleep.line };
+
+    ghost terms_of = { λ asleep. L.terms_of asleep.line };
+
+    fn label(&self) -> u64 {
+        self.line.label()
+    }
+
+    fn nodes(&self) -> u64 {
+        self.line.nodes()
+    }
+
+    fn node(port: &L::Port) -> u64 {
+        L::node(port)
+    }
+
+    fn state(port: &L::Port) -> PortState {
+        L::state(port)
+    }
+
+    fn owns(&self, port: &L::Port) -> bool {
+        self.line.owns(port)
+    }
+
+    fn bytes(port: &L::Port) -> &Line64 {
+        L::bytes(port)
+    }
+
+    fn turns_left(&self, port: &L::Port) -> Option<u64> {
+        self.line.turns_left(port)
+    }
+
+    fn write(port: &mut L::Port, mask: Mask, bytes: &Line64) {
+        L::write(port, mask, bytes)
+    }
+
+    fn enqolb(&self, port: &mut L::Port) -> Enq {
+        self.line.enqolb(port)
+    }
+
+    fn poll(&self, port: &mut L::Port) -> Poll {
+        let found = self.line.poll(port);
+        if found == Poll::Waiting {
+            for _ in 0..LOOKS {
+                short_pause();
+            }
+            self.line.sleep(self.rt, port, Duration::MAX);
+        }
+        found
+    }
+
+    fn withdraw(&self, port: &mut L::Port) -> Out {
+        self.line.withdraw(port)
+    }
+
+    fn deqolb(&self, port: &mut L::Port) {
+        self.line.deqolb(port)
+    }
+
+    fn shut(&self, port: &mut L::Port) {
+        self.line.shut(port)
+    }
+
+    fn meet(&self, a: &mut L::Port, b: &mut L::Port) {
+        self.line.meet(a, b)
+    }
+
+    fn finish(
+        self,
+        alloc: Global,
+        ports: Vec<L::Port>,
+    ) -> Result<Line64, Unfinished<SleepingLine<'r, R, L>, L::Port>>
+        requires belong { All (λ port. (L.view port).label ≡ L.label_of self.line → L.belongs self.line port) ports.items }
+        ensures finished { IfOk result (λ line. IsFinished K.good K.allows (L.label_of self.entry.line) (L.terms_of self.entry.line) (map L.view ports.items) line.bytes) }
+        ensures why { IfErr result (λ back. MayRefuse (L.label_of self.entry.line) (L.terms_of self.entry.line).nodes (map L.view ports.items) back.why) }
+        ensures line { IfErr result (λ back. back.line ≡ self.entry) }
+        ensures ports { IfErr result (λ back. back.ports.items ≡ ports.items) }
+    {
+        let SleepingLine { rt, line } = self;
+        match line.finish(alloc, ports) {
+            Ok(last) => Ok(last),
+            Err(back) => Err(Unfinished {
+                line: SleepingLine {
+                    rt,
+                    line: back.line,
+                },
+                ports: back.ports,
+                why: back.why,
+            }),
+        }
+    }
+
+    ghost sound = { λ asleep port belongs. L.sound asleep.line port belongs };
+}
