@@ -21,7 +21,8 @@ use std::alloc::Global;
 /// A line that nodes queue at, under the law `K`. Each node calls it through its own port.
 ///
 /// What a call promises is one record of `specs/Calls`, named after what the port does by it; it says what the port knows before and after
-/// the call, answer by answer. No call but `finish` takes memory, and none waits. A call changes no port but those that it is passed.
+/// the call, answer by answer. No call but `finish` takes memory, and none waits, unless the
+/// line's type has a handle by which it may. A call changes no port but those that it is passed.
 pub trait LineSync<K: Keep> {
     /// A node's end of the line.
     type Port;
