@@ -60,7 +60,10 @@ pub fn try_each<R: Threads + Wait + Clock + Print + Sync>(
                 waiter,
             };
             let came = over_named!(lines, run, [R], [Free], (rt, alloc, plan))?;
-            println!(rt; "{lines:?} {waiter:?} threads {} lost {}", plan.threads, came.lost)?;
+            println!(rt;
+                "{lines:?} {waiter:?} threads {} lost {}",
+                plan.threads, came.lost
+            )?;
             came.check()?;
         }
     }
@@ -89,10 +92,11 @@ pub fn measure<R: Threads + Wait + Clock + Print + Sync>(
 }
 
 /// The nodes of a new line of zeros take turns by the plan.
-fn run<
-    R: Threads + Wait + Clock + Print + Sync,
-    L: OpenLine<Free> + Sleeping<Free> + Sync + Drop,
->(rt: &R, alloc: Global, plan: Plan) -> anyhow::Result<Came>
+fn run<R: Threads + Wait + Clock + Print + Sync, L: OpenLine<Free> + Sleeping<Free> + Sync + Drop>(
+    rt: &R,
+    alloc: Global,
+    plan: Plan,
+) -> anyhow::Result<Came>
 where
     L::Port: Send + Drop,
 {
