@@ -39,7 +39,7 @@ use Rattle.array_line.proofs.Slots.{MayGive, MayKeep, LaysOne, AreSpare, elem_wi
 use Rattle.array_line.proofs.Taking.{at_turn, line_kept}
 use Rattle.array_line.proofs.Clearing.{not_after, no_line_after, goes_after, clear_with, more_clear, still_unclear, fine_clear}
 use Rattle.array_line.proofs.Ending.{not_holding, own_not_gone, passed_gone, fine_end, fine_home}
-use Rattle.array_line.proofs.Passed.{few_passed}
+use Rattle.array_line.proofs.Passed.{few_passed, others_passed}
 use Rattle.array_line.proofs.Turning.{goes_step}
 use Rattle.qolb_model.specs.Leases.{turns_left, is_last_turn}
 use Rattle.qolb_model.specs.declared.terms.Terms.{Terms}
@@ -403,6 +403,7 @@ module _ (cells : Cells) (berths : Berths) (good : List ℕ → Type 0) (allows 
         at = k.1;
         is_by = k.2 ∙ sym is;
         high = subst (λ (t : Terms). k.0.node ≤ t.nodes) (sym ok.who.terms) (r.fine.nodes next k.0 k.1).1;
+        others = others_passed cells berths good allows about (record { words = set s.words i z; homes = kept; views = set s.views me (walk_entry r.past ∷ []) }) (walks_rule rolled says) me (walk_entry r.past) (set_here s.views me (walk_entry r.past ∷ []) (elem_within s.views me (v ∷ []) at)) refl;
         few = subst (λ (t : Terms). length (v.own.passed ++ next ∷ []) + 1 ≤ t.nodes) (sym ok.who.terms)
             (few_passed cells berths good allows about (record { words = set s.words i z; homes = kept; views = set s.views me (walk_entry r.past ∷ []) }) (walks_rule rolled says) me (walk_entry r.past) (set_here s.views me (walk_entry r.past ∷ []) (elem_within s.views me (v ∷ []) at)) refl);
         nodes = subst (λ (t : Terms). t.nodes ≤ MOST_NODES) (sym ok.who.terms) r.may_open.nodes.few;

@@ -3,7 +3,7 @@ use Rattle.std.proofs.Common.{◌≡◌, ℕ, zero, suc, ◌+◌, ◌<◌, ◌�
 use mathlib.Core.Option.{some}
 use lib.ListN.{get_elem?}
 use Rattle.qolb_model.specs.declared.request.Request.{Request}
-use Rattle.qolb_model.specs.Requests.{Lacks}
+use Rattle.qolb_model.specs.Requests.{Lacks, AreOfOthers}
 use Rattle.qolb_model.proofs.Lists.{same_some, never, at_same, at_none}
 use Rattle.qolb_model.proofs.Prefixes.{prefix_get}
 use Rattle.qolb_model.proofs.Counts.{few_if_once, count_once}
@@ -32,29 +32,45 @@ passers_length : (marks : ℕ → ℕ) (ps : List ℕ) → length (passers marks
 passers_length marks [] = refl
 passers_length marks (p ∷ ps) = ap suc (passers_length marks ps)
 
-module _ (cells : Cells) (berths : Berths) (good : List ℕ → Type 0) (allows : List ℕ → List ℕ → Type 0) (about : Setup) where
-  pub few_passed : (s : ArrayState) (r : ArrayRule cells berths good allows about s) (me : ℕ) (v : ArrayEntry) → get_elem? s.views me ≡ some (v ∷ []) → lets_go v.own.point ≡ true → length v.own.passed + 1 ≤ about.terms.nodes
-  few_passed s r me v at walks = let few = few_if_once about.terms.nodes (by_node v.view.node ∷ passers x.marks v.own.passed) nodes (λ k a b. count_once k (by_node v.view.node ∷ passers x.marks v.own.passed) (once k a b)) in
-      let l = passers_length x.marks v.own.passed in omega arith
+module _ (cells : Cells) (berths : Berths) (good : List ℕ → Type 0) (allows : List ℕ → List ℕ → Type 0) (about : Setup) (s : ArrayState) (r : ArrayRule cells berths good allows about s) (me : ℕ) (v : ArrayEntry) (at : get_elem? s.views me ≡ some (v ∷ [])) where
+  member : Member node_of about.terms.nodes r.who r.owner me 0 v
+  member = r.members me 0 (v ∷ []) v at refl
+
+  ok : NodeOk about r.past v.view.node v
+  ok = mine_ok cells berths good allows about s r me v at
+
+  -- the node of a passed place
+  marked : (i p : ℕ) → At v.own.passed i p → (q : Request) × At r.past.order p q × (q.node ≡ r.past.marks p) × Lacks r.past.clear q
+  marked i p e = let h = ok.passes.passed i p e in let m = r.fine.marked p h.marked in
+      (m.0, m.1, m.2, subst (Lacks r.past.clear) (at_same r.past.order p h.request m.0 (prefix_get v.view.order r.past.order p h.request ok.knows.orders h.at) m.1) h.unclear)
+
+  -- what is passed is the last request of a node that is rolled
+  last : (i p k : ℕ) → At v.own.passed i p → r.past.marks p ≡ k → 0 < k → k ≤ about.terms.nodes → ((r.who k).own.point ≡ Rolled) × ((r.who k).own.place ≡ p)
+  last i p k e is a b = let h = ok.passes.passed i p e in let m = marked i p e in (r.each k a b).marks.last p m.0 m.1 (m.2 ∙ is) h.marked m.3
+
+  -- what the node knows there is what is there
+  known : (i p : ℕ) (q : Request) → At v.own.passed i p → At v.view.order p q → (q.node ≡ r.past.marks p) × (0 < q.node) × (q.node ≤ about.terms.nodes)
+  known i p q e has = let m = marked i p e in
+      let same : m.0 ≡ q = at_same r.past.order p m.0 q m.1 (prefix_get v.view.order r.past.order p q ok.knows.orders has) in
+      let within = r.fine.nodes p m.0 m.1 in
+      (ap (λ (z : Request). z.node) (sym same) ∙ m.2, subst (λ (z : Request). 0 < z.node) same within.0, subst (λ (z : Request). z.node ≤ about.terms.nodes) same within.1)
+
+  -- the passed requests are of other nodes, each of another one
+  pub others_passed : lets_go v.own.point ≡ true → AreOfOthers v.view.node v.view.order v.own.passed
+  others_passed walks = record {
+    others = λ i p q e has mine. let k = known i p q e has in
+        let h = last i p v.view.node e (sym k.0 ∙ mine) member.low member.high in
+        never walks (sym (ap (λ (u : ArrayEntry). lets_go u.own.point) member.is) ∙ ap lets_go h.0);
+    apart = λ i j p q a b lt e f here there same. let k = known i p a e here in let l = known j q b f there in
+        let m = last i p a.node e (sym k.0) k.1 k.2 in let n = last j q a.node f (sym l.0 ∙ sym same) k.1 k.2 in
+        let one : i ≡ j = ok.passes.once i j p e (subst (At v.own.passed j) (sym n.1 ∙ m.1) f) in
+        omega (arith, one, lt);
+  }
+
+  pub few_passed : lets_go v.own.point ≡ true → length v.own.passed + 1 ≤ about.terms.nodes
+  few_passed walks = let few = few_if_once about.terms.nodes (by_node v.view.node ∷ passers r.past.marks v.own.passed) nodes (λ k a b. count_once k (by_node v.view.node ∷ passers r.past.marks v.own.passed) (once k a b)) in
+      let l = passers_length r.past.marks v.own.passed in omega arith
     where
-      x : Past
-      x = r.past
-
-      member : Member node_of about.terms.nodes r.who r.owner me 0 v
-      member = r.members me 0 (v ∷ []) v at refl
-
-      ok : NodeOk about r.past v.view.node v
-      ok = mine_ok cells berths good allows about s r me v at
-
-      -- the node of a passed place
-      marked : (i p : ℕ) → At v.own.passed i p → (q : Request) × At r.past.order p q × (q.node ≡ r.past.marks p) × Lacks r.past.clear q
-      marked i p e = let h = ok.passes.passed i p e in let m = r.fine.marked p h.marked in
-          (m.0, m.1, m.2, subst (Lacks r.past.clear) (at_same r.past.order p h.request m.0 (prefix_get v.view.order r.past.order p h.request ok.knows.orders h.at) m.1) h.unclear)
-
-      -- what is passed is the last request of a node that is rolled
-      last : (i p k : ℕ) → At v.own.passed i p → r.past.marks p ≡ k → 0 < k → k ≤ about.terms.nodes → ((r.who k).own.point ≡ Rolled) × ((r.who k).own.place ≡ p)
-      last i p k e is a b = let h = ok.passes.passed i p e in let m = marked i p e in (r.each k a b).marks.last p m.0 m.1 (m.2 ∙ is) h.marked m.3
-
       nodes : (i : ℕ) (q : Request) → At (by_node v.view.node ∷ passers r.past.marks v.own.passed) i q → (0 < q.node) × (q.node ≤ about.terms.nodes)
       nodes zero q e = subst (λ (z : Request). (0 < z.node) × (z.node ≤ about.terms.nodes)) (same_some e) (member.low, member.high)
       nodes (suc i) q e = let t = passers_at r.past.marks v.own.passed i q e in let m = marked i t.0 t.1 in

@@ -5,8 +5,10 @@ use Rattle.qolb_model.specs.Ends.{is_closed}
 use Rattle.qolb_model.specs.PortStates.{left_by}
 use Rattle.qolb_model.specs.Views.{own, Extends}
 use Rattle.qolb_model.specs.LettingGo.{LetsGo}
+use Rattle.qolb_model.specs.Requests.{AreOfDifferentNodes}
 use Rattle.qolb_model.proofs.Prefixes.{prefix_get}
 use Rattle.qolb_model.proofs.Going.{same_own}
+use Rattle.qolb_model.proofs.Once.{once_behind}
 use Rattle.shared_line.specs.declared.rule.Parcel.{Parcel}
 use Rattle.shared_line.specs.Steps.{own_end}
 use Rattle.array_line.specs.Array.{ArrayEntry}
@@ -22,14 +24,18 @@ pub lets_on : (v u t : ArrayEntry) (y : Parcel) → v.own.passed ≡ [] → Ende
 lets_on v u t y none e more w =
     let ended : u.view.ends ≡ v.view.ends ++ own_end (is_closed v.view.ends) y ∷ [] = e.ends ∙ ap (λ x. v.view.ends ++ x ∷ []) (ends_own v y (is_closed v.view.ends) none refl) in
     let from : length u.view.ends ≡ length v.view.ends + 1 = omega (arith, ap length ended, length-append v.view.ends (own_end (is_closed v.view.ends) y ∷ [])) in
+    let mine = prefix_get u.view.order t.view.order (length v.view.ends) (own u.view) more.order (e.own_turn none) ∙ ap Some (sym (same_own u.view t.view more w.count)) in
     record {
       point = w.point;
       state = w.state ∙ e.state;
       ends_turn = record {
         passed = suc w.passed;
         ends = w.ends ∙ (ap (λ es. es ++ replicate (suc w.passed) Gone) ended ∙ append_assoc v.view.ends (own_end (is_closed v.view.ends) y ∷ []) (replicate (suc w.passed) Gone));
-        at_turn = prefix_get u.view.order t.view.order (length v.view.ends) (own u.view) more.order (e.own_turn none) ∙ ap Some (sym (same_own u.view t.view more w.count));
+        at_turn = mine;
         count = w.count ∙ e.count;
+        once = once_behind t.view.order (length v.view.ends) (length t.view.ends) (own t.view) mine
+            (λ p r low high at same. w.others p r (omega (arith, from, low)) high at (same ∙ more.node))
+            (subst (λ n. AreOfDifferentNodes t.view.order n (length t.view.ends)) from w.once);
         lets_go = subst (λ n. LetsGo n (left_by y.closed) t.view) from (subst (λ leaves. LetsGo (length u.view.ends) leaves t.view) e.state w.lets_go);
       };
     }

@@ -12,12 +12,13 @@ use Rattle.qolb_model.specs.Leases.{served, turns_left, is_last_turn}
 use Rattle.qolb_model.proofs.Leases.{turns_left-same}
 use Rattle.qolb_model.specs.declared.end.End.{End}
 use Rattle.qolb_model.specs.declared.end.End.TheVariants.{Gone}
-use Rattle.qolb_model.specs.Requests.{Has, Lacks}
+use Rattle.qolb_model.specs.Requests.{Has, Lacks, AreOfOthers}
 use Rattle.qolb_model.specs.Ends.{is_closed, bytes_after, MayEnd}
 use Rattle.qolb_model.specs.Histories.{turn_of}
 use Rattle.qolb_model.specs.Views.{own, Extends}
 use Rattle.qolb_model.proofs.Lists.{element_at, drop_with, push_cases, same_some}
 use Rattle.qolb_model.proofs.Prefixes.{prefix_get}
+use Rattle.qolb_model.proofs.Once.{others_longer, others_within, once_walked}
 use Rattle.qolb_model.proofs.Histories.{bytes_after-append, is_closed-append}
 use Rattle.qolb_model.proofs.Writes.{bytes_after-passed}
 use Rattle.shared_line.specs.Steps.{SameSeat, HasNoSlot}
@@ -167,6 +168,8 @@ pub record Walked (v : ArrayEntry) (nodes : List ℕ) (w : ArrayEntry) : Type 0 
   pub ends : w.view.ends ≡ v.view.ends ++ replicate (length nodes) Gone
   pub run : (i p : ℕ) → At w.own.passed i p → p ≡ length v.view.ends + i
   pub made : AreNodesAt w.view.order w.own.passed nodes
+  pub node : w.view.node ≡ v.view.node
+  pub others : AreOfOthers v.view.node w.view.order w.own.passed
   pub few : length w.own.passed + 1 ≤ v.view.terms.nodes
 
 -- it stands at one more withdrawn request, that of this node
@@ -187,14 +190,16 @@ pub record IsHome (nodes : List ℕ) (w : ArrayEntry) : Type 0 where
   pub unmarked : (r : Request) → turn_of w.view.order w.view.ends ≡ Some r → Lacks w.view.marked r
 
 -- so it begins
-pub walk_begins : (v : ArrayEntry) → v.own.passed ≡ length v.view.ends ∷ [] → 2 ≤ v.view.terms.nodes → Walked v [] v
-walk_begins v passed two = record {
+pub walk_begins : (v : ArrayEntry) → v.own.passed ≡ length v.view.ends ∷ [] → AreOfOthers v.view.node v.view.order v.own.passed → 2 ≤ v.view.terms.nodes → Walked v [] v
+walk_begins v passed others two = record {
   terms = refl;
   state = refl;
   count = refl;
   ends = sym (append-nil v.view.ends);
   run = λ i p at. by (length v.view.ends) i p (subst (λ ps. At ps i p) passed at);
   made = record { each = λ k p n at none. absurd (let h : None ≡ Some n = none in cc h) };
+  node = refl;
+  others = others;
   few = omega (arith, ap length passed, two);
 }
   where
@@ -236,16 +241,20 @@ carries_gone allows v w nodes found y k s b =
 record Grows (w x : ArrayEntry) (first : ℕ) : Type 0 where
   run : (i p : ℕ) → At x.own.passed i p → p ≡ first + i
   front : (i p : ℕ) → i < length w.own.passed → At x.own.passed i p → At w.own.passed i p
+  others : AreOfOthers w.view.node x.view.order x.own.passed
   few : length x.own.passed + 1 ≤ w.view.terms.nodes
 
-grows : (v w x : ArrayEntry) (nodes : List ℕ) (found next by_node : ℕ) (y : Parcel) → Walked v nodes w → StandsAt nodes found w → length x.view.ends ≡ length v.view.ends + (length nodes + 1) → x.view.terms.nodes ≡ w.view.terms.nodes
+grows : (v w x : ArrayEntry) (nodes : List ℕ) (found next by_node : ℕ) (y : Parcel) → Walked v nodes w → StandsAt nodes found w → length w.view.ends ≡ length v.view.ends + length nodes → length x.view.ends ≡ length v.view.ends + (length nodes + 1) → Extends w.view x.view
     → (next ≡ 0 → GoesHome w x) → (next ≢ 0 → Passes w by_node x) → Grows w x (length v.view.ends)
-grows v w x nodes found zero by_node y k s many n home passes = let h = home refl in record {
+grows v w x nodes found zero by_node y k s before many more home passes = let h = home refl in record {
   run = λ i p at. k.run i p (subst (λ ps. At ps i p) h.passed at);
   front = λ i p lt at. subst (λ ps. At ps i p) h.passed at;
+  others = subst (AreOfOthers w.view.node x.view.order) (sym h.passed) (others_longer w.view.node w.view.order x.view.order w.own.passed more.order
+      (λ i p at. omega (arith, k.run i p at, slice_get_within w.own.passed i p at, s.many, before, slice_get_within w.view.order (length w.view.ends) s.request s.at))
+      (subst (λ n. AreOfOthers n w.view.order w.own.passed) (sym k.node) k.others));
   few = omega (arith, ap length h.passed, k.few, ap (λ (t : Terms). t.nodes) k.terms);
 }
-grows v w x nodes found (suc next) by_node y k s many n home passes = let h = passes (λ e. let f : suc next ≡ 0 = e in omega (arith, f)) in record {
+grows v w x nodes found (suc next) by_node y k s before many more home passes = let h = passes (λ e. let f : suc next ≡ 0 = e in omega (arith, f)) in record {
   run = λ i p at. elim (push_cases w.own.passed (length x.view.ends) i p (subst (λ ps. At ps i p) h.passed at)) [
     | inl old ↦ k.run i p old.1
     | inr last ↦ omega (arith, last.0, last.1, s.many, many)
@@ -254,7 +263,8 @@ grows v w x nodes found (suc next) by_node y k s many n home passes = let h = pa
     | inl old ↦ old.1
     | inr last ↦ absurd (omega (arith, last.0, lt))
   ];
-  few = omega (arith, h.few, n);
+  others = subst (λ n. AreOfOthers n x.view.order x.own.passed) more.node h.others;
+  few = omega (arith, h.few, ap (λ (t : Terms). t.nodes) more.terms);
 }
 
 replicate-push : (n : ℕ) (e : End) → replicate n e ++ e ∷ [] ≡ replicate (suc n) e
@@ -271,7 +281,7 @@ walked_on v w x nodes found next by_node y low k s e more stays home passes =
     e.ends ∙ ((λ i. k.ends i ++ gone i ∷ []) ∙ (append_assoc v.view.ends (replicate (length nodes) Gone) (Gone ∷ []) ∙ (ap (λ es. v.view.ends ++ es) (replicate-push (length nodes) Gone) ∙ ap (λ n. v.view.ends ++ replicate n Gone) (sym pushed)))) in
     let before : length w.view.ends ≡ length v.view.ends + length nodes = ap length k.ends ∙ omega (arith, length-append v.view.ends (replicate (length nodes) Gone), length-replicate (length nodes) Gone) in
     let many : length x.view.ends ≡ length v.view.ends + (length nodes + 1) = ap length ends ∙ omega (arith, pushed, length-append v.view.ends (replicate (length (nodes ++ found ∷ [])) Gone), length-replicate (length (nodes ++ found ∷ [])) Gone) in
-    let g = grows v w x nodes found next by_node y k s many (ap (λ (t : Terms). t.nodes) more.terms) home passes in
+    let g = grows v w x nodes found next by_node y k s before many more home passes in
     record {
       terms = more.terms ∙ k.terms;
       state = stays ∙ k.state;
@@ -286,6 +296,8 @@ walked_on v w x nodes found next by_node y low k s e more stays home passes =
               (s.request, prefix_get w.view.order x.view.order p s.request more.order (subst (λ q. At w.view.order q s.request) place s.at), s.is_by ∙ sym last.1, omega (arith, last.1, s.is_by, s.high, ap (λ (t : Terms). t.nodes) k.terms, low))
         ];
       };
+      node = more.node ∙ k.node;
+      others = subst (λ n. AreOfOthers n x.view.order x.own.passed) k.node g.others;
       few = omega (arith, g.few, ap (λ (t : Terms). t.nodes) k.terms);
     }
 
@@ -319,12 +331,15 @@ walk_over v w x nodes k h f =
     let many : length nodes ≡ suc last.0 = sym h.many ∙ last.1 in
     let ends : x.view.ends ≡ v.view.ends ++ replicate (suc last.0) Gone = f.ends ∙ (k.ends ∙ ap (λ n. v.view.ends ++ replicate n Gone) many) in
     let long : length x.view.ends ≡ length v.view.ends + length w.own.passed = ap length ends ∙ omega (arith, last.1, length-append v.view.ends (replicate (suc last.0) Gone), length-replicate (suc last.0) Gone) in
+    let others : AreOfOthers v.view.node x.view.order w.own.passed = subst (λ o. AreOfOthers v.view.node o w.own.passed) (sym f.order) k.others in
     record {
       point = f.point;
       state = f.state ∙ k.state;
       count = f.count ∙ k.count;
       passed = last.0;
       ends = ends;
+      others = others_within v.view.node (length v.view.ends) (length x.view.ends) x.view.order w.own.passed k.run long others;
+      once = once_walked v.view.node (length v.view.ends) (length x.view.ends) x.view.order w.own.passed k.run long others;
       lets_go = record {
         known = omega (arith, h.known, ap length f.order, ap length f.ends);
         unmarked = λ r is. subst (λ ms. Lacks ms r) (sym f.marked) (h.unmarked r (sym (λ i. turn_of (f.order i) (f.ends i)) ∙ is));

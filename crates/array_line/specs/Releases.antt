@@ -1,10 +1,10 @@
 -- What a release as a whole tells a port.
-use Rattle.std.specs.Prelude.{◌≡◌, ◌≢◌, ◌≤◌, ℕ, suc, List, ◌++◌, length, replicate, Option, Some, None}
+use Rattle.std.specs.Prelude.{◌≡◌, ◌≢◌, ◌<◌, ◌≤◌, ℕ, suc, List, ◌++◌, length, replicate, Option, Some, None}
 use Rattle.qolb_model.specs.declared.answer.PortState.{PortState}
 use Rattle.qolb_model.specs.declared.answer.PortState.TheVariants as shows
 use Rattle.qolb_model.specs.declared.request.Request.{Request}
 use Rattle.qolb_model.specs.declared.end.End.TheVariants.{Gone}
-use Rattle.qolb_model.specs.Requests.{Has, Lacks}
+use Rattle.qolb_model.specs.Requests.{Has, Lacks, AreOfDifferentNodes}
 use Rattle.qolb_model.specs.PortStates.{left_by}
 use Rattle.qolb_model.specs.Leases.{turns_left}
 use Rattle.qolb_model.specs.Ends.{is_closed}
@@ -38,13 +38,15 @@ pub record LetsLineGo (v : ArrayEntry) (y : Parcel) (w : ArrayEntry) : Type 0 wh
   pub state : w.view.state ≡ left_by y.closed
   pub ends_turn : EndsTurn v.view (own_end (is_closed v.view.ends) y) (left_by y.closed) w.view
 
--- a release that had passed the request at its turn, and none before, is over
+-- a release that had passed the request at its turn, and none before, is over; it passed requests of different nodes, none of them its own
 pub record WalksOn (v w : ArrayEntry) : Type 0 where
   pub point : w.own.point ≡ Idle
   pub state : w.view.state ≡ v.view.state
   pub count : w.view.count ≡ v.view.count
   pub passed : ℕ
   pub ends : w.view.ends ≡ v.view.ends ++ replicate (suc passed) Gone
+  pub others : (p : ℕ) (r : Request) → length v.view.ends ≤ p → p < length w.view.ends → At w.view.order p r → r.node ≢ v.view.node
+  pub once : AreOfDifferentNodes w.view.order (length v.view.ends) (length w.view.ends)
   pub lets_go : LetsGo (length v.view.ends) v.view.state w.view
 
 -- each of these nodes, which are of a line's, made the request at the place that stands where the node does

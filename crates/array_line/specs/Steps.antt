@@ -6,7 +6,7 @@ use Rattle.qolb_model.specs.declared.request.Request.{Request}
 use Rattle.qolb_model.specs.declared.end.End.{End}
 use Rattle.qolb_model.specs.declared.end.End.TheVariants.{Gone}
 use Rattle.qolb_model.specs.declared.terms.TheConstants.{MOST_NODES}
-use Rattle.qolb_model.specs.Requests.{Has, Lacks}
+use Rattle.qolb_model.specs.Requests.{Has, Lacks, AreOfOthers}
 use Rattle.qolb_model.specs.PortStates.{left_by}
 use Rattle.qolb_model.specs.Leases.{is_last_turn, turns_left}
 use Rattle.qolb_model.specs.Ends.{is_closed, bytes_after, MayEnd}
@@ -125,6 +125,7 @@ pub record Passes (v : ArrayEntry) (node : ℕ) (w : ArrayEntry) : Type 0 where
   pub at : At w.view.order (length w.view.ends) request
   pub is_by : request.node ≡ node
   pub high : request.node ≤ w.view.terms.nodes
+  pub others : AreOfOthers w.view.node w.view.order w.own.passed
   pub few : length w.own.passed + 1 ≤ w.view.terms.nodes
   pub nodes : w.view.terms.nodes ≤ MOST_NODES
 

@@ -67,7 +67,7 @@ module _ {terms : Terms} {c : State} {h : Queue} (s : Matches terms c h) where
       let k : length (seat c n).passed ≡ 0 = ap length none in
       omega arith
 
-  own : (n i : ℕ) → IsNode c n → i < length (seat c n).passed → (0 < passed c n i) × (passed c n i ≤ c.nodes) × (passed c n i ≢ n)
+  pub own : (n i : ℕ) → IsNode c n → i < length (seat c n).passed → (0 < passed c n i) × (passed c n i ≤ c.nodes) × (passed c n i ≢ n)
   own n i a l = let j = s.passes n i a l in (j.node.0, j.node.1, not_own n i a l)
 
   passed_short : (n : ℕ) → IsNode c n → length (seat c n).passed < c.nodes

@@ -42,6 +42,7 @@ use Rattle.link_line.specs.Laws.Histories.{at_point}
 use Rattle.link_line.proofs.Packed.{rolled_is, add_granted}
 use Rattle.link_line.specs.Laws.Nodes.{St, Rule, mine_ok, is_node}
 use Rattle.link_line.proofs.Laying.{entry_laid}
+use Rattle.link_line.proofs.Others.{others_of}
 use Rattle.link_line.proofs.Turning.{goes_step, grows_none, joins_same, Owes, turned}
 use Rattle.link_line.proofs.Releasing.{Holds, holds_so, after, view_after, kept, counts, ended, longer, out_turned, goes_out, end_quiet, with_line, line_is}
 
@@ -231,6 +232,7 @@ module _ (good : List ℕ → Type 0) (allows : List ℕ → List ℕ → Type 0
                   request = request y.queue.order (length y.queue.ends);
                   at = get_request y.queue.order (length y.queue.ends) more;
                   node = its ∙ next_is m m' (sym granting ∙ to);
+                  others = others_of step'.shows.matches n (node.0, subst (λ (q : ℕ). n ≤ q) (sym step'.spared.nodes) node.1) passed passing'.places;
                   few = subst (λ (q : ℕ). length passed + 1 ≤ q) (ap (λ (q : Terms). q.nodes) (sym ok.who.terms)) fewer;
                 }),
               )),

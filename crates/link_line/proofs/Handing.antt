@@ -52,6 +52,7 @@ module _ (v h w : Known) (y : Parcel) (point : Point) (c : Carries v h y point) 
     request = p.request;
     at = p.at;
     node = p.node;
+    others = p.others;
     few = p.few;
   }
 

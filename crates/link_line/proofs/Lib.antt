@@ -12,6 +12,7 @@ pub mod Linking
 pub mod Prepend
 pub mod Releasing
 pub mod Marking
+pub mod Others
 pub mod Granting
 pub mod Homing
 pub mod Freeing

@@ -11,6 +11,8 @@ use Rattle.qolb_model.specs.LettingGo.{LetsGo}
 use Rattle.qolb_model.specs.PortStates.{left_by}
 use Rattle.qolb_model.specs.Views.{own, bytes_of, Extends}
 use Rattle.qolb_model.proofs.Going.{same_own}
+use Rattle.qolb_model.proofs.Once.{once_alone, once_behind}
+use Rattle.qolb_model.specs.Requests.{AreOfDifferentNodes}
 use Rattle.qolb_model.proofs.Leases.{turns_left-served}
 use Rattle.qolb_model.proofs.Prefixes.{prefix_get}
 use Rattle.qolb_model.proofs.Writes.{bytes_after-release}
@@ -44,6 +46,7 @@ module _ (v : Known) (y : Parcel) (none : v.own.passed ≡ []) where
       ends = ends_now w e;
       at_turn = e.own_turn none;
       count = e.count;
+      once = once_alone w.view.order (length v.view.ends) (length w.view.ends) (omega (arith, one_more w e));
       lets_go = record {
         known = e.known;
         unmarked = o.unmarked;
@@ -64,6 +67,7 @@ module _ (v : Known) (y : Parcel) (none : v.own.passed ≡ []) where
       ends = ends_now w e;
       at_turn = e.own_turn none;
       count = e.count;
+      once = once_alone w.view.order (length v.view.ends) (length w.view.ends) (omega (arith, one_more w e));
       lets_go = record {
         known = e.known;
         unmarked = l.unmarked;
@@ -76,14 +80,17 @@ module _ (v : Known) (y : Parcel) (none : v.own.passed ≡ []) where
 
   -- and where it walked on over withdrawn requests
   pub lets_on : (u t : Known) (next : ℕ) → Ended v u y → Passes (with_line v y) u next → Extends u.view t.view → WalksOn u t → LetsLineGo v y (left_by y.closed) t
-  lets_on u t next e p more w = record {
+  lets_on u t next e p more w = let mine = prefix_get u.view.order t.view.order (length v.view.ends) (own u.view) more.order (e.own_turn none) ∙ ap Some (sym (same_own u.view t.view more w.count)) in record {
     point = w.point ∙ ap point_by p.state;
     state_is = w.state ∙ p.state;
     ends_turn = record {
       passed = suc w.passed;
       ends = w.ends ∙ (ap (λ es. es ++ replicate (suc w.passed) Gone) (ends_now u e) ∙ append_assoc v.view.ends (own_end (is_closed v.view.ends) y ∷ []) (replicate (suc w.passed) Gone));
-      at_turn = prefix_get u.view.order t.view.order (length v.view.ends) (own u.view) more.order (e.own_turn none) ∙ ap Some (sym (same_own u.view t.view more w.count));
+      at_turn = mine;
       count = w.count ∙ e.count;
+      once = once_behind t.view.order (length v.view.ends) (length t.view.ends) (own t.view) mine
+          (λ q r low high at same. w.others q r (omega (arith, one_more u e, low)) high at (same ∙ more.node))
+          (subst (λ n. AreOfDifferentNodes t.view.order n (length t.view.ends)) (one_more u e) w.once);
       lets_go = subst (λ n. LetsGo n (left_by y.closed) t.view) (one_more u e) (subst (λ leaves. LetsGo (length u.view.ends) leaves t.view) p.state w.lets_go);
     };
   }

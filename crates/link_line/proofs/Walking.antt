@@ -8,12 +8,14 @@ use Rattle.qolb_model.specs.declared.terms.TheConstants.{MOST_NODES}
 use Rattle.qolb_model.specs.declared.end.End.{End}
 use Rattle.qolb_model.specs.declared.end.End.TheVariants.{Gone}
 use Rattle.qolb_model.specs.PortStates.{left_by}
-use Rattle.qolb_model.specs.Requests.{Lacks}
+use Rattle.qolb_model.specs.Requests.{Lacks, AreOfOthers}
 use Rattle.qolb_model.specs.Ends.{is_closed}
 use Rattle.qolb_model.specs.Histories.{turn_of}
 use Rattle.qolb_model.specs.Views.{Extends}
 use Rattle.qolb_model.proofs.Lists.{element_at, push_cases}
 use Rattle.qolb_model.proofs.Prefixes.{prefix_get}
+use Rattle.qolb_model.proofs.Once.{others_longer, others_within, once_walked}
+use Rattle.std.proofs.lemmas.Option.{slice_get_within}
 use Rattle.link_core.specs.declared.point.Point.TheVariants.{Leaving, Freeing}
 use Rattle.link_line.specs.Known.{Known}
 use Rattle.shared_line.specs.declared.rule.Parcel.{Parcel}
@@ -33,6 +35,8 @@ pub record Walked (v : Known) (nodes : List ℕ) (w : Known) : Type 0 where
   pub ends : w.view.ends ≡ v.view.ends ++ replicate (length nodes) Gone
   pub run : (i p : ℕ) → At w.own.passed i p → p ≡ length v.view.ends + i
   pub made : AreNodesAt w.view.order w.own.passed nodes
+  pub node : w.view.node ≡ v.view.node
+  pub others : AreOfOthers v.view.node w.view.order w.own.passed
   pub few : length w.own.passed + 1 ≤ v.view.terms.nodes
 
 -- it stands at the withdrawn request of one more node
@@ -68,13 +72,17 @@ frees_after state (p ∷ ps) some = refl
 record Grows (w x : Known) (first : ℕ) (most : ℕ) : Type 0 where
   run : (i p : ℕ) → At x.own.passed i p → p ≡ first + i
   front : (i p : ℕ) → i < length w.own.passed → At x.own.passed i p → At w.own.passed i p
+  others : AreOfOthers w.view.node x.view.order x.own.passed
   few : length x.own.passed + 1 ≤ most
 
-module _ (v w x : Known) (nodes : List ℕ) (k : Walked v nodes w) where
-  grows_none : x.own.passed ≡ w.own.passed → Grows w x (length v.view.ends) v.view.terms.nodes
-  grows_none same = record {
+module _ (v w x : Known) (nodes : List ℕ) (k : Walked v nodes w) (more : Extends w.view x.view) where
+  grows_none : (node : ℕ) → StandsAt nodes node w → x.own.passed ≡ w.own.passed → Grows w x (length v.view.ends) v.view.terms.nodes
+  grows_none node s same = record {
     run = λ i p at. k.run i p (subst (λ ps. At ps i p) same at);
     front = λ i p lt at. subst (λ ps. At ps i p) same at;
+    others = subst (AreOfOthers w.view.node x.view.order) (sym same) (others_longer w.view.node w.view.order x.view.order w.own.passed more.order
+        (λ i p at. omega (arith, k.run i p at, slice_get_within w.own.passed i p at, s.many, ap length k.ends, length-append v.view.ends (replicate (length nodes) Gone), length-replicate (length nodes) Gone, slice_get_within w.view.order (length w.view.ends) s.request s.at))
+        (subst (λ n. AreOfOthers n w.view.order w.own.passed) (sym k.node) k.others));
     few = omega (arith, ap length same, k.few);
   }
 
@@ -88,6 +96,7 @@ module _ (v w x : Known) (nodes : List ℕ) (k : Walked v nodes w) where
       | inl old ↦ old.1
       | inr last ↦ absurd (omega (arith, last.0, lt))
     ];
+    others = subst (λ m. AreOfOthers m x.view.order x.own.passed) more.node h.others;
     few = omega (arith, h.few, n);
   }
 
@@ -127,6 +136,8 @@ module _ (v w x : Known) (nodes : List ℕ) (node : ℕ) (y : Parcel) (k : Walke
             (s.request, prefix_get w.view.order x.view.order p s.request more.order (subst (λ q. At w.view.order q s.request) place s.at), s.made_by ∙ sym last.1, omega (arith, last.1, s.high))
       ];
     };
+    node = more.node ∙ k.node;
+    others = subst (λ n. AreOfOthers n x.view.order x.own.passed) k.node g.others;
     few = g.few;
   }
 
@@ -137,12 +148,15 @@ walk_over v w x nodes k h f =
     let many : length nodes ≡ suc last.0 = sym h.many ∙ last.1 in
     let ends : x.view.ends ≡ v.view.ends ++ replicate (suc last.0) Gone = f.ends ∙ (k.ends ∙ ap (λ n. v.view.ends ++ replicate n Gone) many) in
     let long : length x.view.ends ≡ length v.view.ends + length w.own.passed = ap length ends ∙ omega (arith, last.1, length-append v.view.ends (replicate (suc last.0) Gone), length-replicate (suc last.0) Gone) in
+    let others : AreOfOthers v.view.node x.view.order w.own.passed = subst (λ o. AreOfOthers v.view.node o w.own.passed) (sym f.order) k.others in
     record {
       point = f.point ∙ ap point_by k.state;
       state = f.state ∙ k.state;
       count = f.count ∙ k.count;
       passed = last.0;
       ends = ends;
+      others = others_within v.view.node (length v.view.ends) (length x.view.ends) x.view.order w.own.passed k.run long others;
+      once = once_walked v.view.node (length v.view.ends) (length x.view.ends) x.view.order w.own.passed k.run long others;
       lets_go = record {
         known = omega (arith, h.known, ap length f.order, ap length f.ends);
         unmarked = λ r is. subst (λ ms. Lacks ms r) (sym f.marked) (h.unmarked r (sym (λ i. turn_of (f.order i) (f.ends i)) ∙ is));
@@ -199,7 +213,7 @@ module _ (allows : List ℕ → List ℕ → Type 0) (s t u : LinkSeat) (nodes :
   module _ (e : Ended (known_of t) (known_of u) (known_of s).own.line) (same : (known_of u).own.passed ≡ (known_of t).own.passed) (left : PortState) (at : (known_of u).own.seat.point ≡ after_release left (known_of t).own.passed) (is : (known_of u).view.state ≡ left_by (known_of s).own.line.closed)
       (unmarked : (r : Request) → turn_of (known_of u).view.order (known_of u).view.ends ≡ Some r → Lacks (known_of u).view.marked r) where
     out_walked : Walked (known_of s) (nodes ++ node ∷ []) (known_of u)
-    out_walked = walked_on (known_of s) (known_of t) (known_of u) nodes node (known_of s).own.line k b.1 e went.extends (is ∙ sym state) (grows_none (known_of s) (known_of t) (known_of u) nodes k same)
+    out_walked = walked_on (known_of s) (known_of t) (known_of u) nodes node (known_of s).own.line k b.1 e went.extends (is ∙ sym state) (grows_none (known_of s) (known_of t) (known_of u) nodes k went.extends node b.1 same)
 
     out_away : IsAway (nodes ++ node ∷ []) (known_of u)
     out_away = record {
@@ -234,7 +248,7 @@ module _ (allows : List ℕ → List ℕ → Type 0) (s t u : LinkSeat) (nodes :
   walks_passed : (to : ℕ) → HandsOn t (known_of s).own.line u n (handed.Passed to) → Walked (known_of s) (nodes ++ node ∷ []) (known_of u) × StandsBy s (nodes ++ node ∷ []) u (taken + n) (handed.Passed to)
   walks_passed to h = (
     walked_on (known_of s) (known_of t) (known_of u) nodes node (known_of s).own.line k b.1 h.1 went.extends (h.2.state ∙ sym state)
-        (grows_more (known_of s) (known_of t) (known_of u) nodes k to (known_of s).own.line b.1.many (ends_long (known_of s) (known_of t) (known_of u) nodes node (known_of s).own.line k b.1 h.1 went.extends) (ap (λ (z : Terms). z.nodes) (went.extends.terms ∙ k.terms)) h.2),
+        (grows_more (known_of s) (known_of t) (known_of u) nodes k went.extends to (known_of s).own.line b.1.many (ends_long (known_of s) (known_of t) (known_of u) nodes node (known_of s).own.line k b.1 h.1 went.extends) (ap (λ (z : Terms). z.nodes) (went.extends.terms ∙ k.terms)) h.2),
     (
       h.0 ∙ sym slot,
       record {

@@ -8,7 +8,7 @@ use Rattle.qolb_model.specs.declared.request.Request.{Request}
 use Rattle.qolb_model.specs.declared.end.End.{End}
 use Rattle.qolb_model.specs.declared.end.End.TheVariants.{Gone}
 use Rattle.qolb_model.specs.declared.terms.TheConstants.{MOST_NODES}
-use Rattle.qolb_model.specs.Requests.{Has, Lacks}
+use Rattle.qolb_model.specs.Requests.{Has, Lacks, AreOfOthers}
 use Rattle.qolb_model.specs.PortStates.{left_by}
 use Rattle.qolb_model.specs.Leases.{is_last_turn, turns_left}
 use Rattle.qolb_model.specs.Steps.{one_fewer}
@@ -178,6 +178,7 @@ pub record Passes (v w : Known) (next : ℕ) : Type 0 where
   pub request : Request
   pub at : At w.view.order (length w.view.ends) request
   pub node : request.node ≡ next
+  pub others : AreOfOthers w.view.node w.view.order w.own.passed
   pub few : length w.own.passed + 1 ≤ w.view.terms.nodes
 
 -- the node of the first passed request, at the place p, is free, and that request clear, unless the line was left there; ps are the

@@ -1,6 +1,7 @@
 //! How a line is let go.
 ghost use Rattle.std.specs.Prelude.{◌≡◌, ◌≢◌, ℕ, ◌+◌, ◌*◌, ◌<◌, ◌≤◌, [], ◌∷◌, length};
 ghost use Rattle.qolb_model.specs.declared.request.Request.{Request};
+ghost use Rattle.qolb_model.specs.Requests.{AreOfOthers};
 ghost use Rattle.qolb_model.specs.declared.terms.TheConstants.{MOST_NODES};
 ghost use Rattle.qolb_model.specs.PortStates as states;
 ghost use Rattle.link_core.specs.declared.point.Point.TheVariants.{Leaving, Freeing};
@@ -136,6 +137,7 @@ fn walk<K: Keep>(
     requires ready { IsAt (Leaving first) seat.old }
     requires high { first ≤ MOST_NODES }
     requires passed { (known_of seat.old).own.passed ≡ length (known_of seat.old).view.ends ∷ [] }
+    requires others { AreOfOthers (known_of seat.old).view.node (known_of seat.old).view.order (known_of seat.old).own.passed }
     requires first { (r : Request) × At (known_of seat.old).view.order (length (known_of seat.old).view.ends) r × (r.node ≡ first) }
     requires nodes { (2 ≤ (known_of seat.old).view.terms.nodes) × ((known_of seat.old).view.terms.nodes ≤ MOST_NODES) }
     requires few { steps ≤ 6 }

@@ -31,3 +31,4 @@ pub mod Whole
 pub mod Forced
 pub mod Unserved
 pub mod Acquiring
+pub mod Once

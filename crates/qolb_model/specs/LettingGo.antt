@@ -7,7 +7,7 @@ use Rattle.qolb_model.specs.declared.request.Request.{Request}
 use Rattle.qolb_model.specs.declared.end.End.{End}
 use Rattle.qolb_model.specs.declared.end.End.TheVariants.{Gone, Told}
 use Rattle.qolb_model.specs.declared.view.View.{View}
-use Rattle.qolb_model.specs.Requests.{Has, Lacks}
+use Rattle.qolb_model.specs.Requests.{Has, Lacks, AreOfDifferentNodes}
 use Rattle.qolb_model.specs.Ends.{is_closed}
 use Rattle.qolb_model.specs.Histories.{turn_of}
 use Rattle.qolb_model.specs.Views.{own}
@@ -27,20 +27,24 @@ pub record LetsGo (from : ℕ) (leaves : PortState) (new : View) : Type 0 where
   pub cleared : (p : ℕ) (r : Request) → from ≤ p → p < length new.ends → slice_get new.order p ≡ Some r → Has new.clear r ⊎ ((p + 1 ≡ length new.ends) × IsShort new)
   pub state : ((new.state ≡ Left) × IsShort new × (length new.ends ≡ from)) ⊎ ((new.state ≡ leaves) × Has new.clear (own new))
 
--- the turn of a port that had the line is over: to the ends that it knew come that of its request, and those of withdrawn ones behind it
+-- the turn of a port that had the line is over: to the ends that it knew come that of its request, and those of withdrawn ones behind it,
+-- of which each is of another node
 pub record EndsTurn (old : View) (end : End) (leaves : PortState) (new : View) : Type 0 where
   pub passed : ℕ
   pub ends : new.ends ≡ old.ends ++ end ∷ replicate passed Gone
   pub at_turn : slice_get new.order (length old.ends) ≡ Some (own new)
   pub count : new.count ≡ old.count
+  pub once : AreOfDifferentNodes new.order (length old.ends) (length new.ends)
   pub lets_go : LetsGo (length old.ends + 1) leaves new
 
--- told: the port's request came to its turn on a line that an earlier end had closed, and the line was passed on
+-- told: the port's request came to its turn on a line that an earlier end had closed, and the line was passed on, over withdrawn requests
+-- of which each is of another node
 pub record IsTold (new : View) : Type 0 where
   pub before : List End
   pub passed : ℕ
   pub ends : new.ends ≡ before ++ Told ∷ replicate passed Gone
   pub at_turn : slice_get new.order (length before) ≡ Some (own new)
   pub closed : is_closed before ≡ true
+  pub once : AreOfDifferentNodes new.order (length before) (length new.ends)
   pub lets_go : LetsGo (length before + 1) Shut new
   pub clear_before : IsClearBefore new (length before)

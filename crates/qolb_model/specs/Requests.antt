@@ -1,7 +1,7 @@
 -- Requests, and the order in which they were made. A requester puts itself at the head of a line's list, and the oldest
 -- stands at the tail (the sharing list of IEEE Std 1596-1992; queueing at it after Goodman, Vernon and Woest, 1989).
 -- An order is a list, the oldest first. Places are counted from 0.
-use Rattle.std.specs.Prelude.{◌≡◌, ℕ, ◌+◌, ◌==◌, ◌&&◌, Bool, true, false, List, count_by}
+use Rattle.std.specs.Prelude.{◌≡◌, ◌≢◌, ℕ, ◌+◌, ◌<◌, ◌≤◌, ◌==◌, ◌&&◌, Bool, true, false, List, count_by, Some, slice_get}
 use Rattle.std.specs.List.{list_any}
 use Rattle.qolb_model.specs.declared.request.Request.{Request}
 
@@ -31,3 +31,12 @@ last_of node order = record { node = node; number = count_of node order }
 -- the request that the node makes next
 abbrev pub next_of : ℕ → List Request → Request
 next_of node order = record { node = node; number = count_of node order + 1 }
+
+-- no two of the requests at these places, from the first up to that before the last, are of one node
+abbrev pub AreOfDifferentNodes : List Request → ℕ → ℕ → Type 0
+AreOfDifferentNodes order first last = (p q : ℕ) (r s : Request) → first ≤ p → p < q → q < last → slice_get order p ≡ Some r → slice_get order q ≡ Some s → r.node ≢ s.node
+
+-- the requests at these places, each another one, are of different nodes, and none is of this node
+pub record AreOfOthers (node : ℕ) (order : List Request) (places : List ℕ) : Type 0 where
+  pub others : (i p : ℕ) (r : Request) → slice_get places i ≡ Some p → slice_get order p ≡ Some r → r.node ≢ node
+  pub apart : (i j p q : ℕ) (r s : Request) → i < j → slice_get places i ≡ Some p → slice_get places j ≡ Some q → slice_get order p ≡ Some r → slice_get order q ≡ Some s → r.node ≢ s.node

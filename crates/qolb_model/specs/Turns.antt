@@ -6,7 +6,7 @@ use Rattle.qolb_model.specs.declared.write.Write.{Write}
 use Rattle.qolb_model.specs.declared.end.End.{End}
 use Rattle.qolb_model.specs.declared.view.View.{View}
 use Rattle.qolb_model.specs.Requests.{Has, Lacks}
-use Rattle.qolb_model.specs.Ends.{is_closed}
+use Rattle.qolb_model.specs.Ends.{is_closed, written}
 use Rattle.qolb_model.specs.EndKinds.{is_gone}
 use Rattle.qolb_model.specs.Histories.{turn_of}
 use Rattle.qolb_model.specs.Views.{own, bytes_of}
@@ -48,3 +48,8 @@ pub record IsWithdrawn (new : View) : Type 0 where
   pub waits : Waits new
   pub near : IsNear new
   pub marked : Has new.marked (own new)
+
+-- a turn as it goes: the line is open, and its bytes are those that all earlier ends left, changed under the mask of what it has written
+pub record IsTurn (v : View) (turn : Write) : Type 0 where
+  pub is_open : is_closed v.ends ≡ false
+  pub bytes : written (bytes_of v) turn ≡ turn.bytes.bytes

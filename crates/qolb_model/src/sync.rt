@@ -6,6 +6,7 @@ ghost use Rattle.qolb_model.specs.OneOwner.{turn_after};
 ghost use Rattle.qolb_model.specs.PortStates.{may_ask};
 ghost use Rattle.qolb_model.specs.Leases.{turns_left};
 ghost use Rattle.qolb_model.specs.Kept.{MayRelease};
+ghost use Rattle.qolb_model.specs.Turns.{IsTurn};
 ghost use Rattle.qolb_model.specs.Sound.{IsSound};
 ghost use Rattle.qolb_model.specs.Calls.{Enqueues, Polls, Withdraws, Releases, TellEachOther};
 ghost use Rattle.qolb_model.specs.Finishing.{MayRefuse, IsFinished};
@@ -68,7 +69,8 @@ pub trait LineSync<K: Keep> {
     /// The line's bytes as the holder sees them.
     fn bytes(port: &Self::Port) -> &Line64
         requires { (view port.now).state ≡ PortState.Holding }
-        ensures { result.now ≡ (turn port.now).bytes };
+        ensures bytes { result.now ≡ (turn port.now).bytes }
+        ensures turn { IsTurn (view port.now) (turn port.now) };
 
     /// How many turns are left of the line's lease, with the holder's own: at least 1. `None` without a lease.
     fn turns_left(&self, port: &Self::Port) -> Option<u64>

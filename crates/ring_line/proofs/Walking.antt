@@ -39,7 +39,7 @@ cleared_home : (v w : ArrayEntry) → GoesHome (after_clear v) w → GoesHome v 
 cleared_home v w h = record { point = h.point; passed = h.passed; unmarked = h.unmarked; clear = h.clear }
 
 cleared_passes : (v w : ArrayEntry) (node : ℕ) → Passes (after_clear v) node w → Passes v node w
-cleared_passes v w node p = record { point = p.point; passed = p.passed; request = p.request; at = p.at; is_by = p.is_by; high = p.high; few = p.few; nodes = p.nodes }
+cleared_passes v w node p = record { point = p.point; passed = p.passed; request = p.request; at = p.at; is_by = p.is_by; high = p.high; others = p.others; few = p.few; nodes = p.nodes }
 
 -- what a walk that began at the seat s has done so far: two steps for each request that it passed
 pub record IsWalking (allows : List ℕ → List ℕ → Type 0) (s : ArraySeat) (nodes : List ℕ) (cell found : ℕ) (t : ArraySeat) : Type 0 where

@@ -75,6 +75,7 @@ told_by w t y c closed more l =
       ends = l.ends ∙ ap (λ b. w.view.ends ++ own_end b y ∷ replicate l.passed Gone) is;
       at_turn = l.at_turn;
       closed = is;
+      once = l.once;
       lets_go = subst (λ b. LetsGo (length w.view.ends + 1) (left_by b) t.view) closed l.lets_go;
       clear_before = clear_goes w.view t.view (length w.view.ends) (omega (arith, slice_get_within w.view.order (length w.view.ends) (own w.view) c.turn)) (omega arith) more c.clear;
     }

@@ -1,6 +1,7 @@
 //! A line over a table.
 ghost use Rattle.std.specs.Prelude.{◌≡◌, ◌↔◌, ◌<◌, ◌≤◌, IsTrue};
 ghost use Rattle.qolb_model.specs.OneOwner.{turn_after};
+ghost use Rattle.qolb_model.specs.Turns.{IsTurn};
 ghost use Rattle.qolb_model.specs.declared.terms.TheConstants.{MOST_NODES};
 
 use crate::port::Port;
@@ -90,7 +91,8 @@ impl<K: Keep, Q: Discipline<K>, W: Waking> Line<K, Q, W> {
     /// The line's bytes as the holder sees them.
     pub fn bytes(port: &Port<Q>) -> &Line64
         requires { port.now.view.state ≡ PortState.Holding }
-        ensures { result.now ≡ port.now.turn.bytes }
+        ensures bytes { result.now ≡ port.now.turn.bytes }
+        ensures turn { IsTurn port.now.view port.now.turn }
     {
         &port.parcel.bytes
     }

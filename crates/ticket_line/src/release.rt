@@ -1,6 +1,7 @@
 //! How a line is let go.
 ghost use Rattle.std.specs.Prelude.{◌≡◌, ◌≢◌, ◌+◌, ◌*◌, ◌≤◌, [], ◌∷◌, length};
 ghost use Rattle.qolb_model.specs.declared.request.Request.{Request};
+ghost use Rattle.qolb_model.specs.Requests.{AreOfOthers};
 ghost use Rattle.qolb_model.specs.declared.terms.TheConstants.{MOST_NODES};
 ghost use Rattle.qolb_model.specs.PortStates.{left_by};
 ghost use Rattle.shared_line.specs.declared.rule.Parcel.{Parcel};
@@ -101,6 +102,7 @@ fn walk<K: Keep>(ground: &Ground<K>, seat: &mut TicketSeat, ticket: u64, node: u
     requires ticket { ticket ≡ turn_ticket seat.old }
     requires some { node ≢ 0 }
     requires passed { (entry_of seat.old).own.passed ≡ length (entry_of seat.old).view.ends ∷ [] }
+    requires others { AreOfOthers (entry_of seat.old).view.node (entry_of seat.old).view.order (entry_of seat.old).own.passed }
     requires first { (r : Request) × At (entry_of seat.old).view.order (length (entry_of seat.old).view.ends) r × (r.node ≡ node) × (r.node ≤ (entry_of seat.old).view.terms.nodes) }
     requires nodes { (2 ≤ (entry_of seat.old).view.terms.nodes) × ((entry_of seat.old).view.terms.nodes ≤ MOST_NODES) }
     requires parcel { (y : Parcel) × HasCome ticket seat.old y × IsBare (entry_of seat.old) y × ((entry_of seat.old).view.state ≡ left_by y.closed) }

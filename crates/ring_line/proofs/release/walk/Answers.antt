@@ -13,7 +13,7 @@ loop-passed-init g c = subst (λ (nodes : List ℕ). IsWalking g.K.Keep.allows c
   walking = record {
     same = (refl, refl);
     goes_on = goes_none g.K.Keep.allows c.args.seat.now.me c.requires.ready.0;
-    walked = walk_begins (entry_of c.args.seat.now) c.requires.passed c.requires.nodes.0;
+    walked = walk_begins (entry_of c.args.seat.now) c.requires.passed c.requires.others c.requires.nodes.0;
     stands = λ more. ((λ x slot. slot), stands_first (entry_of c.args.seat.now) (withdrawn_by c.args.found) c.requires.ready.1 c.requires.passed c.requires.first);
     home = λ none. absurd (c.requires.found none);
   };

@@ -16,7 +16,7 @@ loop-node-init g c = subst (λ (nodes : List ℕ). IsWalking g.K.Keep.allows c.a
   walking = record {
     same = (refl, refl);
     goes_on = goes_none g.K.Keep.allows c.args.seat.now.me c.requires.ready.0;
-    walked = walk_begins (entry_of c.args.seat.now) c.requires.passed c.requires.nodes.0;
+    walked = walk_begins (entry_of c.args.seat.now) c.requires.passed c.requires.others c.requires.nodes.0;
     stands = λ more. ((λ y slot. slot), stands_first (entry_of c.args.seat.now) c.args.node c.requires.ready.1 c.requires.passed c.requires.first);
     home = λ none. absurd (c.requires.some none);
   };
