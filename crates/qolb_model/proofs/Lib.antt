@@ -31,3 +31,6 @@ pub mod Whole
 pub mod Forced
 pub mod Unserved
 pub mod Acquiring
+pub mod Sums
+pub mod OwnTurns
+pub mod Unshut
