@@ -32,3 +32,6 @@ pub mod Forced
 pub mod Unserved
 pub mod Acquiring
 pub mod Once
+pub mod Sums
+pub mod OwnTurns
+pub mod Unshut

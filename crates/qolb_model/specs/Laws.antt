@@ -1,5 +1,6 @@
 -- Laws of histories, and of views of one history: what their definitions are to say at the least. (Of this project.)
-use Rattle.std.specs.Prelude.{◌≡◌, ◌≢◌, ℕ, ◌+◌, ◌<◌, ◌≤◌, true, false, List, [], ◌∷◌, length, take, slice_get, filter, Option, Some}
+use Rattle.std.specs.Prelude.{◌≡◌, ◌≢◌, ℕ, ◌+◌, ◌<◌, ◌≤◌, true, false, List, [], ◌∷◌, length, take, slice_get, filter, Option, None, Some}
+use Rattle.std.specs.List.{sum_by}
 use mathlib.Core.List.{IsPrefix}
 use Rattle.qolb_model.specs.declared.answer.PortState.TheVariants.{Holding}
 use Rattle.qolb_model.specs.declared.request.Request.{Request}
@@ -14,6 +15,9 @@ use Rattle.qolb_model.specs.Histories.{IsLegal}
 use Rattle.qolb_model.specs.Views.{own, bytes_of, Extends}
 use Rattle.qolb_model.specs.Turns.{IsNear, IsQueued, IsGranted}
 use Rattle.qolb_model.specs.OneHistory.{IsAmong, OneHistory}
+use Rattle.qolb_model.specs.LettingGo.{IsTold}
+use Rattle.qolb_model.specs.Finishing.{IsFinished}
+use Rattle.qolb_model.specs.Sums.{sum_of_all, sum_of_own, KnowsOwnPlaces, HasNotShut}
 use Rattle.qolb_model.specs.Kept.{AreAllowed}
 use Rattle.qolb_model.specs.Opening.{AreNew}
 use Rattle.qolb_model.specs.Meeting.{Meets}
@@ -93,3 +97,19 @@ NewPortsAreOfOneHistory = (label : ℕ) (terms : Terms) (views : List View) → 
 -- two ports that have met know the same lists
 abbrev pub PortsThatMetKnowTheSame : Type 0
 PortsThatMetKnowTheSame = (v w v' w' : View) → OneHistory (v ∷ w ∷ []) → Meets v w v' → Meets w v w' → (v'.order ≡ w'.order) × (v'.ends ≡ w'.ends) × (v'.clear ≡ w'.clear)
+
+-- Of a finished line whose ports know the places of their requests: what all served turns did to the bytes before them, summed, is the sum
+-- of what each port's own turns did.
+abbrev pub SumsAreOfEachPort : (List ℕ → Type 0) → (List ℕ → List ℕ → Type 0) → Type 0
+SumsAreOfEachPort good allows = (does : List ℕ → List ℕ → ℕ) (label : ℕ) (terms : Terms) (views : List View) (bytes : List ℕ) (finished : IsFinished good allows label terms views bytes)
+    → ((v : View) → IsAmong views v → KnowsOwnPlaces v) → sum_of_all does terms.opening.bytes finished.history.ends ≡ sum_by (sum_of_own does) views
+
+-- Such a line that none of its ports has shut is closed only where its lease is used up.
+abbrev pub ClosedByLeaseAlone : (List ℕ → Type 0) → (List ℕ → List ℕ → Type 0) → Type 0
+ClosedByLeaseAlone good allows = (label : ℕ) (terms : Terms) (views : List View) (bytes : List ℕ) (finished : IsFinished good allows label terms views bytes)
+    → ((v : View) → IsAmong views v → KnowsOwnPlaces v) → ((v : View) → IsAmong views v → HasNotShut v) → is_closed finished.history.ends ≡ true → terms.lease ≡ Some (served finished.history.ends)
+
+-- And without a lease none of them is told that it is closed.
+abbrev pub NoneIsTold : (List ℕ → Type 0) → (List ℕ → List ℕ → Type 0) → Type 0
+NoneIsTold good allows = (label : ℕ) (terms : Terms) (views : List View) (bytes : List ℕ) → IsFinished good allows label terms views bytes
+    → ((v : View) → IsAmong views v → KnowsOwnPlaces v) → ((v : View) → IsAmong views v → HasNotShut v) → terms.lease ≡ None → (v : View) → IsAmong views v → ¬ IsTold v

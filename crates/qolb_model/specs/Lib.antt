@@ -25,6 +25,7 @@ pub mod Entries
 pub mod Finishing
 pub mod Calls
 pub mod Patience
+pub mod Sums
 pub mod Laws
 pub mod Whole
 pub mod Rounds

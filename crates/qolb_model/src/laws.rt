@@ -1,6 +1,6 @@
 //! Laws of the definitions that a line's contracts speak of. Each is the contract of a function that does nothing.
 ghost use Rattle.std.specs.Prelude.{◌≡◌};
-ghost use Rattle.qolb_model.specs.Laws.{NoRequestStandsTwice, NoneIsServedAfterClosing, LeaseBounds, OpenLineHasTurns, OnlyServedEndsWrite, GoodStaysGood, ExtendsThrough, PartIsOfOneHistory, EachTwoAreOfOneHistory, FewerEndsBegin, SameEndsSameBytes, OneNodeHolds, FewEndBefore, FewTurnsBefore, FewWaitAtOnce, NewPortsAreOfOneHistory, PortsThatMetKnowTheSame};
+ghost use Rattle.qolb_model.specs.Laws.{NoRequestStandsTwice, NoneIsServedAfterClosing, LeaseBounds, OpenLineHasTurns, OnlyServedEndsWrite, GoodStaysGood, ExtendsThrough, PartIsOfOneHistory, EachTwoAreOfOneHistory, FewerEndsBegin, SameEndsSameBytes, OneNodeHolds, FewEndBefore, FewTurnsBefore, FewWaitAtOnce, NewPortsAreOfOneHistory, PortsThatMetKnowTheSame, SumsAreOfEachPort, ClosedByLeaseAlone, NoneIsTold};
 
 use crate::keep::Keep;
 use crate::terms::MOST_NODES;
@@ -93,6 +93,21 @@ pub fn new_ports_are_of_one_history()
 /// Two ports that have met know the same lists.
 pub fn ports_that_met_know_the_same()
     ensures { PortsThatMetKnowTheSame }
+{}
+
+/// What all turns of a finished line did is the sum of what each port's own did.
+pub fn sums_are_of_each_port<K: Keep>()
+    ensures { SumsAreOfEachPort K.good K.allows }
+{}
+
+/// A finished line that no port has shut is closed only by its lease.
+pub fn closed_by_lease_alone<K: Keep>()
+    ensures { ClosedByLeaseAlone K.good K.allows }
+{}
+
+/// A finished line without a lease, which no port has shut, told none that it is closed.
+pub fn none_is_told<K: Keep>()
+    ensures { NoneIsTold K.good K.allows }
 {}
 
 #[cfg(test)]
