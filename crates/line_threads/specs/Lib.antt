@@ -2,3 +2,4 @@ pub mod Acquiring
 pub mod Places
 pub mod Stances
 pub mod Meetings
+pub mod Spans

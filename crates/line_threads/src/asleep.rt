@@ -1,11 +1,14 @@
 //! Waiting for a line by waiters that sleep, with no time limit and with one.
-ghost use Rattle.std.specs.Prelude.{◌≡◌, ◌⊎◌, ◌+◌, ◌≤◌, IsTrue};
+ghost use Rattle.std.specs.Prelude.{◌≡◌, ◌⊎◌, ◌+◌, ◌≤◌, IsTrue, Option};
+ghost use Rattle.std.specs.Duration.{as_nanos};
+ghost use Rattle.std.specs.declared.time.Instant.{Instant};
 ghost use Rattle.qolb_model.specs.PortStates.{may_ask};
 ghost use Rattle.qolb_model.specs.Sound.{Continues};
 ghost use Rattle.qolb_model.specs.Asking.{IsBusy};
 ghost use Rattle.qolb_model.specs.Turns.{IsGranted, IsWithdrawn};
 ghost use Rattle.qolb_model.specs.LettingGo.{IsTold};
 ghost use Rattle.line_threads.specs.Acquiring.{Acquires, AcquiresWithin, ComesSoon};
+ghost use Rattle.line_threads.specs.Spans.{nanos_left};
 
 use crate::waiting::{Got, LOOKS, short_pause};
 use qolb_model::{Enq, Keep, LineSync, Out, Poll, PortState, Sleeping};
@@ -79,21 +82,29 @@ struct Span {
 }
 
 impl Span {
-    fn begin<R: Clock>(rt: &R, at_most: Duration) -> Span {
+    fn begin<R: Clock>(rt: &R, at_most: Duration) -> Span
+        ensures { result.at_most ≡ at_most }
+    {
         Span {
             since: Instant::now(rt).ok(),
             at_most,
         }
     }
 
-    /// What is left of it. Where the clock can't be read, it counts as over.
-    fn left<R: Clock>(&self, rt: &R) -> Duration {
-        let Some(since) = self.since else {
-            return Duration::ZERO;
-        };
-        match since.elapsed(rt) {
-            Ok(gone) => self.at_most.saturating_sub(gone),
-            Err(_) => Duration::ZERO,
+    /// What is left of it.
+    fn left<R: Clock>(&self, rt: &R) -> Duration
+        ensures { (now : Option Instant) × (as_nanos result ≡ nanos_left self.now.since self.now.at_most now) }
+    {
+        self.left_at(Instant::now(rt).ok())
+    }
+
+    /// What is left of it at this reading of the clock. Where the clock can't be read, or could not when it began, it counts as over.
+    fn left_at(&self, now: Option<Instant>) -> Duration
+        ensures { as_nanos result ≡ nanos_left self.now.since self.now.at_most now }
+    {
+        match (self.since, now) {
+            (Some(since), Some(now)) => self.at_most.saturating_sub(now.duration_since(since)),
+            _ => Duration::ZERO,
         }
     }
 }

@@ -1,5 +1,8 @@
 //! The uses, over all lines.
+mod again;
 mod asleep;
+mod noted;
+mod parked;
 mod passing;
 
 use crate::mailbox::Asked;

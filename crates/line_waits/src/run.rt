@@ -22,6 +22,8 @@ pub enum RunError {
     Finish(FinishError),
     #[error("{0} additions were lost")]
     Lost(u64),
+    #[error("no node had a turn")]
+    NoTurns,
 }
 
 /// What came of the turns of all nodes.
@@ -36,10 +38,12 @@ struct Came {
 }
 
 impl Came {
-    /// A lost addition is an error.
+    /// A lost addition is an error, and so is a run without a turn: each node asks once at least.
     fn check(&self) -> Result<(), RunError> {
         if self.lost > 0 {
             Err(RunError::Lost(self.lost))
+        } else if self.turns == 0 {
+            Err(RunError::NoTurns)
         } else {
             Ok(())
         }

@@ -1,6 +1,7 @@
 //! Nodes that take turns of one length for some time, and note how long they wait.
 ghost use Rattle.std.specs.Prelude.{◌≡◌, ◌+◌, ◌%◌, ◌^◌, IsTrue};
-ghost use Rattle.line_lanes.specs.Lane.{lane_of};
+ghost use Rattle.line_lanes.specs.Lane.{lane_of, with_lane_of};
+ghost use Rattle.qolb_model.specs.OneOwner.{turn_after};
 ghost use Rattle.qolb_model.specs.PortStates.{may_ask};
 ghost use Rattle.qolb_model.specs.Turns.{IsGranted};
 
@@ -119,11 +120,12 @@ impl<R: Wait + Clock, L: Sleeping<Free>> Work<R, L, L::Port> for Turns {
     }
 }
 
-/// The holder adds 1 to the first lane.
+/// The holder adds 1 to the first lane, and writes no other byte.
 fn add_one<L: LineSync<Free>>(port: &mut L::Port)
     requires { (L.view port.old).state ≡ PortState.Holding }
     ensures view { L.view port.new ≡ L.view port.old }
     ensures added { lane_of (L.turn port.new).bytes.bytes 0 ≡ (lane_of (L.turn port.old).bytes.bytes 0 + 1) % 2 ^ 64 }
+    ensures writes { L.turn port.new ≡ turn_after (L.turn port.old) 0xff (with_lane_of (L.turn port.old).bytes.bytes 0 ((lane_of (L.turn port.old).bytes.bytes 0 + 1) % 2 ^ 64)) }
     ensures belongs { (line : L) → L.belongs line port.old → L.belongs line port.new }
 {
     let held = L::bytes(port);

@@ -24,7 +24,7 @@ use qolb_model::{Keep, MOST_NODES, PortState};
 /// The most requests that a release passes: those of all nodes but its own.
 const MOST_PASSED: usize = MOST_NODES as usize - 1;
 
-/// A line that was let go: how many word steps it took, and the ticket that was granted last.
+/// A line that was let go: how many word steps it took, and the ticket that was granted last, whose node may have to be woken.
 #[derive(Clone, Copy)]
 pub(crate) struct LetGo {
     pub(crate) steps: u64,
@@ -72,6 +72,7 @@ pub(crate) fn release<K: Keep>(ground: &Ground<K>, seat: &mut TicketSeat, ticket
     ensures slot { HasNoSlot seat.new }
     ensures goes_on { GoesOn K.allows seat.old.me seat.new.me result.steps }
     ensures lets_go { (y : Parcel) → HasLaid ticket seat.old y → LetsLineGo (entry_of seat.old) y (entry_of seat.new) }
+    ensures granted { result.ticket ≡ turn_ticket seat.new }
     ensures counted { result.steps + 1 + 2 * length (entry_of seat.old).view.ends ≡ 2 * length (entry_of seat.new).view.ends }
     ensures bound { result.steps + 1 ≤ 2 * (entry_of seat.old).view.terms.nodes }
 {
@@ -110,6 +111,7 @@ fn walk<K: Keep>(ground: &Ground<K>, seat: &mut TicketSeat, ticket: u64, node: u
     ensures slot { HasNoSlot seat.new }
     ensures goes_on { GoesOn K.allows seat.old.me seat.new.me result.steps }
     ensures walks_on { WalksOn (entry_of seat.old) (entry_of seat.new) }
+    ensures granted { result.ticket ≡ turn_ticket seat.new }
     ensures counted { result.steps + 2 * length (entry_of seat.old).view.ends ≡ 2 * length (entry_of seat.new).view.ends }
     ensures bound { result.steps + 2 ≤ 2 * (entry_of seat.old).view.terms.nodes }
 {

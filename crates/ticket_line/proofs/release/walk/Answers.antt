@@ -2,6 +2,7 @@ use Rattle.std.proofs.Common.{rules, refl, sym, subst, ap, arith, ◌≡◌, ◌
 use Rattle.ticket_line.specs.Words.{ticket_after}
 use Rattle.ticket_line.specs.Slots.{berths}
 use Rattle.array_line.specs.Words.{ticket_of}
+use Rattle.qolb_model.specs.declared.end.End.{End}
 use Rattle.array_line.specs.Array.{ArrayEntry}
 use Rattle.array_line.specs.Steps.{entry_of, sole}
 use Rattle.ticket_line.proofs.Numbers.{ticket_next}
@@ -52,3 +53,6 @@ returns-clause-goes_on g c = walked_steps berths g.K.Keep.allows c.args.seat.now
 pub returns-clause-walks_on : goal.returns-clause-walks_on
 returns-clause-walks_on g c = let done : c.loop-node.node ≡ 0 = search rules in
     walk_over (entry_of c.args.seat.now) (entry_of c.loop-node.seat) (entry_of c.free_passed.new.seat) c.loop-node.passed.items c.loop-node.invariant.walking.walked (c.loop-node.invariant.walking.home done).1 c.free_passed.ensures.frees
+
+pub returns-clause-granted : goal.returns-clause-granted
+returns-clause-granted g c = c.loop-node.invariant.ticket_is ∙ ap (λ (es : List End). ticket_of (length es)) (sym c.free_passed.ensures.frees.ends)

@@ -1,0 +1,103 @@
+//! How long a sleep takes, over all lines, by the system's clock.
+ghost use Rattle.std.specs.Prelude.{◌≡◌};
+
+use line_lanes::Line64;
+use link_line::LinkLine;
+use qolb_model::{Enq, Free, OpenLine, PortState, Sleeping, Terms};
+use ring_line::RingLine;
+use std::alloc::Global;
+use std::process::Abort;
+use std::rt::Clock;
+use std::sync::Wait;
+use std::test::Fail;
+use std::time::{Duration, Instant};
+use ticket_line::TicketLine;
+
+/// How long sleeps took: the shortest and the longest of ten while the turn did not come, and one when it had come.
+#[derive(Clone, Copy, Debug)]
+struct Took {
+    shortest: Duration,
+    longest: Duration,
+    after: Duration,
+}
+
+/// How long a sleep takes that waits no longer than this for its turn.
+fn sleep_for<R: Wait + Clock, L: Sleeping<Free>>(
+    rt: &R,
+    line: &L,
+    port: &L::Port,
+    at_most: Duration,
+) -> Option<Duration>
+    requires belongs { L.belongs line.now port.now }
+    requires state { (L.view port.now).state ≡ PortState.Queued }
+{
+    let begin = Instant::now(rt).ok()?;
+    line.sleep(rt, port, at_most);
+    begin.elapsed(rt).ok()
+}
+
+/// Node 2 sleeps ten times for so long while node 1 has a new line, and once for a thousand times as long when that has let go.
+fn sleep_behind_another<R: Wait + Clock, L: OpenLine<Free> + Sleeping<Free> + Drop>(
+    rt: &R,
+    alloc: Global,
+    at_most: Duration,
+) -> Option<Took>
+where
+    L::Port: Drop,
+{
+    let terms = Terms {
+        nodes: 2,
+        opening: Line64::zero(),
+        lease: None,
+    };
+    let (line, ports) = L::open_with(alloc, 1, terms).ok()?;
+    let mut ports = ports;
+    let mut two = ports.pop()?;
+    let mut one = ports.pop()?;
+    let Enq::Granted = line.enqolb(&mut one) else {
+        return None;
+    };
+    let Enq::Queued = line.enqolb(&mut two) else {
+        return None;
+    };
+    let mut shortest = Duration::MAX;
+    let mut longest = Duration::ZERO;
+    for _ in 0..10 {
+        let took = sleep_for(rt, &line, &two, at_most)?;
+        shortest = shortest.min(took);
+        longest = longest.max(took);
+    }
+    line.deqolb(&mut one);
+    let after = sleep_for(rt, &line, &two, at_most.saturating_mul(1_000))?;
+    Some(Took {
+        shortest,
+        longest,
+        after,
+    })
+}
+
+/// Of ten sleeps one takes as long as it may, and one not twice as long. Once the turn has come none is left.
+fn a_sleep_lasts_as_long_as_it_may<
+    R: Wait + Clock + Abort,
+    L: OpenLine<Free> + Sleeping<Free> + Drop,
+>(rt: &R, alloc: Global)
+where
+    L::Port: Drop,
+{
+    let at_most = Duration::from_millis(20);
+    let took = sleep_behind_another::<R, L>(rt, alloc, at_most);
+    let held = took.is_some_and(|took| {
+        took.longest >= at_most
+            && took.shortest < at_most.saturating_mul(2)
+            && took.after < at_most.saturating_mul(500)
+    });
+    assert!(rt; held, "{took:?}");
+}
+
+#[test]
+fn sleeps_last_as_long_as_they_may(rt: HostRuntime) -> Result<(), Fail> {
+    a_sleep_lasts_as_long_as_it_may::<_, RingLine<Free>>(&rt, rt.alloc());
+    a_sleep_lasts_as_long_as_it_may::<_, TicketLine<Free>>(&rt, rt.alloc());
+    a_sleep_lasts_as_long_as_it_may::<_, LinkLine<Free>>(&rt, rt.alloc());
+    Ok(())
+}
