@@ -37,6 +37,10 @@ impl<'r, R: Wait, K: Keep, L: Sleeping<K>> LineSync<K> for SleepingLine<'r, R, L
 
     ghost looks = { L.looks };
 
+    ghost taken = { L.taken };
+
+    ghost most = { λ asleep. L.most asleep.line };
+
     ghost belongs = { λ asleep port. L.belongs asleep.line port };
 
     ghost label_of = { λ asleep. L.label_of asleep.line };

@@ -1,4 +1,4 @@
-ghost use Rattle.std.specs.Prelude.{◌≡◌, ◌≢◌, ◌↔◌, ◌+◌, ℕ, true, false, All, Some, IsTrue, IfOk, IfErr, map};
+ghost use Rattle.std.specs.Prelude.{◌≡◌, ◌≢◌, ◌↔◌, ◌+◌, ◌≤◌, ℕ, true, false, All, Some, IsTrue, IfOk, IfErr, map};
 ghost use Rattle.qolb_model.specs.declared.terms.Terms.{Terms};
 ghost use Rattle.qolb_model.specs.declared.view.View.{View};
 ghost use Rattle.qolb_model.specs.declared.write.Write.{Write};
@@ -36,6 +36,12 @@ pub trait LineSync<K: Keep> {
 
     /// How often the port has looked whether its turn has come: how many times it was polled.
     ghost looks: { Self.Port → ℕ };
+
+    /// How many word steps the port has taken in all its calls.
+    ghost taken: { Self.Port → ℕ };
+
+    /// The most word steps of one call of a port, whatever other nodes do meanwhile.
+    ghost most: { Self → ℕ };
 
     /// The port was opened with the line.
     ghost belongs: { Self → Self.Port → Type 0 };
@@ -85,6 +91,7 @@ pub trait LineSync<K: Keep> {
         ensures view { view port.new ≡ view port.old }
         ensures turn { turn port.new ≡ turn_after (turn port.old) mask.0 bytes.now.bytes }
         ensures looks { looks port.new ≡ looks port.old }
+        ensures taken { taken port.new ≡ taken port.old }
         ensures belongs { (line : Self) → belongs line port.old → belongs line port.new };
 
     /// Asks for the line: the request is granted, or waits; or it is told that the line is closed. Busy, nothing is asked.
@@ -93,7 +100,8 @@ pub trait LineSync<K: Keep> {
         requires state { IsTrue (may_ask (view port.old).state) }
         ensures belongs { belongs self.now port.new }
         ensures enqueues { Enqueues K.allows (view port.old) (view port.new) (turn port.new) result }
-        ensures looks { looks port.new ≡ looks port.old };
+        ensures looks { looks port.new ≡ looks port.old }
+        ensures bound { taken port.new ≤ taken port.old + most self.now };
 
     /// Looks whether the request has come to its turn.
     fn poll(&self, port: &mut Self::Port) -> Poll
@@ -101,7 +109,8 @@ pub trait LineSync<K: Keep> {
         requires state { (view port.old).state ≡ PortState.Queued }
         ensures belongs { belongs self.now port.new }
         ensures polls { Polls K.allows (view port.old) (view port.new) (turn port.new) result }
-        ensures looks { looks port.new ≡ looks port.old + 1 };
+        ensures looks { looks port.new ≡ looks port.old + 1 }
+        ensures bound { taken port.new ≤ taken port.old + most self.now };
 
     /// Gives the request up, unless it has come to its turn.
     fn withdraw(&self, port: &mut Self::Port) -> Out
@@ -109,7 +118,8 @@ pub trait LineSync<K: Keep> {
         requires state { (view port.old).state ≡ PortState.Queued }
         ensures belongs { belongs self.now port.new }
         ensures withdraws { Withdraws K.allows (view port.old) (view port.new) (turn port.new) result }
-        ensures looks { looks port.new ≡ looks port.old };
+        ensures looks { looks port.new ≡ looks port.old }
+        ensures bound { taken port.new ≤ taken port.old + most self.now };
 
     /// Releases the line: the request has been served. The last turn of a lease closes the line, as `shut` does.
     fn deqolb(&self, port: &mut Self::Port)
@@ -118,7 +128,8 @@ pub trait LineSync<K: Keep> {
         requires allowed { MayRelease K.allows (view port.old) (turn port.old) }
         ensures belongs { belongs self.now port.new }
         ensures releases { Releases K.allows false (view port.old) (view port.new) (turn port.old) }
-        ensures looks { looks port.new ≡ looks port.old };
+        ensures looks { looks port.new ≡ looks port.old }
+        ensures bound { taken port.new ≤ taken port.old + most self.now };
 
     /// Releases the line and closes it: nobody will be served any more.
     fn shut(&self, port: &mut Self::Port)
@@ -127,7 +138,8 @@ pub trait LineSync<K: Keep> {
         requires allowed { MayRelease K.allows (view port.old) (turn port.old) }
         ensures belongs { belongs self.now port.new }
         ensures releases { Releases K.allows true (view port.old) (view port.new) (turn port.old) }
-        ensures looks { looks port.new ≡ looks port.old };
+        ensures looks { looks port.new ≡ looks port.old }
+        ensures bound { taken port.new ≤ taken port.old + most self.now };
 
     /// Two ports of the line tell each other what they know. They are of different nodes, and not both hold the line.
     fn meet(&self, a: &mut Self::Port, b: &mut Self::Port)
@@ -138,7 +150,8 @@ pub trait LineSync<K: Keep> {
         ensures tell { TellEachOther K.allows (view a.old) (view b.old) (view a.new) (view b.new) }
         ensures turn_a { turn a.new ≡ turn a.old }
         ensures turn_b { turn b.new ≡ turn b.old }
-        ensures looks { (looks a.new ≡ looks a.old) × (looks b.new ≡ looks b.old) };
+        ensures looks { (looks a.new ≡ looks a.old) × (looks b.new ≡ looks b.old) }
+        ensures taken { (taken a.new ≡ taken a.old) × (taken b.new ≡ taken b.old) };
 
     /// Takes the line apart, with the ports of all its nodes in any order. Refused, it hands both back.
     fn finish(

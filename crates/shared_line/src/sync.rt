@@ -1,5 +1,5 @@
 //! The line as one that many nodes share.
-ghost use Rattle.std.specs.Prelude.{◌≡◌, map, All, IfOk, IfErr};
+ghost use Rattle.std.specs.Prelude.{◌≡◌, ◌+◌, map, All, IfOk, IfErr};
 ghost use Rattle.qolb_model.specs.Finishing.{MayRefuse, IsFinished};
 ghost use Rattle.shared_line.specs.Ports.{BelongsTo};
 
@@ -23,6 +23,10 @@ impl<K: Keep, Q: Discipline<K>, W: Waking> LineSync<K> for Line<K, Q, W> {
     ghost turn = { λ port. port.turn };
 
     ghost looks = { λ port. port.looks };
+
+    ghost taken = { λ port. port.taken };
+
+    ghost most = { λ line. Q.most line.table.shared.key.terms.nodes + 3 };
 
     ghost belongs = { λ line port. BelongsTo K.good K.allows line.table.shared.key line.table.shared.table_id port };
 

@@ -83,6 +83,10 @@ impl<'n, K: Keep, L: LineSync<K>> LineSync<K> for NotedLine<'n, L> {
 
     ghost looks = { L.looks };
 
+    ghost taken = { L.taken };
+
+    ghost most = { λ noted. L.most noted.line };
+
     ghost belongs = { λ noted port. L.belongs noted.line port };
 
     ghost label_of = { λ noted. L.label_of noted.line };

@@ -9,7 +9,7 @@ pub replace-requires-clause-changes : goal.replace-requires-clause-changes
 replace-requires-clause-changes g c =
     let v = g.L.LineSync.view c.args.port.now in
     let board = found_board _ _ v (g.met.L.LineSync.sound c.args.line.now c.args.port.now c.requires.belongs) in
-    let seen : c.bytes.result.now.bytes ≡ bytes_of v = ap (λ l. l.bytes) c.bytes.ensures ∙ c.requires.granted.bytes in
+    let seen : c.bytes.result.now.bytes ≡ bytes_of v = ap (λ l. l.bytes) c.bytes.ensures.bytes ∙ c.requires.granted.bytes in
     record {
       before = board.0;
       after = board.0 ++ c.args.task ∷ [];
@@ -22,7 +22,7 @@ pub returns-in-Some-clause-stored : goal.returns-in-Some-clause-stored
 returns-in-Some-clause-stored g c = λ _.
     let v = g.L.LineSync.view c.args.port.now in
     let board = found_board _ _ v (g.met.L.LineSync.sound c.args.line.now c.args.port.now c.requires.belongs) in
-    let seen : c.bytes.result.now.bytes ≡ bytes_of v = ap (λ l. l.bytes) c.bytes.ensures ∙ c.requires.granted.bytes in
+    let seen : c.bytes.result.now.bytes ≡ bytes_of v = ap (λ l. l.bytes) c.bytes.ensures.bytes ∙ c.requires.granted.bytes in
     has_put board.0 c.args.task (g.L.LineSync.view c.replace.new.port)
     (c.replace.ensures.turn board.0 (board.0 ++ c.args.task ∷ []) board.1 (c.in-Some.ensures board.0 (subst (λ (b : List ℕ). Stand b board.0) (sym seen) board.1)))
 
@@ -30,6 +30,6 @@ pub returns-in-None-clause-full : goal.returns-in-None-clause-full
 returns-in-None-clause-full g c = λ _.
     let v = g.L.LineSync.view c.args.port.now in
     let board = found_board _ _ v (g.met.L.LineSync.sound c.args.line.now c.args.port.now c.requires.belongs) in
-    let seen : c.bytes.result.now.bytes ≡ bytes_of v = ap (λ l. l.bytes) c.bytes.ensures ∙ c.requires.granted.bytes in
+    let seen : c.bytes.result.now.bytes ≡ bytes_of v = ap (λ l. l.bytes) c.bytes.ensures.bytes ∙ c.requires.granted.bytes in
     let full : length board.0 ≡ 7 = c.in-None.ensures board.0 (subst (λ (b : List ℕ). Stand b board.0) (sym seen) board.1) in
     subst (λ (n : ℕ). HasFound n (g.L.LineSync.view c.keep.new.port)) full (c.keep.ensures.found board.0 board.1)

@@ -9,7 +9,7 @@ pub replace-requires-clause-changes : goal.replace-requires-clause-changes
 replace-requires-clause-changes g c =
     let v = g.L.LineSync.view c.args.port.now in
     let board = found_board _ _ v (g.met.L.LineSync.sound c.args.line.now c.args.port.now c.requires.belongs) in
-    let seen : c.bytes.result.now.bytes ≡ bytes_of v = ap (λ l. l.bytes) c.bytes.ensures ∙ c.requires.granted.bytes in
+    let seen : c.bytes.result.now.bytes ≡ bytes_of v = ap (λ l. l.bytes) c.bytes.ensures.bytes ∙ c.requires.granted.bytes in
     let rest = c.in-Some.ensures board.0 (subst (λ (b : List ℕ). Stand b board.0) (sym seen) board.1) in
     record {
       before = board.0;
@@ -23,7 +23,7 @@ pub returns-in-Some-clause-taken : goal.returns-in-Some-clause-taken
 returns-in-Some-clause-taken g c =
     let v = g.L.LineSync.view c.args.port.now in
     let board = found_board _ _ v (g.met.L.LineSync.sound c.args.line.now c.args.port.now c.requires.belongs) in
-    let seen : c.bytes.result.now.bytes ≡ bytes_of v = ap (λ l. l.bytes) c.bytes.ensures ∙ c.requires.granted.bytes in
+    let seen : c.bytes.result.now.bytes ≡ bytes_of v = ap (λ l. l.bytes) c.bytes.ensures.bytes ∙ c.requires.granted.bytes in
     let rest = c.in-Some.ensures board.0 (subst (λ (b : List ℕ). Stand b board.0) (sym seen) board.1) in
     has_taken _ rest.0 (g.L.LineSync.view c.replace.new.port)
     (c.replace.ensures.turn _ rest.0 (subst (Stand (bytes_of v)) rest.1 board.1) rest.2)
@@ -32,6 +32,6 @@ pub returns-in-None-clause-taken : goal.returns-in-None-clause-taken
 returns-in-None-clause-taken g c =
     let v = g.L.LineSync.view c.args.port.now in
     let board = found_board _ _ v (g.met.L.LineSync.sound c.args.line.now c.args.port.now c.requires.belongs) in
-    let seen : c.bytes.result.now.bytes ≡ bytes_of v = ap (λ l. l.bytes) c.bytes.ensures ∙ c.requires.granted.bytes in
+    let seen : c.bytes.result.now.bytes ≡ bytes_of v = ap (λ l. l.bytes) c.bytes.ensures.bytes ∙ c.requires.granted.bytes in
     let none : board.0 ≡ [] = c.in-None.ensures board.0 (subst (λ (b : List ℕ). Stand b board.0) (sym seen) board.1) in
     subst (λ (n : ℕ). HasFound n (g.L.LineSync.view c.keep.new.port)) (ap length none) (c.keep.ensures.found board.0 board.1)

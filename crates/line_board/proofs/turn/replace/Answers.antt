@@ -9,7 +9,7 @@ release-requires-clause-allowed g c =
     let v = g.L.LineSync.view c.args.port.now in
     let turn = g.L.LineSync.turn c.args.port.now in
     let mask : c.changed-mask.result.0 ≡ changed_mask turn.bytes.bytes c.args.new.bytes =
-    c.changed-mask.ensures ∙ ap (λ b. changed_mask b c.args.new.bytes) (ap (λ l. l.bytes) c.bytes.ensures) in
+    c.changed-mask.ensures ∙ ap (λ b. changed_mask b c.args.new.bytes) (ap (λ l. l.bytes) c.bytes.ensures.bytes) in
     let same = new_bytes v turn (g.L.LineSync.turn c.write.new.port) c.changed-mask.result.0 c.args.new.bytes c.requires.granted (search rules) mask c.write.ensures.turn in
     rw (c.write.ensures.view, same) c.requires.changes
 
@@ -20,7 +20,7 @@ returns-clause-turn g c = λ found left stood stands.
     let after = g.L.LineSync.turn c.write.new.port in
     let long : length c.args.new.bytes ≡ 64 = search rules in
     let mask : c.changed-mask.result.0 ≡ changed_mask turn.bytes.bytes c.args.new.bytes =
-    c.changed-mask.ensures ∙ ap (λ b. changed_mask b c.args.new.bytes) (ap (λ l. l.bytes) c.bytes.ensures) in
+    c.changed-mask.ensures ∙ ap (λ b. changed_mask b c.args.new.bytes) (ap (λ l. l.bytes) c.bytes.ensures.bytes) in
     let same = new_bytes v turn after c.changed-mask.result.0 c.args.new.bytes c.requires.granted long mask c.write.ensures.turn in
     had_turn v (g.L.LineSync.view c.release.new.port) turn after c.requires.granted (rw c.write.ensures.view at c.release.ensures.releases)
     found left _ _ stood (subst (λ (b : List ℕ). Stand b left) (sym same) stands)

@@ -15,8 +15,8 @@ returns-clause-hands_over g c =
     (subst (Extends (view c.args.one.now)) (sym c.write.ensures.view) c.in-Granted.ensures.enqueues.continues.extends)
     c.deqolb.ensures.releases.continues.extends
     c.meet.ensures.tell.continues_a.extends
-    (ap (λ (x : Line64). x.bytes) c.bytes-released.ensures ∙ sym c.deqolb.ensures.releases.bytes)
-    (ap (λ (x : Line64). x.bytes) c.bytes-seen.ensures ∙ (ap (λ (w : Write). w.bytes.bytes) c.meet.ensures.turn_b ∙ granted.bytes))
+    (ap (λ (x : Line64). x.bytes) c.bytes-released.ensures.bytes ∙ sym c.deqolb.ensures.releases.bytes)
+    (ap (λ (x : Line64). x.bytes) c.bytes-seen.ensures.bytes ∙ (ap (λ (w : Write). w.bytes.bytes) c.meet.ensures.turn_b ∙ granted.bytes))
     c.meet.ensures.tell.before granted.state granted.at_turn c.meet.ensures.tell.meets_a
     (g.met.L.LineSync.sound line c.meet.new.a c.meet.ensures.belongs_a).terms_are
     (g.met.L.LineSync.sound line c.poll.new.port c.in-Granted-poll.ensures.belongs).terms_are

@@ -38,6 +38,10 @@ impl<K: Keep, L: LineSync<K>> LineSync<K> for HeldLine<L> {
 
     ghost looks = { L.looks };
 
+    ghost taken = { L.taken };
+
+    ghost most = { λ held. L.most held.line };
+
     ghost belongs = { λ held port. L.belongs held.line port };
 
     ghost label_of = { λ held. L.label_of held.line };
