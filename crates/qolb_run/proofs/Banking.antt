@@ -1,12 +1,13 @@
 -- Desks of workers: what one call did, and what all of them paid.
-use Rattle.std.proofs.Common.{◌≡◌, ◌≢◌, ◌⊎◌, inl, inr, ℕ, zero, suc, ◌+◌, ◌*◌, ◌^◌, ◌<◌, ◌≤◌, ◌==◌, true, false, List, [], ◌∷◌, ◌++◌, length, take, lit≤, All, Vec, vec_len, Some, None, slice_get, slice_set, get_or, refl, ap, sym, ◌∙◌, subst, arith, length-append}
+use Rattle.std.proofs.Common.{◌≡◌, ◌≢◌, ◌⊎◌, inl, inr, ℕ, zero, suc, ◌+◌, ◌*◌, ◌^◌, ◌<◌, ◌≤◌, ◌==◌, true, false, List, [], ◌∷◌, ◌++◌, length, take, lit≤, All, Vec, vec_len, Some, None, slice_get, slice_set, get_or, map, refl, ap, sym, ◌∙◌, subst, arith, length-append}
 use Rattle.std.specs.Global.{Global}
 use Rattle.std.specs.List.{sum_by}
 use Rattle.std.proofs.lemmas.Bool.{cases_eq, cases_lt}
 use Rattle.std.proofs.lemmas.List.{length-take-le}
 use Rattle.std.proofs.lemmas.List.Sums.{sum_by-le, sum_by-cons, count_by-le-length, length-filter}
 use Rattle.std.proofs.lemmas.List.Elements.{All-nil, All-push, All-append, All-take, All-head, All-tail}
-use Rattle.std.proofs.lemmas.Option.{slice_get-get_or, slice_get_within, get_or_from_slice_get}
+use Rattle.qolb_run.proofs.Gathering.{come_from}
+use Rattle.std.proofs.lemmas.Option.{slice_get-map, slice_get-get_or, slice_get_within, get_or_from_slice_get}
 use Rattle.line_lanes.specs.Line.{zeros}
 use Rattle.line_lanes.specs.Lane.{lanes_total}
 use Rattle.qolb_model.specs.declared.terms.Terms.{Terms}
@@ -29,10 +30,10 @@ use Rattle.qolb_script.specs.declared.job.Job.TheVariants.{Put, Take, PayIn, Pay
 use Rattle.qolb_script.specs.Jobs.{worker_of}
 use Rattle.qolb_script.specs.declared.schedule.TheConstants.{MOST_COMMANDS}
 use Rattle.qolb_run.specs.Jobs.{jobs_of}
-use Rattle.qolb_run.specs.JustOpened.{IsNewLine, work_terms}
+use Rattle.qolb_run.specs.JustOpened.{IsJustOpened, IsNewLine, work_terms}
 use Rattle.qolb_run.specs.Workers.{AreDone, AreFresh}
 use Rattle.qolb_run.specs.BankRuns.{is_outcome, paid_in_of, paid_out_of, paid_in_by, paid_out_by, ComesTo}
-use Rattle.qolb_run.specs.BankWork.{ArePaid, PaysOneAmount, is_again, Asks, Tries, not_yet, again, Makes, nothing, another, HasBanked}
+use Rattle.qolb_run.specs.BankWork.{ArePaid, PaysOneAmount, IsAmount, is_again, Asks, Tries, not_yet, again, Makes, nothing, another, HasBanked}
 
 -- sums over desks
 module _ {Port : Type 0} (desks : List (DeskOf Port)) (i : ℕ) (few : length desks ≤ MOST_NODES) (small : All (λ desk. ArePaid MOST_COMMANDS desk) desks) (le : i ≤ length desks) where
@@ -53,8 +54,8 @@ module _ {Port : Type 0} (desks : List (DeskOf Port)) (i : ℕ) (few : length de
   fits_out = fits (λ desk. desk.paid_out) (λ k d below. (small k d below).paid_out)
 
 -- all workers' desks
-module _ {Line Port : Type 0} (belongs : Line → Port → Type 0) (view : Port → View) (lines : List Line) (jobs : List Job) (desks : List (DeskOf Port)) (done : AreDone (HasBanked belongs view) lines jobs desks) where
-  banked_at : (k : ℕ) (d : DeskOf Port) → k < length desks → HasBanked belongs view lines (k + 1) (get_or desks k d) (jobs_of (k + 1) jobs)
+module _ {Line Port : Type 0} (belongs : Line → Port → Type 0) (view : Port → View) (terms_of : Line → Terms) (lines : List Line) (jobs : List Job) (desks : List (DeskOf Port)) (done : AreDone (HasBanked belongs view terms_of) lines jobs desks) where
+  banked_at : (k : ℕ) (d : DeskOf Port) → k < length desks → HasBanked belongs view terms_of lines (k + 1) (get_or desks k d) (jobs_of (k + 1) jobs)
   banked_at k d below = done k (get_or desks k d) (slice_get-get_or desks k d below)
 
   pub all_over : All (IsDeskOver belongs view lines) desks
@@ -80,26 +81,24 @@ opened_empty {Line} terms_of workers (line ∷ lines) all =
 -- the ports of a line that was just opened are new
 pub new_ports : {Line Port : Type 0} (belongs : Line → Port → Type 0) (view : Port → View) (terms_of : Line → Terms) (workers : ℕ) (line : Line) (ports : List Port) → IsNewLine belongs view terms_of workers line ports → All (IsNewPort belongs view line) ports
 new_ports {Line} {Port} belongs view terms_of workers line ports new = λ k d below.
-    let (own, (label, terms, is)) = new.own k (get_or ports k d) (slice_get-get_or ports k d below) in
+    let (own, (label, is)) = new.own k (get_or ports k d) (slice_get-get_or ports k d below) in
     record { of_line = own; idle = ap (λ (v : View). v.state) is; never = ap (λ (v : View). v.count) is }
 
 -- a new desk has done no job, and has the ports of its worker's node
-pub banked_nothing : {Line Port : Type 0} (belongs : Line → Port → Type 0) (view : Port → View) (terms_of : Line → Terms) (workers : ℕ) (opened : List (Line × Vec Port Global)) (lines : List Line) (desks : List (DeskOf Port)) → length lines ≡ length opened
-    → All (λ (line : Line × Vec Port Global). IsNewLine belongs view terms_of workers line.0 line.1.items) opened → AreDealt opened desks → All (IsDeskOver belongs view lines) desks → All IsUnpaid desks → AreFresh (HasBanked belongs view) lines desks
-banked_nothing {Line} {Port} belongs view terms_of workers opened lines desks long new dealt over unpaid = λ k desk at.
+pub banked_nothing : {Line Port : Type 0} (belongs : Line → Port → Type 0) (view : Port → View) (terms_of : Line → Terms) (workers : ℕ) (opened : List (Line × Vec Port Global)) (lines : List Line) (desks : List (DeskOf Port)) → lines ≡ map (λ line. line.0) opened
+    → All (λ (line : Line × Vec Port Global). IsNewLine belongs view terms_of workers line.0 line.1.items) opened → AreDealt opened desks → All (IsDeskOver belongs view lines) desks → All IsUnpaid desks → AreFresh (HasBanked belongs view terms_of) lines desks
+banked_nothing {Line} {Port} belongs view terms_of workers opened lines desks are new dealt over unpaid = λ k desk at.
     let below = slice_get_within desks k desk at in
     let is_over = subst (IsDeskOver belongs view lines) (get_or_from_slice_get desks k desk desk at) (over k desk below) in
     let none = subst (λ (d : DeskOf Port). IsUnpaid d) (get_or_from_slice_get desks k desk desk at) (unpaid k desk below) in record {
       over = is_over;
       of_worker = λ i port at_port.
-          let there = slice_get_within desk.ports i port at_port in
-          let count = is_over.over.count in
-          let (line, at_line) = element_at opened i (omega (arith, there, count, long)) in
-          let fresh = subst (λ (l : Line × Vec Port Global). IsNewLine belongs view terms_of workers l.0 l.1.items) (get_or_from_slice_get opened i line line at_line) (new i line (slice_get_within opened i line at_line)) in
-          let (own, (label, terms, is)) = fresh.own k port (sym (dealt k i desk line at at_line) ∙ at_port) in
+          let (line, at_line, (label, is)) = opened_at k desk at is_over i port at_port in
           ap (λ (v : View). v.node) is;
       fresh = desk;
       unpaid = none;
+      opened = opened_at k desk at is_over;
+      amounts = All-nil IsAmount;
       replies = [];
       as_many = refl;
       made = nothing;
@@ -110,6 +109,16 @@ banked_nothing {Line} {Port} belongs view terms_of workers opened lines desks lo
         paid_out = let b = none.paid_out in omega (arith, b);
       };
     }
+  where
+    opened_at : (k : ℕ) (desk : DeskOf Port) → slice_get desks k ≡ Some desk → IsDeskOver belongs view lines desk → (i : ℕ) (port : Port) → slice_get desk.ports i ≡ Some port
+        → (line : Line) × (slice_get lines i ≡ Some line) × IsJustOpened (terms_of line) (k + 1) (view port)
+    opened_at k desk at is_over i port at_port =
+        let there = slice_get_within desk.ports i port at_port in
+        let count = is_over.over.count in
+        let (line, at_line) = element_at lines i (omega (arith, there, count)) in
+        let (pair, at_pair, is_line) = come_from (λ (l : Line × Vec Port Global). l.0) (slice_get opened i) line (sym (slice_get-map (λ (l : Line × Vec Port Global). l.0) opened i) ∙ (ap (λ l. slice_get l i) (sym are) ∙ at_line)) in
+        let fresh = subst (λ (l : Line × Vec Port Global). IsNewLine belongs view terms_of workers l.0 l.1.items) (get_or_from_slice_get opened i pair pair at_pair) (new i pair (slice_get_within opened i pair at_pair)) in
+        (line, at_line, subst (λ (l : Line). IsJustOpened (terms_of l) (k + 1) (view port)) is_line (fresh.own k port (sym (dealt k i desk pair at at_pair) ∙ at_port)).1)
 
 -- the line of zeros has balances
 pub no_money : AreBalances zeros
@@ -369,9 +378,9 @@ by_more f (j ∷ jobs) (r ∷ replies) job reply by none one long =
     omega (arith, a, b, c)
 
 -- a worker does one job more
-module _ {Line Port : Type 0} (belongs : Line → Port → Type 0) (view : Port → View) (lines : List Line) (worker : ℕ) (desk late new : DeskOf Port) (jobs : List Job) (h : HasBanked belongs view lines worker desk jobs) where
-  pub banked_more : (job : Job) (reply : Reply) → Tries view (length lines) job desk late → Asks view (length lines) job late new reply → is_outcome reply ≡ true → IsDeskOver belongs view lines new → PaysOneAmount late new → HasBanked belongs view lines worker new (jobs ++ job ∷ [])
-  banked_more job reply tries asks outcome over pays =
+module _ {Line Port : Type 0} (belongs : Line → Port → Type 0) (view : Port → View) (terms_of : Line → Terms) (lines : List Line) (worker : ℕ) (desk late new : DeskOf Port) (jobs : List Job) (h : HasBanked belongs view terms_of lines worker desk jobs) where
+  pub banked_more : (job : Job) (reply : Reply) → Tries view (length lines) job desk late → Asks view (length lines) job late new reply → is_outcome reply ≡ true → IsDeskOver belongs view lines new → PaysOneAmount late new → IsAmount job → HasBanked belongs view terms_of lines worker new (jobs ++ job ∷ [])
+  banked_more job reply tries asks outcome over pays amount =
       let vain = in_vain view (length lines) job desk late tries in
       let e = effect view (length lines) job late new reply asks in
       record {
@@ -382,6 +391,8 @@ module _ {Line Port : Type 0} (belongs : Line → Port → Type 0) (view : Port 
             is ∙ (before ∙ h.of_worker i was at_was);
         fresh = h.fresh;
         unpaid = h.unpaid;
+        opened = h.opened;
+        amounts = All-push IsAmount jobs job h.amounts amount;
         replies = h.replies ++ reply ∷ [];
         as_many = length-append h.replies (reply ∷ []) ∙ (ap (λ n. n + 1) h.as_many ∙ sym (length-append jobs (job ∷ [])));
         made = another job reply h.made tries asks outcome;
@@ -402,7 +413,7 @@ module _ {Line Port : Type 0} (belongs : Line → Port → Type 0) (view : Port 
       }
 
 -- each node of each line has its port at the desk of its worker
-pub none_missing : {Line Port : Type 0} (belongs : Line → Port → Type 0) (view : Port → View) (terms_of : Line → Terms) (lines : List Line) (workers : ℕ) (jobs : List Job) (desks : List (DeskOf Port)) → AreDone (HasBanked belongs view) lines jobs desks → length desks ≡ workers
+pub none_missing : {Line Port : Type 0} (belongs : Line → Port → Type 0) (view : Port → View) (terms_of : Line → Terms) (lines : List Line) (workers : ℕ) (jobs : List Job) (desks : List (DeskOf Port)) → AreDone (HasBanked belongs view terms_of) lines jobs desks → length desks ≡ workers
     → All (λ line. terms_of line ≡ work_terms workers) lines → (i node : ℕ) → IsFirstMissing view terms_of lines desks i node → ⊥
 none_missing {Line} {Port} belongs view terms_of lines workers jobs desks done many terms i node missing = by node missing.least.first missing.least.last missing.least.fails
   where
@@ -427,13 +438,13 @@ with_outcomes view lines from to jobs replies (another {jobs = before} {replies 
     All-append (λ reply. is_outcome reply ≡ true) others (reply ∷ []) (with_outcomes view lines from desk before others makes) (All-push (λ reply. is_outcome reply ≡ true) [] reply (All-nil (λ reply. is_outcome reply ≡ true)) is)
 
 -- what all workers' jobs came to
-pub comes_to : {Line Port : Type 0} (belongs : Line → Port → Type 0) (view : Port → View) (lines : List Line) (jobs : List Job) (first : ℕ) (desks : List (DeskOf Port))
-    → ((k : ℕ) (desk : DeskOf Port) → slice_get desks k ≡ Some desk → HasBanked belongs view lines (first + k) desk (jobs_of (first + k) jobs)) → ComesTo first (length desks) jobs (all_paid_in desks) (all_paid_out desks)
-comes_to belongs view lines jobs first [] done = record { replies = []; workers_are = refl; as_many = λ k own at. absurd (let no : None ≡ Some own = at in cc no); outcomes = λ k own at. absurd (let no : None ≡ Some own = at in cc no); in_is = refl; out_is = refl }
-comes_to {Line} {Port} belongs view lines jobs first (desk ∷ desks) done =
+pub comes_to : {Line Port : Type 0} (belongs : Line → Port → Type 0) (view : Port → View) (terms_of : Line → Terms) (lines : List Line) (jobs : List Job) (first : ℕ) (desks : List (DeskOf Port))
+    → ((k : ℕ) (desk : DeskOf Port) → slice_get desks k ≡ Some desk → HasBanked belongs view terms_of lines (first + k) desk (jobs_of (first + k) jobs)) → ComesTo first (length desks) jobs (all_paid_in desks) (all_paid_out desks)
+comes_to belongs view terms_of lines jobs first [] done = record { replies = []; workers_are = refl; as_many = λ k own at. absurd (let no : None ≡ Some own = at in cc no); outcomes = λ k own at. absurd (let no : None ≡ Some own = at in cc no); in_is = refl; out_is = refl }
+comes_to {Line} {Port} belongs view terms_of lines jobs first (desk ∷ desks) done =
     let same : first + 0 ≡ first = omega arith in
-    let here = subst (λ n. HasBanked belongs view lines n desk (jobs_of n jobs)) same (done 0 desk refl) in
-    let rest = comes_to belongs view lines jobs (first + 1) desks (λ k d at. subst (λ n. HasBanked belongs view lines n d (jobs_of n jobs)) (shift first k) (done (suc k) d at)) in
+    let here = subst (λ n. HasBanked belongs view terms_of lines n desk (jobs_of n jobs)) same (done 0 desk refl) in
+    let rest = comes_to belongs view terms_of lines jobs (first + 1) desks (λ k d at. subst (λ n. HasBanked belongs view terms_of lines n d (jobs_of n jobs)) (shift first k) (done (suc k) d at)) in
     let a = sum_by-cons (λ (d : DeskOf Port). d.paid_in) desk desks in
     let b = sum_by-cons (λ (d : DeskOf Port). d.paid_out) desk desks in
     record {

@@ -1,5 +1,5 @@
 -- Workers' hands, gathered, summed up and freshly made.
-use Rattle.std.proofs.Common.{◌≡◌, ℕ, zero, suc, ◌+◌, ◌<◌, ◌≤◌, ◌==◌, List, [], ◌∷◌, ◌++◌, length, map, take, All, Option, Some, None, slice_get, get_or, refl, ap, sym, ◌∙◌, subst, arith}
+use Rattle.std.proofs.Common.{◌≡◌, ℕ, zero, suc, ◌+◌, ◌<◌, ◌≤◌, ◌==◌, List, [], ◌∷◌, ◌++◌, length, map, take, All, option_map, Option, Some, None, slice_get, get_or, refl, ap, sym, ◌∙◌, subst, arith}
 use Rattle.std.proofs.lemmas.List.{length-take-le}
 use Rattle.std.proofs.lemmas.List.Sums.{length-filter, count_by-le-length}
 use Rattle.std.proofs.lemmas.Option.{slice_get_within, slice_get-get_or, get_or_from_slice_get}
@@ -11,12 +11,17 @@ use Rattle.qolb_script.specs.Jobs.{worker_of}
 use Rattle.qolb_script.specs.declared.schedule.TheConstants.{MOST_COMMANDS}
 use Rattle.qolb_model.specs.declared.terms.Terms.{Terms}
 use Rattle.qolb_model.specs.declared.view.View.{View}
-use Rattle.qolb_model.specs.Opening.{AreNew}
+use Rattle.qolb_model.specs.Opening.{AreNew, new_view}
 use Rattle.line_threads.specs.Places.{AllAt}
 use Rattle.qolb_run.specs.JustOpened.{AreJustOpened}
 use Rattle.qolb_run.specs.Jobs.{jobs_of}
 use Rattle.qolb_run.specs.Workers.{AreBack, AreDone, AreFresh, MayBeGone}
 use Rattle.qolb_run.specs.declared.work.RunError.TheVariants.{Stalled}
+
+-- what stands at a place of a list that was mapped is of what stood there
+pub come_from : {A B : Type 0} (f : A → B) (found : Option A) (b : B) → option_map f found ≡ Some b → (a : A) × (found ≡ Some a) × (f a ≡ b)
+come_from f None b is = absurd (let no : None ≡ Some b = is in cc no)
+come_from f (Some a) b is = (a, refl, same_some is)
 
 -- a worker has fewer jobs behind it than a script may have
 pub few_done : (worker : ℕ) (jobs : List Job) (i : ℕ) → i < length jobs → length jobs ≤ MOST_COMMANDS → length (jobs_of worker (take i jobs)) < MOST_COMMANDS
@@ -74,12 +79,12 @@ get_map view [] k port at = absurd (let no : None ≡ Some port = at in cc no)
 get_map view (p ∷ ports) zero port at = ap (λ q. Some (view q)) (same_some at)
 get_map view (p ∷ ports) (suc k) port at = get_map view ports k port at
 
-pub just_opened : {Line Port : Type 0} (belongs : Line → Port → Type 0) (view : Port → View) (line : Line) (label : ℕ) (terms : Terms) (ports : List Port) → All (belongs line) ports → AreNew label terms (map view ports) → AreJustOpened belongs view line ports
-just_opened {Line} {Port} belongs view line label terms ports own new = λ k port at.
+pub just_opened : {Line Port : Type 0} (belongs : Line → Port → Type 0) (view : Port → View) (terms_of : Line → Terms) (line : Line) (label : ℕ) (terms : Terms) (ports : List Port) → terms_of line ≡ terms → All (belongs line) ports → AreNew label terms (map view ports) → AreJustOpened belongs view terms_of line ports
+just_opened {Line} {Port} belongs view terms_of line label terms ports are own new = λ k port at.
     let at_view = get_map view ports k port at in
     let within : k < terms.nodes = subst (λ n. k < n) new.count (slice_get_within (map view ports) k (view port) at_view) in (
       subst (belongs line) (get_or_from_slice_get ports k port port at) (own k port (slice_get_within ports k port at)),
-      (label, terms, same_some (sym at_view ∙ new.each k within)),
+      (label, same_some (sym at_view ∙ new.each k within) ∙ ap (λ (t : Terms). new_view label t (k + 1)) (sym are)),
     )
 
 -- of no hands none has begun

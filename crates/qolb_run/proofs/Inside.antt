@@ -4,7 +4,7 @@ use Rattle.std.specs.Global.{Global}
 use Rattle.std.proofs.lemmas.List.{length-map}
 use Rattle.std.proofs.lemmas.List.Elements.{All-map, All-weaker}
 use Rattle.std.proofs.lemmas.Option.{slice_get-map}
-use Rattle.qolb_model.proofs.Lists.{same_some}
+use Rattle.qolb_run.proofs.Gathering.{come_from}
 use Rattle.qolb_model.specs.declared.terms.Terms.{Terms}
 use Rattle.qolb_model.specs.declared.view.View.{View}
 use Rattle.line_accounts.specs.Desks.{DeskOf, AreOver}
@@ -16,11 +16,6 @@ use Rattle.qolb_run.specs.declared.work.RunError.{RunError}
 use Rattle.qolb_run.specs.JustOpened.{IsNewLine, work_terms}
 use Rattle.qolb_run.specs.BoardWork.{IsBoardedOver}
 use Rattle.qolb_run.specs.BankWork.{HasBanked, Makes, IsBankedOver}
-
--- what stands at a place of a list that was mapped is of what stood there
-come_from : {A B : Type 0} (f : A → B) (found : Option A) (b : B) → option_map f found ≡ Some b → (a : A) × (found ≡ Some a) × (f a ≡ b)
-come_from f None b is = absurd (let no : None ≡ Some b = is in cc no)
-come_from f (Some a) b is = (a, refl, same_some is)
 
 -- what holds of all of a list that was mapped holds of what stood there
 mapped_at : {A B : Type 0} (f : A → B) (xs : List A) (k : ℕ) (d : A) → k < length xs → get_or (map f xs) k (f d) ≡ f (get_or xs k d)
@@ -77,7 +72,7 @@ module _ {Line Outer Port : Type 0} (belongs : Line → Port → Type 0) (view :
         subst (λ line. belongs line port) from.2 (over.belong i from.0 port from.1 of);
   }
 
-  banked_here : (lines : List Outer) (worker : ℕ) (desk : DeskOf Port) (jobs : List Job) → HasBanked (λ outer port. belongs (inner outer) port) view lines worker desk jobs → HasBanked belongs view (map inner lines) worker desk jobs
+  banked_here : (lines : List Outer) (worker : ℕ) (desk : DeskOf Port) (jobs : List Job) → HasBanked (λ outer port. belongs (inner outer) port) view (λ outer. terms_of (inner outer)) lines worker desk jobs → HasBanked belongs view terms_of (map inner lines) worker desk jobs
   banked_here lines worker desk jobs banked = record {
     over = record {
       over = over_inside lines desk.ports banked.over.over;
@@ -87,6 +82,10 @@ module _ {Line Outer Port : Type 0} (belongs : Line → Port → Type 0) (view :
     of_worker = banked.of_worker;
     fresh = banked.fresh;
     unpaid = banked.unpaid;
+    opened = λ i port at.
+        let (line, at_line, is) = banked.opened i port at in
+        (inner line, slice_get-map inner lines i ∙ ap (option_map inner) at_line, is);
+    amounts = banked.amounts;
     replies = banked.replies;
     as_many = banked.as_many;
     made = subst (λ n. Makes view n banked.fresh jobs banked.replies desk) (sym (length-map lines inner)) banked.made;

@@ -13,5 +13,8 @@ pub mod Refusing
 pub mod Gathering
 pub mod Summing
 pub mod Banking
+pub mod Alone
+pub mod OneBanker
+pub mod OneBank
 pub mod Reported
 pub mod Inside

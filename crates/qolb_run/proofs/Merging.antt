@@ -38,7 +38,7 @@ pub record Merged (bytes : List ℕ) (ends : List End) (jobs : ℕ → List Job)
 abbrev pub AreOwn : (ℕ → List Job) → Type 0
 AreOwn jobs = (worker k : ℕ) (job : Job) → slice_get (jobs worker) k ≡ Some job → worker_of job ≡ worker
 
-jobs_own : (worker : ℕ) (job : Job) (jobs : List Job) → worker_of job ≡ worker → jobs_of worker (job ∷ jobs) ≡ job ∷ jobs_of worker jobs
+pub jobs_own : (worker : ℕ) (job : Job) (jobs : List Job) → worker_of job ≡ worker → jobs_of worker (job ∷ jobs) ≡ job ∷ jobs_of worker jobs
 jobs_own worker job jobs is = ap (λ b. cond b (job ∷ jobs_of worker jobs) (jobs_of worker jobs)) (eq-eqb (worker_of job) worker is)
 
 jobs_other : (worker : ℕ) (job : Job) (jobs : List Job) → worker_of job ≢ worker → jobs_of worker (job ∷ jobs) ≡ jobs_of worker jobs

@@ -61,8 +61,8 @@ module _ {Port : Type 0} (hands : List (BoardHand Port)) (i : ℕ) (all : BoardC
   }
 
 -- a port that was just opened has done nothing
-pub worked_nothing : {Line Port : Type 0} (belongs : Line → Port → Type 0) (view : Port → View) (line : Line) (worker : ℕ) (port : Port) → belongs line port → IsJustOpened worker (view port) → HasWorked belongs view line worker (record { port = port; counts = no_counts }) []
-worked_nothing belongs view line worker port of_line (label, terms, is) = record {
+pub worked_nothing : {Line Port : Type 0} (belongs : Line → Port → Type 0) (view : Port → View) (line : Line) (terms : Terms) (worker : ℕ) (port : Port) → belongs line port → IsJustOpened terms worker (view port) → HasWorked belongs view line worker (record { port = port; counts = no_counts }) []
+worked_nothing belongs view line terms worker port of_line (label, is) = record {
   of_line = of_line;
   of_worker = ap (λ (v : View). v.node) is;
   at_rest = subst IsAtRest (sym is) (record { quiet = refl; places = refl });

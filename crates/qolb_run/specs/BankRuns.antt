@@ -1,9 +1,12 @@
 -- What the jobs of a bank come to, by their outcomes. (Of this project.)
-use Rattle.std.specs.Prelude.{◌≡◌, ℕ, ◌+◌, Bool, true, false, List, [], ◌∷◌, length, All, Some, slice_get}
+use Rattle.std.specs.Prelude.{◌≡◌, ℕ, ◌+◌, ◌-◌, ◌==◌, nat_lt, if◌then◌else◌, Bool, true, false, List, [], ◌∷◌, length, All, Some, slice_get}
+use Rattle.line_accounts.specs.declared.law.TheConstants.{MOST_BALANCE}
 use Rattle.line_accounts.specs.declared.answer.Reply.{Reply}
 use Rattle.line_accounts.specs.declared.answer.Reply.TheVariants.{Done, Short, Over, Late, Closed, Busy, NoAccount, SameAccount}
 use Rattle.qolb_script.specs.declared.job.Job.{Job}
-use Rattle.qolb_script.specs.declared.job.Job.TheVariants.{PayIn, PayOut}
+use Rattle.qolb_script.specs.declared.job.Job.TheVariants.{Put, Take, PayIn, PayOut, Move}
+use Rattle.qolb_script.specs.declared.report.Report.{Report}
+use Rattle.qolb_script.specs.declared.report.Report.TheVariants.{Bank}
 use Rattle.qolb_run.specs.Jobs.{jobs_of}
 
 -- with this reply the job was made: nothing is left to be asked for again
@@ -54,3 +57,57 @@ pub record ComesTo (first workers : ℕ) (jobs : List Job) (paid_in paid_out : �
   pub outcomes : (k : ℕ) (own : List Reply) → slice_get replies k ≡ Some own → All (λ reply. is_outcome reply ≡ true) own
   pub in_is : paid_in ≡ all_in_by first jobs replies
   pub out_is : paid_out ≡ all_out_by first jobs replies
+
+-- these balances, by account, with that of one account set
+abbrev pub with_balance : (ℕ → ℕ) → ℕ → ℕ → ℕ → ℕ
+with_balance balances account balance other = if other == account then balance else balances other
+
+-- What a job comes to that one owner does at these balances: a payment out of an account, or a move from it, is short where it has less; a
+-- payment or a move into one is over where its balance would pass the limit.
+abbrev pub outcome_at : (ℕ → ℕ) → Job → Reply
+outcome_at balances (PayIn worker account amount) = if nat_lt MOST_BALANCE (balances account + amount) then Over else Done
+outcome_at balances (PayOut worker account amount) = if nat_lt (balances account) amount then Short else Done
+outcome_at balances (Move worker source target amount) =
+    if source == target then SameAccount
+    else if nat_lt (balances source) amount then Short
+    else if nat_lt MOST_BALANCE (balances target + amount) then Over
+    else Done
+outcome_at balances (Put worker task) = NoAccount
+outcome_at balances (Take worker) = NoAccount
+
+-- the balances after a job that came to this: only what is done changes any
+abbrev pub balances_after : (ℕ → ℕ) → Job → Reply → ℕ → ℕ
+balances_after balances (PayIn worker account amount) Done = with_balance balances account (balances account + amount)
+balances_after balances (PayOut worker account amount) Done = with_balance balances account (balances account - amount)
+balances_after balances (Move worker source target amount) Done =
+    with_balance (with_balance balances source (balances source - amount)) target (balances target + amount)
+balances_after balances job reply = balances
+
+-- a bank that one owner works at: the balance of each account, and what was paid in and out so far
+pub record BankRun : Type 0 where
+  pub balances : ℕ → ℕ
+  pub paid_in : ℕ
+  pub paid_out : ℕ
+
+abbrev pub after_reply : BankRun → Job → Reply → BankRun
+after_reply run job reply = record {
+  balances = balances_after run.balances job reply;
+  paid_in = run.paid_in + paid_in_of job reply;
+  paid_out = run.paid_out + paid_out_of job reply;
+}
+
+abbrev pub after_job : BankRun → Job → BankRun
+after_job run job = after_reply run job (outcome_at run.balances job)
+
+-- the bank after these jobs
+abbrev pub after_jobs : BankRun → List Job → BankRun
+after_jobs run [] = run
+after_jobs run (job ∷ jobs) = after_jobs (after_job run job) jobs
+
+-- a bank whose accounts are all empty, before the first job
+abbrev pub empty_bank : BankRun
+empty_bank = record { balances = λ account. 0; paid_in = 0; paid_out = 0 }
+
+-- what is reported of it: what was paid in, and out, and what is there
+abbrev pub report_of : BankRun → Report
+report_of run = Bank run.paid_in run.paid_out (run.paid_in - run.paid_out)

@@ -1,5 +1,5 @@
 -- Workers at a bank: how a job is tried until it has an outcome, and what a worker has done. (Of this project.)
-use Rattle.std.specs.Prelude.{◌≡◌, ℕ, ◌+◌, ◌*◌, ◌^◌, ◌≤◌, Bool, true, false, List, [], ◌∷◌, ◌++◌, length, All, Some, slice_get}
+use Rattle.std.specs.Prelude.{◌≡◌, ℕ, ◌+◌, ◌*◌, ◌^◌, ◌<◌, ◌≤◌, Bool, true, false, List, [], ◌∷◌, ◌++◌, length, All, Some, slice_get}
 use Rattle.qolb_model.specs.declared.terms.Terms.{Terms}
 use Rattle.qolb_model.specs.declared.view.View.{View}
 use Rattle.line_accounts.specs.Desks.{DeskOf, IsDeskOver}
@@ -13,7 +13,7 @@ use Rattle.qolb_script.specs.declared.job.Job.TheVariants.{Put, Take, PayIn, Pay
 use Rattle.qolb_script.specs.declared.report.Report.{Report}
 use Rattle.qolb_script.specs.declared.report.Report.TheVariants.{Board, Bank}
 use Rattle.qolb_script.specs.WorkScript.{WorkScript}
-use Rattle.qolb_run.specs.JustOpened.{work_terms}
+use Rattle.qolb_run.specs.JustOpened.{IsJustOpened, work_terms}
 use Rattle.qolb_run.specs.Workers.{AreDone}
 use Rattle.qolb_run.specs.BankRuns.{is_outcome, paid_in_by, paid_out_by}
 
@@ -26,6 +26,14 @@ pub record ArePaid {Port : Type 0} (jobs : ℕ) (desk : DeskOf Port) : Type 0 wh
 pub record PaysOneAmount {Port : Type 0} (old new : DeskOf Port) : Type 0 where
   pub paid_in : new.paid_in ≤ old.paid_in + 2 ^ 64
   pub paid_out : new.paid_out ≤ old.paid_out + 2 ^ 64
+
+-- the amount of a job is a number of 64 bits
+abbrev pub IsAmount : Job → Type 0
+IsAmount (PayIn worker account amount) = amount < 2 ^ 64
+IsAmount (PayOut worker account amount) = amount < 2 ^ 64
+IsAmount (Move worker source target amount) = amount < 2 ^ 64
+IsAmount (Put worker task) = Unit {0}
+IsAmount (Take worker) = Unit {0}
 
 -- the lines of a job were not granted in time, and it is tried again
 abbrev pub is_again : Reply → Bool
@@ -58,12 +66,15 @@ module _ {Port : Type 0} (view : Port → View) (lines : ℕ) where
     nothing : Makes from [] [] from
     another : {jobs : List Job} {replies : List Reply} {before late new : DeskOf Port} (job : Job) (reply : Reply) → Makes from jobs replies before → Tries job before late → Asks job late new reply → is_outcome reply ≡ true → Makes from (jobs ++ job ∷ []) (replies ++ reply ∷ []) new
 
--- a worker of the bank, between its jobs: from a new desk on it has made these, and the desk, which has its node's ports, is one over the lines
-pub record HasBanked {Line Port : Type 0} (belongs : Line → Port → Type 0) (view : Port → View) (lines : List Line) (worker : ℕ) (desk : DeskOf Port) (jobs : List Job) : Type 0 where
+-- a worker of the bank, between its jobs: from a new desk on, whose ports were opened with their lines, it has made these, and the desk, which
+-- has its node's ports, is one over the lines
+pub record HasBanked {Line Port : Type 0} (belongs : Line → Port → Type 0) (view : Port → View) (terms_of : Line → Terms) (lines : List Line) (worker : ℕ) (desk : DeskOf Port) (jobs : List Job) : Type 0 where
   pub over : IsDeskOver belongs view lines desk
   pub of_worker : (i : ℕ) (port : Port) → slice_get desk.ports i ≡ Some port → (view port).node ≡ worker
   pub fresh : DeskOf Port
   pub unpaid : IsUnpaid fresh
+  pub opened : (i : ℕ) (port : Port) → slice_get fresh.ports i ≡ Some port → (line : Line) × (slice_get lines i ≡ Some line) × IsJustOpened (terms_of line) worker (view port)
+  pub amounts : All IsAmount jobs
   pub replies : List Reply
   pub as_many : length replies ≡ length jobs
   pub made : Makes view (length lines) fresh jobs replies desk
@@ -79,7 +90,7 @@ pub record AreBanked {Line Port : Type 0} (belongs : Line → Port → Type 0) (
   pub count : length lines ≡ work.lines
   pub opened : All (λ line. terms_of line ≡ work_terms work.workers) lines
   pub each : length desks ≡ work.workers
-  pub done : AreDone (HasBanked belongs view) lines work.jobs desks
+  pub done : AreDone (HasBanked belongs view terms_of) lines work.jobs desks
   pub in_is : paid_in ≡ all_paid_in desks
   pub out_is : paid_out ≡ all_paid_out desks
 

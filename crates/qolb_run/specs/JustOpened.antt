@@ -9,15 +9,15 @@ use Rattle.qolb_model.specs.Opening.{new_view}
 abbrev pub work_terms : ℕ → Terms
 work_terms workers = record { nodes = workers; opening = record { bytes = zeros }; lease = None }
 
--- the node's port was opened with its line, and was not used
-abbrev pub IsJustOpened : ℕ → View → Type 0
-IsJustOpened node v = (label : ℕ) × (terms : Terms) × (v ≡ new_view label terms node)
+-- the node's port was opened with its line, on these terms, and was not used
+abbrev pub IsJustOpened : Terms → ℕ → View → Type 0
+IsJustOpened terms node v = (label : ℕ) × (v ≡ new_view label terms node)
 
 -- these are the line's ports, just opened, in the order of their nodes
-abbrev pub AreJustOpened : {Line Port : Type 0} → (Line → Port → Type 0) → (Port → View) → Line → List Port → Type 0
-AreJustOpened {Line} {Port} belongs view line ports = (k : ℕ) (port : Port) → slice_get ports k ≡ Some port → belongs line port × IsJustOpened (k + 1) (view port)
+abbrev pub AreJustOpened : {Line Port : Type 0} → (Line → Port → Type 0) → (Port → View) → (Line → Terms) → Line → List Port → Type 0
+AreJustOpened {Line} {Port} belongs view terms_of line ports = (k : ℕ) (port : Port) → slice_get ports k ≡ Some port → belongs line port × IsJustOpened (terms_of line) (k + 1) (view port)
 
 -- a line that was just opened for so many workers, and its ports
 pub record IsNewLine {Line Port : Type 0} (belongs : Line → Port → Type 0) (view : Port → View) (terms_of : Line → Terms) (workers : ℕ) (line : Line) (ports : List Port) : Type 0 where
-  pub own : AreJustOpened belongs view line ports
+  pub own : AreJustOpened belongs view terms_of line ports
   pub terms : terms_of line ≡ work_terms workers

@@ -7,6 +7,7 @@ use Rattle.qolb_script.specs.declared.report.Report.TheVariants.{Board, Bank}
 use Rattle.qolb_script.specs.WorkScript.{WorkScript}
 use Rattle.qolb_run.specs.Jobs.{puts_in, takes_in, IsInterleaving}
 use Rattle.qolb_run.specs.BankRuns.{ComesTo}
+use Rattle.qolb_run.specs.BankRuns as bank
 use Rattle.qolb_run.specs.BoardRuns.{after_jobs, empty_board, report_of}
 
 -- the workers' jobs, done one after another in some order that keeps each worker's own, by one owner of an empty board, give this report
@@ -25,11 +26,12 @@ pub record IsOfBoard (work : WorkScript) (stored full taken empty left : ℕ) : 
   pub takes : taken + empty ≡ takes_in work.jobs
 
 -- of a bank: each worker's jobs have one outcome each, and what was paid in and out is the sum of the payments that were done; what was paid
--- in was paid out or is there
+-- in was paid out or is there. With one worker it is just what one owner of empty accounts reports who does the jobs one after another
 pub record IsOfBank (work : WorkScript) (paid_in paid_out total : ℕ) : Type 0 where
   pub of_bank : work.kind ≡ kind.Bank
   pub comes_to : ComesTo 1 work.workers work.jobs paid_in paid_out
   pub kept : paid_in ≡ paid_out + total
+  pub alone : work.workers ≡ 1 → Bank paid_in paid_out total ≡ bank.report_of (bank.after_jobs bank.empty_bank work.jobs)
 
 abbrev pub IsReportOf : WorkScript → Report → Type 0
 IsReportOf work (Board stored full taken empty left) = IsOfBoard work stored full taken empty left

@@ -7,7 +7,7 @@ ghost use Rattle.line_accounts.specs.Desks.{IsDeskOver};
 ghost use Rattle.line_accounts.specs.Settled.{all_paid_in, all_paid_out};
 ghost use Rattle.qolb_run.specs.Workers.{AreDone, AreFresh, MayStop, IsWithinLimits};
 ghost use Rattle.qolb_run.specs.Jobs.{IsBankJob};
-ghost use Rattle.qolb_run.specs.BankWork.{HasBanked, Asks, PaysOneAmount, ArePaid, IsBankedOver};
+ghost use Rattle.qolb_run.specs.BankWork.{HasBanked, Asks, PaysOneAmount, ArePaid, IsAmount, IsBankedOver};
 ghost use Rattle.qolb_run.specs.JustOpened.{IsNewLine, work_terms};
 ghost use Rattle.qolb_run.specs.Reports.{IsReportOf};
 
@@ -36,7 +36,7 @@ pub(crate) struct Bank<L> {
 impl<L: LineSync<AccountLaw>> Site for Bank<L> {
     type Hand = Desk<L>;
 
-    ghost has_done = { λ bank worker desk jobs. HasBanked L.belongs L.view bank.lines.items worker desk jobs };
+    ghost has_done = { λ bank worker desk jobs. HasBanked L.belongs L.view L.terms_of bank.lines.items worker desk jobs };
 
     ghost takes = { λ bank job. IsBankJob (length bank.lines.items) job };
 
@@ -61,6 +61,7 @@ fn try_once<L: LineSync<AccountLaw>>(lines: &[L], desk: &mut Desk<L>, job: &Job)
     ensures over { IsDeskOver L.belongs L.view lines.now desk.new }
     ensures asks { Asks L.view (length lines.now) job.now desk.old desk.new result }
     ensures pays { PaysOneAmount desk.old desk.new }
+    ensures amount { IsAmount job.now }
 {
     match *job {
         Job::PayIn {
@@ -113,7 +114,7 @@ where
     requires limits { IsWithinLimits work.now }
     requires lines { vec_len bank.lines ≡ work.now.lines }
     requires as_many { vec_len desks ≡ work.now.workers }
-    requires done { AreDone (HasBanked L.belongs L.view) bank.lines.items work.now.jobs desks.items }
+    requires done { AreDone (HasBanked L.belongs L.view L.terms_of) bank.lines.items work.now.jobs desks.items }
     ensures report { IfOk result (IsReportOf work.now) }
     ensures banked { IfOk result (IsBankedOver L.belongs L.view L.terms_of work.now) }
     ensures stalled { IfErr result (MayStop work.now) }
@@ -190,7 +191,7 @@ where
     ensures terms { IfOk result (λ made. All (λ line. L.terms_of line ≡ work_terms workers) made.0.items) }
     ensures lines { IfOk result (λ made. vec_len made.0 ≡ vec_len opened) }
     ensures as_many { IfOk result (λ made. vec_len made.1 ≡ workers) }
-    ensures new { IfOk result (λ made. AreFresh (HasBanked L.belongs L.view) made.0.items made.1.items) }
+    ensures new { IfOk result (λ made. AreFresh (HasBanked L.belongs L.view L.terms_of) made.0.items made.1.items) }
 {
     match desks_over(alloc, opened, workers as usize) {
         Ok(made) => Ok(made),
@@ -246,7 +247,7 @@ where
     requires terms { All (λ line. L.terms_of line ≡ work_terms work.now.workers) lines.items }
     requires lines { vec_len lines ≡ work.now.lines }
     requires as_many { vec_len desks ≡ work.now.workers }
-    requires fresh { AreFresh (HasBanked L.belongs L.view) lines.items desks.items }
+    requires fresh { AreFresh (HasBanked L.belongs L.view L.terms_of) lines.items desks.items }
     ensures report { IfOk result (IsReportOf work.now) }
     ensures banked { IfOk result (IsBankedOver L.belongs L.view L.terms_of work.now) }
     ensures stalled { IfErr result (MayStop work.now) }

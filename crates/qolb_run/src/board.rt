@@ -157,7 +157,7 @@ fn fresh_hands<L: LineSync<BoardLaw>>(
 ) -> Result<Vec<BoardHand<L::Port>>, AllocError>
 where
     L::Port: Drop,
-    requires { AreJustOpened L.belongs L.view line.now ports.items }
+    requires { AreJustOpened L.belongs L.view L.terms_of line.now ports.items }
     ensures as_many { IfOk result (λ hands. vec_len hands ≡ vec_len ports) }
     ensures fresh { IfOk result (λ hands. AreFresh (HasWorked L.belongs L.view) line.now hands.items) }
 {

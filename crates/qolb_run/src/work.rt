@@ -12,8 +12,8 @@ use crate::gate::Gate;
 use crate::task::Waits;
 use line_accounts::AccountLaw;
 use line_board::BoardLaw;
-use locks::{Lines, over_named};
-use qolb_model::{OpenLine, Sleeping};
+use locks::{Lines, LinkLine, RingLine, TicketLine, over_named};
+use qolb_model::{LineSync, OpenLine, Sleeping};
 use qolb_script::{Report, Work, WorkKind};
 use std::alloc::{AllocError, Global};
 use std::sync::Wait;
@@ -51,6 +51,12 @@ pub fn run_work<R: Threads + Wait + Sync, G: Gate + Sync>(
     waits: Waits,
 ) -> Result<Report, RunError>
     ensures report { IfOk result (IsReportOf work.now) }
+    ensures board_of_rings { let by = ⟦<RingLine<BoardLaw> as LineSync<BoardLaw>>⟧ in lines ≡ Lines.Ring → IfOk result (IsBoardedOver by.belongs by.view by.terms_of work.now) }
+    ensures board_of_lists { let by = ⟦<LinkLine<BoardLaw> as LineSync<BoardLaw>>⟧ in lines ≡ Lines.Link → IfOk result (IsBoardedOver by.belongs by.view by.terms_of work.now) }
+    ensures board_of_tickets { let by = ⟦<TicketLine<BoardLaw> as LineSync<BoardLaw>>⟧ in lines ≡ Lines.Ticket → IfOk result (IsBoardedOver by.belongs by.view by.terms_of work.now) }
+    ensures bank_of_rings { let by = ⟦<RingLine<AccountLaw> as LineSync<AccountLaw>>⟧ in lines ≡ Lines.Ring → IfOk result (IsBankedOver by.belongs by.view by.terms_of work.now) }
+    ensures bank_of_lists { let by = ⟦<LinkLine<AccountLaw> as LineSync<AccountLaw>>⟧ in lines ≡ Lines.Link → IfOk result (IsBankedOver by.belongs by.view by.terms_of work.now) }
+    ensures bank_of_tickets { let by = ⟦<TicketLine<AccountLaw> as LineSync<AccountLaw>>⟧ in lines ≡ Lines.Ticket → IfOk result (IsBankedOver by.belongs by.view by.terms_of work.now) }
     ensures stalled { IfErr result (MayStop work.now) }
 {
     over_named!(

@@ -229,6 +229,10 @@ struct Counting {
     asked: [AtomicU64; 4],
     /// The numbers that were asked for, one digit each, 1 more than the number.
     numbers: AtomicU64,
+    /// How often the gate was told that work begins, of how many jobs, and how often a worker asked before that.
+    begun: AtomicU64,
+    jobs: AtomicU64,
+    early: AtomicU64,
 }
 
 impl Counting {
@@ -242,6 +246,9 @@ impl Counting {
                 AtomicU64::new(0),
             ],
             numbers: AtomicU64::new(0),
+            begun: AtomicU64::new(0),
+            jobs: AtomicU64::new(0),
+            early: AtomicU64::new(0),
         }
     }
 
@@ -251,7 +258,15 @@ impl Counting {
 }
 
 impl Gate for Counting {
+    fn begins(&self, jobs: usize) {
+        self.begun.fetch_add(1, Ordering::SeqCst);
+        self.jobs.store(jobs as u64, Ordering::SeqCst);
+    }
+
     fn may(&self, worker: u64, at: u64) -> bool {
+        if self.begun.load(Ordering::SeqCst) == 0 {
+            self.early.fetch_add(1, Ordering::SeqCst);
+        }
         if worker != 1 {
             return true;
         }
@@ -280,6 +295,38 @@ fn a_worker_asks_before_each_job_and_once_after_the_last(rt: HostRuntime) -> Res
         assert_eq!(rt; gate.numbers.load(Ordering::SeqCst), 123, "by {lines:?}");
         for at in 0..3usize {
             assert_eq!(rt; gate.asks_for(at), 1, "for {at} by {lines:?}");
+        }
+    }
+    Ok(())
+}
+
+#[test]
+fn a_gate_is_told_once_of_all_jobs_before_any_worker_asks(rt: HostRuntime) -> Result<(), Fail> {
+    let board = "board workers 2\n1 put 5\n2 put 6\n1 take\n";
+    let bank = "bank workers 2 lines 1\n1 in 0 1\n2 in 1 1\n1 out 0 1\n";
+    for (script, kind) in [(board, WorkKind::Board), (bank, WorkKind::Bank)] {
+        let work = read_work(rt.alloc(), script.as_bytes(), kind)?;
+        for lines in ALL {
+            let gate = Counting::new(1);
+            assert!(rt;
+                run_work(&rt, rt.alloc(), &gate, &work, lines, Waits::Awake).is_ok(),
+                "{kind:?} by {lines:?}"
+            );
+            assert_eq!(rt;
+                gate.begun.load(Ordering::SeqCst),
+                1,
+                "{kind:?} by {lines:?}"
+            );
+            assert_eq!(rt;
+                gate.jobs.load(Ordering::SeqCst),
+                3,
+                "{kind:?} by {lines:?}"
+            );
+            assert_eq!(rt;
+                gate.early.load(Ordering::SeqCst),
+                0,
+                "{kind:?} by {lines:?}"
+            );
         }
     }
     Ok(())

@@ -29,7 +29,7 @@ returns-in-Ok-clause-lines g c =
 pub returns-in-Ok-clause-new : goal.returns-in-Ok-clause-new
 returns-in-Ok-clause-new g c =
     banked_nothing g.L.LineSync.belongs g.L.LineSync.view g.L.LineSync.terms_of c.args.workers c.args.opened.items c.in-Ok.made.0.items c.in-Ok.made.1.items
-    (ap length c.in-Ok.ensures.lines ∙ length-map c.args.opened.items (λ (line : g.row.L.Denot × Vec g.row.L-Port.Denot Global). line.0)) c.requires.new c.in-Ok.ensures.dealt c.in-Ok.ensures.over c.in-Ok.ensures.unpaid
+    c.in-Ok.ensures.lines c.requires.new c.in-Ok.ensures.dealt c.in-Ok.ensures.over c.in-Ok.ensures.unpaid
 
 pub unreachable-requires : goal.unreachable-requires
 unreachable-requires g c = none_short _ c.args.opened.items c.requires.as_many _ c.in-Err-Few.field-0-0 c.in-Err-Few.field-0-is c.in-Err-Few.ensures.why

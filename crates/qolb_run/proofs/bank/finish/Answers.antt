@@ -1,10 +1,14 @@
-use Rattle.std.proofs.Common.{◌≡◌, ℕ, ◌+◌, List, length, All, ap, sym, subst, ◌∙◌, arith}
+use Rattle.std.proofs.Common.{◌≡◌, ℕ, ◌+◌, ◌≤◌, List, length, All, ap, sym, subst, ◌∙◌, arith}
 use Rattle.line_accounts.specs.Settled.{all_paid_in, all_paid_out, MayNotSettle}
 use Rattle.qolb_script.specs.declared.schedule.TheConstants.{MOST_COMMANDS}
 use Rattle.line_accounts.specs.Desks.{DeskOf}
 use Rattle.qolb_run.specs.BankWork.{ArePaid, HasBanked}
 use Rattle.qolb_run.specs.BankRuns.{ComesTo}
+use Rattle.std.proofs.lemmas.List.Elements.{All-weaker}
+use Rattle.qolb_script.specs.Jobs.{worker_of, IsOfKind}
 use Rattle.qolb_run.specs.Jobs.{jobs_of}
+use Rattle.qolb_run.specs.JustOpened.{work_terms}
+use Rattle.qolb_run.proofs.OneBank.{alone_report}
 use Rattle.line_accounts.specs.declared.answer.SettleError.{SettleError}
 use Rattle.qolb_run.proofs.Banking.{all_over, all_small, opened_empty, none_missing, comes_to}
 use Rattle.qolb_run.proofs.bank.finish.Goals as goal
@@ -15,11 +19,11 @@ plus_one k = omega arith
 pub sum_up-paid_in-requires-clause-small : goal.sum_up-paid_in-requires-clause-small
 sum_up-paid_in-requires-clause-small g c =
     subst (λ (ds : List (DeskOf g.row.L-Port.Denot)). All (λ desk. ArePaid MOST_COMMANDS desk) ds) (sym c.as_slice.ensures.value)
-    (all_small g.L.LineSync.belongs g.L.LineSync.view c.args.bank.lines.items c.args.work.now.jobs c.args.desks.items c.requires.done c.requires.limits.most)
+    (all_small g.L.LineSync.belongs g.L.LineSync.view g.L.LineSync.terms_of c.args.bank.lines.items c.args.work.now.jobs c.args.desks.items c.requires.done c.requires.limits.most)
 
 pub settle-requires : goal.settle-requires
 settle-requires g c = record {
-  over = all_over g.L.LineSync.belongs g.L.LineSync.view c.args.bank.lines.items c.args.work.now.jobs c.args.desks.items c.requires.done;
+  over = all_over g.L.LineSync.belongs g.L.LineSync.view g.L.LineSync.terms_of c.args.bank.lines.items c.args.work.now.jobs c.args.desks.items c.requires.done;
 }
 
 pub unreachable-requires : goal.unreachable-requires
@@ -35,13 +39,20 @@ returns-clause-report g c =
     let paid_out = c.sum_up-paid_in.ensures.1 ∙ ap (λ (ds : List (DeskOf g.row.L-Port.Denot)). all_paid_out ds) c.as_slice.ensures.value in
     let opened = opened_empty g.L.LineSync.terms_of c.args.work.now.workers c.args.bank.lines.items c.requires.terms in
     let settled = c.in-Ok.ensures.total in
-    let comes = comes_to g.L.LineSync.belongs g.L.LineSync.view c.args.bank.lines.items c.args.work.now.jobs 1 c.args.desks.items
-    (λ k desk at. subst (λ n. HasBanked g.L.LineSync.belongs g.L.LineSync.view c.args.bank.lines.items n desk (jobs_of n c.args.work.now.jobs)) (plus_one k) (c.requires.done k desk at)) in
+    let kept : c.sum_up-paid_in.result.0 ≡ c.sum_up-paid_in.result.1 + c.in-Ok.total = omega (arith, paid_in, paid_out, opened, settled) in
+    let comes = comes_to g.L.LineSync.belongs g.L.LineSync.view g.L.LineSync.terms_of c.args.bank.lines.items c.args.work.now.jobs 1 c.args.desks.items
+    (λ k desk at. subst (λ n. HasBanked g.L.LineSync.belongs g.L.LineSync.view g.L.LineSync.terms_of c.args.bank.lines.items n desk (jobs_of n c.args.work.now.jobs)) (plus_one k) (c.requires.done k desk at)) in
     record {
       of_bank = c.requires.kind;
       comes_to = subst (λ n. ComesTo 1 n c.args.work.now.jobs c.sum_up-paid_in.result.0 c.sum_up-paid_in.result.1) many
           (subst (λ n. ComesTo 1 (length c.args.desks.items) c.args.work.now.jobs n c.sum_up-paid_in.result.1) (sym paid_in) (subst (λ n. ComesTo 1 (length c.args.desks.items) c.args.work.now.jobs (all_paid_in c.args.desks.items) n) (sym paid_out) comes));
-      kept = omega (arith, paid_in, paid_out, opened, settled);
+      kept = kept;
+      alone = λ one.
+          let terms = subst (λ n. All (λ (line : g.row.L.Denot). g.L.LineSync.terms_of line ≡ work_terms n) c.args.bank.lines.items) one c.requires.terms in
+          let own = All-weaker (λ job. (1 ≤ worker_of job) × (worker_of job ≤ c.args.work.now.workers) × IsOfKind c.args.work.now.kind c.args.work.now.lines job) (λ job. worker_of job ≡ 1)
+          (λ job its. omega (arith, its.0, its.1, one)) c.args.work.now.jobs c.requires.limits.its in
+          alone_report g.L.LineSync.belongs g.L.LineSync.view g.L.LineSync.terms_of c.args.bank.lines.items c.args.work.now.jobs terms c.args.desks.items c.requires.done (many ∙ one) own c.requires.limits.most
+          c.sum_up-paid_in.result.0 c.sum_up-paid_in.result.1 c.in-Ok.total paid_in paid_out kept;
     }
 
 pub returns-clause-banked : goal.returns-clause-banked

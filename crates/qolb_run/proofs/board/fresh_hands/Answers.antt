@@ -23,7 +23,7 @@ loop-port-preserved g c =
     let at = first_left c.args.ports.items (into_iter_items c.next.new.self) c.in-Some.port (length c.loop-port.hands.items) step in
     let own = c.requires (length c.loop-port.hands.items) c.in-Some.port at in
     let fresh = subst (λ (counts : BoardCounts). HasWorked g.L.LineSync.belongs g.L.LineSync.view c.args.line.now (length c.loop-port.hands.items + 1) (record { port = c.in-Some.port; counts = counts }) []) (sym c.none-counts.ensures)
-    (worked_nothing g.L.LineSync.belongs g.L.LineSync.view c.args.line.now (length c.loop-port.hands.items + 1) c.in-Some.port own.0 own.1) in
+    (worked_nothing g.L.LineSync.belongs g.L.LineSync.view c.args.line.now (g.L.LineSync.terms_of c.args.line.now) (length c.loop-port.hands.items + 1) c.in-Some.port own.0 own.1) in
     let more : length c.push.new.self.items ≡ length c.loop-port.hands.items + 1 = ap length c.in_ok-push.ensures.items ∙ length-append c.loop-port.hands.items (record { port = c.in-Some.port; counts = c.none-counts.result } ∷ []) in
     record {
       rest = drop-next c.args.ports.items (into_iter_items c.next.new.self) c.in-Some.port (length c.loop-port.hands.items) step ∙ ap (λ n. drop n c.args.ports.items) (sym more);

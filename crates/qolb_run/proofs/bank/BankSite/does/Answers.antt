@@ -27,4 +27,4 @@ returns-in-Done g c = λ _ worker done banked.
       | inr (inr (inl e)) ↦ ap is_outcome e
       | inr (inr (inr e)) ↦ ap is_outcome e
     ] in
-    banked_more g.L.LineSync.belongs g.L.LineSync.view c.args.self.now.lines.items worker c.args.desk.now c.loop.desk c.try_once.new.desk done banked c.args.job.now c.try_once.result c.loop.invariant.tries asks is over c.try_once.ensures.pays
+    banked_more g.L.LineSync.belongs g.L.LineSync.view g.L.LineSync.terms_of c.args.self.now.lines.items worker c.args.desk.now c.loop.desk c.try_once.new.desk done banked c.args.job.now c.try_once.result c.loop.invariant.tries asks is over c.try_once.ensures.pays c.try_once.ensures.amount
