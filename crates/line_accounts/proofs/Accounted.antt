@@ -15,12 +15,13 @@ use Rattle.qolb_model.proofs.Requests.{count_of-append}
 use Rattle.qolb_model.proofs.Agreeing.{among_first}
 use Rattle.line_accounts.specs.declared.answer.Reply.{Reply}
 use Rattle.line_accounts.specs.declared.answer.Reply.TheVariants.{Done, Short, Over, Late, Closed, Busy, NoAccount, SameAccount}
-use Rattle.line_accounts.specs.Paid.{sum_of_turns, rise, fall, paid_by, drawn_by}
+use Rattle.line_accounts.specs.Paid.{rise, fall, paid_by, drawn_by}
 use Rattle.line_accounts.specs.Desks.{DeskOf, IsAtRest, AreOver, IsDeskOver}
 use Rattle.line_accounts.specs.Moves.{Pays, AsksInVain, IsRefused, PaysIn, PaysOut, MovesWithin}
 use Rattle.line_accounts.specs.Accounts.{line_of, lane_in}
 use Rattle.line_accounts.specs.Calls.{Deposits, TakesOut}
-use Rattle.line_accounts.proofs.Turns.{turns-unserved, none_of_node, sum-each, sum-zero}
+use Rattle.qolb_model.proofs.Sums.{sum-each, sum-zero}
+use Rattle.qolb_model.proofs.OwnTurns.{unused_places, unused_sum}
 use Rattle.line_accounts.proofs.Totals.{looked}
 
 -- elements of a list in which one was written
@@ -38,23 +39,14 @@ slice_get-set_other (y ∷ xs) (suc i) (suc j) x ne = slice_get-set_other xs i j
 
 -- a port that has never asked is at rest, and has paid nothing
 module _ (v : View) (h : OneHistory (v ∷ [])) (unused : v.count ≡ 0) where
-  none : count_of v.node v.order ≡ 0
-  none =
-      let k = h.known v (among_first v []) in
-      let e = sym (ap (count_of v.node) k.order_begins.1) ∙ count_of-append v.node v.order k.order_begins.0 in
-      omega (arith, e, k.own_count, unused)
-
   pub unused_rest : may_ask v.state ≡ true → IsAtRest v
-  unused_rest quiet = record { quiet = quiet; places = none ∙ sym unused }
-
-  nothing : (does : List ℕ → List ℕ → ℕ) → sum_of_turns does v.node v.terms.opening.bytes v.order v.ends ≡ 0
-  nothing does = turns-unserved does v.node v.terms.opening.bytes v.order v.ends (λ p r e at_r at_e same. absurd (none_of_node v.node v.order none p r at_r same))
+  unused_rest quiet = record { quiet = quiet; places = unused_places v h unused }
 
   pub unused_paid : paid_by v ≡ 0
-  unused_paid = nothing rise
+  unused_paid = unused_sum v h unused rise
 
   pub unused_drawn : drawn_by v ≡ 0
-  unused_drawn = nothing fall
+  unused_drawn = unused_sum v h unused fall
 
 pub sum-none : {X : Type 0} (f : X → ℕ) (xs : List X) → ((i : ℕ) (x : X) → slice_get xs i ≡ Some x → f x ≡ 0) → sum_by f xs ≡ 0
 sum-none f xs h = sum-each f (λ x. 0) xs h ∙ sum-zero (λ x. 0) xs (λ x. refl)

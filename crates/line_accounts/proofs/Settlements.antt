@@ -18,11 +18,13 @@ use Rattle.std.specs.declared.result.Result.TheVariants.{Ok, Err}
 use Rattle.qolb_model.proofs.Lists.{same_some, element_at, slice_get-append_left, slice_get-push}
 use Rattle.qolb_model.proofs.Agreeing.{among_map_port}
 use Rattle.line_accounts.specs.Accounts.{AreBalances, StayBalances}
-use Rattle.line_accounts.specs.Paid.{paid_by, drawn_by, KnowsOwnPlaces}
+use Rattle.qolb_model.specs.Sums.{KnowsOwnPlaces}
+use Rattle.line_accounts.specs.Paid.{paid_by, drawn_by}
 use Rattle.line_accounts.specs.Desks.{DeskOf, IsAtRest, AreOver, IsDeskOver}
 use Rattle.line_accounts.specs.Settled.{all_paid_in, all_paid_out, all_opened, AreAllThere, TakesLast}
 use Rattle.line_accounts.specs.declared.law.TheConstants.{MOST_BALANCE}
-use Rattle.line_accounts.proofs.Turns.{finished_total, sum-plus, sum-each}
+use Rattle.qolb_model.proofs.Sums.{sum-plus, sum-each}
+use Rattle.line_accounts.proofs.Turns.{finished_total}
 use Rattle.line_accounts.proofs.Accounted.{slice_get-set_same, slice_get-set_other, sum-none}
 
 -- what is taken of the desk at a place

@@ -37,123 +37,22 @@ use Rattle.std.specs.declared.result.Result.TheVariants.{Ok, Err}
 use Rattle.line_accounts.specs.declared.answer.Reply.{Reply}
 use Rattle.line_accounts.specs.declared.answer.Reply.TheVariants as answer
 use Rattle.line_accounts.specs.Accounts.{AreBalances, StayBalances, balances_after}
-use Rattle.line_accounts.specs.Paid.{sum_of_turns, rise, fall, paid_by, drawn_by, KnowsOwnPlaces}
+use Rattle.qolb_model.specs.Sums.{sum_of_turns, KnowsOwnPlaces}
+use Rattle.line_accounts.specs.Paid.{rise, fall, paid_by, drawn_by}
 use Rattle.line_accounts.specs.Desks.{IsAtRest}
 use Rattle.line_accounts.specs.Moves.{Pays, IsServed, Holds, Leaves, TakesTurn, AsksInVain}
-use Rattle.line_accounts.proofs.Turns.{turns-append, turns-same, slice_get-append_right, none_of_node, own_place}
-
--- asked for before a call that made no request, it is so after it
-pub asks_later : (old mid new : View) → Asks old mid → Extends mid new → new.count ≡ mid.count → Asks old new
-asks_later old mid new a more count = record {
-  was_clear = λ one. has_prefix mid.clear new.clear (own old) more.clear (a.was_clear one);
-  count = count ∙ a.count;
-  behind = (a.behind.0, a.behind.1, prefix_get mid.order new.order a.behind.0 (own new) more.order (a.behind.2 ∙ ap Some (same_request mid.node new.node mid.count new.count (sym more.node) (sym count))));
-}
-
-module _ (old new : View) (more : Extends old new) (h : OneHistory (new ∷ [])) where
-  knows : Knows h.terms h.order h.ends h.clear new
-  knows = h.known new (among_first new [])
-
-  -- the requests of the node in each order
-  counts : (xs ys : List Request) → old.order ++ xs ≡ new.order → new.order ++ ys ≡ h.order → KnowsOwnPlaces old
-      → (count_of new.node new.order ≡ old.count + count_of new.node xs) × (new.count ≡ count_of new.node new.order + count_of new.node ys)
-  counts xs ys e f places = (
-    sym (ap (count_of new.node) e) ∙ (count_of-append new.node old.order xs ∙ ap (λ n. n + count_of new.node xs) (ap (λ n. count_of n old.order) more.node ∙ places)),
-    sym knows.own_count ∙ (sym (ap (count_of new.node) f) ∙ count_of-append new.node new.order ys),
-  )
-
-  pub places_same : new.count ≡ old.count → KnowsOwnPlaces old → KnowsOwnPlaces new
-  places_same same places =
-      let c = counts more.order.0 knows.order_begins.0 more.order.1 knows.order_begins.1 places in
-      omega (arith, c.0, c.1, same)
-
-  pub places_asked : Asks old new → KnowsOwnPlaces old → KnowsOwnPlaces new
-  places_asked asks places =
-      let c = counts more.order.0 knows.order_begins.0 more.order.1 knows.order_begins.1 places in
-      let p = asks.behind.0 in
-      let q : ℕ = p - length old.order in
-      let e : length old.order + q ≡ p = omega (arith, asks.behind.1) in
-      let at : slice_get more.order.0 q ≡ Some (own new) = sym (slice_get-append_right old.order more.order.0 q) ∙ (ap (λ l. slice_get l (length old.order + q)) more.order.1 ∙ (ap (slice_get new.order) e ∙ asks.behind.2)) in
-      elim (cases_lt 0 (count_of new.node more.order.0)) [
-        | inl lt ↦ omega (arith, c.0, c.1, asks.count, lt)
-        | inr ge ↦ absurd (none_of_node new.node more.order.0 (omega (arith, ge)) q (own new) at refl)
-      ]
-
-  -- behind all that the old view knew there is one request of the node
-  pub beyond_own : Asks old new → KnowsOwnPlaces old → (p : ℕ) (r : Request) → length old.order ≤ p → slice_get new.order p ≡ Some r → r.node ≡ new.node → r ≡ own new
-  beyond_own asks places p r le at same =
-      let at_h : slice_get h.order p ≡ Some r = prefix_get new.order h.order p r knows.order_begins at in
-      let within = slice_get_within h.order p r at_h in
-      let long : length (take p h.order) ≡ p = length-take-le p h.order (omega arith) in
-      let part : IsPrefix (take p h.order) h.order = (drop p h.order, take-append-drop p h.order) in
-      let whole : IsPrefix old.order h.order = prefix_trans old.order new.order h.order more.order knows.order_begins in
-      let known = prefix_shorter old.order (take p h.order) h.order whole part (omega (arith, long, le)) in
-      let least = sym (ap (count_of new.node) known.1) ∙ count_of-append new.node old.order known.0 in
-      let first : count_of new.node old.order ≡ old.count = ap (λ n. count_of n old.order) more.node ∙ places in
-      let number : r.number ≡ count_of new.node (take p h.order) + 1 = h.legal.numbered p r at_h ∙ ap (λ n. count_of n (take p h.order) + 1) same in
-      let most : r.number ≤ count_of new.node h.order = subst (λ n. r.number ≤ count_of n h.order) same (number_le_count_all h.order h.legal.numbered r (has_at h.order p r at_h)) in
-      same_request r.node new.node r.number new.count same (omega (arith, least, first, number, most, knows.own_count, asks.count))
-
-  -- no turn of the node but those that the old view knew
-  pub sums_kept : (does : List ℕ → List ℕ → ℕ) → IsAtRest old → KnowsOwnPast old
-      → ((p : ℕ) (r : Request) (e : End) → length old.order ≤ p → slice_get new.order p ≡ Some r → slice_get new.ends p ≡ Some e → r.node ≡ new.node → is_served e ≡ false)
-      → sum_of_turns does new.node new.terms.opening.bytes new.order new.ends ≡ sum_of_turns does old.node old.terms.opening.bytes old.order old.ends
-  sums_kept does rest past beyond =
-      ap (λ n. sum_of_turns does n new.terms.opening.bytes new.order new.ends) more.node
-      ∙ (ap (λ (t : Terms). sum_of_turns does old.node t.opening.bytes new.order new.ends) more.terms
-      ∙ turns-same does old.node old.terms.opening.bytes old.order new.order old.ends new.ends more.order more.ends known)
-    where
-      stays : (e : End) → is_served e ≡ true → is_gone e ≡ true → ⊥
-      stays (Served write shut) a b = let no : false ≡ true = b in cc no
-      stays Gone a b = let no : false ≡ true = a in cc no
-      stays Told a b = let no : false ≡ true = a in cc no
-
-      known : (p : ℕ) (r : Request) (e : End) → slice_get new.order p ≡ Some r → slice_get new.ends p ≡ Some e → r.node ≡ old.node → is_served e ≡ true → (p < length old.order) × (p < length old.ends)
-      known p r e at_r at_e same served = elim (cases_lt p (length old.order)) [
-        | inl lt ↦
-            let (x, at_x) = element_at old.order p lt in
-            let is : x ≡ r = same_some (sym (prefix_get old.order new.order p x more.order at_x) ∙ at_r) in
-            let own_x : x.node ≡ old.node = ap (λ (y : Request). y.node) is ∙ same in
-            elim (past p x at_x own_x) [
-              | inl lt_ends ↦ (lt, lt_ends)
-              | inr (inl marked) ↦
-                  let gone = knows.own_marks p x e (prefix_get new.order h.order p x knows.order_begins (prefix_get old.order new.order p x more.order at_x)) (prefix_get new.ends h.ends p e knows.ends_begin at_e) (own_x ∙ sym more.node) in
-                  absurd (stays e served (sym gone ∙ more.marked x marked))
-              | inr (inr last) ↦ absurd (never rest.quiet last.1)
-            ]
-        | inr ge ↦ absurd (never served (beyond p r e ge at_r at_e (same ∙ sym more.node)))
-      ]
+use Rattle.qolb_model.proofs.OwnTurns.{NoneServedBeyond, asks_later, places_same, places_asked, sums_kept, granted_beyond, withdrawn_beyond, told_beyond, busy_beyond, quiet_after, may_ask-left_by, left_bytes, more_turns}
 
 plus-zero : (a b : ℕ) → a ≡ b → a ≡ b + 0
 plus-zero a b e = omega arith
 
--- a port that let the line go may ask
-pub quiet_after : (from : ℕ) (leaves : PortState) (v : View) → may_ask leaves ≡ true → LetsGo from leaves v → may_ask v.state ≡ true
-quiet_after from leaves v quiet lets_go = by lets_go.state
-  where
-    by : ((v.state ≡ Left) × IsShort v × (length v.ends ≡ from)) ⊎ ((v.state ≡ leaves) × Has v.clear (own v)) → may_ask v.state ≡ true
-    by (inl left) = ap may_ask left.0
-    by (inr other) = ap may_ask other.0 ∙ quiet
-
 -- a port that asked, in vain or not, and whose request was not served
 module _ (old new : View) (rest : IsAtRest old) (past : KnowsOwnPast old) (go_on : Continues StayBalances old new) where
-  pub pays_nothing : ((p : ℕ) (r : Request) (e : End) → length old.order ≤ p → slice_get new.order p ≡ Some r → slice_get new.ends p ≡ Some e → r.node ≡ new.node → is_served e ≡ false) → Pays old new 0 0
+  pays_nothing : NoneServedBeyond old new → Pays old new 0 0
   pays_nothing beyond = record {
-    paid_in = plus-zero (paid_by new) (paid_by old) (sums_kept old new go_on.extends go_on.history rise rest past beyond);
-    paid_out = plus-zero (drawn_by new) (drawn_by old) (sums_kept old new go_on.extends go_on.history fall rest past beyond);
+    paid_in = plus-zero (paid_by new) (paid_by old) (sums_kept old new go_on.extends go_on.history rest.quiet past beyond rise);
+    paid_out = plus-zero (drawn_by new) (drawn_by old) (sums_kept old new go_on.extends go_on.history rest.quiet past beyond fall);
   }
-
-  -- two places of its last request are one
-  own_one_place : (p q : ℕ) → slice_get new.order p ≡ Some (own new) → slice_get new.order q ≡ Some (own new) → p ≡ q
-  own_one_place p q at_p at_q =
-      let h = go_on.history in
-      let begins = (h.known new (among_first new [])).order_begins in
-      same_place_legal h.terms.lease h.order h.ends h.legal p q (own new) (prefix_get new.order h.order p (own new) begins at_p) (prefix_get new.order h.order q (own new) begins at_q)
-
-  asked_nothing : Asks old new → ((p : ℕ) (e : End) → slice_get new.order p ≡ Some (own new) → slice_get new.ends p ≡ Some e → is_served e ≡ false) → Pays old new 0 0
-  asked_nothing asks unserved = pays_nothing (λ p r e le at_r at_e same.
-      let is = beyond_own old new go_on.extends go_on.history asks rest.places p r le at_r same in
-      unserved p e (at_r ∙ ap Some is) at_e)
 
   at_rest_asked : Asks old new → may_ask new.state ≡ true → IsAtRest new
   at_rest_asked asks quiet = record { quiet = quiet; places = places_asked old new go_on.extends go_on.history asks rest.places }
@@ -165,38 +64,23 @@ module _ (old new : View) (rest : IsAtRest old) (past : KnowsOwnPast old) (go_on
   late asks withdrawn = record {
     continues = go_on;
     at_rest = at_rest_asked asks (quiet_by Rolled withdrawn.state refl);
-    pays = asked_nothing asks (λ p e at_p at_e.
-        let same = own_one_place p withdrawn.waits.0 at_p withdrawn.waits.2 in
-        let within = slice_get_within new.ends p e at_e in
-        let far = withdrawn.waits.1 in
-        absurd (omega (arith, same, within, far)));
+    pays = pays_nothing (withdrawn_beyond old new go_on.extends go_on.history asks rest.places withdrawn);
   }
 
   pub closed : Asks old new → IsTold new → AsksInVain old new
   closed asks told = record {
     continues = go_on;
     at_rest = at_rest_asked asks (quiet_after (length told.before + 1) Shut new refl told.lets_go);
-    pays = asked_nothing asks (λ p e at_p at_e.
-        let same = own_one_place p (length told.before) at_p told.at_turn in
-        let is : Some Told ≡ Some e = sym (slice_get-middle told.before Told (replicate told.passed Gone)) ∙ (ap (λ l. slice_get l (length told.before)) (sym told.ends) ∙ (ap (slice_get new.ends) (sym same) ∙ at_e)) in
-        ap is_served (sym (same_some is)));
+    pays = pays_nothing (told_beyond old new go_on.extends go_on.history asks rest.places told);
   }
 
   pub busy : IsBusy old new → AsksInVain old new
   busy b = record {
     continues = go_on;
-    at_rest = record { quiet = quiet_busy b.was; places = same };
-    pays = pays_nothing (λ p r e le at_r at_e same_node.
-        let at_most : p < length old.order = own_place new.node old.order new.order go_on.extends.order counted p r at_r same_node in
-        absurd (omega (arith, at_most, le)));
+    at_rest = record { quiet = quiet_busy b.was; places = places_same old new go_on.extends go_on.history b.count rest.places };
+    pays = pays_nothing (busy_beyond old new go_on.extends go_on.history rest.places b);
   }
     where
-      same : KnowsOwnPlaces new
-      same = places_same old new go_on.extends go_on.history b.count rest.places
-
-      counted : count_of new.node old.order ≡ count_of new.node new.order
-      counted = ap (λ n. count_of n old.order) go_on.extends.node ∙ (rest.places ∙ (sym b.count ∙ sym same))
-
       quiet_busy : (old.state ≡ Left) ⊎ (old.state ≡ Rolled) → may_ask new.state ≡ true
       quiet_busy (inl was) = quiet_by Left (b.state ∙ was) refl
       quiet_busy (inr was) = quiet_by Rolled (b.state ∙ was) refl
@@ -207,25 +91,8 @@ module _ (old new : View) (rest : IsAtRest old) (past : KnowsOwnPast old) (go_on
     places = places_asked old new go_on.extends go_on.history asks rest.places;
     asks = asks;
     granted = granted;
-    pays = asked_nothing asks (λ p e at_p at_e.
-        let same = own_one_place p (length new.ends) at_p granted.at_turn in
-        let within = slice_get_within new.ends p e at_e in
-        absurd (omega (arith, same, within)));
+    pays = pays_nothing (granted_beyond old new go_on.extends go_on.history turn asks rest.places granted);
   }
-
--- withdrawn requests, passed, are no turns and change no byte
-turns-gone : (does : List ℕ → List ℕ → ℕ) (node : ℕ) (bytes : List ℕ) (order : List Request) (n : ℕ) → sum_of_turns does node bytes order (replicate n Gone) ≡ 0
-turns-gone does node bytes [] n = refl
-turns-gone does node bytes (r ∷ order) zero = refl
-turns-gone does node bytes (r ∷ order) (suc n) = turns-gone does node bytes order n
-
-bytes-gone : (bytes : List ℕ) (n : ℕ) → bytes_after bytes (replicate n Gone) ≡ bytes
-bytes-gone bytes zero = refl
-bytes-gone bytes (suc n) = bytes-gone bytes n
-
-may_ask-left_by : (b : Bool) → may_ask (left_by b) ≡ true
-may_ask-left_by true = refl
-may_ask-left_by false = refl
 
 -- a port that held the line, and released it
 module _ (held new : View) (write : Write) (releases : Releases StayBalances false held new write) (at_turn : slice_get held.order (length held.ends) ≡ Some (own held)) where
@@ -235,47 +102,8 @@ module _ (held new : View) (write : Write) (releases : Releases StayBalances fal
   abbrev passed : List End
   passed = replicate releases.ends_turn.passed Gone
 
-  -- what its turn left
-  left_bytes : written (bytes_of held) write ≡ write.bytes.bytes
-  left_bytes =
-      sym (bytes-gone (written (bytes_of held) write) releases.ends_turn.passed)
-      ∙ (sym (bytes_after-append held.terms.opening.bytes held.ends (Served write shut ∷ passed))
-      ∙ (ap (bytes_after held.terms.opening.bytes) (sym releases.ends_turn.ends)
-      ∙ (ap (λ (t : Terms). bytes_after t.opening.bytes new.ends) (sym releases.continues.extends.terms)
-      ∙ releases.bytes)))
-
-  -- its turn is one more
-  more_turns : (does : List ℕ → List ℕ → ℕ) → sum_of_turns does new.node new.terms.opening.bytes new.order new.ends ≡ sum_of_turns does held.node held.terms.opening.bytes held.order held.ends + does (bytes_of held) write.bytes.bytes
-  more_turns does =
-      ap (λ n. sum_of_turns does n new.terms.opening.bytes new.order new.ends) releases.continues.extends.node
-      ∙ (ap (λ (t : Terms). sum_of_turns does held.node t.opening.bytes new.order new.ends) releases.continues.extends.terms
-      ∙ (ap (sum_of_turns does held.node held.terms.opening.bytes new.order) releases.ends_turn.ends
-      ∙ (turns-append does held.node held.terms.opening.bytes new.order held.ends (Served write shut ∷ passed)
-      ∙ (ap (λ n. n + sum_of_turns does held.node (bytes_of held) (drop (length held.ends) new.order) (Served write shut ∷ passed)) before
-      ∙ ap (λ n. sum_of_turns does held.node held.terms.opening.bytes held.order held.ends + n) here))))
-    where
-      long : length held.ends < length held.order
-      long = slice_get_within held.order (length held.ends) (own held) at_turn
-
-      before : sum_of_turns does held.node held.terms.opening.bytes new.order held.ends ≡ sum_of_turns does held.node held.terms.opening.bytes held.order held.ends
-      before = turns-same does held.node held.terms.opening.bytes held.order new.order held.ends held.ends releases.continues.extends.order (prefix_self held.ends) (λ p r e at_r at_e same served.
-          let within = slice_get_within held.ends p e at_e in
-          (omega (arith, within, long), within))
-
-      last : (r : Request) (rest : List Request) → r.node ≡ held.node → sum_of_turns does held.node (bytes_of held) (r ∷ rest) (Served write shut ∷ passed) ≡ does (bytes_of held) write.bytes.bytes
-      last r rest same =
-          ap (λ b. (if b then does (bytes_of held) (written (bytes_of held) write) else 0) + sum_of_turns does held.node (written (bytes_of held) write) rest passed) (eq-eqb r.node held.node same)
-          ∙ (ap (λ n. does (bytes_of held) (written (bytes_of held) write) + n) (turns-gone does held.node (written (bytes_of held) write) rest releases.ends_turn.passed)
-          ∙ (zero-plus (does (bytes_of held) (written (bytes_of held) write))
-          ∙ ap (does (bytes_of held)) left_bytes))
-        where
-          zero-plus : (n : ℕ) → n + 0 ≡ n
-          zero-plus n = omega arith
-
-      here : sum_of_turns does held.node (bytes_of held) (drop (length held.ends) new.order) (Served write shut ∷ passed) ≡ does (bytes_of held) write.bytes.bytes
-      here =
-          ap (λ o. sum_of_turns does held.node (bytes_of held) o (Served write shut ∷ passed)) (drop_with new.order (length held.ends) (own new) releases.ends_turn.at_turn)
-          ∙ last (own new) (drop (length held.ends + 1) new.order) releases.continues.extends.node
+  found_bytes : written (bytes_of held) write ≡ write.bytes.bytes
+  found_bytes = left_bytes StayBalances held new write releases at_turn
 
   -- the turn, as it stands in the history
   served_so : IsServed new (bytes_of held) write.bytes.bytes
@@ -287,7 +115,7 @@ module _ (held new : View) (write : Write) (releases : Releases StayBalances fal
     served = ap (λ l. slice_get l (length held.ends)) releases.ends_turn.ends ∙ slice_get-middle held.ends (Served write shut) passed;
     shuts = sym (ap (is_last_turn new.terms.lease) cut ∙ ap (λ (t : Terms). is_last_turn t.lease held.ends) releases.continues.extends.terms);
     before = ap (bytes_after new.terms.opening.bytes) cut ∙ ap (λ (t : Terms). bytes_after t.opening.bytes held.ends) releases.continues.extends.terms;
-    after = ap (bytes_after new.terms.opening.bytes) cut_after ∙ (ap (λ (t : Terms). bytes_after t.opening.bytes (held.ends ++ Served write shut ∷ [])) releases.continues.extends.terms ∙ (bytes_after-append held.terms.opening.bytes held.ends (Served write shut ∷ []) ∙ left_bytes));
+    after = ap (bytes_after new.terms.opening.bytes) cut_after ∙ (ap (λ (t : Terms). bytes_after t.opening.bytes (held.ends ++ Served write shut ∷ [])) releases.continues.extends.terms ∙ (bytes_after-append held.terms.opening.bytes held.ends (Served write shut ∷ []) ∙ found_bytes));
   }
     where
       cut : take (length held.ends) new.ends ≡ held.ends
@@ -313,8 +141,8 @@ module _ (held new : View) (write : Write) (releases : Releases StayBalances fal
     asks = asks_later old held new h.asks releases.continues.extends releases.ends_turn.count;
     served = served_so;
     pays = record {
-      paid_in = more_turns rise ∙ ap (λ n. n + rise (bytes_of held) write.bytes.bytes) (h.pays.paid_in ∙ zero-plus (paid_by old));
-      paid_out = more_turns fall ∙ ap (λ n. n + fall (bytes_of held) write.bytes.bytes) (h.pays.paid_out ∙ zero-plus (drawn_by old));
+      paid_in = more_turns StayBalances held new write releases at_turn rise ∙ ap (λ n. n + rise (bytes_of held) write.bytes.bytes) (h.pays.paid_in ∙ zero-plus (paid_by old));
+      paid_out = more_turns StayBalances held new write releases at_turn fall ∙ ap (λ n. n + fall (bytes_of held) write.bytes.bytes) (h.pays.paid_out ∙ zero-plus (drawn_by old));
     };
   }
     where

@@ -3,7 +3,8 @@ use Rattle.std.specs.Prelude.{◌≡◌, ◌≤◌, ℕ, ◌+◌, true, List, le
 use Rattle.std.specs.List.{sum_by}
 use Rattle.qolb_model.specs.declared.view.View.{View}
 use Rattle.qolb_model.specs.PortStates.{may_ask}
-use Rattle.line_accounts.specs.Paid.{paid_by, drawn_by, KnowsOwnPlaces}
+use Rattle.qolb_model.specs.Sums.{KnowsOwnPlaces}
+use Rattle.line_accounts.specs.Paid.{paid_by, drawn_by}
 
 -- a desk, as its callers see it: its port of each line, and the sums paid in and out
 pub record DeskOf (Port : Type 0) : Type 0 where

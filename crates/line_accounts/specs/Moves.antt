@@ -15,7 +15,8 @@ use Rattle.qolb_model.specs.Calls.{Releases}
 use Rattle.line_accounts.specs.declared.answer.Reply.{Reply}
 use Rattle.line_accounts.specs.declared.answer.Reply.TheVariants.{Done, Short, Over, Late, Closed, Busy, NoAccount, SameAccount}
 use Rattle.line_accounts.specs.Accounts.{StayBalances, HasRoom, raised, lowered}
-use Rattle.line_accounts.specs.Paid.{rise, fall, paid_by, drawn_by, KnowsOwnPlaces}
+use Rattle.qolb_model.specs.Sums.{KnowsOwnPlaces}
+use Rattle.line_accounts.specs.Paid.{rise, fall, paid_by, drawn_by}
 use Rattle.line_accounts.specs.Desks.{IsAtRest}
 
 -- the port has paid in so much more, and drawn so much more

@@ -31,7 +31,7 @@ use Rattle.qolb_model.proofs.Prefixes.{prefix_get, prefix_self, prefix_trans, pr
 use Rattle.qolb_model.proofs.Histories.{same_place_legal, bytes_after-append}
 use Rattle.qolb_model.proofs.Requests.{same_request, has_at, has_prefix, count_of-append, number_le_count_all}
 use Rattle.qolb_model.proofs.Agreeing.{among_first}
-use Rattle.qolb_model.proofs.Sums.{turns-append, turns-same, slice_get-append_right, none_of_node, own_place}
+use Rattle.qolb_model.proofs.Sums.{turns-append, turns-same, turns-unserved, slice_get-append_right, none_of_node, own_place}
 
 -- of the requests that the new view knows behind all that the old one knew, none of its own was served
 abbrev pub NoneServedBeyond : View → View → Type 0
@@ -169,6 +169,23 @@ module _ (old new : View) (more : Extends old new) (h : OneHistory (new ∷ []))
         unshut p x write shut at_x (ap (λ (y : Request). y.node) is ∙ (same ∙ more.node)) (at_old ∙ ap Some is_e)
         ∙ (ap (λ (t : Terms). is_last_turn t.lease (take p old.ends)) (sym more.terms)
         ∙ ap (is_last_turn new.terms.lease) (sym (take_prefix old.ends new.ends p more.ends (omega (arith, lt_ends)))))
+
+-- a port that has made no request knows their places, has had no turn, and has not shut the line
+module _ (v : View) (h : OneHistory (v ∷ [])) (unused : v.count ≡ 0) where
+  none_made : count_of v.node v.order ≡ 0
+  none_made =
+      let k = h.known v (among_first v []) in
+      let e = sym (ap (count_of v.node) k.order_begins.1) ∙ count_of-append v.node v.order k.order_begins.0 in
+      omega (arith, e, k.own_count, unused)
+
+  pub unused_places : KnowsOwnPlaces v
+  unused_places = none_made ∙ sym unused
+
+  pub unused_sum : (does : List ℕ → List ℕ → ℕ) → sum_of_own does v ≡ 0
+  unused_sum does = turns-unserved does v.node v.terms.opening.bytes v.order v.ends (λ p r e at_r at_e same. absurd (none_of_node v.node v.order none_made p r at_r same))
+
+  pub unused_unshut : HasNotShut v
+  unused_unshut = λ p r write shut at_r same at_e. absurd (none_of_node v.node v.order none_made p r at_r same)
 
 -- a port that let the line go may ask
 pub quiet_after : (from : ℕ) (leaves : PortState) (v : View) → may_ask leaves ≡ true → LetsGo from leaves v → may_ask v.state ≡ true

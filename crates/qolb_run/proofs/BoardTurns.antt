@@ -23,9 +23,9 @@ use Rattle.qolb_model.proofs.Prefixes.{prefix_get, prefix_self, prefix_trans, pr
 use Rattle.qolb_model.proofs.Histories.{same_place_legal, bytes_after-append}
 use Rattle.qolb_model.proofs.Requests.{count_of-append}
 use Rattle.qolb_model.proofs.Agreeing.{among_first}
-use Rattle.line_accounts.specs.Paid.{KnowsOwnPlaces}
+use Rattle.qolb_model.specs.Sums.{KnowsOwnPlaces}
 use Rattle.line_accounts.specs.Desks.{IsAtRest}
-use Rattle.line_accounts.proofs.Visits.{places_same, places_asked, beyond_own}
+use Rattle.qolb_model.proofs.OwnTurns.{places_same, places_asked, beyond_own}
 use Rattle.line_board.specs.declared.answer.Put.{Put}
 use Rattle.line_board.specs.declared.answer.Put.TheVariants as put
 use Rattle.line_board.specs.declared.answer.Take.{Take}

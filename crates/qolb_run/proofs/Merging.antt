@@ -10,7 +10,7 @@ use Rattle.qolb_model.specs.declared.end.End.TheVariants.{Served, Gone, Told}
 use Rattle.qolb_model.specs.declared.view.View.{View}
 use Rattle.qolb_model.specs.Ends.{written, bytes_after}
 use Rattle.qolb_model.proofs.Lists.{same_some}
-use Rattle.line_accounts.proofs.Turns.{sum-plus, sum-zero, sum-each}
+use Rattle.qolb_model.proofs.Sums.{sum-plus, sum-zero, sum-each}
 use Rattle.line_board.specs.PutsAndTakes.{standing}
 use Rattle.qolb_script.specs.declared.job.Job.{Job}
 use Rattle.qolb_script.specs.declared.job.Job.TheVariants.{Put, Take, PayIn, PayOut, Move}

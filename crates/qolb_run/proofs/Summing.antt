@@ -17,9 +17,9 @@ use Rattle.qolb_model.specs.PortStates.{may_ask}
 use Rattle.qolb_model.specs.OneHistory.{IsAmong}
 use Rattle.qolb_model.specs.Finishing.{IsFinished, MayFinish}
 use Rattle.qolb_model.proofs.Lists.{never, same_some, element_at}
-use Rattle.line_accounts.specs.Paid.{KnowsOwnPlaces}
+use Rattle.qolb_model.specs.Sums.{KnowsOwnPlaces}
 use Rattle.line_accounts.specs.Desks.{IsAtRest}
-use Rattle.line_accounts.proofs.Turns.{sum-plus, sum-each, once_there}
+use Rattle.qolb_model.proofs.Sums.{sum-plus, sum-each, once_there}
 use Rattle.line_accounts.proofs.Settlements.{sum-of_map}
 use Rattle.line_board.specs.Board.{IsBoard, Stand}
 use Rattle.line_board.specs.Law.{Changes}

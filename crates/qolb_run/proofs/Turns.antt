@@ -16,9 +16,9 @@ use Rattle.qolb_model.specs.Sound.{KnowsOwnPast}
 use Rattle.qolb_model.proofs.Lists.{never, same_some, element_at, slice_get-drop}
 use Rattle.qolb_model.proofs.Prefixes.{prefix_get}
 use Rattle.qolb_model.proofs.Agreeing.{among_first}
-use Rattle.line_accounts.specs.Paid.{KnowsOwnPlaces}
+use Rattle.qolb_model.specs.Sums.{KnowsOwnPlaces}
 use Rattle.line_accounts.specs.Desks.{IsAtRest}
-use Rattle.line_accounts.proofs.Turns.{slice_get-append_right, own_place}
+use Rattle.qolb_model.proofs.Sums.{slice_get-append_right, own_place}
 use Rattle.qolb_run.specs.BoardWork.{Turn, turn_between, node_turns, turns_of}
 
 -- no request has ended: no turn
