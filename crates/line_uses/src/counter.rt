@@ -1,10 +1,12 @@
 //! Threads share one number. Each takes the line, adds 1 to its first lane, and hands it on.
-ghost use Rattle.std.specs.Prelude.{◌≡◌, ◌⊎◌, ◌+◌, ◌%◌, ◌^◌, IsTrue};
+ghost use Rattle.std.specs.Prelude.{◌≡◌, ◌⊎◌, ◌+◌, ◌*◌, ◌%◌, ◌^◌, IfSome, IsTrue};
 ghost use Rattle.line_lanes.specs.Lane.{lane_of};
 ghost use Rattle.qolb_model.specs.PortStates.{may_ask};
 ghost use Rattle.qolb_model.specs.Views.{bytes_of};
 ghost use Rattle.qolb_model.specs.Turns.{IsGranted};
 ghost use Rattle.qolb_model.specs.LettingGo.{IsTold};
+ghost use Rattle.qolb_model.specs.Sums.{KnowsOwnPlaces};
+ghost use Rattle.line_uses.specs.Counter.{Adds, HasAdded};
 
 use line_lanes::{Line64, Mask, lane, with_lane};
 use line_threads::together::{Work, together};
@@ -36,6 +38,7 @@ pub fn add<R: Wait, L: LineSync<Free>>(rt: &R, line: &L, port: &mut L::Port, rou
     ensures belongs { L.belongs line.now port.new }
     ensures state { IsTrue (may_ask (L.view port.new).state) }
     ensures asks { ((L.view port.new).count ≡ (L.view port.old).count + rounds) ⊎ IsTold (L.view port.new) }
+    ensures adds { KnowsOwnPlaces (L.view port.old) → Adds rounds (L.view port.old) (L.view port.new) }
 {
     for _round in 0..rounds {
         match acquire(rt, line, port) {
@@ -57,9 +60,9 @@ struct Rounds {
 impl<R: Wait, L: LineSync<Free>> Work<R, L, L::Port> for Rounds {
     type Back = L::Port;
 
-    ghost fits = { λ _ line _ port. L.belongs line port × IsTrue (may_ask (L.view port).state) };
+    ghost fits = { λ _ line _ port. L.belongs line port × IsTrue (may_ask (L.view port).state) × ((L.view port).count ≡ 0) };
 
-    ghost done = { λ _ line _ port. L.belongs line port × IsTrue (may_ask (L.view port).state) };
+    ghost done = { λ work line _ port. L.belongs line port × IsTrue (may_ask (L.view port).state) × HasAdded work.rounds (L.view port) };
 
     fn work(&self, rt: &R, line: &L, _place: usize, port: L::Port) -> L::Port {
         let mut port = port;
@@ -68,7 +71,8 @@ impl<R: Wait, L: LineSync<Free>> Work<R, L, L::Port> for Rounds {
     }
 }
 
-/// A thread for each node of a new line adds 1 so many times; the number at last. `None` where the line, memory or a thread was refused.
+/// A thread for each node of a new line adds 1 so many times; the number at last, in which no addition is lost. `None` where the line,
+/// memory or a thread was refused.
 pub fn count<R: Threads + Wait + Sync, L: OpenLine<Free> + Sync + Drop>(
     rt: &R,
     alloc: Global,
@@ -77,6 +81,7 @@ pub fn count<R: Threads + Wait + Sync, L: OpenLine<Free> + Sync + Drop>(
 ) -> Option<u64>
 where
     L::Port: Send + Drop,
+    ensures { IfSome result (λ number. number ≡ (nodes * rounds) % 2 ^ 64) }
 {
     let terms = Terms {
         nodes,

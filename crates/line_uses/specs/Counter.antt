@@ -1,0 +1,30 @@
+-- What counting does to the first lane of a line. (Of this project.)
+use Rattle.std.specs.Prelude.{◌≡◌, ◌⊎◌, ℕ, ◌+◌, ◌-◌, ◌%◌, ◌^◌, ◌≤◌, List}
+use Rattle.line_lanes.specs.Lane.{lane_of}
+use Rattle.qolb_model.specs.declared.view.View.{View}
+use Rattle.qolb_model.specs.Sums.{sum_of_own, KnowsOwnPlaces, HasNotShut}
+use Rattle.qolb_model.specs.LettingGo.{IsTold}
+
+-- by how much the first lane rose, modulo 2^64
+abbrev pub rise : List ℕ → List ℕ → ℕ
+rise old new = (lane_of new 0 + (2 ^ 64 - lane_of old 0 % 2 ^ 64)) % 2 ^ 64
+
+-- what the port's own turns have added to the first lane
+abbrev pub added_by : View → ℕ
+added_by v = sum_of_own rise v
+
+-- the port's turns since then have added this much, at most one for each round, and have not shut the line; fewer only where it is told
+-- that the line is closed
+pub record Adds (rounds : ℕ) (old new : View) : Type 0 where
+  pub places : KnowsOwnPlaces new
+  pub unshut : HasNotShut old → HasNotShut new
+  pub turns : ℕ
+  pub few : turns ≤ rounds
+  pub added : added_by new ≡ added_by old + turns
+  pub all : (turns ≡ rounds) ⊎ IsTold new
+
+-- all turns of the port have added this much, and have not shut the line; or it is told that the line is closed
+pub record HasAdded (rounds : ℕ) (v : View) : Type 0 where
+  pub places : KnowsOwnPlaces v
+  pub unshut : HasNotShut v
+  pub added : (added_by v ≡ rounds) ⊎ IsTold v
