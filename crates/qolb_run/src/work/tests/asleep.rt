@@ -4,9 +4,7 @@ ghost use Rattle.qolb_model.specs.Finishing.{MayRefuse, IsFinished};
 
 use super::*;
 use line_lanes::{Line64, Mask};
-use qolb_model::{
-    Enq, Keep, LineSync, OpenError, Out, Poll, PortState, Terms, Unfinished,
-};
+use qolb_model::{Enq, Keep, LineSync, OpenError, Out, Poll, PortState, Terms, Unfinished};
 use std::time::Duration;
 
 /// A line that nobody releases before somebody has slept at it. So work at it does not end where two ask for it, and the waiter does not
@@ -29,7 +27,7 @@ impl<L> HeldLine<L> {
     }
 }
 
-impl<K: Keep, L: LineSync<K>> LineSync<K> for HeldLine<L> {
+impl<K: Keep, L: Sleeping<K>> LineSync<K> for HeldLine<L> {
     type Port = L::Port;
 
     ghost view = { L.view };
@@ -136,7 +134,7 @@ impl<K: Keep, L: Sleeping<K>> Sleeping<K> for HeldLine<L> {
     }
 }
 
-impl<K: Keep, L: OpenLine<K>> OpenLine<K> for HeldLine<L> {
+impl<K: Keep, L: OpenLine<K> + Sleeping<K>> OpenLine<K> for HeldLine<L> {
     fn open_with(
         alloc: Global,
         label: u64,
@@ -183,8 +181,16 @@ fn workers_sleep_that_are_to(rt: HostRuntime) -> Result<(), Fail> {
         total: 2,
     };
     for (kind, script, report) in [
-        (WorkKind::Board, "board workers 2\n1 put 5\n2 put 6\n", board),
-        (WorkKind::Bank, "bank workers 2 lines 1\n1 in 0 1\n2 in 0 1\n", bank),
+        (
+            WorkKind::Board,
+            "board workers 2\n1 put 5\n2 put 6\n",
+            board,
+        ),
+        (
+            WorkKind::Bank,
+            "bank workers 2 lines 1\n1 in 0 1\n2 in 0 1\n",
+            bank,
+        ),
     ] {
         let work = read_work(alloc, script.as_bytes(), kind)?;
         for lines in ALL {
