@@ -1,6 +1,7 @@
 //! How waiters sleep: a line whose waiters' sleeps are noted, and a clock that goes on by a millisecond whenever it is read.
 ghost use Rattle.std.specs.Prelude.{◌≡◌, map, All, IfOk, IfErr, IfSome, IsTrue};
 ghost use Rattle.qolb_model.specs.Finishing.{MayRefuse, IsFinished};
+ghost use Rattle.qolb_model.specs.OneOwner.{turn_after};
 ghost use Rattle.qolb_model.specs.PortStates.{may_ask};
 
 use line_lanes::{Line64, Mask};
@@ -97,11 +98,15 @@ impl<'n, K: Keep, L: Sleeping<K>> LineSync<K> for NotedLine<'n, L> {
         self.line.nodes()
     }
 
-    fn node(port: &L::Port) -> u64 {
+    fn node(port: &L::Port) -> u64
+        ensures { result ≡ (L.view port.now).node }
+    {
         L::node(port)
     }
 
-    fn state(port: &L::Port) -> PortState {
+    fn state(port: &L::Port) -> PortState
+        ensures { result ≡ (L.view port.now).state }
+    {
         L::state(port)
     }
 
@@ -109,7 +114,10 @@ impl<'n, K: Keep, L: Sleeping<K>> LineSync<K> for NotedLine<'n, L> {
         self.line.owns(port)
     }
 
-    fn bytes(port: &L::Port) -> &Line64 {
+    fn bytes(port: &L::Port) -> &Line64
+        requires { (L.view port.now).state ≡ PortState.Holding }
+        ensures { result.now ≡ (L.turn port.now).bytes }
+    {
         L::bytes(port)
     }
 
@@ -117,7 +125,13 @@ impl<'n, K: Keep, L: Sleeping<K>> LineSync<K> for NotedLine<'n, L> {
         self.line.turns_left(port)
     }
 
-    fn write(port: &mut L::Port, mask: Mask, bytes: &Line64) {
+    fn write(port: &mut L::Port, mask: Mask, bytes: &Line64)
+        requires { (L.view port.old).state ≡ PortState.Holding }
+        ensures view { L.view port.new ≡ L.view port.old }
+        ensures turn { L.turn port.new ≡ turn_after (L.turn port.old) mask.0 bytes.now.bytes }
+        ensures looks { L.looks port.new ≡ L.looks port.old }
+        ensures belongs { (line : Self) → L.belongs line.line port.old → L.belongs line.line port.new }
+    {
         L::write(port, mask, bytes)
     }
 

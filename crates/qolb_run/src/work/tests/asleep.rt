@@ -1,6 +1,7 @@
 //! Workers that are to sleep, over lines that a holder keeps until one has slept.
 ghost use Rattle.std.specs.Prelude.{◌≡◌, map, All, IfOk, IfErr};
 ghost use Rattle.qolb_model.specs.Finishing.{MayRefuse, IsFinished};
+ghost use Rattle.qolb_model.specs.OneOwner.{turn_after};
 
 use super::*;
 use line_lanes::{Line64, Mask};
@@ -50,11 +51,15 @@ impl<K: Keep, L: Sleeping<K>> LineSync<K> for HeldLine<L> {
         self.line.nodes()
     }
 
-    fn node(port: &L::Port) -> u64 {
+    fn node(port: &L::Port) -> u64
+        ensures { result ≡ (L.view port.now).node }
+    {
         L::node(port)
     }
 
-    fn state(port: &L::Port) -> PortState {
+    fn state(port: &L::Port) -> PortState
+        ensures { result ≡ (L.view port.now).state }
+    {
         L::state(port)
     }
 
@@ -62,7 +67,10 @@ impl<K: Keep, L: Sleeping<K>> LineSync<K> for HeldLine<L> {
         self.line.owns(port)
     }
 
-    fn bytes(port: &L::Port) -> &Line64 {
+    fn bytes(port: &L::Port) -> &Line64
+        requires { (L.view port.now).state ≡ PortState.Holding }
+        ensures { result.now ≡ (L.turn port.now).bytes }
+    {
         L::bytes(port)
     }
 
@@ -70,7 +78,13 @@ impl<K: Keep, L: Sleeping<K>> LineSync<K> for HeldLine<L> {
         self.line.turns_left(port)
     }
 
-    fn write(port: &mut L::Port, mask: Mask, bytes: &Line64) {
+    fn write(port: &mut L::Port, mask: Mask, bytes: &Line64)
+        requires { (L.view port.old).state ≡ PortState.Holding }
+        ensures view { L.view port.new ≡ L.view port.old }
+        ensures turn { L.turn port.new ≡ turn_after (L.turn port.old) mask.0 bytes.now.bytes }
+        ensures looks { L.looks port.new ≡ L.looks port.old }
+        ensures belongs { (line : Self) → L.belongs line.line port.old → L.belongs line.line port.new }
+    {
         L::write(port, mask, bytes)
     }
 
