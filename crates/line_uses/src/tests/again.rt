@@ -79,10 +79,11 @@ where
 }
 
 /// Whether node 1 of a new line had it, and node 2 after it.
-fn ask_again<
-    R: Threads + Wait + Clock + Sync,
-    L: OpenLine<Free> + Sleeping<Free> + Sync + Drop,
->(rt: &R, alloc: Global, again: Again) -> Option<[bool; 2]>
+fn ask_again<R: Threads + Wait + Clock + Sync, L: OpenLine<Free> + Sleeping<Free> + Sync + Drop>(
+    rt: &R,
+    alloc: Global,
+    again: Again,
+) -> Option<[bool; 2]>
 where
     L::Port: Send + Drop,
 {

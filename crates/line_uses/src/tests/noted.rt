@@ -1,6 +1,7 @@
 //! How waiters sleep: a line whose waiters' sleeps are noted, and a clock that goes on by a millisecond whenever it is read.
 ghost use Rattle.std.specs.Prelude.{◌≡◌, map, All, IfOk, IfErr, IfSome, IsTrue};
 ghost use Rattle.qolb_model.specs.Finishing.{MayRefuse, IsFinished};
+ghost use Rattle.qolb_model.specs.OneOwner.{turn_after};
 ghost use Rattle.qolb_model.specs.PortStates.{may_ask};
 
 use line_lanes::{Line64, Mask};
@@ -74,7 +75,7 @@ impl<'n, L> NotedLine<'n, L> {
     }
 }
 
-impl<'n, K: Keep, L: LineSync<K>> LineSync<K> for NotedLine<'n, L> {
+impl<'n, K: Keep, L: Sleeping<K>> LineSync<K> for NotedLine<'n, L> {
     type Port = L::Port;
 
     ghost view = { L.view };
@@ -101,11 +102,15 @@ impl<'n, K: Keep, L: LineSync<K>> LineSync<K> for NotedLine<'n, L> {
         self.line.nodes()
     }
 
-    fn node(port: &L::Port) -> u64 {
+    fn node(port: &L::Port) -> u64
+        ensures { result ≡ (L.view port.now).node }
+    {
         L::node(port)
     }
 
-    fn state(port: &L::Port) -> PortState {
+    fn state(port: &L::Port) -> PortState
+        ensures { result ≡ (L.view port.now).state }
+    {
         L::state(port)
     }
 
@@ -113,7 +118,10 @@ impl<'n, K: Keep, L: LineSync<K>> LineSync<K> for NotedLine<'n, L> {
         self.line.owns(port)
     }
 
-    fn bytes(port: &L::Port) -> &Line64 {
+    fn bytes(port: &L::Port) -> &Line64
+        requires { (L.view port.now).state ≡ PortState.Holding }
+        ensures { result.now ≡ (L.turn port.now).bytes }
+    {
         L::bytes(port)
     }
 
@@ -121,7 +129,13 @@ impl<'n, K: Keep, L: LineSync<K>> LineSync<K> for NotedLine<'n, L> {
         self.line.turns_left(port)
     }
 
-    fn write(port: &mut L::Port, mask: Mask, bytes: &Line64) {
+    fn write(port: &mut L::Port, mask: Mask, bytes: &Line64)
+        requires { (L.view port.old).state ≡ PortState.Holding }
+        ensures view { L.view port.new ≡ L.view port.old }
+        ensures turn { L.turn port.new ≡ turn_after (L.turn port.old) mask.0 bytes.now.bytes }
+        ensures looks { L.looks port.new ≡ L.looks port.old }
+        ensures belongs { (line : Self) → L.belongs line.line port.old → L.belongs line.line port.new }
+    {
         L::write(port, mask, bytes)
     }
 
@@ -177,7 +191,7 @@ impl<'n, K: Keep, L: LineSync<K>> LineSync<K> for NotedLine<'n, L> {
     ghost sound = { λ noted port belongs. L.sound noted.line port belongs };
 }
 
-impl<'n, K: Keep, L: LineSync<K>> Sleeping<K> for NotedLine<'n, L> {
+impl<'n, K: Keep, L: Sleeping<K>> Sleeping<K> for NotedLine<'n, L> {
     fn sleep<R: Wait>(&self, _rt: &R, _port: &L::Port, at_most: Duration) {
         self.notes.note(at_most);
     }
@@ -220,7 +234,7 @@ impl<R> Clock for Ticking<'_, R> {
 }
 
 /// A new line of two nodes, whose sleeps are noted, and its ports.
-fn open_noted<'n, L: OpenLine<Free>>(
+fn open_noted<'n, L: OpenLine<Free> + Sleeping<Free>>(
     alloc: Global,
     notes: &'n Notes,
 ) -> Option<(NotedLine<'n, L>, L::Port, L::Port)>
@@ -244,7 +258,7 @@ where
 
 /// What node 2 is answered that waits so many milliseconds while node 1 has the line, by a clock that runs or can't be read; and how often
 /// it read that.
-fn wait_by<R: Wait, L: OpenLine<Free> + Drop>(
+fn wait_by<R: Wait, L: OpenLine<Free> + Sleeping<Free> + Drop>(
     rt: &R,
     alloc: Global,
     notes: &Notes,
@@ -266,7 +280,10 @@ where
 
 /// A wait begins at the first reading, 0 milliseconds, reads the clock between its looks, and is late where it reads the limit. No sleep is
 /// to take longer than what is left.
-fn a_wait_keeps_to_its_time<R: Wait + Abort, L: OpenLine<Free> + Drop>(rt: &R, alloc: Global)
+fn a_wait_keeps_to_its_time<R: Wait + Abort, L: OpenLine<Free> + Sleeping<Free> + Drop>(
+    rt: &R,
+    alloc: Global,
+)
 where
     L::Port: Drop,
 {
@@ -279,7 +296,10 @@ where
 }
 
 /// With no time, or by a clock that can't be read, it is late without a sleep.
-fn no_time_is_over_at_once<R: Wait + Abort, L: OpenLine<Free> + Drop>(rt: &R, alloc: Global)
+fn no_time_is_over_at_once<R: Wait + Abort, L: OpenLine<Free> + Sleeping<Free> + Drop>(
+    rt: &R,
+    alloc: Global,
+)
 where
     L::Port: Drop,
 {
@@ -292,7 +312,7 @@ where
 }
 
 /// Node 2 looks twice in vain at a line whose waiters sleep, and once more when node 1 has let go. Whether each answer was as it has to be.
-fn look_asleep<R: Wait, L: OpenLine<Free> + Drop>(
+fn look_asleep<R: Wait, L: OpenLine<Free> + Sleeping<Free> + Drop>(
     rt: &R,
     alloc: Global,
     notes: &Notes,
@@ -318,7 +338,10 @@ where
 }
 
 /// Of the looks at a line whose waiters sleep each sleeps once that finds that the request waits, and no other.
-fn each_look_in_vain_sleeps_once<R: Wait + Abort, L: OpenLine<Free> + Drop>(rt: &R, alloc: Global)
+fn each_look_in_vain_sleeps_once<R: Wait + Abort, L: OpenLine<Free> + Sleeping<Free> + Drop>(
+    rt: &R,
+    alloc: Global,
+)
 where
     L::Port: Drop,
 {
@@ -373,7 +396,7 @@ where
 }
 
 /// Whether each of two nodes of a new line had it, the first until the second was to sleep.
-fn hand_to_a_sleeper<R: Threads + Wait + Sync, L: OpenLine<Free> + Sync + Drop>(
+fn hand_to_a_sleeper<R: Threads + Wait + Sync, L: OpenLine<Free> + Sleeping<Free> + Sync + Drop>(
     rt: &R,
     alloc: Global,
     notes: &Notes,
@@ -395,20 +418,23 @@ where
 }
 
 /// A waiter that sleeps does sleep where its turn does not come, and for as long as it may.
-fn a_long_wait_sleeps<R: Threads + Wait + Abort + Sync, L: OpenLine<Free> + Sync + Drop>(
-    rt: &R,
-    alloc: Global,
-)
+fn a_long_wait_sleeps<
+    R: Threads + Wait + Abort + Sync,
+    L: OpenLine<Free> + Sleeping<Free> + Sync + Drop,
+>(rt: &R, alloc: Global)
 where
     L::Port: Send + Drop,
 {
     let notes = Notes::none();
-    assert_eq!(rt; hand_to_a_sleeper::<R, L>(rt, alloc, &notes), Some([true, true]));
+    assert_eq!(rt;
+        hand_to_a_sleeper::<R, L>(rt, alloc, &notes),
+        Some([true, true])
+    );
     assert_eq!(rt; notes.last(), u64::MAX);
 }
 
 /// Each of these over lines of this type.
-fn each_sleep<R: Threads + Wait + Abort + Sync, L: OpenLine<Free> + Sync + Drop>(
+fn each_sleep<R: Threads + Wait + Abort + Sync, L: OpenLine<Free> + Sleeping<Free> + Sync + Drop>(
     rt: &R,
     alloc: Global,
 )

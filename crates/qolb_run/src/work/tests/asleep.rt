@@ -1,12 +1,11 @@
 //! Workers that are to sleep, over lines that a holder keeps until one has slept.
 ghost use Rattle.std.specs.Prelude.{◌≡◌, map, All, IfOk, IfErr};
 ghost use Rattle.qolb_model.specs.Finishing.{MayRefuse, IsFinished};
+ghost use Rattle.qolb_model.specs.OneOwner.{turn_after};
 
 use super::*;
 use line_lanes::{Line64, Mask};
-use qolb_model::{
-    Enq, Keep, LineSync, OpenError, Out, Poll, PortState, Terms, Unfinished,
-};
+use qolb_model::{Enq, Keep, LineSync, OpenError, Out, Poll, PortState, Terms, Unfinished};
 use std::time::Duration;
 
 /// A line that nobody releases before somebody has slept at it. So work at it does not end where two ask for it, and the waiter does not
@@ -29,7 +28,7 @@ impl<L> HeldLine<L> {
     }
 }
 
-impl<K: Keep, L: LineSync<K>> LineSync<K> for HeldLine<L> {
+impl<K: Keep, L: Sleeping<K>> LineSync<K> for HeldLine<L> {
     type Port = L::Port;
 
     ghost view = { L.view };
@@ -56,11 +55,15 @@ impl<K: Keep, L: LineSync<K>> LineSync<K> for HeldLine<L> {
         self.line.nodes()
     }
 
-    fn node(port: &L::Port) -> u64 {
+    fn node(port: &L::Port) -> u64
+        ensures { result ≡ (L.view port.now).node }
+    {
         L::node(port)
     }
 
-    fn state(port: &L::Port) -> PortState {
+    fn state(port: &L::Port) -> PortState
+        ensures { result ≡ (L.view port.now).state }
+    {
         L::state(port)
     }
 
@@ -68,7 +71,10 @@ impl<K: Keep, L: LineSync<K>> LineSync<K> for HeldLine<L> {
         self.line.owns(port)
     }
 
-    fn bytes(port: &L::Port) -> &Line64 {
+    fn bytes(port: &L::Port) -> &Line64
+        requires { (L.view port.now).state ≡ PortState.Holding }
+        ensures { result.now ≡ (L.turn port.now).bytes }
+    {
         L::bytes(port)
     }
 
@@ -76,7 +82,13 @@ impl<K: Keep, L: LineSync<K>> LineSync<K> for HeldLine<L> {
         self.line.turns_left(port)
     }
 
-    fn write(port: &mut L::Port, mask: Mask, bytes: &Line64) {
+    fn write(port: &mut L::Port, mask: Mask, bytes: &Line64)
+        requires { (L.view port.old).state ≡ PortState.Holding }
+        ensures view { L.view port.new ≡ L.view port.old }
+        ensures turn { L.turn port.new ≡ turn_after (L.turn port.old) mask.0 bytes.now.bytes }
+        ensures looks { L.looks port.new ≡ L.looks port.old }
+        ensures belongs { (line : Self) → L.belongs line.line port.old → L.belongs line.line port.new }
+    {
         L::write(port, mask, bytes)
     }
 
@@ -140,7 +152,7 @@ impl<K: Keep, L: Sleeping<K>> Sleeping<K> for HeldLine<L> {
     }
 }
 
-impl<K: Keep, L: OpenLine<K>> OpenLine<K> for HeldLine<L> {
+impl<K: Keep, L: OpenLine<K> + Sleeping<K>> OpenLine<K> for HeldLine<L> {
     fn open_with(
         alloc: Global,
         label: u64,
@@ -187,8 +199,16 @@ fn workers_sleep_that_are_to(rt: HostRuntime) -> Result<(), Fail> {
         total: 2,
     };
     for (kind, script, report) in [
-        (WorkKind::Board, "board workers 2\n1 put 5\n2 put 6\n", board),
-        (WorkKind::Bank, "bank workers 2 lines 1\n1 in 0 1\n2 in 0 1\n", bank),
+        (
+            WorkKind::Board,
+            "board workers 2\n1 put 5\n2 put 6\n",
+            board,
+        ),
+        (
+            WorkKind::Bank,
+            "bank workers 2 lines 1\n1 in 0 1\n2 in 0 1\n",
+            bank,
+        ),
     ] {
         let work = read_work(alloc, script.as_bytes(), kind)?;
         for lines in ALL {
