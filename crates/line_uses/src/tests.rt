@@ -1,7 +1,6 @@
 //! The uses, over all lines.
 mod again;
 mod asleep;
-mod noted;
 mod parked;
 mod passing;
 

@@ -2,7 +2,6 @@
 ghost use Rattle.std.specs.Prelude.{IsTrue};
 ghost use Rattle.qolb_model.specs.PortStates.{may_ask};
 
-use crate::tests::noted::wait_until_some;
 use crate::timed::add_within;
 use line_lanes::Line64;
 use line_threads::together::{Work, together};
@@ -17,12 +16,22 @@ use std::sync::Wait;
 use std::sync::atomic::{AtomicU64, Ordering};
 use std::test::Fail;
 use std::thread;
-use std::thread::Threads;
+use std::thread::{Threads, yield_now};
 use std::time::Duration;
 use ticket_line::TicketLine;
 
 /// For how many milliseconds node 1 still has the line when node 2 asks again.
 const BUSY_MILLIS: u64 = 30;
+
+/// Waits until the count is no longer 0.
+fn wait_until_some<R: Wait>(rt: &R, count: &AtomicU64) {
+    for _ in rt.forever() {
+        if count.load(Ordering::SeqCst) > 0 {
+            return;
+        }
+        yield_now();
+    }
+}
 
 /// How node 2 asks again.
 #[derive(Clone, Copy, Debug)]

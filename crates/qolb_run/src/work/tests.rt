@@ -1,5 +1,3 @@
-mod asleep;
-
 use super::*;
 use crate::gate::AlwaysOpen;
 use crate::report::report_work;
