@@ -19,7 +19,10 @@ For each one a line:
 
 It ends with 1 where an edit is `new`, `shape`, `names` or proved, or can't be applied.
 
-  tools/edits.py [--jobs N] [--only WORD] [--keep FOLDER] [CRATE ..]
+With --log it tries nothing: it reads what a run of `rt ci` or `rt must-fail` said of each edit, which is the first error alone. Then an edit is
+`answer`, `goal` (one that the tactics no longer prove, by whatever name), `names`, `limit` (the prover gave up) or PROVED.
+
+  tools/edits.py [--jobs N] [--only WORD] [--keep FOLDER] [--log FILE] [CRATE ..]
 """
 
 import argparse
@@ -122,13 +125,42 @@ def verdict(log, goals):
     return "names", ("gone: " if gone else "") + first[:160]
 
 
+def told(text):
+    """What `rt ci` said of an edit: the kind, and the goal that it names first."""
+    goal = next(iter(re.findall(r"`([^`]+)`", text)), "")
+    if text.startswith("NOT REFUSED"):
+        return "PROVED", ""
+    if "only because a proof file names" in text:
+        return "names", goal
+    if "only by a limit" in text:
+        return "limit", goal
+    if not text.startswith("refused"):
+        return "bad", text[:160]
+    return ("answer" if re.search(r"/(Answers|Invariants)\.antt:", text) else "goal"), goal
+
+
+def by_log(path, only, names):
+    """Says of each edit what the log of a run says of it."""
+    bad = 0
+    for crate, edit, text in re.findall(r"^must-fail ([a-z0-9_]+)/(\S+)\.edit: (.*)$", pathlib.Path(path).read_text(), re.M):
+        if only not in edit or (names and crate not in names):
+            continue
+        kind, goal = told(text)
+        bad += kind in ("names", "bad", "PROVED")
+        print(f"{kind:7} {crate}/{edit}  {goal}")
+    return 1 if bad else 0
+
+
 def main():
     parser = argparse.ArgumentParser(description=__doc__, formatter_class=argparse.RawDescriptionHelpFormatter)
     parser.add_argument("--jobs", type=int, default=2)
     parser.add_argument("--only", default="", help="only edits whose names contain this")
     parser.add_argument("--keep", help="where to keep the check's words, a file an edit")
+    parser.add_argument("--log", help="the log of a run of rt ci or rt must-fail")
     parser.add_argument("crates", nargs="*")
     args = parser.parse_args()
+    if args.log:
+        return by_log(args.log, args.only, args.crates)
     names = args.crates or [line.split(":")[0].split()[0] for line in (ROOT / "crates.txt").read_text().splitlines() if line[:1].isalpha()]
     bad = 0
     with tempfile.TemporaryDirectory() as room:
