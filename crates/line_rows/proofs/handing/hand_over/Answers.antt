@@ -20,3 +20,6 @@ returns-clause-hands_over g c =
     c.meet.ensures.tell.before granted.state granted.at_turn c.meet.ensures.tell.meets_a
     (g.met.L.LineSync.sound line c.meet.new.a c.meet.ensures.belongs_a).terms_are
     (g.met.L.LineSync.sound line c.poll.new.port c.in-Granted-poll.ensures.belongs).terms_are
+
+pub deqolb-requires-clause-belongs : goal.deqolb-requires-clause-belongs
+deqolb-requires-clause-belongs g c = c.write.ensures.belongs c.args.line.now c.in-Granted.ensures.belongs
