@@ -31,7 +31,7 @@ use Rattle.line_accounts.specs.Desks.{IsAtRest}
 use Rattle.line_accounts.specs.Moves.{TakesTurn, AsksInVain, IsRefused}
 use Rattle.line_accounts.specs.declared.answer.Reply.{Reply}
 use Rattle.line_accounts.specs.declared.answer.Reply.TheVariants.{Late, Busy}
-use Rattle.line_accounts.proofs.Turns.{slice_get-append_right}
+use Rattle.qolb_model.proofs.Sums.{slice_get-append_right}
 use Rattle.qolb_run.specs.JustOpened.{work_terms}
 use Rattle.qolb_run.proofs.Banking.{no_money}
 

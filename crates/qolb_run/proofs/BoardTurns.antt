@@ -1,31 +1,33 @@
 -- A board's call, and the turn that its port had in it.
-use Rattle.std.proofs.Common.{◌≡◌, ℕ, zero, suc, ◌+◌, ◌<◌, ◌≤◌, ◌⊎◌, inl, inr, Bool, true, false, if◌then◌else◌, List, [], ◌∷◌, ◌++◌, length, take, drop, replicate, Some, slice_get, refl, ap, sym, ◌∙◌, arith, append-nil, append_assoc, length-append}
+use Rattle.std.proofs.Common.{◌≡◌, ℕ, zero, suc, ◌+◌, ◌<◌, ◌≤◌, ◌⊎◌, inl, inr, Bool, true, false, if◌then◌else◌, List, [], ◌∷◌, ◌++◌, length, take, drop, replicate, None, Some, slice_get, refl, ap, sym, subst, ◌∙◌, arith, append-nil, append_assoc, length-append}
 use Rattle.std.proofs.lemmas.Bool.{eq-eqb, cases_lt}
-use Rattle.std.proofs.lemmas.List.{length-take-le, take-append-drop}
+use Rattle.std.proofs.lemmas.List.{length-take-le, take-append-drop, take-append-le}
 use Rattle.std.proofs.lemmas.Option.{slice_get_within}
 use mathlib.Core.List.{IsPrefix}
 use Rattle.qolb_model.specs.declared.request.Request.{Request}
 use Rattle.qolb_model.specs.declared.end.End.{End}
 use Rattle.qolb_model.specs.declared.end.End.TheVariants.{Served, Gone, Told}
+use Rattle.qolb_model.specs.declared.terms.Terms.{Terms}
 use Rattle.qolb_model.specs.declared.view.View.{View}
 use Rattle.qolb_model.specs.declared.write.Write.{Write}
-use Rattle.qolb_model.specs.Requests.{count_of}
+use Rattle.qolb_model.specs.Requests.{Has, count_of}
 use Rattle.qolb_model.specs.Ends.{written, bytes_after}
 use Rattle.qolb_model.specs.EndKinds.{is_served, is_gone}
-use Rattle.qolb_model.specs.Leases.{closes}
+use Rattle.qolb_model.specs.Leases.{is_last_turn, closes}
 use Rattle.qolb_model.specs.PortStates.{may_ask}
 use Rattle.qolb_model.specs.Views.{own, bytes_of}
 use Rattle.qolb_model.specs.OneHistory.{Knows}
 use Rattle.qolb_model.specs.Sound.{KnowsOwnPast, Continues}
 use Rattle.qolb_model.specs.Asking.{IsBusy, Asks}
-use Rattle.qolb_model.proofs.Lists.{never, drop_with}
+use Rattle.qolb_model.proofs.Lists.{never, same_some, element_at, at_either, drop_with}
 use Rattle.qolb_model.proofs.Prefixes.{prefix_get, prefix_self, prefix_trans, prefix_shorter}
 use Rattle.qolb_model.proofs.Histories.{same_place_legal, bytes_after-append}
 use Rattle.qolb_model.proofs.Requests.{count_of-append}
 use Rattle.qolb_model.proofs.Agreeing.{among_first}
-use Rattle.qolb_model.specs.Sums.{KnowsOwnPlaces}
+use Rattle.qolb_model.specs.LettingGo.{IsTold}
+use Rattle.qolb_model.specs.Sums.{KnowsOwnPlaces, HasNotShut}
 use Rattle.line_accounts.specs.Desks.{IsAtRest}
-use Rattle.qolb_model.proofs.OwnTurns.{places_same, places_asked, beyond_own}
+use Rattle.qolb_model.proofs.OwnTurns.{places_same, places_asked, beyond_own, unshut_kept}
 use Rattle.line_board.specs.declared.answer.Put.{Put}
 use Rattle.line_board.specs.declared.answer.Put.TheVariants as put
 use Rattle.line_board.specs.declared.answer.Take.{Take}
@@ -49,6 +51,24 @@ served_stays : (e : End) → is_served e ≡ true → is_gone e ≡ true → ⊥
 served_stays (Served write shut) a b = let no : false ≡ true = b in cc no
 served_stays Gone a b = let no : false ≡ true = a in cc no
 served_stays Told a b = let no : false ≡ true = a in cc no
+
+shut_of : End → Bool
+shut_of (Served write shut) = shut
+shut_of Gone = false
+shut_of Told = false
+
+none_served : (n q : ℕ) (write : Write) (shut : Bool) → slice_get (replicate n Gone) q ≡ Some (Served write shut) → ⊥
+none_served zero q write shut at = let no : None ≡ Some (Served write shut) = at in cc no
+none_served (suc n) zero write shut at = let no : true ≡ false = ap is_gone (same_some at) in cc no
+none_served (suc n) (suc q) write shut at = none_served n q write shut at
+
+-- a beginning of a list begins as the list does
+take_prefix : {X : Type 0} (xs ys : List X) (p : ℕ) → IsPrefix xs ys → p ≤ length xs → take p ys ≡ take p xs
+take_prefix xs ys p (more, is) le = ap (take p) (sym is) ∙ take-append-le p xs more le
+
+take-whole : (ends : List End) → take (length ends) ends ≡ ends
+take-whole [] = refl
+take-whole (e ∷ ends) = ap (λ es. e ∷ es) (take-whole ends)
 
 -- a port that makes calls of a board
 module _ (old new : View) (rest : IsAtRest old) (past : KnowsOwnPast old) (c : Continues Changes old new) where
@@ -76,6 +96,7 @@ module _ (old new : View) (rest : IsAtRest old) (past : KnowsOwnPast old) (c : C
     node = c.extends.node;
     at_rest = record { quiet = quiet; places = places };
     turns = turns_kept old new c.extends c.history rest past (λ p r e le at_r at_e same. unserved p r e at_r same (later p r le at_r same) at_e) ∙ sym (append-nil (turns_of old));
+    unshut = unshut_kept old new c.extends c.history rest.quiet past (λ p r e le at_r at_e same. unserved p r e at_r same (later p r le at_r same) at_e);
   }
 
   -- a call in which it had a turn
@@ -154,6 +175,44 @@ module _ (old new : View) (rest : IsAtRest old) (past : KnowsOwnPast old) (c : C
         was : turns old.order old.ends ≡ turns_of old
         was = ap (λ n. node_turns n new.terms.opening.bytes old.order old.ends) c.extends.node ∙ ap (λ t. node_turns old.node t.opening.bytes old.order old.ends) c.extends.terms
 
+    -- it shut the line no more than those before
+    unshut_turn : shut ≡ is_last_turn new.terms.lease before → HasNotShut old → HasNotShut new
+    unfolding shut_of
+    unshut_turn own_shut unshut p r w s at_r same at_e =
+        elim (at_either before (Served write shut ∷ replicate passed Gone) p (Served w s) (ap (λ l. slice_get l p) (sym ends) ∙ at_e)) [
+          | inl there ↦
+              let within = slice_get_within before p (Served w s) there in
+              let lt : p < length old.order = elim (cases_lt p (length old.order)) [
+                | inl lt ↦ lt
+                | inr ge ↦
+                    let is = beyond_own old new c.extends c.history asks rest.places p r ge at_r same in
+                    let place = one_place p (length before) (at_r ∙ ap Some is) at_turn in
+                    absurd (omega (arith, place, within))
+              ] in
+              let (x, at_x) = element_at old.order p lt in
+              let is : x ≡ r = same_some (sym (prefix_get old.order new.order p x c.extends.order at_x) ∙ at_r) in
+              let own_x : x.node ≡ old.node = ap (λ (y : Request). y.node) is ∙ (same ∙ c.extends.node) in
+              let lt_ends : p < length old.ends = elim (past p x at_x own_x) [
+                | inl lt_ends ↦ lt_ends
+                | inr (inl marked) ↦
+                    let gone = knows.own_marks p r (Served w s) (prefix_get new.order c.history.order p r knows.order_begins at_r) (prefix_get new.ends c.history.ends p (Served w s) knows.ends_begin at_e) same in
+                    absurd (served_stays (Served w s) refl (sym gone ∙ c.extends.marked r (subst (λ (y : Request). Has old.marked y) is marked)))
+                | inr (inr last) ↦ absurd (never rest.quiet last.1)
+              ] in
+              let (e, at_old) = element_at old.ends p lt_ends in
+              let is_e : e ≡ Served w s = same_some (sym (prefix_get old.ends new.ends p e c.extends.ends at_old) ∙ at_e) in
+              unshut p x w s at_x own_x (at_old ∙ ap Some is_e)
+              ∙ (ap (λ (t : Terms). is_last_turn t.lease (take p old.ends)) (sym c.extends.terms)
+              ∙ ap (is_last_turn new.terms.lease) (sym (take_prefix old.ends new.ends p c.extends.ends (omega (arith, lt_ends)))))
+          | inr (zero, is_p, at_last) ↦
+              let e : p ≡ length before = omega (arith, is_p) in
+              let is : Served write shut ≡ Served w s = same_some at_last in
+              sym (ap shut_of is)
+              ∙ (own_shut
+              ∙ ap (is_last_turn new.terms.lease) (sym (ap (λ n. take n new.ends) e ∙ (take_prefix before new.ends (length before) (tail, sym ends) (omega arith) ∙ take-whole before))))
+          | inr (suc q, is_p, at_gone) ↦ absurd (none_served passed q w s at_gone)
+        ]
+
   -- a turn that found these tasks and left those
   works_turn : {found left puts takes : List ℕ} → Asks old new → may_ask new.state ≡ true → HadTurn found left puts takes new → HasTurns old new (record { found = found; left = left } ∷ [])
   works_turn {found} {left} asks quiet t = record {
@@ -161,6 +220,7 @@ module _ (old new : View) (rest : IsAtRest old) (past : KnowsOwnPast old) (c : C
     at_rest = record { quiet = quiet; places = places_asked old new c.extends c.history asks rest.places };
     turns = one_turn asks t.before t.write (closes new.terms.lease t.before false) t.passed t.ends t.at_turn
         ∙ ap (λ (turn : Turn). turns_of old ++ turn ∷ []) (λ i. record { found = standing-stand (bytes_after new.terms.opening.bytes t.before) found t.found_there i; left = standing-stand (bytes_of new) left t.left_there i });
+    unshut = unshut_turn asks t.before t.write (closes new.terms.lease t.before false) t.passed t.ends t.at_turn refl;
   }
 
   not_busy : IsBusy old new → KnowsOwnPlaces new
@@ -199,6 +259,13 @@ module _ (old new : View) (task : ℕ) (answer : Put) (rest : IsAtRest old) (pas
       works_not old new rest past p.continues p.may_ask (not_busy old new rest past p.continues (p.busy is))
       (p.unserved (λ e. let no : put.Busy ≡ put.Stored = sym is ∙ e in cc no) (λ e. let no : put.Busy ≡ put.Full = sym is ∙ e in cc no))
 
+  put_told : answer ≡ put.Closed → HasTurns old new [] × IsTold new
+  put_told is = (
+    works_not old new rest past p.continues p.may_ask (places_asked old new p.continues.extends p.continues.history (p.asks (λ e. let no : put.Closed ≡ put.Busy = sym is ∙ e in cc no)) rest.places)
+        (p.unserved (λ e. let no : put.Closed ≡ put.Stored = sym is ∙ e in cc no) (λ e. let no : put.Closed ≡ put.Full = sym is ∙ e in cc no)),
+    p.told is,
+  )
+
 -- and a take
 module _ (old new : View) (answer : Take) (rest : IsAtRest old) (past : KnowsOwnPast old) (t : Takes old new answer) where
   took_task : (task : ℕ) → answer ≡ take.Task task → (turn : Turn) × HasTurns old new (turn ∷ []) × HasTakenOne turn
@@ -229,13 +296,20 @@ module _ (old new : View) (answer : Take) (rest : IsAtRest old) (past : KnowsOwn
       works_not old new rest past t.continues t.may_ask (not_busy old new rest past t.continues (t.busy is))
       (t.unserved (λ task e. let no : take.Busy ≡ take.Task task = sym is ∙ e in cc no) (λ e. let no : take.Busy ≡ take.Empty = sym is ∙ e in cc no))
 
+  take_told : answer ≡ take.Closed → HasTurns old new [] × IsTold new
+  take_told is = (
+    works_not old new rest past t.continues t.may_ask (places_asked old new t.continues.extends t.continues.history (t.asks (λ e. let no : take.Closed ≡ take.Busy = sym is ∙ e in cc no)) rest.places)
+        (t.unserved (λ task e. let no : take.Closed ≡ take.Task task = sym is ∙ e in cc no) (λ e. let no : take.Closed ≡ take.Empty = sym is ∙ e in cc no)),
+    t.told is,
+  )
+
 -- one call after another that had no turn
 pub turns_on : (old mid new : View) (more : List Turn) → HasTurns old mid [] → HasTurns mid new more → HasTurns old new more
-turns_on old mid new more w v = record { node = v.node ∙ w.node; at_rest = v.at_rest; turns = v.turns ∙ ap (λ ts. ts ++ more) (w.turns ∙ append-nil (turns_of old)) }
+turns_on old mid new more w v = record { node = v.node ∙ w.node; at_rest = v.at_rest; turns = v.turns ∙ ap (λ ts. ts ++ more) (w.turns ∙ append-nil (turns_of old)); unshut = λ unshut. v.unshut (w.unshut unshut) }
 
 -- no call
 pub turns_none : (v : View) → IsAtRest v → HasTurns v v []
-turns_none v rest = record { node = refl; at_rest = rest; turns = sym (append-nil (turns_of v)) }
+turns_none v rest = record { node = refl; at_rest = rest; turns = sym (append-nil (turns_of v)); unshut = λ unshut. unshut }
 
 -- a put after tries that came to nothing
 module _ (u v w : View) (task : ℕ) (so : HasTurns u v []) (past : KnowsOwnPast v) (answer : Put) (p : Puts task v w answer) where
@@ -248,6 +322,9 @@ module _ (u v w : View) (task : ℕ) (so : HasTurns u v []) (past : KnowsOwnPast
   pub then_put_again : (answer ≡ put.Late) ⊎ (answer ≡ put.Busy) → HasTurns u w []
   then_put_again is = turns_on u v w [] so (put_again v w task answer so.at_rest past p is)
 
+  pub then_put_told : answer ≡ put.Closed → HasTurns u w [] × IsTold w
+  then_put_told is = let (had, told) = put_told v w task answer so.at_rest past p is in (turns_on u v w [] so had, told)
+
 -- and a take
 module _ (u v w : View) (so : HasTurns u v []) (past : KnowsOwnPast v) (answer : Take) (t : Takes v w answer) where
   pub then_taken : (task : ℕ) → answer ≡ take.Task task → (turn : Turn) × HasTurns u w (turn ∷ []) × HasTakenOne turn
@@ -258,3 +335,6 @@ module _ (u v w : View) (so : HasTurns u v []) (past : KnowsOwnPast v) (answer :
 
   pub then_take_again : (answer ≡ take.Late) ⊎ (answer ≡ take.Busy) → HasTurns u w []
   then_take_again is = turns_on u v w [] so (take_again v w answer so.at_rest past t is)
+
+  pub then_take_told : answer ≡ take.Closed → HasTurns u w [] × IsTold w
+  then_take_told is = let (had, told) = take_told v w answer so.at_rest past t is in (turns_on u v w [] so had, told)

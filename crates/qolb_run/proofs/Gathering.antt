@@ -1,5 +1,5 @@
 -- Workers' hands, gathered, summed up and freshly made.
-use Rattle.std.proofs.Common.{◌≡◌, ℕ, zero, suc, ◌+◌, ◌<◌, ◌≤◌, ◌==◌, List, [], ◌∷◌, ◌++◌, length, map, take, All, option_map, Option, Some, None, slice_get, get_or, refl, ap, sym, ◌∙◌, subst, arith}
+use Rattle.std.proofs.Common.{◌≡◌, ℕ, zero, suc, ◌+◌, ◌<◌, ◌≤◌, ◌==◌, inl, inr, List, [], ◌∷◌, ◌++◌, length, map, take, All, option_map, Option, Some, None, slice_get, get_or, refl, ap, sym, ◌∙◌, subst, arith}
 use Rattle.std.proofs.lemmas.List.{length-take-le}
 use Rattle.std.proofs.lemmas.List.Sums.{length-filter, count_by-le-length}
 use Rattle.std.proofs.lemmas.Option.{slice_get_within, slice_get-get_or, get_or_from_slice_get}
@@ -15,7 +15,7 @@ use Rattle.qolb_model.specs.Opening.{AreNew, new_view}
 use Rattle.line_threads.specs.Places.{AllAt}
 use Rattle.qolb_run.specs.JustOpened.{AreJustOpened}
 use Rattle.qolb_run.specs.Jobs.{jobs_of}
-use Rattle.qolb_run.specs.Workers.{AreBack, AreDone, AreFresh, MayBeGone}
+use Rattle.qolb_run.specs.Workers.{AreBack, AreDone, AreFresh, HasEnded, MayBeGone}
 use Rattle.qolb_run.specs.declared.work.RunError.TheVariants.{Stalled}
 
 -- what stands at a place of a list that was mapped is of what stood there
@@ -58,6 +58,14 @@ slice_get-map_some (h ∷ hands) (suc k) hand at = slice_get-map_some hands k ha
 pub done_of : {Site Hand : Type 0} (has_done : Site → ℕ → Hand → List Job → Type 0) (site : Site) (jobs : List Job) (back : List (Option Hand)) (hands : List Hand)
     → map Some hands ≡ back → AreBack has_done site jobs back → AreDone has_done site jobs hands
 done_of has_done site jobs back hands is all = λ k hand at. all k hand (ap (λ b. slice_get b k) (sym is) ∙ slice_get-map_some hands k hand at)
+
+-- where none was told, who came to its end has done its jobs
+pub done_if_untold : {Site Hand : Type 0} (has_done : Site → ℕ → Hand → List Job → Type 0) (was_told : Site → ℕ → Hand → Type 0) (site : Site) (jobs : List Job) (hands : List Hand)
+    → ((k : ℕ) (hand : Hand) → slice_get hands k ≡ Some hand → ¬ was_told site (k + 1) hand) → AreDone (HasEnded has_done was_told) site jobs hands → AreDone has_done site jobs hands
+done_if_untold has_done was_told site jobs hands none ended = λ k hand at. elim (ended k hand at) [
+  | inl done ↦ done
+  | inr told ↦ absurd (none k hand at told)
+]
 
 -- what holds of each element, and of one more behind them
 pub each_pushed : {X : Type 0} (P : ℕ → X → Type 0) (xs : List X) (x : X) → ((k : ℕ) (y : X) → slice_get xs k ≡ Some y → P k y) → P (length xs) x → (k : ℕ) (y : X) → slice_get (xs ++ x ∷ []) k ≡ Some y → P k y

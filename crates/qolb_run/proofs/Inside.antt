@@ -53,6 +53,7 @@ module _ {Line Outer Port : Type 0} (belongs : Line → Port → Type 0) (view :
       of_line = done.of_line;
       of_worker = done.of_worker;
       at_rest = done.at_rest;
+      unshut = done.unshut;
       did = done.did;
       counts_are = done.counts_are;
     };

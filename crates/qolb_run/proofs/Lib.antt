@@ -11,6 +11,8 @@ pub mod Merging
 pub mod Working
 pub mod Refusing
 pub mod Gathering
+pub mod Hands
+pub mod Untold
 pub mod Summing
 pub mod Banking
 pub mod Alone

@@ -1,11 +1,11 @@
 -- The counts of all hands at a board, and the report that they make.
-use Rattle.std.proofs.Common.{◌≡◌, ℕ, zero, suc, ◌+◌, ◌*◌, ◌<◌, ◌≤◌, ◌==◌, inl, inr, Bool, true, false, cond, List, [], ◌∷◌, length, map, take, All, Some, None, option_map, slice_get, get_or, refl, ap, sym, ◌∙◌, subst, arith, zero-add}
+use Rattle.std.proofs.Common.{◌≡◌, ℕ, zero, suc, ◌+◌, ◌*◌, ◌<◌, ◌≤◌, ◌==◌, inl, inr, Bool, true, false, cond, List, [], ◌∷◌, length, map, take, All, Some, None, slice_get, get_or, refl, ap, sym, ◌∙◌, subst, arith, zero-add}
 use Rattle.std.specs.List.{sum_by, count_by, filter}
 use Rattle.std.proofs.lemmas.Bool.{cases_lt, eqb-true, eq-eqb, ne_eqb}
 use Rattle.std.proofs.lemmas.List.{length-take-le}
 use Rattle.std.proofs.lemmas.List.Sums.{sum_by-le, sum_by-cons, count_by-le-length, length-filter}
 use Rattle.std.proofs.lemmas.List.Elements.{All-take, All-head, All-tail}
-use Rattle.std.proofs.lemmas.Option.{slice_get-get_or, slice_get-map}
+use Rattle.std.proofs.lemmas.Option.{slice_get-get_or}
 use Rattle.line_lanes.specs.Line.{zeros}
 use Rattle.qolb_model.specs.declared.request.Request.{Request}
 use Rattle.qolb_model.specs.declared.end.End.{End}
@@ -13,11 +13,10 @@ use Rattle.qolb_model.specs.declared.terms.Terms.{Terms}
 use Rattle.qolb_model.specs.declared.terms.TheConstants.{MOST_NODES}
 use Rattle.qolb_model.specs.declared.view.View.{View}
 use Rattle.qolb_model.specs.Ends.{bytes_after}
-use Rattle.qolb_model.specs.PortStates.{may_ask}
 use Rattle.qolb_model.specs.OneHistory.{IsAmong}
-use Rattle.qolb_model.specs.Finishing.{IsFinished, MayFinish}
-use Rattle.qolb_model.proofs.Lists.{never, same_some, element_at}
-use Rattle.qolb_model.specs.Sums.{KnowsOwnPlaces}
+use Rattle.qolb_model.specs.Finishing.{IsFinished}
+use Rattle.qolb_model.proofs.Lists.{never, same_some}
+use Rattle.qolb_model.specs.Sums.{KnowsOwnPlaces, HasNotShut}
 use Rattle.line_accounts.specs.Desks.{IsAtRest}
 use Rattle.qolb_model.proofs.Sums.{sum-plus, sum-each, once_there}
 use Rattle.line_accounts.proofs.Settlements.{sum-of_map}
@@ -33,12 +32,13 @@ use Rattle.qolb_script.specs.Jobs.{worker_of}
 use Rattle.qolb_script.specs.WorkScript.{WorkScript, AreOfIts}
 use Rattle.qolb_run.specs.Jobs.{is_put, is_take, puts_in, takes_in, jobs_of}
 use Rattle.qolb_run.specs.JustOpened.{IsJustOpened, work_terms}
-use Rattle.qolb_run.specs.Workers.{AreDone}
+use Rattle.qolb_run.specs.Workers.{AreDone, HasEnded}
 use Rattle.qolb_run.specs.Reports.{IsDoneInTurn}
 use Rattle.qolb_run.specs.declared.board.BoardCounts.{BoardCounts}
 use Rattle.qolb_run.specs.declared.board.BoardHand.{BoardHand}
 use Rattle.qolb_run.specs.BoardRuns.{BoardRun, after_jobs, no_counts, empty_board, report_of}
-use Rattle.qolb_run.specs.BoardWork.{Turn, turns_of, node_turns, Did, HasWorked, AreWithin, AreSums, counts_of, stores, finds_full, takes, finds_none}
+use Rattle.qolb_run.specs.BoardWork.{Turn, turns_of, node_turns, Did, HasWorked, WasTold, AreWithin, AreSums, counts_of, stores, finds_full, takes, finds_none}
+use Rattle.qolb_run.proofs.Hands.{view_at, hand_at}
 use Rattle.qolb_run.proofs.Shares.{counts_of_all}
 use Rattle.qolb_run.proofs.Turns.{turns_whole, node_turns-unserved}
 use Rattle.qolb_run.proofs.Merging.{AreOwn, Merged, all_turns, plus, merge, did_long, did_puts, did_takes, kept_run, counts_whole, one_owner}
@@ -66,6 +66,7 @@ worked_nothing belongs view line terms worker port of_line (label, is) = record 
   of_line = of_line;
   of_worker = ap (λ (v : View). v.node) is;
   at_rest = subst IsAtRest (sym is) (record { quiet = refl; places = refl });
+  unshut = subst (λ (v : View). HasNotShut v) (sym is) (λ p r write shut at same at_end. absurd (let no : None ≡ Some r = at in cc no));
   did = subst (λ (v : View). Did (turns_of v) []) (sym is) tt;
   counts_are = ap (λ (v : View). counts_of (turns_of v)) (sym is);
 }
@@ -105,60 +106,19 @@ module _ {Line Port : Type 0} (belongs : Line → Port → Type 0) (view : Port 
     empty = few_turns finds_none (turns_of (view hand.port)) worker jobs most h.did;
   })
 
-  pub all_within : (hands : List (BoardHand Port)) (jobs : List Job) → length jobs ≤ MOST_COMMANDS → AreDone (HasWorked belongs view) line jobs hands → All (λ hand. AreWithin MOST_COMMANDS hand.counts) hands
-  all_within hands jobs most done = λ k d below. counts_within (get_or hands k d) jobs (k + 1) most (done k (get_or hands k d) (slice_get-get_or hands k d below))
-
-  hand_of : (hands : List (BoardHand Port)) (port : Port) (j : ℕ) → slice_get (map (λ hand. hand.port) hands) j ≡ Some port → (hand : BoardHand Port) × (slice_get hands j ≡ Some hand) × (port ≡ hand.port)
-  hand_of [] port j at = absurd (let no : None ≡ Some port = at in cc no)
-  hand_of (h ∷ hands) port zero at = (h, refl, sym (same_some at))
-  hand_of (h ∷ hands) port (suc j) at = hand_of hands port j at
-
-  port_of : (hands : List (BoardHand Port)) (hand : BoardHand Port) (j : ℕ) → slice_get hands j ≡ Some hand → slice_get (map (λ hand. hand.port) hands) j ≡ Some hand.port
-  port_of [] hand j at = absurd (let no : None ≡ Some hand = at in cc no)
-  port_of (h ∷ hands) hand zero at = ap (λ (x : BoardHand Port). Some x.port) (same_some at)
-  port_of (h ∷ hands) hand (suc j) at = port_of hands hand j at
+  pub all_within : (hands : List (BoardHand Port)) (jobs : List Job) → length jobs ≤ MOST_COMMANDS → AreDone (HasEnded (HasWorked belongs view) (WasTold belongs view)) line jobs hands → All (λ hand. AreWithin MOST_COMMANDS hand.counts) hands
+  all_within hands jobs most ended = λ k d below. elim (ended k (get_or hands k d) (slice_get-get_or hands k d below)) [
+    | inl done ↦ counts_within (get_or hands k d) jobs (k + 1) most done
+    | inr told ↦ told.few
+  ]
 
   module _ (work : WorkScript) (hands : List (BoardHand Port)) (ports : List Port) (done : AreDone (HasWorked belongs view) line work.jobs hands) (are : ports ≡ map (λ hand. hand.port) hands) where
-    -- each view is that of the worker at its place
-    pub view_at : (i : ℕ) (v : View) → slice_get (map view ports) i ≡ Some v → (hand : BoardHand Port) × HasWorked belongs view line (i + 1) hand (jobs_of (i + 1) work.jobs) × (v ≡ view hand.port)
-    view_at i v at =
-        let (port, at_port, is) = place ports i v at in
-        let (hand, at_hand, of) = hand_of hands port i (ap (λ ps. slice_get ps i) (sym are) ∙ at_port) in
-        (hand, done i hand at_hand, is ∙ ap view of)
-      where
-        place : (ports : List Port) (i : ℕ) (v : View) → slice_get (map view ports) i ≡ Some v → (port : Port) × (slice_get ports i ≡ Some port) × (v ≡ view port)
-        place [] i v at = absurd (let no : None ≡ Some v = at in cc no)
-        place (p ∷ ports) zero v at = (p, refl, sym (same_some at))
-        place (p ∷ ports) (suc i) v at = place ports i v at
-
-    pub ports_belong : All (belongs line) ports
-    ports_belong = λ i d below.
-        let (hand, at_hand, of) = hand_of hands (get_or ports i d) i (ap (λ ps. slice_get ps i) (sym are) ∙ slice_get-get_or ports i d below) in
-        subst (belongs line) (sym of) (done i hand at_hand).of_line
+    abbrev Worked : ℕ → BoardHand Port → Type 0
+    Worked worker hand = HasWorked belongs view line worker hand (jobs_of worker work.jobs)
 
     -- the ports of all hands are at rest
     pub places_all : (i : ℕ) (v : View) → slice_get (map view ports) i ≡ Some v → KnowsOwnPlaces v
-    places_all i v at = let (hand, worked, is) = view_at i v at in subst (λ (w : View). KnowsOwnPlaces w) (sym is) worked.at_rest.places
-
-    -- and each node's is there
-    pub hand_at : (worker : ℕ) → 1 ≤ worker → worker ≤ length hands → (i : ℕ) × (hand : BoardHand Port) × (slice_get (map view ports) i ≡ Some (view hand.port)) × HasWorked belongs view line worker hand (jobs_of worker work.jobs)
-    hand_at zero first last = absurd (omega (arith, first))
-    hand_at (suc k) first last =
-        let (hand, at) = element_at hands k (omega (arith, last)) in
-        let name : k + 1 ≡ suc k = omega arith in (
-          k,
-          hand,
-          ap (λ ps. slice_get (map view ps) k) are ∙ (slice_get-map view (map (λ hand. hand.port) hands) k ∙ ap (option_map view) (port_of hands hand k at)),
-          subst (λ n. HasWorked belongs view line n hand (jobs_of n work.jobs)) name (done k hand at),
-        )
-
-    -- nothing but want of memory is in the way of the line's end
-    pub may_finish : (label nodes : ℕ) → ((port : Port) → belongs line port → (view port).label ≡ label) → length hands ≡ nodes → MayFinish label nodes (map view ports)
-    may_finish label nodes labels many = (
-      λ v (i, at). let (hand, worked, is) = view_at i v at in ap (λ (w : View). w.label) is ∙ labels hand.port worked.of_line,
-      λ node first last. let (i, hand, at, worked) = hand_at node first (omega (arith, last, many)) in (view hand.port, (i, at), worked.of_worker),
-      λ node first last v (i, at) same. let (hand, worked, is) = view_at i v at in ap (λ (w : View). may_ask w.state) is ∙ worked.at_rest.quiet,
-    )
+    places_all i v at = let (hand, worked, is) = view_at view hands ports are Worked done i v at in subst (λ (w : View). KnowsOwnPlaces w) (sym is) worked.at_rest.places
 
     -- the counts of a finished board
     module _ (counts : BoardCounts) (label : ℕ) (terms : Terms) (bytes tasks : List ℕ) (sums : AreSums hands counts) (many : length hands ≡ work.workers) (its : AreOfIts work) (terms_are : terms ≡ work_terms work.workers)
@@ -199,7 +159,7 @@ module _ {Line Port : Type 0} (belongs : Line → Port → Type 0) (view : Port 
       node_did zero = none_of 0 (λ n first last. ne_eqb n 0 (λ e. omega (arith, e, first)))
       node_did (suc k) = elim (cases_lt k (length hands)) [
         | inl lt ↦
-            let (i, hand, at, worked) = hand_at (suc k) (omega arith) (omega (arith, lt)) in
+            let (i, hand, at, worked) = hand_at view hands ports are Worked done (suc k) (omega arith) (omega (arith, lt)) in
             let is = known_turns i (view hand.port) at ∙ ap (λ n. node_turns n opening order ends) worked.of_worker in
             subst (λ ts. Did ts (jobs_of (suc k) work.jobs)) is worked.did
         | inr ge ↦ none_of (suc k) (λ n first last. ne_eqb n (suc k) (λ e. omega (arith, e, last, ge)))

@@ -5,12 +5,14 @@ use Rattle.std.proofs.lemmas.Bool.{lt-ltb, ltb-true}
 use Rattle.std.proofs.lemmas.List.Sums.{count_by-le-length}
 use Rattle.line_board.specs.declared.board.TheConstants.{MOST_TASKS}
 use Rattle.qolb_model.specs.declared.view.View.{View}
+use Rattle.qolb_model.specs.LettingGo.{IsTold}
+use Rattle.qolb_script.specs.declared.schedule.TheConstants.{MOST_COMMANDS}
 use Rattle.qolb_script.specs.declared.job.Job.{Job}
 use Rattle.qolb_script.specs.declared.job.Job.TheVariants.{Put, Take}
 use Rattle.qolb_run.specs.declared.board.BoardCounts.{BoardCounts}
 use Rattle.qolb_run.specs.declared.board.BoardHand.{BoardHand}
 use Rattle.qolb_run.specs.BoardRuns.{counts_after}
-use Rattle.qolb_run.specs.BoardWork.{Turn, turns_of, HasTurns, HasStored, FoundFull, HasTakenOne, FoundNone, Does, Did, HasWorked, AreWithin, counts_of, stores, finds_full, takes, finds_none}
+use Rattle.qolb_run.specs.BoardWork.{Turn, turns_of, HasTurns, HasStored, FoundFull, HasTakenOne, FoundNone, Does, Did, HasWorked, WasTold, AreWithin, counts_of, stores, finds_full, takes, finds_none}
 use Rattle.qolb_run.proofs.Merging.{plus, did_long, did_more, counts_more, does_counted}
 
 -- no test passes at nat_lt where the number is not below
@@ -37,12 +39,32 @@ module _ {Line Port : Type 0} (belongs : Line → Port → Type 0) (view : Port 
           let b = did_long (turns_of (view hand.port)) jobs h.did in
           omega (arith, a, b)
 
+  pub few_in_all : length jobs < MOST_COMMANDS → AreWithin MOST_COMMANDS hand.counts
+  few_in_all few =
+      let w = within_jobs in record {
+        stored = let n = w.stored in omega (arith, n, few);
+        full = let n = w.full in omega (arith, n, few);
+        taken = let n = w.taken in omega (arith, n, few);
+        empty = let n = w.empty in omega (arith, n, few);
+      }
+
   module _ (port : Port) (of_line : belongs line port) where
+    pub then_told : HasTurns (view hand.port) (view port) [] → IsTold (view port) → AreWithin MOST_COMMANDS hand.counts → WasTold belongs view line worker (record { port = port; counts = hand.counts })
+    then_told had told few = record {
+      of_line = of_line;
+      of_worker = had.node ∙ h.of_worker;
+      at_rest = had.at_rest;
+      unshut = had.unshut h.unshut;
+      told = told;
+      few = few;
+    }
+
     worked_more : (job : Job) (turn : Turn) → HasTurns (view hand.port) (view port) (turn ∷ []) → Does job turn → HasWorked belongs view line worker (record { port = port; counts = counts_after job turn.found hand.counts }) (jobs ++ job ∷ [])
     worked_more job turn had does = record {
       of_line = of_line;
       of_worker = had.node ∙ h.of_worker;
       at_rest = had.at_rest;
+      unshut = had.unshut h.unshut;
       did = subst (λ ts. Did ts (jobs ++ job ∷ [])) (sym had.turns) (did_more (turns_of (view hand.port)) jobs turn job h.did does);
       counts_are =
           does_counted job turn hand.counts does

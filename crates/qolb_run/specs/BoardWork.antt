@@ -7,9 +7,12 @@ use Rattle.qolb_model.specs.declared.end.End.TheVariants.{Served, Gone, Told}
 use Rattle.qolb_model.specs.declared.terms.Terms.{Terms}
 use Rattle.qolb_model.specs.declared.view.View.{View}
 use Rattle.qolb_model.specs.Ends.{written}
+use Rattle.qolb_model.specs.LettingGo.{IsTold}
+use Rattle.qolb_model.specs.Sums.{HasNotShut}
 use Rattle.line_board.specs.declared.board.TheConstants.{MOST_TASKS}
 use Rattle.line_board.specs.PutsAndTakes.{standing}
 use Rattle.line_accounts.specs.Desks.{IsAtRest}
+use Rattle.qolb_script.specs.declared.schedule.TheConstants.{MOST_COMMANDS}
 use Rattle.qolb_script.specs.declared.job.Job.{Job}
 use Rattle.qolb_script.specs.declared.report.Report.{Report}
 use Rattle.qolb_script.specs.declared.report.Report.TheVariants.{Board, Bank}
@@ -41,11 +44,12 @@ node_turns node bytes (r ∷ order) (Told ∷ ends) = node_turns node bytes orde
 abbrev pub turns_of : View → List Turn
 turns_of v = node_turns v.node v.terms.opening.bytes v.order v.ends
 
--- the node's port had these turns besides, and is at rest
+-- the node's port had these turns besides, in none of which it shut the line, and is at rest
 pub record HasTurns (old new : View) (more : List Turn) : Type 0 where
   pub node : new.node ≡ old.node
   pub at_rest : IsAtRest new
   pub turns : turns_of new ≡ turns_of old ++ more
+  pub unshut : HasNotShut old → HasNotShut new
 
 -- in the turn the task was put behind the others; or as many tasks stood as may stand, and stay; the first task was taken; or none stood
 pub record HasStored (task : ℕ) (turn : Turn) : Type 0 where
@@ -96,11 +100,12 @@ abbrev pub counts_of : List Turn → BoardCounts
 counts_of turns = record { stored = count_by stores turns; full = count_by finds_full turns; taken = count_by takes turns; empty = count_by finds_none turns }
 
 -- a worker of the board, between its jobs: each of them was done by one turn of its port, in their order, and there was no other turn;
--- its counts are of these turns
+-- it shut the line in none of them; its counts are of these turns
 pub record HasWorked {Line Port : Type 0} (belongs : Line → Port → Type 0) (view : Port → View) (line : Line) (worker : ℕ) (hand : BoardHand Port) (jobs : List Job) : Type 0 where
   pub of_line : belongs line hand.port
   pub of_worker : (view hand.port).node ≡ worker
   pub at_rest : IsAtRest (view hand.port)
+  pub unshut : HasNotShut (view hand.port)
   pub did : Did (turns_of (view hand.port)) jobs
   pub counts_are : hand.counts ≡ counts_of (turns_of (view hand.port))
 
@@ -122,6 +127,15 @@ pub record AreSums {Port : Type 0} (hands : List (BoardHand Port)) (counts : Boa
   pub full : counts.full ≡ sum_by (λ hand. hand.counts.full) hands
   pub taken : counts.taken ≡ sum_by (λ hand. hand.counts.taken) hands
   pub empty : counts.empty ≡ sum_by (λ hand. hand.counts.empty) hands
+
+-- a worker that was told that the board's line is closed: it shut it in none of its turns
+pub record WasTold {Line Port : Type 0} (belongs : Line → Port → Type 0) (view : Port → View) (line : Line) (worker : ℕ) (hand : BoardHand Port) : Type 0 where
+  pub of_line : belongs line hand.port
+  pub of_worker : (view hand.port).node ≡ worker
+  pub at_rest : IsAtRest (view hand.port)
+  pub unshut : HasNotShut (view hand.port)
+  pub told : IsTold (view hand.port)
+  pub few : AreWithin MOST_COMMANDS hand.counts
 
 -- there is a line that was opened for the work, and a port of it for each worker, whose turns did its jobs; and these are the counts of all
 pub record AreBoarded {Line Port : Type 0} (belongs : Line → Port → Type 0) (view : Port → View) (terms_of : Line → Terms) (work : WorkScript) (counts : BoardCounts) : Type 0 where

@@ -1,5 +1,5 @@
 -- Workers that come back from their jobs. (Of this project.)
-use Rattle.std.specs.Prelude.{◌≡◌, ℕ, ◌+◌, ◌<◌, ◌≤◌, List, [], length, Option, Some, None, slice_get}
+use Rattle.std.specs.Prelude.{◌≡◌, ◌⊎◌, ℕ, ◌+◌, ◌<◌, ◌≤◌, List, [], length, Option, Some, None, slice_get}
 use Rattle.qolb_script.specs.declared.job.Job.{Job}
 use Rattle.qolb_script.specs.declared.schedule.TheConstants.{MOST_COMMANDS}
 use Rattle.qolb_script.specs.WorkScript.{WorkScript, AreOfIts}
@@ -7,6 +7,10 @@ use Rattle.qolb_model.specs.declared.terms.TheConstants.{MOST_NODES}
 use Rattle.qolb_run.specs.Jobs.{jobs_of}
 use Rattle.qolb_run.specs.declared.work.RunError.{RunError}
 use Rattle.qolb_run.specs.declared.work.RunError.TheVariants.{Memory, Stalled}
+
+-- a worker has come to its end: it has done its jobs, or was told that its line is closed
+abbrev pub HasEnded : {Site Hand : Type 0} → (Site → ℕ → Hand → List Job → Type 0) → (Site → ℕ → Hand → Type 0) → Site → ℕ → Hand → List Job → Type 0
+HasEnded has_done was_told site worker hand jobs = has_done site worker hand jobs ⊎ was_told site worker hand
 
 -- worker k + 1, at place k, has done all its jobs, unless it gave up
 abbrev pub AreBack : {Site Hand : Type 0} → (Site → ℕ → Hand → List Job → Type 0) → Site → List Job → List (Option Hand) → Type 0

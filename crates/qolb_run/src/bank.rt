@@ -15,7 +15,7 @@ use crate::gate::Gate;
 use crate::opening::open_line;
 use crate::task::Waits;
 use crate::work::RunError;
-use crate::workers::{PATIENCE, Site, all_done, work_all};
+use crate::workers::{JobEnd, PATIENCE, Site, all_done, work_all};
 use line_accounts::{
     AccountLaw, Desk, DesksError, Reply, SettleError, deposit, desks_over, settle, take_out,
     transfer,
@@ -38,14 +38,18 @@ impl<L: LineSync<AccountLaw>> Site for Bank<L> {
 
     ghost has_done = { λ bank worker desk jobs. HasBanked L.belongs L.view L.terms_of bank.lines.items worker desk jobs };
 
+    ghost was_told = { λ bank worker desk. ⊥ };
+
     ghost takes = { λ bank job. IsBankJob (length bank.lines.items) job };
 
-    fn does<R: Wait>(&self, rt: &R, desk: &mut Desk<L>, job: &Job) -> bool {
+    fn does<R: Wait>(&self, rt: &R, desk: &mut Desk<L>, job: &Job) -> JobEnd {
         for _ in rt.forever() {
             match try_once(&self.lines, desk, job) {
                 Reply::Late | Reply::Busy => yield_now(),
-                Reply::Closed => return false,
-                Reply::Done | Reply::Short | Reply::Over | Reply::SameAccount => return true,
+                Reply::Closed => return JobEnd::GaveUp,
+                Reply::Done | Reply::Short | Reply::Over | Reply::SameAccount => {
+                    return JobEnd::Done;
+                }
                 // A script has no account beyond its lines.
                 Reply::NoAccount => unreachable!(),
             }

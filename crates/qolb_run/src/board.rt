@@ -4,8 +4,8 @@ ghost use Rattle.qolb_script.specs.declared.schedule.TheConstants.{MOST_COMMANDS
 ghost use Rattle.qolb_model.specs.declared.terms.TheConstants.{MOST_NODES};
 ghost use Rattle.qolb_model.specs.LettingGo.{IsTold};
 ghost use Rattle.line_accounts.specs.Desks.{IsAtRest};
-ghost use Rattle.qolb_run.specs.Workers.{AreDone, AreFresh, MayStop, IsWithinLimits};
-ghost use Rattle.qolb_run.specs.BoardWork.{Turn, HasTurns, HasStored, FoundFull, HasTakenOne, FoundNone, HasWorked, AreWithin, AreAdded, AreSums, IsBoardedOver};
+ghost use Rattle.qolb_run.specs.Workers.{AreDone, AreFresh, HasEnded, MayStop, IsWithinLimits};
+ghost use Rattle.qolb_run.specs.BoardWork.{Turn, HasTurns, HasStored, FoundFull, HasTakenOne, FoundNone, HasWorked, WasTold, AreWithin, AreAdded, AreSums, IsBoardedOver};
 ghost use Rattle.qolb_run.specs.JustOpened.{AreJustOpened, IsNewLine, work_terms};
 ghost use Rattle.qolb_run.specs.Jobs.{IsBoardJob};
 ghost use Rattle.qolb_run.specs.BoardRuns.{no_counts};
@@ -15,7 +15,7 @@ use crate::gate::Gate;
 use crate::opening::open_line;
 use crate::task::Waits;
 use crate::work::RunError;
-use crate::workers::{PATIENCE, Site, all_done, work_all};
+use crate::workers::{JobEnd, PATIENCE, Site, all_done, work_all};
 use line_board::{BoardLaw, Put, Take, decode, put, take};
 use line_threads::SleepingLine;
 use qolb_model::{FinishError, LineSync, OpenLine, PortState, Sleeping};
@@ -53,24 +53,26 @@ impl<L: LineSync<BoardLaw>> Site for Board<L> {
 
     ghost has_done = { λ board worker hand jobs. HasWorked L.belongs L.view board.line worker hand jobs };
 
+    ghost was_told = { λ board worker hand. WasTold L.belongs L.view board.line worker hand };
+
     ghost takes = { λ board job. IsBoardJob job };
 
-    fn does<R: Wait>(&self, rt: &R, hand: &mut BoardHand<L::Port>, job: &Job) -> bool {
+    fn does<R: Wait>(&self, rt: &R, hand: &mut BoardHand<L::Port>, job: &Job) -> JobEnd {
         match *job {
             Job::Put { task, .. } => match put_at_last(rt, &self.line, &mut hand.port, task) {
                 Some(true) => hand.counts.stored += 1,
                 Some(false) => hand.counts.full += 1,
-                None => return false,
+                None => return JobEnd::Told,
             },
             Job::Take { .. } => match take_at_last(rt, &self.line, &mut hand.port) {
                 Some(true) => hand.counts.taken += 1,
                 Some(false) => hand.counts.empty += 1,
-                None => return false,
+                None => return JobEnd::Told,
             },
             // A job of a bank is none of a board's.
             Job::PayIn { .. } | Job::PayOut { .. } | Job::Move { .. } => unreachable!(),
         }
-        true
+        JobEnd::Done
     }
 }
 
@@ -86,7 +88,7 @@ fn put_at_last<R: Wait, L: LineSync<BoardLaw>>(
     ensures belongs { L.belongs line.now port.new }
     ensures stored { result ≡ Some true → (turn : Turn) × HasTurns (L.view port.old) (L.view port.new) (turn ∷ []) × HasStored task turn }
     ensures full { result ≡ Some false → (turn : Turn) × HasTurns (L.view port.old) (L.view port.new) (turn ∷ []) × FoundFull turn }
-    ensures told { IfNone result (IsTold (L.view port.new)) }
+    ensures told { IfNone result (HasTurns (L.view port.old) (L.view port.new) [] × IsTold (L.view port.new)) }
 {
     for _ in rt.forever() {
         match put(line, port, task, PATIENCE) {
@@ -110,7 +112,7 @@ fn take_at_last<R: Wait, L: LineSync<BoardLaw>>(
     ensures belongs { L.belongs line.now port.new }
     ensures taken { result ≡ Some true → (turn : Turn) × HasTurns (L.view port.old) (L.view port.new) (turn ∷ []) × HasTakenOne turn }
     ensures empty { result ≡ Some false → (turn : Turn) × HasTurns (L.view port.old) (L.view port.new) (turn ∷ []) × FoundNone turn }
-    ensures told { IfNone result (IsTold (L.view port.new)) }
+    ensures told { IfNone result (HasTurns (L.view port.old) (L.view port.new) [] × IsTold (L.view port.new)) }
 {
     for _ in rt.forever() {
         match take(line, port, PATIENCE) {
@@ -193,7 +195,8 @@ fn ports_of<P: Drop>(alloc: Global, hands: Vec<BoardHand<P>>) -> Result<Vec<P>, 
     Ok(ports)
 }
 
-/// The report of a board whose workers have done all their jobs, which takes the board's line apart.
+/// The report of a board whose workers are done, which takes the board's line apart. None of them was told that the line is closed: no call of
+/// a board shuts it, and it has no lease.
 fn finish<L: LineSync<BoardLaw> + Drop>(
     alloc: Global,
     board: Board<L>,
@@ -206,7 +209,7 @@ where
     requires terms { L.terms_of board.line ≡ work_terms work.now.workers }
     requires limits { IsWithinLimits work.now }
     requires as_many { vec_len hands ≡ work.now.workers }
-    requires done { AreDone (HasWorked L.belongs L.view) board.line work.now.jobs hands.items }
+    requires ended { AreDone (HasEnded (HasWorked L.belongs L.view) (WasTold L.belongs L.view)) board.line work.now.jobs hands.items }
     ensures report { IfOk result (IsReportOf work.now) }
     ensures boarded { IfOk result (IsBoardedOver L.belongs L.view L.terms_of work.now) }
     ensures stalled { IfErr result (MayStop work.now) }

@@ -1,10 +1,10 @@
 //! Workers: each does its jobs at one site, in a thread of its own.
-ghost use Rattle.std.specs.Prelude.{◌≡◌, ◌+◌, ◌++◌, ◌∷◌, [], ◌<◌, ◌≤◌, ℕ, List, All, IsTrue, IfSome, IfOk, IfErr, Some, length, map, vec_len};
+ghost use Rattle.std.specs.Prelude.{◌≡◌, ◌+◌, ◌++◌, ◌∷◌, [], ◌<◌, ◌≤◌, ℕ, List, All, IfSome, IfOk, IfErr, Some, length, map, vec_len};
 ghost use Rattle.qolb_script.specs.declared.job.Job.{Job};
 ghost use Rattle.qolb_script.specs.declared.schedule.TheConstants.{MOST_COMMANDS};
 ghost use Rattle.qolb_model.specs.declared.terms.TheConstants.{MOST_NODES};
 ghost use Rattle.qolb_run.specs.Jobs.{jobs_of};
-ghost use Rattle.qolb_run.specs.Workers.{AreBack, AreFresh, MayBeGone};
+ghost use Rattle.qolb_run.specs.Workers.{AreBack, AreFresh, HasEnded, MayBeGone};
 
 use crate::gate::{Gate, passes};
 use crate::work::RunError;
@@ -17,6 +17,17 @@ use std::thread::Threads;
 /// How often a worker looks for its turn at a line, before it withdraws and tries again.
 pub(crate) const PATIENCE: u64 = 64;
 
+/// What came of a worker's job.
+#[derive(Clone, Copy, Debug, PartialEq, Eq)]
+pub(crate) enum JobEnd {
+    /// It is done.
+    Done,
+    /// The worker was told that its line is closed, and brings back what it has in hand.
+    Told,
+    /// The worker was told so, and gives up.
+    GaveUp,
+}
+
 /// Where workers work: a board, or a bank.
 pub(crate) trait Site {
     /// What each worker has in hand.
@@ -25,14 +36,18 @@ pub(crate) trait Site {
     /// With what it has in hand, this worker has done these jobs here.
     ghost has_done: { Self → ℕ → Self.Hand → List Job → Type 0 };
 
+    /// With this in hand, this worker was told here that its line is closed.
+    ghost was_told: { Self → ℕ → Self.Hand → Type 0 };
+
     /// The job is of a kind that is done here.
     ghost takes: { Self → Job → Type 0 };
 
-    /// Does a job, for as long as that takes. `false` where the line is closed.
-    fn does<R: Wait>(&self, rt: &R, hand: &mut Self::Hand, job: &Job) -> bool
+    /// Does a job, for as long as that takes.
+    fn does<R: Wait>(&self, rt: &R, hand: &mut Self::Hand, job: &Job) -> JobEnd
         requires takes { takes self.now job.now }
         requires done { (worker : ℕ) × (done : List Job) × has_done self.now worker hand.old done × (length done < MOST_COMMANDS) }
-        ensures { IsTrue result → (worker : ℕ) (done : List Job) → has_done self.now worker hand.old done → has_done self.now worker hand.new (done ++ job.now ∷ []) };
+        ensures done { result ≡ JobEnd.Done → (worker : ℕ) (done : List Job) → has_done self.now worker hand.old done → has_done self.now worker hand.new (done ++ job.now ∷ []) }
+        ensures told { result ≡ JobEnd.Told → (worker : ℕ) (done : List Job) → has_done self.now worker hand.old done → was_told self.now worker hand.new };
 }
 
 /// The jobs of a script, which a gate lets workers do.
@@ -50,7 +65,7 @@ where
 
     ghost fits = { λ jobs site place hand. S.has_done site (place + 1) hand [] × All (S.takes site) jobs.work.now.jobs };
 
-    ghost done = { λ jobs site place back. IfSome back (λ hand. S.has_done site (place + 1) hand (jobs_of (place + 1) jobs.work.now.jobs)) };
+    ghost done = { λ jobs site place back. IfSome back (λ hand. HasEnded S.has_done S.was_told site (place + 1) hand (jobs_of (place + 1) jobs.work.now.jobs)) };
 
     fn work(&self, rt: &R, site: &S, place: usize, hand: S::Hand) -> Option<S::Hand> {
         let number = place as u64 + 1;
@@ -72,13 +87,13 @@ where
     requires fresh { AreFresh S.has_done site.now hands.items }
     requires takes { All (S.takes site.now) work.now.jobs }
     ensures as_many { IfSome result (λ back. vec_len back ≡ vec_len hands) }
-    ensures back { IfSome result (λ back. AreBack S.has_done site.now work.now.jobs back.items) }
+    ensures back { IfSome result (λ back. AreBack (HasEnded S.has_done S.was_told) site.now work.now.jobs back.items) }
 {
     let jobs = Jobs { gate, work };
     together::together(rt, alloc, &jobs, site, hands)
 }
 
-/// A worker does its jobs one after another, each once the gate lets it. `None` where it gives up.
+/// A worker does its jobs one after another, each once the gate lets it, until it is told that its line is closed. `None` where it gives up.
 fn work_through<R: Wait, G: Gate, S: Site>(
     rt: &R,
     gate: &G,
@@ -91,16 +106,20 @@ where
     S::Hand: Drop,
     requires fresh { S.has_done site.now number hand [] }
     requires takes { All (S.takes site.now) work.now.jobs }
-    ensures { IfSome result (λ hand. S.has_done site.now number hand (jobs_of number work.now.jobs)) }
+    ensures { IfSome result (λ hand. HasEnded S.has_done S.was_told site.now number hand (jobs_of number work.now.jobs)) }
 {
     let mut hand = hand;
     let mut at = 0u64;
     for job in work.jobs() {
         if job.worker() == number {
-            if !passes(gate, number, at) || !site.does(rt, &mut hand, job) {
+            if !passes(gate, number, at) {
                 return None;
             }
-            at += 1;
+            match site.does(rt, &mut hand, job) {
+                JobEnd::Done => at += 1,
+                JobEnd::Told => return Some(hand),
+                JobEnd::GaveUp => return None,
+            }
         }
     }
     let _ = gate.may(number, at);

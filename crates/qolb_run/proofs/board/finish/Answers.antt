@@ -7,7 +7,8 @@ use Rattle.qolb_run.specs.Reports.{IsDoneInTurn}
 use Rattle.qolb_run.specs.declared.board.BoardHand.{BoardHand}
 use Rattle.qolb_run.specs.BoardWork.{AreWithin, AreSums}
 use Rattle.qolb_run.proofs.Refusing.{only_memory}
-use Rattle.qolb_run.proofs.Summing.{all_within, ports_belong, may_finish, in_turn, kept, puts, takes_are}
+use Rattle.qolb_run.proofs.Summing.{all_within, in_turn, kept, puts, takes_are}
+use Rattle.qolb_run.proofs.Untold.{ports_belong, may_finish, done_at_last}
 use Rattle.qolb_run.proofs.board.finish.Goals as goal
 
 pub sum_up-counts-requires-clause-few : goal.sum_up-counts-requires-clause-few
@@ -16,17 +17,17 @@ sum_up-counts-requires-clause-few g c = omega (arith, c.as_slice.ensures.len, c.
 pub sum_up-counts-requires-clause-small : goal.sum_up-counts-requires-clause-small
 sum_up-counts-requires-clause-small g c =
     subst (λ (hs : List (BoardHand g.row.L-Port.Denot)). All (λ hand. AreWithin MOST_COMMANDS hand.counts) hs) (sym c.as_slice.ensures.value)
-    (all_within g.L.LineSync.belongs g.L.LineSync.view c.args.board.line c.args.hands.items c.args.work.now.jobs c.requires.limits.most c.requires.done)
+    (all_within g.L.LineSync.belongs g.L.LineSync.view c.args.board.line c.args.hands.items c.args.work.now.jobs c.requires.limits.most c.requires.ended)
 
 pub finish-requires : goal.finish-requires
 finish-requires g c = record {
-  belong = λ k d below same. ports_belong g.L.LineSync.belongs g.L.LineSync.view c.args.board.line c.args.work.now c.args.hands.items c.in_ok-ports.ports.items c.requires.done c.in_ok-ports.ensures k d below;
+  belong = λ k d below same. ports_belong g.L.LineSync.belongs g.L.LineSync.view c.args.board.line c.args.work.now c.args.hands.items c.in_ok-ports.ports.items c.requires.ended c.in_ok-ports.ensures k d below;
 }
 
 pub unreachable-requires : goal.unreachable-requires
 unreachable-requires g c =
     let many : length c.args.hands.items ≡ (g.L.LineSync.terms_of c.args.board.line).nodes = sym c.args.hands.ok.0 ∙ (c.requires.as_many ∙ ap (λ (t : Terms). t.nodes) (sym c.requires.terms)) in
-    let may = may_finish g.L.LineSync.belongs g.L.LineSync.view c.args.board.line c.args.work.now c.args.hands.items c.in_ok-ports.ports.items c.requires.done c.in_ok-ports.ensures (g.L.LineSync.label_of c.args.board.line) (g.L.LineSync.terms_of c.args.board.line).nodes
+    let may = may_finish g.L.LineSync.belongs g.L.LineSync.view c.args.board.line c.args.work.now c.args.hands.items c.in_ok-ports.ports.items c.requires.ended c.in_ok-ports.ensures (g.L.LineSync.label_of c.args.board.line) (g.L.LineSync.terms_of c.args.board.line).nodes
     (λ port own. (g.met.L.LineSync.sound c.args.board.line port own).label_is) many in
     let is = only_memory (g.L.LineSync.label_of c.args.board.line) (g.L.LineSync.terms_of c.args.board.line).nodes (map g.L.LineSync.view c.in_ok-ports.ports.items) c.in-Err.back.why may c.in-Err.ensures.why in
     elim c.in-Missing.is [
@@ -36,29 +37,32 @@ unreachable-requires g c =
 
 pub returns-clause-report : goal.returns-clause-report
 returns-clause-report g c =
+    let done = done_at_last g.L.LineSync.belongs g.L.LineSync.view c.args.board.line c.args.work.now c.args.hands.items c.in_ok-ports.ports.items c.requires.ended c.in_ok-ports.ensures _ _ c.in-Ok.last.bytes c.in-Ok.ensures.finished (ap (λ (t : Terms). t.lease) c.requires.terms) in
     let sums : AreSums c.args.hands.items c.sum_up-counts.result = subst (λ (hs : List (BoardHand g.row.L-Port.Denot)). AreSums hs c.sum_up-counts.result) c.as_slice.ensures.value c.sum_up-counts.ensures in
     let many : length c.args.hands.items ≡ c.args.work.now.workers = sym c.args.hands.ok.0 ∙ c.requires.as_many in
     let left : c.len.result ≡ length c.in-Some.tasks.items = c.len.ensures.value in
-    let balance = kept g.L.LineSync.belongs g.L.LineSync.view c.args.board.line c.args.work.now c.args.hands.items c.in_ok-ports.ports.items c.requires.done c.in_ok-ports.ensures
+    let balance = kept g.L.LineSync.belongs g.L.LineSync.view c.args.board.line c.args.work.now c.args.hands.items c.in_ok-ports.ports.items done c.in_ok-ports.ensures
     c.sum_up-counts.result _ _ c.in-Ok.last.bytes c.in-Some.tasks.items sums many c.requires.limits.its c.requires.terms c.in-Ok.ensures.finished c.in-Some.ensures in
     record {
       of_board = c.requires.kind;
       in_turn = subst (λ n. IsDoneInTurn c.args.work.now (Board c.sum_up-counts.result.stored c.sum_up-counts.result.full c.sum_up-counts.result.taken c.sum_up-counts.result.empty n)) (sym left)
-          (in_turn g.L.LineSync.belongs g.L.LineSync.view c.args.board.line c.args.work.now c.args.hands.items c.in_ok-ports.ports.items c.requires.done c.in_ok-ports.ensures
+          (in_turn g.L.LineSync.belongs g.L.LineSync.view c.args.board.line c.args.work.now c.args.hands.items c.in_ok-ports.ports.items done c.in_ok-ports.ensures
           c.sum_up-counts.result _ _ c.in-Ok.last.bytes c.in-Some.tasks.items sums many c.requires.limits.its c.requires.terms c.in-Ok.ensures.finished c.in-Some.ensures);
       kept = omega (arith, balance, left);
-      puts = puts g.L.LineSync.belongs g.L.LineSync.view c.args.board.line c.args.work.now c.args.hands.items c.in_ok-ports.ports.items c.requires.done c.in_ok-ports.ensures
+      puts = puts g.L.LineSync.belongs g.L.LineSync.view c.args.board.line c.args.work.now c.args.hands.items c.in_ok-ports.ports.items done c.in_ok-ports.ensures
           c.sum_up-counts.result _ _ c.in-Ok.last.bytes c.in-Some.tasks.items sums many c.requires.limits.its c.requires.terms c.in-Ok.ensures.finished c.in-Some.ensures;
-      takes = takes_are g.L.LineSync.belongs g.L.LineSync.view c.args.board.line c.args.work.now c.args.hands.items c.in_ok-ports.ports.items c.requires.done c.in_ok-ports.ensures
+      takes = takes_are g.L.LineSync.belongs g.L.LineSync.view c.args.board.line c.args.work.now c.args.hands.items c.in_ok-ports.ports.items done c.in_ok-ports.ensures
           c.sum_up-counts.result _ _ c.in-Ok.last.bytes c.in-Some.tasks.items sums many c.requires.limits.its c.requires.terms c.in-Ok.ensures.finished c.in-Some.ensures;
     }
 
 pub returns-clause-boarded : goal.returns-clause-boarded
-returns-clause-boarded g c = record {
-  line = c.args.board.line;
-  hands = c.args.hands.items;
-  opened = c.requires.terms;
-  each = sym c.args.hands.ok.0 ∙ c.requires.as_many;
-  done = c.requires.done;
-  sums = subst (λ (hs : List (BoardHand g.row.L-Port.Denot)). AreSums hs c.sum_up-counts.result) c.as_slice.ensures.value c.sum_up-counts.ensures;
-}
+returns-clause-boarded g c =
+    let done = done_at_last g.L.LineSync.belongs g.L.LineSync.view c.args.board.line c.args.work.now c.args.hands.items c.in_ok-ports.ports.items c.requires.ended c.in_ok-ports.ensures _ _ c.in-Ok.last.bytes c.in-Ok.ensures.finished (ap (λ (t : Terms). t.lease) c.requires.terms) in
+    record {
+      line = c.args.board.line;
+      hands = c.args.hands.items;
+      opened = c.requires.terms;
+      each = sym c.args.hands.ok.0 ∙ c.requires.as_many;
+      done = done;
+      sums = subst (λ (hs : List (BoardHand g.row.L-Port.Denot)). AreSums hs c.sum_up-counts.result) c.as_slice.ensures.value c.sum_up-counts.ensures;
+    }

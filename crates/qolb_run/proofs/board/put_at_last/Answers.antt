@@ -1,4 +1,4 @@
-use Rattle.qolb_run.proofs.BoardTurns.{then_stored, then_full, then_put_again}
+use Rattle.qolb_run.proofs.BoardTurns.{then_stored, then_full, then_put_again, then_put_told}
 use Rattle.qolb_run.proofs.board.put_at_last.Goals as goal
 
 pub returns-in-Stored-clause-stored : goal.returns-in-Stored-clause-stored
@@ -14,3 +14,7 @@ loop-preserved g c = (
   c.put.ensures.belongs,
   then_put_again _ _ _ _ c.loop.invariant.1 (g.met.L.LineSync.sound c.args.line.now c.loop.port c.loop.invariant.0).own_past _ c.put.ensures.puts c.in-Late.is,
 )
+
+pub returns-in-Closed-clause-told : goal.returns-in-Closed-clause-told
+returns-in-Closed-clause-told g c =
+    then_put_told _ _ _ _ c.loop.invariant.1 (g.met.L.LineSync.sound c.args.line.now c.loop.port c.loop.invariant.0).own_past _ c.put.ensures.puts c.in-Closed.is

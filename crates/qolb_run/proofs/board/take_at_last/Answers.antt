@@ -1,4 +1,4 @@
-use Rattle.qolb_run.proofs.BoardTurns.{then_taken, then_none, then_take_again}
+use Rattle.qolb_run.proofs.BoardTurns.{then_taken, then_none, then_take_again, then_take_told}
 use Rattle.qolb_run.proofs.board.take_at_last.Goals as goal
 
 pub returns-in-Task-clause-taken : goal.returns-in-Task-clause-taken
@@ -14,3 +14,7 @@ loop-preserved g c = (
   c.take.ensures.belongs,
   then_take_again _ _ _ c.loop.invariant.1 (g.met.L.LineSync.sound c.args.line.now c.loop.port c.loop.invariant.0).own_past _ c.take.ensures.takes c.in-Late.is,
 )
+
+pub returns-in-Closed-clause-told : goal.returns-in-Closed-clause-told
+returns-in-Closed-clause-told g c =
+    then_take_told _ _ _ c.loop.invariant.1 (g.met.L.LineSync.sound c.args.line.now c.loop.port c.loop.invariant.0).own_past _ c.take.ensures.takes c.in-Closed.is

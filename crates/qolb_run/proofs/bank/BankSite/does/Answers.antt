@@ -17,8 +17,8 @@ loop-preserved g c =
     let is : is_again c.try_once.result ≡ true = elim c.in-Late.is [ inl e ↦ ap is_again e | inr e ↦ ap is_again e ] in
     record { over = over; tries = again c.try_once.result c.loop.invariant.tries asks is }
 
-pub returns-in-Done : goal.returns-in-Done
-returns-in-Done g c = λ _ worker done banked.
+pub returns-in-Done-clause-done : goal.returns-in-Done-clause-done
+returns-in-Done-clause-done g c = λ _ worker done banked.
     let asks = subst (λ (ls : List g.row.L.Denot). Asks g.L.LineSync.view (length ls) c.args.job.now c.loop.desk c.try_once.new.desk c.try_once.result) c.deref.ensures.value c.try_once.ensures.asks in
     let over = subst (λ (ls : List g.row.L.Denot). IsDeskOver g.L.LineSync.belongs g.L.LineSync.view ls c.try_once.new.desk) c.deref.ensures.value c.try_once.ensures.over in
     let is : is_outcome c.try_once.result ≡ true = elim c.in-Done.is [

@@ -1,5 +1,5 @@
 use Rattle.std.proofs.Common.{Some, ap, ◌∙◌, arith}
-use Rattle.qolb_run.proofs.Working.{within_jobs, then_stored, then_full, then_taken, then_none}
+use Rattle.qolb_run.proofs.Working.{within_jobs, few_in_all, then_told, then_stored, then_full, then_taken, then_none}
 use Rattle.qolb_run.proofs.board.BoardSite.does.Goals as goal
 
 pub overflow_add-hand : goal.overflow_add-hand
@@ -26,22 +26,36 @@ overflow_add-hand-in-Some-false-take_at_last g c =
     let within = (within_jobs g.L.LineSync.belongs g.L.LineSync.view c.args.self.now.line worker c.args.hand.now done worked).empty in
     record { fits = omega (arith, within, few) }
 
-pub returns-in-Some-true : goal.returns-in-Some-true
-returns-in-Some-true g c = λ _ worker done worked.
+pub returns-in-Some-true-clause-done : goal.returns-in-Some-true-clause-done
+returns-in-Some-true-clause-done g c = λ _ worker done worked.
     let (turn, had, has) = c.put_at_last.ensures.stored (c.in-Some-true.is ∙ ap Some c.in-Some-true.field-0-test) in
     then_stored g.L.LineSync.belongs g.L.LineSync.view c.args.self.now.line worker c.args.hand.now done worked c.put_at_last.new.port c.put_at_last.ensures.belongs c.in-Put.worker c.in-Put.task c.args.job.now c.in-Put.is turn had has
 
-pub returns-in-Some-false : goal.returns-in-Some-false
-returns-in-Some-false g c = λ _ worker done worked.
+pub returns-in-Some-false-clause-done : goal.returns-in-Some-false-clause-done
+returns-in-Some-false-clause-done g c = λ _ worker done worked.
     let (turn, had, has) = c.put_at_last.ensures.full (c.in-Some-false.is ∙ ap Some c.in-Some-false.field-0-test) in
     then_full g.L.LineSync.belongs g.L.LineSync.view c.args.self.now.line worker c.args.hand.now done worked c.put_at_last.new.port c.put_at_last.ensures.belongs c.in-Put.worker c.in-Put.task c.args.job.now c.in-Put.is turn had has
 
-pub returns-in-Some-true-take_at_last : goal.returns-in-Some-true-take_at_last
-returns-in-Some-true-take_at_last g c = λ _ worker done worked.
+pub returns-in-Some-true-take_at_last-clause-done : goal.returns-in-Some-true-take_at_last-clause-done
+returns-in-Some-true-take_at_last-clause-done g c = λ _ worker done worked.
     let (turn, had, has) = c.take_at_last.ensures.taken (c.in-Some-true-take_at_last.is ∙ ap Some c.in-Some-true-take_at_last.field-0-test) in
     then_taken g.L.LineSync.belongs g.L.LineSync.view c.args.self.now.line worker c.args.hand.now done worked c.take_at_last.new.port c.take_at_last.ensures.belongs c.in-Take.worker c.args.job.now c.in-Take.is turn had has
 
-pub returns-in-Some-false-take_at_last : goal.returns-in-Some-false-take_at_last
-returns-in-Some-false-take_at_last g c = λ _ worker done worked.
+pub returns-in-Some-false-take_at_last-clause-done : goal.returns-in-Some-false-take_at_last-clause-done
+returns-in-Some-false-take_at_last-clause-done g c = λ _ worker done worked.
     let (turn, had, has) = c.take_at_last.ensures.empty (c.in-Some-false-take_at_last.is ∙ ap Some c.in-Some-false-take_at_last.field-0-test) in
     then_none g.L.LineSync.belongs g.L.LineSync.view c.args.self.now.line worker c.args.hand.now done worked c.take_at_last.new.port c.take_at_last.ensures.belongs c.in-Take.worker c.args.job.now c.in-Take.is turn had has
+
+pub returns-in-None-clause-told : goal.returns-in-None-clause-told
+returns-in-None-clause-told g c = λ _ worker done worked.
+    let (own, before, had_worked, few) = c.requires.done in
+    let (had, told) = c.in-None.ensures.told in
+    then_told g.L.LineSync.belongs g.L.LineSync.view c.args.self.now.line worker c.args.hand.now done worked c.put_at_last.new.port c.put_at_last.ensures.belongs had told
+    (few_in_all g.L.LineSync.belongs g.L.LineSync.view c.args.self.now.line own c.args.hand.now before had_worked few)
+
+pub returns-in-None-take_at_last-clause-told : goal.returns-in-None-take_at_last-clause-told
+returns-in-None-take_at_last-clause-told g c = λ _ worker done worked.
+    let (own, before, had_worked, few) = c.requires.done in
+    let (had, told) = c.in-None-take_at_last.ensures.told in
+    then_told g.L.LineSync.belongs g.L.LineSync.view c.args.self.now.line worker c.args.hand.now done worked c.take_at_last.new.port c.take_at_last.ensures.belongs had told
+    (few_in_all g.L.LineSync.belongs g.L.LineSync.view c.args.self.now.line own c.args.hand.now before had_worked few)
