@@ -14,6 +14,8 @@ ghost use Rattle.qolb_model.specs.declared.terms.TheConstants.{MOST_NODES};
 ghost use Rattle.qolb_model.specs.PortStates as states;
 ghost use Rattle.qolb_model.specs.Ends.{is_closed};
 ghost use Rattle.qolb_model.specs.Asking.{IsBusy, Asks, IsJoined};
+ghost use Rattle.qolb_model.specs.Histories.{turn_of};
+ghost use Rattle.qolb_model.specs.Views.{own};
 ghost use Rattle.qolb_model.specs.Linking.{Links};
 ghost use Rattle.qolb_model.specs.LettingGo.{EndsTurn};
 ghost use Rattle.qolb_model.specs.Opening.{MayOpen};
@@ -92,6 +94,12 @@ pub trait Shape {
     /// A node with this mark that is about to let this line go has laid it in these slots, for the next.
     ghost lays: { ℕ → Parcel → Slots → Type 0 };
 
+    /// The word at which a node with this mark waits: the node, the mark.
+    ghost waits_at: { ℕ → ℕ → ℕ };
+
+    /// The word at which that node waits whose request is at its turn, by what a port knows of the line. Where nobody waits for the turn, any word.
+    ghost turn_word: { View → ℕ };
+
     /// A port may show this state.
     ghost may_show: { PortState → Type 0 };
 
@@ -111,6 +119,13 @@ pub trait Shape {
     ghost rests_shown: { (state : PortState) (mark : ℕ) (own : Self.Own) → rests state mark own → may_show state };
 
     ghost holding_shown: { may_show shows.Holding };
+
+    /// A node to which the line came by this mark waited at the word of the turn: whoever lets it go to that node names the word at which it
+    /// waits.
+    ghost holder_waits_there: { (mark : ℕ) (v : View) (stance : Self.Own) → holding mark (length v.ends) stance → turn_of v.order v.ends ≡ Some (own v) → IsJoined v → waits_at v.node mark ≡ turn_word v };
+
+    /// And so did one to which the line came closed.
+    ghost refused_waits_there: { (mark : ℕ) (v : View) (stance : Self.Own) (y : Parcel) → refused mark v stance y → turn_of v.order v.ends ≡ Some (own v) → IsJoined v → waits_at v.node mark ≡ turn_word v };
 
     /// A look takes a step.
     ghost most_some: { (nodes : ℕ) → 1 ≤ nodes → 1 ≤ most nodes };
@@ -250,12 +265,14 @@ pub trait Discipline<K: Keep>: Ruled<K> {
         ensures lets_go { (y : Parcel) → Self.lays mark y seat.old.me.1 → EndsTurn (entry_of Self.fresh seat.old).view (own_end (is_closed (entry_of Self.fresh seat.old).view.ends) y) (states.left_by y.closed) (entry_of Self.fresh seat.new).view }
         ensures counted { Self.lets_go_in (length (entry_of Self.fresh seat.old).view.ends) (length (entry_of Self.fresh seat.new).view.ends) result.steps }
         ensures to_wake { result.to_wake.word < word_count }
+        ensures wakes { result.to_wake.word ≡ Self.turn_word (entry_of Self.fresh seat.new).view }
         ensures bound { result.steps + 1 ≤ Self.most (entry_of Self.fresh seat.old).view.terms.nodes };
 
     /// The word at which a waiting node looks. When its turn comes, the lower 32 bits of this word change.
     fn awaited(node: u64, mark: u64) -> usize
         requires { node ≤ MOST_NODES }
-        ensures { result < word_count };
+        ensures bound { result < word_count }
+        ensures waits_at { result ≡ Self.waits_at node mark };
 
     /// Whether the turn may have come of a node that waits, and finds this in its word.
     fn may_have_come(mark: u64, word: u64) -> bool;
