@@ -14,8 +14,6 @@ ghost use Rattle.qolb_model.specs.declared.terms.TheConstants.{MOST_NODES};
 ghost use Rattle.qolb_model.specs.PortStates as states;
 ghost use Rattle.qolb_model.specs.Ends.{is_closed};
 ghost use Rattle.qolb_model.specs.Asking.{IsBusy, Asks, IsJoined};
-ghost use Rattle.qolb_model.specs.Histories.{turn_of};
-ghost use Rattle.qolb_model.specs.Views.{own};
 ghost use Rattle.qolb_model.specs.Linking.{Links};
 ghost use Rattle.qolb_model.specs.LettingGo.{EndsTurn};
 ghost use Rattle.qolb_model.specs.Opening.{MayOpen};
@@ -25,6 +23,7 @@ ghost use Rattle.shared_line.specs.declared.rule.Setup.{Setup};
 ghost use Rattle.shared_line.specs.declared.rule.Entry.{Entry};
 ghost use Rattle.shared_line.specs.Slots.{Slots, IsCopy};
 ghost use Rattle.shared_line.specs.Ports.{IsPutBack};
+ghost use Rattle.shared_line.specs.Turns.{SeesTurn};
 ghost use Rattle.shared_line.specs.Entries.{Contents, newcomers, AllRest, views_of};
 ghost use Rattle.shared_line.specs.Steps.{Alone, entry_of, SameSeat, IsSeatOf, IsOwnNode, HasNoSlot, HasLine, Rests, GoesOn, IsEarly, IsUnlinked, IsGivenUp, Comes, Carries, own_end, met, parked};
 
@@ -120,12 +119,12 @@ pub trait Shape {
 
     ghost holding_shown: { may_show shows.Holding };
 
-    /// A node to which the line came by this mark waited at the word of the turn: whoever lets it go to that node names the word at which it
-    /// waits.
-    ghost holder_waits_there: { (mark : ℕ) (v : View) (stance : Self.Own) → holding mark (length v.ends) stance → turn_of v.order v.ends ≡ Some (own v) → IsJoined v → waits_at v.node mark ≡ turn_word v };
+    /// A node that has the open line by this mark waited at the word of the turn, by what any port knows that sees whose turn it is: whoever lets
+    /// the line go to that node, and sees so, names the word at which it waits.
+    ghost holder_waits_there: { (mark : ℕ) (u v : View) (stance : Self.Own) → holding mark (length v.ends) stance → SeesTurn u v → waits_at v.node mark ≡ turn_word u };
 
     /// And so did one to which the line came closed.
-    ghost refused_waits_there: { (mark : ℕ) (v : View) (stance : Self.Own) (y : Parcel) → refused mark v stance y → turn_of v.order v.ends ≡ Some (own v) → IsJoined v → waits_at v.node mark ≡ turn_word v };
+    ghost refused_waits_there: { (mark : ℕ) (u v : View) (stance : Self.Own) (y : Parcel) → refused mark v stance y → SeesTurn u v → waits_at v.node mark ≡ turn_word u };
 
     /// A look takes a step.
     ghost most_some: { (nodes : ℕ) → 1 ≤ nodes → 1 ≤ most nodes };
