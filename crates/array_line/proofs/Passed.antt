@@ -12,7 +12,7 @@ use Rattle.array_line.specs.declared.own.Point.TheVariants.{Rolled}
 use Rattle.shared_line.specs.declared.rule.Setup.{Setup}
 use Rattle.qolb_model.specs.Entries.{Member}
 use Rattle.array_line.specs.Berths.{Berths}
-use Rattle.array_line.specs.Array.{ArrayEntry, ArrayState, At, Cells, Past, NodeOk, ArrayRule, lets_go}
+use Rattle.array_line.specs.Array.{ArrayEntry, ArrayState, At, Cells, NodeOk, ArrayRule, lets_go}
 use Rattle.array_line.proofs.Keeping.{mine_ok}
 
 abbrev by_node : ℕ → Request

@@ -1,9 +1,12 @@
 -- What the stances of a node promise.
-use Rattle.std.proofs.Common.{ℕ, refl}
+use Rattle.std.proofs.Common.{ℕ, ◌≡◌, ◌∙◌, length, refl, sym, ap}
 use Rattle.qolb_model.specs.declared.answer.PortState.{PortState}
 use Rattle.qolb_model.specs.declared.answer.PortState.TheVariants as shows
 use Rattle.array_line.specs.declared.own.Own.{Own}
-use Rattle.array_line.specs.Stances.{fresh, rests, may_show}
+use Rattle.qolb_model.specs.declared.view.View.{View}
+use Rattle.shared_line.specs.declared.rule.Parcel.{Parcel}
+use Rattle.shared_line.specs.Turns.{SeesTurn}
+use Rattle.array_line.specs.Stances.{fresh, rests, holding, refused, may_show, waits_at, turn_word}
 
 module _ (mark_of : ℕ → ℕ) where
   pub starts_idle : rests mark_of shows.Idle 0 fresh
@@ -17,6 +20,13 @@ module _ (mark_of : ℕ → ℕ) where
   rests_shown shows.Left mark own h = absurd h
   rests_shown shows.Rolled mark own h = (λ e. cc e, λ e. cc e)
   rests_shown shows.Shut mark own h = (λ e. cc e, λ e. cc e)
+
+  -- who has the line waited at the word of the turn, whether it came open or closed
+  pub holder_waits_there : (mark : ℕ) (u v : View) (stance : Own) → holding mark_of mark (length v.ends) stance → SeesTurn u v → waits_at v.node mark ≡ turn_word mark_of u
+  holder_waits_there mark u v stance h sees = ap (waits_at v.node) h.2 ∙ ap (λ (ended : ℕ). waits_at v.node (mark_of ended)) (sym sees.ended)
+
+  pub refused_waits_there : (mark : ℕ) (u v : View) (stance : Own) (y : Parcel) → refused mark_of mark v stance y → SeesTurn u v → waits_at v.node mark ≡ turn_word mark_of u
+  refused_waits_there mark u v stance y h = holder_waits_there mark u v stance h
 
 pub holding_shown : may_show shows.Holding
 holding_shown = (λ e. cc e, λ e. cc e)

@@ -6,8 +6,13 @@ use Rattle.qolb_model.specs.declared.answer.Enq.{Enq}
 use Rattle.qolb_model.specs.declared.answer.Enq.TheVariants as enq
 use Rattle.qolb_model.specs.declared.view.View.{View}
 use Rattle.shared_line.specs.declared.rule.Parcel.{Parcel}
+use Rattle.array_line.specs.Words.{cell_at, cell_of}
 use Rattle.array_line.specs.declared.own.Point.TheVariants.{Idle, Queued, Holding, Rolled}
 use Rattle.array_line.specs.declared.own.Own.{Own}
+
+-- a node waits at the cell of its mark
+abbrev pub waits_at : ℕ → ℕ → ℕ
+waits_at node mark = cell_at (cell_of mark)
 
 -- a new node has no request
 abbrev pub fresh : Own
@@ -32,6 +37,10 @@ module _ (mark_of : ℕ → ℕ) where
   -- a closed line comes to a node as an open one does
   abbrev pub refused : ℕ → View → Own → Parcel → Type 0
   refused mark view own y = holding mark (length view.ends) own
+
+  -- the word of the turn is the cell of the mark of the place at its turn
+  abbrev pub turn_word : View → ℕ
+  turn_word view = waits_at view.node (mark_of (length view.ends))
 
 -- no request is linked, and no line is left in a mailbox
 abbrev pub may_show : PortState → Type 0

@@ -11,10 +11,13 @@ use shared_line::{Discipline, Line, Port};
 use std::alloc::{Allocator, Global};
 use std::marker::Model;
 
-/// A line whose word steps are counted, and that can be finished with any allocator.
+/// A line whose word steps and sleepers are counted, and that can be finished with any allocator.
 pub trait Counted: OpenLine<Free> {
     /// How many word steps the port's last call took; 0 before the first.
     fn steps(&self, port: &Self::Port) -> u64;
+
+    /// How many waiters sleep, or are about to.
+    fn sleepers(&self) -> u64;
 
     /// As `finish`.
     fn finish_in<A: Allocator>(
@@ -30,6 +33,10 @@ pub trait Counted: OpenLine<Free> {
 impl<Q: Discipline<Free>> Counted for Line<Free, Q> {
     fn steps(&self, port: &Port<Q>) -> u64 {
         Line::<Free, Q>::steps(self, port)
+    }
+
+    fn sleepers(&self) -> u64 {
+        Line::<Free, Q>::sleepers(self)
     }
 
     fn finish_in<A: Allocator>(

@@ -1,5 +1,6 @@
 //! Each call of each lock: what it answers is written once, over any line.
 
+mod asleep;
 mod late;
 mod lines;
 mod named;

@@ -34,7 +34,7 @@ use Rattle.link_line.specs.Steps.{Comes}
 use Rattle.link_line.proofs.Window.{few_open}
 use Rattle.link_line.proofs.Going.{SetsGrow, next, on}
 use Rattle.link_line.specs.Laws.Nodes.{St, Rule, mine_ok, is_node}
-use Rattle.link_line.proofs.Turning.{Joins, whole, passes_none, arrival_lined, arrival_state, arrival_passed, arrival_unserved, arrival_unlinked, arrival_unfreeing, Owes, via_none, Turned, turned, own_at, own_marked}
+use Rattle.link_line.proofs.Turning.{Joins, whole, passes_none, arrival_lined, arrival_state, arrival_passed, arrival_unserved, arrival_unlinked, arrival_unqueued, arrival_unfreeing, Owes, via_none, Turned, turned, own_at, own_marked}
 
 -- the line that a node carries to whom it came closed
 arrival_carries : (d : Core) (n : ℕ) (line : Parcel) (b : Bool) → line.bytes ≡ d.bytes → line.closed ≡ d.closed → line.turns_left ≡ d.left → line.closed ≡ b → seat d n ≡ seat_at_arrival n b → is_leaving (point d n) ≡ true → IsInHand d n (seat d n) line
@@ -106,6 +106,7 @@ module _ (good : List ℕ → Type 0) (allows : List ℕ → List ℕ → Type 0
           kept = subst (AreAllowed allows about.terms.opening.bytes) (sym a.ends) r.fine.kept;
           lawful = λ z. absurd (arrival_unserved v.view.node b (subst MayServe a.seat_is z));
           unjoined = λ q z. absurd (arrival_unlinked v.view.node q b (ap (λ (s : Seat). s.point) (sym a.seat_is) ∙ z));
+          waiting = λ z. absurd (arrival_unqueued v.view.node b (ap (λ (s : Seat). s.point) (sym a.seat_is) ∙ z));
           counts = a.counts;
           joins = a.joins_are;
           unwritten = λ _. a.mask;

@@ -32,6 +32,7 @@ pub record FreesFirst (v : Known) (i : ℕ) (w : Known) : Type 0 where
   pub order : w.view.order ≡ v.view.order
   pub ends : w.view.ends ≡ v.view.ends
   pub marked : w.view.marked ≡ v.view.marked
+  pub joined : w.view.joined ≡ v.view.joined
   pub freed : (k p : ℕ) (r : Request) → k < i → At v.own.passed k p → At v.view.order p r → Has w.view.freed r
   pub clear : (k p : ℕ) (r : Request) → k < i → At v.own.passed k p → At v.view.order p r → IsClearOrLast w.view p r
   pub own_clear : drop i v.own.passed ≡ [] → Has w.view.clear (own w.view)
@@ -50,6 +51,7 @@ frees_none v p some = record {
   order = refl;
   ends = refl;
   marked = refl;
+  joined = refl;
   freed = λ k p r lt at is. absurd (omega (arith, lt));
   clear = λ k p r lt at is. absurd (omega (arith, lt));
   own_clear = λ none. absurd (some none);
@@ -84,6 +86,7 @@ frees_next v w x nodes i node f many are is more frees =
       order = one.order ∙ f.order;
       ends = one.ends ∙ f.ends;
       marked = one.marked ∙ f.marked;
+      joined = one.joined ∙ f.joined;
       freed = λ k p r lt at on. elim (upto k i (omega (arith, lt))) [
         | inl early ↦ more.freed r (f.freed k p r early at on)
         | inr last ↦ subst (Has x.view.freed) (same v.view.order v.own.passed i k here.0 p made.0 r last here.1 at made.1 on).1 one.freed
@@ -121,6 +124,7 @@ frees_all v w i f le = let none : drop i v.own.passed ≡ [] = past i v.own.pass
   order = f.order;
   ends = f.ends;
   marked = f.marked;
+  joined = f.joined;
   freed = λ k p r at on. f.freed k p r (omega (arith, le, slice_get_within v.own.passed k p at)) at on;
   clear = λ k p r at on. f.clear k p r (omega (arith, le, slice_get_within v.own.passed k p at)) at on;
   own_clear = f.own_clear none;

@@ -55,7 +55,7 @@ use Rattle.link_line.proofs.Packed.{add_freed}
 use Rattle.link_line.specs.Laws.Nodes.{St, Rule, mine_ok, is_node}
 use Rattle.link_line.proofs.Laying.{entry_laid, in_slot}
 use Rattle.link_line.proofs.Turning.{goes_step, via_none, turned_by, between}
-use Rattle.link_line.proofs.Releasing.{close_not, is_linking, end_clear, out_state}
+use Rattle.link_line.proofs.Releasing.{close_not, is_linking, is_queued, end_clear, out_state}
 
 -- where the node is then, and what its port shows
 free_point : (g : ℕ → ℕ) (r : Reason) (ps : List ℕ) → (seat_with (map g ps) (point_at_end r) r).point ≡ after_release (left_by (is_shut_by r)) ps
@@ -73,6 +73,11 @@ end_linkless : (r : Reason) → is_linking (point_at_end r) ≡ false
 end_linkless Own = refl
 end_linkless Closing = refl
 end_linkless Refused = refl
+
+end_unqueued : (r : Reason) → is_queued (point_at_end r) ≡ false
+end_unqueued Own = refl
+end_unqueued Closing = refl
+end_unqueued Refused = refl
 
 -- a withdrawn request that is freed and not clear was left with the line, and the next request is about to be linked to it
 module _ {terms : Terms} {c : Core} {q : Queue} (s : Shows terms c q) (joined : List Request) (unjoined : (n x : ℕ) → IsNode c n → point c n ≡ Linking x → Lacks joined (last_of n q.order)) (r : Request) (node : IsNode c r.node) (f : IsFreed c q.order r) (un : Lacks q.clear r) where
@@ -241,6 +246,9 @@ module _ (good : List ℕ → Type 0) (allows : List ℕ → List ℕ → Type 0
     linkless : is_linking (point d n) ≡ false
     linkless = ap (λ (z : Seat). is_linking z.point) own_seat ∙ close_not is_linking rest (point_at_end reason) reason (end_linkless reason) refl
 
+    unqueued : is_queued (point d n) ≡ false
+    unqueued = ap (λ (z : Seat). is_queued z.point) own_seat ∙ close_not is_queued rest (point_at_end reason) reason (end_unqueued reason) refl
+
     state_then : state_of (seat d n) ≡ left_by (is_shut_by reason)
     state_then = ap state_of own_seat ∙ out_state (asker r.past.queue.order) reason ps (is_shut_by reason) refl
 
@@ -280,6 +288,7 @@ module _ (good : List ℕ → Type 0) (allows : List ℕ → List ℕ → Type 0
           (subst (λ (es : List End). AreAllowed allows about.terms.opening.bytes es) (sym ends) r.fine.kept)
           (λ m. absurd (never (leaving_lined (point d n) m.leaves) lineless))
           (λ z e. absurd (never (ap is_linking e) linkless))
+          (λ e. absurd (never (ap is_queued e) unqueued))
 
       own_ok : NodeOk about y n w
       own_ok = record {

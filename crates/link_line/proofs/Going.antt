@@ -238,9 +238,12 @@ module _ (allows : List ℕ → List ℕ → Type 0) (about : Setup) (few : abou
         | inr new ↦ absurd (ne new.0)
       ])
 
+      waiting_else : (m : ℕ) → m ≢ node_of e → IsNode d m → point d m ≡ Queued → Has joined (last_of m on.after.order)
+      waiting_else m ne a at = grows.joined (last_of m on.after.order) (ap (λ (c : ℕ). has x.joined (record { node = m; number = c })) (on.spared.asks m ne) ∙ f.waiting m (a.0, subst (λ (z : ℕ). m ≤ z) (step_sizes x.core k).0 a.1) (ap (λ (s : Seat). s.point) (sym (on.spared.seats m ne)) ∙ at))
+
       -- what the rule says of the past alone
-      pub fine_next : AreAllowed allows about.terms.opening.bytes on.after.ends → (MayServe (seat d (node_of e)) → allows (bytes_after about.terms.opening.bytes on.after.ends) d.bytes.bytes) → ((q : ℕ) → point d (node_of e) ≡ Linking q → Lacks joined (last_of (node_of e) on.after.order)) → PastOk allows about y
-      fine_next kept lawful unjoined = record {
+      pub fine_next : AreAllowed allows about.terms.opening.bytes on.after.ends → (MayServe (seat d (node_of e)) → allows (bytes_after about.terms.opening.bytes on.after.ends) d.bytes.bytes) → ((q : ℕ) → point d (node_of e) ≡ Linking q → Lacks joined (last_of (node_of e) on.after.order)) → (point d (node_of e) ≡ Queued → Has joined (last_of (node_of e) on.after.order)) → PastOk allows about y
+      fine_next kept lawful unjoined waiting = record {
         entries = (step_sizes x.core k).1 ∙ f.entries;
         seats = (step_sizes x.core k).2 ∙ f.seats;
         shown = on.shows;
@@ -253,6 +256,9 @@ module _ (allows : List ℕ → List ℕ → Type 0) (about : Setup) (few : abou
         unjoined = λ m q a at. dite (ℕ_discrete m (node_of e))
             (λ i. subst (λ (m : ℕ). Lacks joined (last_of m on.after.order)) (sym i) (unjoined q (ap (point d) (sym i) ∙ at)))
             (λ i. unjoined_else m q i a at);
+        waiting = λ m a at. dite (ℕ_discrete m (node_of e))
+            (λ i. subst (λ (m : ℕ). Has joined (last_of m on.after.order)) (sym i) (waiting (ap (point d) (sym i) ∙ at)))
+            (λ i. waiting_else m i a at);
         freed = λ r h. elim h [
           | inl now ↦ elim (grows.new_early r now) [ inl old ↦ freed_next r (f.freed r (inl old)) | inr new ↦ inr new.0 ]
           | inr now ↦ elim (grows.new_late r now) [ inl old ↦ freed_next r (f.freed r (inr old)) | inr new ↦ inl new.0 ]

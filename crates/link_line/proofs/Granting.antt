@@ -11,9 +11,10 @@ use Rattle.qolb_model.specs.declared.end.End.{End}
 use Rattle.qolb_model.specs.declared.terms.TheConstants.{MOST_NODES}
 use Rattle.qolb_model.specs.PortStates.{left_by}
 use Rattle.qolb_model.specs.Queue.{Queue}
+use Rattle.qolb_model.specs.Requests.{Has, last_of}
 use Rattle.qolb_model.proofs.Lists.{push_cases, never}
 use Rattle.link_core.specs.declared.point.Point.{Point}
-use Rattle.link_core.specs.declared.point.Point.TheVariants.{Linking, Holding, Leaving, Granting, Freeing}
+use Rattle.link_core.specs.declared.point.Point.TheVariants.{Linking, Queued, Holding, Leaving, Granting, Freeing}
 use Rattle.link_core.specs.declared.place.Place.TheVariants.{Home, Mailbox, Hand}
 use Rattle.link_core.specs.declared.seat.Reason.{Reason}
 use Rattle.link_core.specs.declared.seat.Reason.TheVariants.{Own, Closing, Refused}
@@ -27,7 +28,7 @@ use Rattle.link_core.specs.Places.{request, asker, IsLast}
 use Rattle.link_core.specs.Shown.{has_line}
 use Rattle.qolb_model.specs.declared.terms.Terms.{Terms}
 use Rattle.link_core.proofs.Found.{found, unset}
-use Rattle.link_core.proofs.Orders.{get_request}
+use Rattle.link_core.proofs.Orders.{get_request, last_is}
 use Rattle.link_core.proofs.Short.{short}
 use Rattle.link_core.proofs.Steady.{after_is}
 use Rattle.link_line.specs.Known.{Known}
@@ -39,11 +40,12 @@ use Rattle.link_line.specs.Links.{At, Past, NodeOk, Passing, Laid, InSlot, Homes
 use Rattle.link_line.specs.Steps.{Contents, granted, Ended, GoesOut}
 use Rattle.link_line.proofs.Going.{on, wide}
 use Rattle.link_line.specs.Laws.Histories.{at_point}
+use Rattle.link_line.specs.Laws.Standing.{names_joined}
 use Rattle.link_line.proofs.Packed.{rolled_is, add_granted}
 use Rattle.link_line.specs.Laws.Nodes.{St, Rule, mine_ok, is_node}
 use Rattle.link_line.proofs.Laying.{entry_laid}
 use Rattle.link_line.proofs.Others.{others_of}
-use Rattle.link_line.proofs.Turning.{goes_step, grows_none, joins_same, Owes, turned}
+use Rattle.link_line.proofs.Turning.{goes_step, grows_none, joins_all, Owes, turned}
 use Rattle.link_line.proofs.Releasing.{Holds, holds_so, after, view_after, kept, counts, ended, longer, out_turned, goes_out, end_quiet, with_line, line_is}
 
 -- with one passed more there is one
@@ -156,7 +158,13 @@ module _ (good : List ℕ → Type 0) (allows : List ℕ → List ℕ → Type 0
         let behind : (Mailbox m ≡ Home) ⊎ (length y.queue.ends < length y.queue.order) = inr (let a = next.0 in let b = longer good allows about s r me v at z r.past h k refl order ends in let c = ap (λ (o : List Request). length o) order in omega arith) in
         let t = out_turned good allows about s r me v at z r.past h k refl order ends p quiet own behind (set s.words (entry_at m) word) homes
         (laid y.core homes refl refl refl (length-set s.homes 0 (some z) ∙ r.laid.deep) (record { line = z; at = set_here s.homes 0 (some z) (let d = r.laid.deep in omega arith); bytes = h.bytes; closed = h.closed; turns = h.turns })) in
-        let w : Known = view_after good allows about s r me v at z r.past h k refl v.own.passed in (
+        let w : Known = view_after good allows about s r me v at z r.past h k refl v.own.passed in
+        let long = longer good allows about s r me v at z r.past h k refl order ends in
+        let shows' = (on allows about r.may_open.nodes.few r.past h.via.fine k).shows in
+        let more : length y.queue.ends < length y.queue.order = let a = next.0 in let b = ap (λ (o : List Request). length o) order in omega arith in
+        let its : asker y.queue.order (length y.queue.ends) ≡ m = (λ i. asker (order i) (long i)) ∙ next.1 in
+        let last : IsLast y.queue.order m (length y.queue.ends) = subst (λ (q : ℕ). IsLast y.queue.order q (length y.queue.ends)) its (shows'.matches.distinct (length y.queue.ends) (omega arith) more) in
+        let its_joined : Has r.past.joined (request y.queue.order (length y.queue.ends)) = subst (Has r.past.joined) (ap (last_of m) (sym order) ∙ sym (last_is about.terms.lease y.queue.order y.queue.ends m (length y.queue.ends) shows'.legal last)) (r.fine.waiting m next_node ((found r.fine.shown).grant_waits n m node here un)) in (
           w ∷ [],
           gives,
           tt,
@@ -165,7 +173,11 @@ module _ (good : List ℕ → Type 0) (allows : List ℕ → List ℕ → Type 0
             goes_step allows v w (with_line z) [] t.continues refl,
             (λ y' has. (
               subst (λ (q : Parcel). Ended v w q) (line_is z y' has) (ended good allows about s r me v at z r.past h k refl order ends v.own.passed),
-              (λ _. (refl, subst (λ (q : Parcel). GoesOut v w q) (line_is z y' has) (goes_out good allows about s r me v at z r.past h k refl order ends p quiet own behind refl no_hand))),
+              (λ _. (
+                refl,
+                subst (λ (q : Parcel). GoesOut v w q) (line_is z y' has) (goes_out good allows about s r me v at z r.past h k refl order ends p quiet own behind refl no_hand),
+                (λ m' to. names_joined w.view (request y.queue.order (length y.queue.ends)) (get_request y.queue.order (length y.queue.ends) more) its_joined ∙ ap entry_at (its ∙ next_is m m' (sym granting ∙ to))),
+              )),
               (λ f. absurd (never f (rolled_as ∙ un))),
             )),
           ),
@@ -173,6 +185,9 @@ module _ (good : List ℕ → Type 0) (allows : List ℕ → List ℕ → Type 0
       where
         no_hand : (q : ℕ) → Mailbox m ≡ Hand q → ⊥
         no_hand q f = cc
+
+        next_is : (a b : ℕ) → Granting a ≡ Granting b → a ≡ b
+        next_is a b e = cc
 
     passes : (entry r.past.core m).rolled ≡ true → Goal
     passes ro =
@@ -191,12 +206,13 @@ module _ (good : List ℕ → Type 0) (allows : List ℕ → List ℕ → Type 0
         let its : asker y.queue.order (length y.queue.ends) ≡ m = (λ i. asker (order i) (long i)) ∙ next.1 in
         let passing' : Passing y.queue.order w = passing_more r.past y v w m ok.passes order refl its (step'.shows.matches.distinct (length y.queue.ends) (omega arith) more)
         (ap (λ (s : Seat). s.passed) own ∙ ap (λ (ps : List ℕ). ps ++ m ∷ []) h.passed) (ap (λ (s : Seat). s.point) own) refl refl (let a = ap (λ (es : List End). length es) h.ends in omega arith) in
-        let owes : Owes good allows about y v v.view.count v.view.joined passed z = record {
+        let owes : Owes good allows about y v v.view.count r.past.joined passed z = record {
           kept = kept good allows about s r me v at z r.past h k refl order ends;
           lawful = λ a. not_none (seat r.past.core n).passed m (ap (λ (s : Seat). s.passed) (sym own) ∙ a.passed);
           unjoined = λ q e. unlinked q (ap (λ (s : Seat). s.point) (sym own) ∙ e);
+          waiting = λ e. unqueued (ap (λ (s : Seat). s.point) (sym own) ∙ e);
           counts = counts good allows about s r me v at z r.past h k refl order;
-          joins = joins_same about r.past y v ok refl;
+          joins = joins_all about r.past y v ok refl;
           unwritten = λ e. unheld (ap (λ (s : Seat). s.point) (sym own) ∙ e);
           carries = λ _. record {
             bytes = h.bytes;
@@ -208,7 +224,7 @@ module _ (good : List ℕ → Type 0) (allows : List ℕ → List ℕ → Type 0
           left = λ e. unfreeing (ap (λ (s : Seat). s.point) (sym own) ∙ e);
           passes = passing';
         } in
-        let t = turned good allows about s r me v at r.past h.via k refl r.past.joined r.past.early r.past.late (grows_none r.past y n refl refl refl) v.view.count v.view.joined passed z owes (set s.words (entry_at m) word) s.homes
+        let t = turned good allows about s r me v at r.past h.via k refl r.past.joined r.past.early r.past.late (grows_none r.past y n refl refl refl) v.view.count r.past.joined passed z owes (set s.words (entry_at m) word) s.homes
         (laid y.core s.homes refl refl refl r.laid.deep (subst (InSlot y.core s.homes) (sym ((found r.fine.shown).hand n node (ap has_line here))) tt)) in
         let fewer : length passed + 1 ≤ about.terms.nodes = let a = (short step'.shows.matches).passed n (node.0, subst (λ (q : ℕ). n ≤ q) (sym step'.spared.nodes) node.1) in
         let b : length (seat y.core n).passed ≡ length passed = ap (λ (ps : List ℕ). length ps) passing'.places ∙ length-map passed (asker y.queue.order) in
@@ -242,6 +258,9 @@ module _ (good : List ℕ → Type 0) (allows : List ℕ → List ℕ → Type 0
       where
         unlinked : {A : Type 0} (q : ℕ) → Leaving m ≡ Linking q → A
         unlinked q e = cc
+
+        unqueued : {A : Type 0} → Leaving m ≡ Queued → A
+        unqueued e = cc
 
         unfreeing : {A : Type 0} → Leaving m ≡ Freeing → A
         unfreeing e = cc

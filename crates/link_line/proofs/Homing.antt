@@ -25,7 +25,7 @@ use Rattle.qolb_model.proofs.Agreed.{length-bytes_after}
 use Rattle.qolb_model.proofs.Leases.{last-is_one}
 use Rattle.qolb_model.proofs.Lists.{never}
 use Rattle.link_core.specs.declared.point.Point.{Point}
-use Rattle.link_core.specs.declared.point.Point.TheVariants.{Linking, Holding, Leaving, Marking}
+use Rattle.link_core.specs.declared.point.Point.TheVariants.{Linking, Queued, Holding, Leaving, Marking}
 use Rattle.link_core.specs.declared.place.Place.TheVariants.{Home, Hand}
 use Rattle.link_core.specs.declared.seat.Reason.{Reason}
 use Rattle.link_core.specs.declared.seat.Reason.TheVariants.{Own, Closing}
@@ -45,10 +45,11 @@ use Rattle.link_line.specs.Links.{Past, NodeOk, PastOk, Laid, InSlot, Homes, is_
 use Rattle.link_line.specs.Steps.{Contents, homed, Ended, GoesOut, Carries, TurnIsOver, MayLetGo}
 use Rattle.link_line.proofs.Going.{SetsGrow, next, on, wide, fine_next, others_next}
 use Rattle.link_line.specs.Laws.Histories.{at_point}
+use Rattle.link_line.specs.Laws.Standing.{names_nobody}
 use Rattle.link_line.specs.Laws.Nodes.{St, Rule, mine_ok, is_node}
 use Rattle.link_line.proofs.Laying.{home_laid}
 use Rattle.link_line.proofs.Turning.{goes_step, grows_none}
-use Rattle.link_line.proofs.Releasing.{Holds, holds_so, after, view_after, node, few_passed, ended, out_turned, goes_out, stays_turned, carries_on, end_quiet, with_line, line_is}
+use Rattle.link_line.proofs.Releasing.{Holds, holds_so, after, view_after, node, few_passed, ended, out_turned, goes_out, stays_turned, carries_on, end_quiet, turn_none, with_line, line_is}
 
 module _ (good : List ℕ → Type 0) (allows : List ℕ → List ℕ → Type 0) (about : Setup) (v : Known) (z : Parcel) (e : ℕ) where
   abbrev n : ℕ
@@ -99,6 +100,7 @@ module _ (good : List ℕ → Type 0) (allows : List ℕ → List ℕ → Type 0
                 refl,
                 subst (λ (q : Parcel). Ended v w q) (line_is z y' has) (ended good allows about s r me v at z x h k refl order ends v.own.passed),
                 subst (λ (q : Parcel). GoesOut v w q) (line_is z y' has) (goes_out good allows about s r me v at z x h k refl order ends p quiet own (inl refl) refl no_hand),
+                names_nobody w.view (turn_none (on allows about r.may_open.nodes.few x h.via.fine k).shows refl),
               )),
               (λ ne. absurd (ne f)),
             )),
@@ -201,6 +203,7 @@ module _ (good : List ℕ → Type 0) (allows : List ℕ → List ℕ → Type 0
         (subst (λ (q : Queue). AreAllowed allows about.terms.opening.bytes q.ends) (sym written_queue) r.fine.kept)
         (λ m. unleaving (point r.past.core v.view.node) here m.leaves)
         (λ q l. unlinking (point r.past.core v.view.node) q here l)
+        (λ l. let a : Holding ≡ Queued = sym here ∙ l in cc)
 
     written_others : (n : ℕ) (u : Known) → 0 < n → n ≤ about.terms.nodes → n ≢ v.view.node → NodeOk about r.past n u → NodeOk about written n u
     written_others n u a b ne ok = others_next allows about r.may_open.nodes.few r.past r.fine (row.write v.view.node z.mask z.bytes its_node here) r.past.joined r.past.early r.past.late written_grows written_fine n u (a, subst (λ (q : ℕ). n ≤ q) (sym r.fine.shown.matches.size) b) ne ok
@@ -260,6 +263,7 @@ module _ (good : List ℕ → Type 0) (allows : List ℕ → List ℕ → Type 0
         (subst (λ (q : Queue). AreAllowed allows about.terms.opening.bytes q.ends) (sym shut_queue) written_fine.kept)
         (λ _. shut_may)
         (λ q l. unlinked (point shut_past.core v.view.node) q v.view.node (ap (λ (s : Seat). s.point) shut_seat) l)
+        (λ l. let a : Leaving v.view.node ≡ Queued = sym (ap (λ (s : Seat). s.point) shut_seat) ∙ l in cc)
 
     holds_shut : z.closed ≡ true → Holds good allows about r.past v z shut_past
     holds_shut closed = record {

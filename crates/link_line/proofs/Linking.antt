@@ -7,7 +7,7 @@ use Rattle.atomic_table.specs.Table.{step, Act, keeps, takes, Valid, stepped, ca
 use Rattle.qolb_model.specs.declared.terms.TheConstants.{MOST_NODES}
 use Rattle.qolb_model.specs.declared.request.Request.{Request}
 use Rattle.qolb_model.specs.Queue.{Queue}
-use Rattle.qolb_model.specs.Requests.{Has, count_of}
+use Rattle.qolb_model.specs.Requests.{Has, has, count_of}
 use Rattle.qolb_model.specs.Views.{own}
 use Rattle.qolb_model.specs.Linking.{Links}
 use Rattle.qolb_model.proofs.Requests.{has_at, has_last}
@@ -148,7 +148,8 @@ module _ (good : List ℕ → Type 0) (allows : List ℕ → List ℕ → Type 0
         let own' = ap (λ (z : Seat). z.point) (own_seat (record (seat r.past.core v.view.node) { point = Queued })) in
         let order = ap (λ (q : Queue). q.order) is in
         let t = turned good allows about s r me v at r.past (via_none good allows about r.past v r.fine) k refl joined r.past.early r.past.late (grows k refl order) v.view.count joins [] v.own.line
-        (quiet_owes good allows about r.past y v Queued joins r.fine ok step'.shows node own' refl order (ap (λ (q : Queue). q.ends) is) (joins_push about r.past y v (own v.view) ok refl))
+        (quiet_owes good allows about r.past y v Queued joins r.fine ok step'.shows node own' refl order (ap (λ (q : Queue). q.ends) is) (joins_push about r.past y v (own v.view) ok refl)
+        (λ _. ap (λ (c : ℕ). has joined (record { node = v.view.node; number = c })) (ap (λ (q : Queue). count_of v.view.node q.order) is ∙ ok.knows.counts) ∙ has_last r.past.joined (own v.view)))
         (set s.words (entry_at p) word) s.homes
         (laid y.core s.homes refl refl refl r.laid.deep (in_slot r.past.core y.core s.homes r.past.core.place refl refl refl r.laid.slot)) in (
           whole y v v.view.count joins [] v.own.line ∷ [],

@@ -38,8 +38,7 @@ use Rattle.link_line.proofs.Packed.{link_is, add_done}
 use Rattle.link_line.specs.Laws.Nodes.{St, Rule, mine_ok, is_node}
 use Rattle.link_line.proofs.Laying.{entry_laid, in_slot}
 use Rattle.link_line.proofs.Turning.{goes_step}
-use Rattle.link_line.proofs.Quiet.{is_quiet}
-use Rattle.link_line.proofs.Releasing.{Holds, holds_so, after, view_after, places, ended, longer, out_turned, is_left, stays_turned, carries_on, left_short, end_quiet, with_line, line_is}
+use Rattle.link_line.proofs.Releasing.{Holds, holds_so, after, view_after, places, ended, longer, out_turned, is_left, stays_turned, carries_on, left_short, is_over, end_quiet, with_line, line_is}
 
 module _ (good : List ℕ → Type 0) (allows : List ℕ → List ℕ → Type 0) (about : Setup) (v : Known) (e : ℕ) (marking : v.own.seat.point ≡ Marking e) where
   abbrev n : ℕ
@@ -131,7 +130,7 @@ module _ (good : List ℕ → Type 0) (allows : List ℕ → List ℕ → Type 0
       abbrev left_core : Point → Core
       left_core p = put_seat n (seat_at_close p (seat r.past.core n)) (put_entry e with_done (record r.past.core { place = Mailbox e; left = turns_after n r.past.core }))
 
-      leaves : (p : Point) → is_quiet p ≡ true → (v.own.passed ≡ [] → p ≡ Left) → {t : Answer} (k : Step r.past.core (event.Done n) t (left_core p))
+      leaves : (p : Point) → is_over p ≡ true → (v.own.passed ≡ [] → p ≡ Left) → {t : Answer} (k : Step r.past.core (event.Done n) t (left_core p))
           → (after good allows about s r me v at z r.past h k refl).queue.order ≡ r.past.queue.order → (after good allows about s r me v at z r.past h k refl).queue.ends ≡ r.past.queue.ends ++ end_by r.past.core (seat r.past.core n).reason (seat r.past.core n).passed ∷ [] → Goal
       leaves p quiet e' k order ends =
           let y : Past = after good allows about s r me v at z r.past h k refl in
@@ -143,7 +142,7 @@ module _ (good : List ℕ → Type 0) (allows : List ℕ → List ℕ → Type 0
           let w : Known = view_after good allows about s r me v at z r.past h k refl v.own.passed in
           let late = (found r.fine.shown).late n e node here un in
           let others = (on allows about r.may_open.nodes.few r.past h.via.fine k).spared.seats (asker r.past.queue.order (length r.past.queue.ends + 1)) (λ i. let q : Linking e ≡ Marking e = sym late ∙ ap (point r.past.core) i ∙ here in cc) in
-          let short = left_short good allows about s r me v at z r.past h here un y w t.fine (others, order, longer good allows about s r me v at z r.past h k refl order ends) refl refl (λ q j. ok.joins.all_joined q j) in (
+          let short = left_short good allows about s r me v at z r.past h here un y w t.fine (others, order, longer good allows about s r me v at z r.past h k refl order ends) refl refl (λ q j. j) in (
             w ∷ [],
             gives,
             tt,

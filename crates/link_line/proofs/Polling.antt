@@ -147,7 +147,7 @@ module _ (good : List ℕ → Type 0) (allows : List ℕ → List ℕ → Type 0
           let y : Past = after good allows about s r me v at k in
           let step' = on allows about r.may_open.nodes.few r.past r.fine k in
           let is = after_is step' in
-          let t = quiet_turned good allows about s r me v at k refl Queued here refl node (ap (λ (q : Queue). q.order) is) (ap (λ (q : Queue). q.ends) is) (set s.words word (slice_index s.words word)) s.homes
+          let t = quiet_turned good allows about s r me v at k refl Queued here refl (λ _. here) node (ap (λ (q : Queue). q.order) is) (ap (λ (q : Queue). q.ends) is) (set s.words word (slice_index s.words word)) s.homes
           (same_laid r.past.core y.core s.words s.homes s.homes v.view.node r.laid node few refl refl refl r.laid.deep r.laid.slot) in (
             view_after good allows about s r me v at k ∷ [],
             keeps,
@@ -168,7 +168,7 @@ module _ (good : List ℕ → Type 0) (allows : List ℕ → List ℕ → Type 0
           let step' = on allows about r.may_open.nodes.few r.past r.fine k in
           let is = after_is step' in
           let own = ap (λ (z : Seat). z.point) (own_seat (record (seat r.past.core v.view.node) { point = Rolled })) in
-          let t = quiet_turned good allows about s r me v at k refl Rolled own refl node (ap (λ (q : Queue). q.order) is) (ap (λ (q : Queue). q.ends) is) (set s.words word ((slice_index s.words word + ROLLED) % 2 ^ 64)) s.homes
+          let t = quiet_turned good allows about s r me v at k refl Rolled own refl (λ z. cc z) node (ap (λ (q : Queue). q.order) is) (ap (λ (q : Queue). q.ends) is) (set s.words word ((slice_index s.words word + ROLLED) % 2 ^ 64)) s.homes
           (entry_laid r.past.core y.core s.words s.homes s.homes v.view.node _ (record (entry r.past.core v.view.node) { rolled = true }) r.laid node few inside_entries with_rolled refl refl refl r.laid.deep (in_slot r.past.core y.core s.homes r.past.core.place refl refl refl r.laid.slot)) in (
             view_after good allows about s r me v at k ∷ [],
             keeps,

@@ -17,7 +17,7 @@ use Rattle.qolb_model.proofs.Lists.{slice_get-push}
 use Rattle.qolb_model.proofs.Prefixes.{prefix_length}
 use Rattle.qolb_model.proofs.Requests.{has_at, has_last, has_prefix, lacks_from, count_of-push_same, number_le_count_all}
 use Rattle.link_core.specs.declared.point.Point.{Point}
-use Rattle.link_core.specs.declared.point.Point.TheVariants.{Ready, Linking, Holding, Freeing}
+use Rattle.link_core.specs.declared.point.Point.TheVariants.{Ready, Linking, Queued, Holding, Freeing}
 use Rattle.link_core.specs.declared.place.Place.TheVariants.{Home, Hand}
 use Rattle.link_core.specs.declared.seat.Seat.{Seat}
 use Rattle.link_core.specs.declared.state.State.{State as Core}
@@ -163,6 +163,7 @@ module _ (good : List ℕ → Type 0) (allows : List ℕ → List ℕ → Type 0
           kept = subst (AreAllowed allows about.terms.opening.bytes) (sym ends) r.fine.kept;
           lawful = λ z. let l : is_leaving (Linking r.past.core.home) ≡ true = ap is_leaving (sym own') ∙ z.leaves in cc;
           unjoined = λ _ _. ap (λ (c : ℕ). has r.past.joined (record { node = n; number = c })) number ∙ unjoined;
+          waiting = λ z. let l : Linking r.past.core.home ≡ Queued = sym own' ∙ z in cc;
           counts = number;
           joins = joins_same about r.past y v ok refl;
           unwritten = λ z. let l : Linking r.past.core.home ≡ Holding = sym own' ∙ z in cc;

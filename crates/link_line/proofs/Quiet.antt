@@ -4,7 +4,7 @@ use mathlib.Core.Option.{some}
 use lib.ListN.{get_elem?}
 use Rattle.qolb_model.specs.declared.request.Request.{Request}
 use Rattle.qolb_model.specs.Kept.{AreAllowed}
-use Rattle.qolb_model.specs.Requests.{count_of}
+use Rattle.qolb_model.specs.Requests.{Has, has, count_of, last_of}
 use Rattle.link_core.specs.declared.point.Point.{Point}
 use Rattle.link_core.specs.declared.point.Point.TheVariants.{Idle, Ready, Linking, Queued, Holding, Leaving, Marking, Granting, Freeing, Left, Rolled, Shut}
 use Rattle.link_core.specs.declared.state.State.{State as Core}
@@ -17,7 +17,7 @@ use Rattle.link_line.specs.Known.{Known}
 use Rattle.shared_line.specs.declared.rule.Setup.{Setup}
 use Rattle.link_line.specs.Links.{Past, NodeOk, PastOk, Laid, Homes, is_leaving}
 use Rattle.link_line.proofs.Going.{next, on}
-use Rattle.link_line.specs.Laws.Nodes.{St, Rule, mine_ok}
+use Rattle.link_line.specs.Laws.Nodes.{St, Rule, mine_ok, is_node}
 use Rattle.link_line.proofs.Turning.{Joins, joins_same, whole, grows_none, passes_none, Owes, via_none, Turned, turned}
 
 abbrev pub is_quiet : Point → Bool
@@ -61,11 +61,12 @@ quiet_unleaving Rolled a b = cc
 quiet_unleaving Shut a b = cc
 
 module _ (good : List ℕ → Type 0) (allows : List ℕ → List ℕ → Type 0) (about : Setup) where
-  pub quiet_owes : (x y : Past) (v : Known) (p : Point) (joins : List Request) → PastOk allows about x → NodeOk about x v.view.node v → Shows about.terms y.core y.queue → IsNode y.core v.view.node → point y.core v.view.node ≡ p → is_quiet p ≡ true → y.queue.order ≡ x.queue.order → y.queue.ends ≡ x.queue.ends → Joins y v joins → Owes good allows about y v v.view.count joins [] v.own.line
-  quiet_owes x y v p joins f ok s node is quiet order ends j = record {
+  pub quiet_owes : (x y : Past) (v : Known) (p : Point) (joins : List Request) → PastOk allows about x → NodeOk about x v.view.node v → Shows about.terms y.core y.queue → IsNode y.core v.view.node → point y.core v.view.node ≡ p → is_quiet p ≡ true → y.queue.order ≡ x.queue.order → y.queue.ends ≡ x.queue.ends → Joins y v joins → (p ≡ Queued → Has y.joined (last_of v.view.node y.queue.order)) → Owes good allows about y v v.view.count joins [] v.own.line
+  quiet_owes x y v p joins f ok s node is quiet order ends j waits = record {
     kept = subst (AreAllowed allows about.terms.opening.bytes) (sym ends) f.kept;
     lawful = λ z. absurd (quiet_unleaving p quiet (ap is_leaving (sym is) ∙ z.leaves));
     unjoined = λ q z. absurd (quiet_not p (Linking q) quiet refl (sym is ∙ z));
+    waiting = λ z. waits (sym is ∙ z);
     counts = ap (λ (o : List Request). count_of v.view.node o) order ∙ ok.knows.counts;
     joins = j;
     unwritten = λ z. absurd (quiet_not p Holding quiet refl (sym is ∙ z));
@@ -81,8 +82,9 @@ module _ (good : List ℕ → Type 0) (allows : List ℕ → List ℕ → Type 0
     abbrev pub view_after : {e : Event} {t : Answer} {d : Core} → Step r.past.core e t d → Known
     view_after k = whole (after k) v v.view.count v.view.joined [] v.own.line
 
-    pub quiet_turned : {e : Event} {t : Answer} {d : Core} (k : Step r.past.core e t d) → node_of e ≡ v.view.node → (p : Point) → point d v.view.node ≡ p → is_quiet p ≡ true → IsNode d v.view.node → (after k).queue.order ≡ r.past.queue.order → (after k).queue.ends ≡ r.past.queue.ends → (words : List ℕ) (homes : Homes) → Laid d words homes
+    pub quiet_turned : {e : Event} {t : Answer} {d : Core} (k : Step r.past.core e t d) → node_of e ≡ v.view.node → (p : Point) → point d v.view.node ≡ p → is_quiet p ≡ true → (p ≡ Queued → point r.past.core v.view.node ≡ Queued) → IsNode d v.view.node → (after k).queue.order ≡ r.past.queue.order → (after k).queue.ends ≡ r.past.queue.ends → (words : List ℕ) (homes : Homes) → Laid d words homes
         → Turned good allows about s r me v at r.past (via_none good allows about r.past v r.fine) (after k) (view_after k) words homes
-    quiet_turned {e} {t} {d} k is p here quiet node order ends words homes laid =
+    quiet_turned {e} {t} {d} k is p here quiet was node order ends words homes laid =
         turned good allows about s r me v at r.past (via_none good allows about r.past v r.fine) k is r.past.joined r.past.early r.past.late (grows_none r.past (after k) (node_of e) refl refl refl) v.view.count v.view.joined [] v.own.line
-        (quiet_owes r.past (after k) v p v.view.joined r.fine (mine_ok good allows about s r me v at) (on allows about r.may_open.nodes.few r.past r.fine k).shows node here quiet order ends (joins_same about r.past (after k) v (mine_ok good allows about s r me v at) refl)) words homes laid
+        (quiet_owes r.past (after k) v p v.view.joined r.fine (mine_ok good allows about s r me v at) (on allows about r.may_open.nodes.few r.past r.fine k).shows node here quiet order ends (joins_same about r.past (after k) v (mine_ok good allows about s r me v at) refl)
+        (λ z. ap (λ (o : List Request). has r.past.joined (last_of v.view.node o)) order ∙ r.fine.waiting v.view.node (is_node good allows about s r me v at) (was z))) words homes laid

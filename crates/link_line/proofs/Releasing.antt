@@ -45,8 +45,7 @@ use Rattle.link_line.specs.Links.{At, Past, NodeOk, PastOk, Passing, Laid, Homes
 use Rattle.link_line.specs.Steps.{Ended, GoesOut, IsLeft, Carries, end_of, next_end, after_release, left_in}
 use Rattle.link_line.proofs.Going.{next, on, leaving_lined, map_get}
 use Rattle.link_line.specs.Laws.Nodes.{St, Rule, mine_ok, is_node}
-use Rattle.link_line.proofs.Quiet.{is_quiet}
-use Rattle.link_line.proofs.Turning.{whole, grows_none, joins_same, Owes, Via, via_none, Turned, turned, own_at}
+use Rattle.link_line.proofs.Turning.{whole, grows_none, joins_all, Owes, Via, via_none, Turned, turned, own_at}
 
 -- while the line is in no hand, the request at its turn is not withdrawn
 pub turn_unmarked : {terms : Terms} {c : Core} {q : Queue} → Shows terms c q → ((n : ℕ) → c.place ≢ Hand n) → (r : Request) → turn_of q.order q.ends ≡ Some r → Lacks q.marked r
@@ -60,6 +59,16 @@ turn_unmarked {terms} {c} {q} s nowhere r here = go s.matches.lies
     go (in_hand n a b e f g k) = absurd (nowhere n e)
     go (granted t a b e g k w) = at_point a t Queued b k refl
     go (left t z a b e g k l i w) = at_point a t (Linking z) b i refl
+
+-- while it is at home, no request is at its turn
+pub turn_none : {terms : Terms} {c : Core} {q : Queue} → Shows terms c q → c.place ≡ Home → (r : Request) → turn_of q.order q.ends ≡ Some r → ⊥
+turn_none {terms} {c} {q} s home r here = go s.matches.lies
+  where
+    go : Lies terms c q.order q.ends → ⊥
+    go (at_home a b w) = let l = slice_get_within q.order (length q.ends) r here in absurd (omega arith)
+    go (in_hand n a b e f g k) = let z : Home ≡ Hand n = sym home ∙ e in cc
+    go (granted t a b e g k w) = let z : Home ≡ Mailbox t = sym home ∙ e in cc
+    go (left t y a b e g k l i w) = let z : Home ≡ Mailbox y = sym home ∙ e in cc
 
 -- the end that a release puts, as the core has it and as the port does
 end_is : (terms : Terms) (c : Core) (order : List Request) (ends : List End) (n : ℕ) (r : Reason) (ps places : List ℕ) (g : ℕ → ℕ) (z : Parcel) → ps ≡ map g places → IsCarried terms c order ends n r ps → z.bytes ≡ c.bytes → (ps ≡ [] → serves r ≡ true → z.mask ≡ c.mask) → z.closed ≡ is_shut_by r
@@ -94,6 +103,10 @@ abbrev pub is_linking : Point → Bool
 is_linking (Linking q) = true
 is_linking _ = false
 
+abbrev pub is_queued : Point → Bool
+is_queued Queued = true
+is_queued _ = false
+
 out_point : (g : ℕ → ℕ) (r : Reason) (places : List ℕ) (shut : Bool) → shut ≡ is_shut_by r → (seat_with (map g places) (point_at_end r) r).point ≡ after_release (left_by shut) places
 out_point g Own [] shut e = rw e refl
 out_point g Closing [] shut e = rw e refl
@@ -119,7 +132,14 @@ end_clear Own w = refl
 end_clear Closing w = refl
 end_clear Refused w = refl
 
-pub end_quiet : (r : Reason) → is_quiet (point_at_end r) ≡ true
+-- where a node may be whose turn has ended
+abbrev pub is_over : Point → Bool
+is_over Idle = true
+is_over Left = true
+is_over Shut = true
+is_over _ = false
+
+pub end_quiet : (r : Reason) → is_over (point_at_end r) ≡ true
 end_quiet Own = refl
 end_quiet Closing = refl
 end_quiet Refused = refl
@@ -195,7 +215,7 @@ module _ (good : List ℕ → Type 0) (allows : List ℕ → List ℕ → Type 0
     after = next allows about r.may_open.nodes.few x h.via.fine k x.joined x.early x.late
 
     abbrev pub view_after : List ℕ → Known
-    view_after passed = whole after v v.view.count v.view.joined passed z
+    view_after passed = whole after v v.view.count x.joined passed z
 
     abbrev pub Done : List ℕ → List ℕ → Homes → Type 0
     Done passed words homes = Turned good allows about s r me v at x h.via after (view_after passed) words homes
@@ -262,30 +282,30 @@ module _ (good : List ℕ → Type 0) (allows : List ℕ → List ℕ → Type 0
             ∙ shows.matches.clears n (length v.view.ends) after_node (own_last none) ∙ ap (λ (q : Point). is_clear q (entry d n)) here ∙ clear (entry d n)
 
         -- and the line has left the node
-        module _ (p : Point) (quiet : is_quiet p ≡ true) (own_seat : seat d n ≡ seat_at_close p st) (behind : (d.place ≡ Home) ⊎ (length after.queue.ends < length after.queue.order)) where
+        module _ (p : Point) (quiet : is_over p ≡ true) (own_seat : seat d n ≡ seat_at_close p st) (behind : (d.place ≡ Home) ⊎ (length after.queue.ends < length after.queue.order)) where
           unlined : has_line (point d n) ≡ false
           unlined = ap (λ (s : Seat). has_line s.point) own_seat ∙ close_not has_line st.passed p st.reason (quiet_lineless p quiet) refl
             where
-              quiet_lineless : (p : Point) → is_quiet p ≡ true → has_line p ≡ false
-              quiet_lineless Idle a = refl
-              quiet_lineless Ready a = refl
-              quiet_lineless Queued a = refl
-              quiet_lineless Left a = refl
-              quiet_lineless Rolled a = refl
-              quiet_lineless Shut a = refl
-              quiet_lineless (Linking q) a = refl
+              quiet_lineless : (p : Point) → is_over p ≡ true → has_line p ≡ false
               quiet_lineless Holding a = cc
               quiet_lineless (Leaving e) a = cc
               quiet_lineless (Marking e) a = cc
               quiet_lineless (Granting m) a = cc
-              quiet_lineless Freeing a = refl
+              quiet_lineless _ a = refl
 
           unlinking : is_linking (point d n) ≡ false
           unlinking = ap (λ (s : Seat). is_linking s.point) own_seat ∙ close_not is_linking st.passed p st.reason (quiet_linkless p quiet) refl
             where
-              quiet_linkless : (p : Point) → is_quiet p ≡ true → is_linking p ≡ false
+              quiet_linkless : (p : Point) → is_over p ≡ true → is_linking p ≡ false
               quiet_linkless (Linking q) a = cc
               quiet_linkless _ a = refl
+
+          unqueued : is_queued (point d n) ≡ false
+          unqueued = ap (λ (s : Seat). is_queued s.point) own_seat ∙ close_not is_queued st.passed p st.reason (over_unqueued p quiet) refl
+            where
+              over_unqueued : (p : Point) → is_over p ≡ true → is_queued p ≡ false
+              over_unqueued Queued a = cc
+              over_unqueued _ a = refl
 
           -- the line is at home, or another request follows
           left_behind : (x p : ℕ) → IsNode d x → p < length after.queue.ends → (entry d x).done ≡ true → (entry d x).link ≡ 0 → p + 1 < length after.queue.order
@@ -302,13 +322,14 @@ module _ (good : List ℕ → Type 0) (allows : List ℕ → List ℕ → Type 0
               let same : x ≡ asker after.queue.order p = map_get (asker after.queue.order) v.own.passed i p x b (subst (λ (ps : List ℕ). At ps i x) out_passing.places a) in
               left_behind x p (subst (λ (m : ℕ). IsNode d m) (sym same) (shows.matches.nodes p (out_passing.last i p b).known)) (out_passing.ended fr i p b) dn un
 
-          out_owes : Owes good allows about after v v.view.count v.view.joined v.own.passed z
+          out_owes : Owes good allows about after v v.view.count x.joined v.own.passed z
           out_owes = record {
             kept = kept;
             lawful = λ m. absurd (never (leaving_lined (point d n) m.leaves) unlined);
             unjoined = λ q e. absurd (never (ap is_linking e) unlinking);
+            waiting = λ e. absurd (never (ap is_queued e) unqueued);
             counts = counts;
-            joins = joins_same about r.past after v ok h.via.joined;
+            joins = joins_all about r.past after v ok h.via.joined;
             unwritten = λ e. absurd (never (ap has_line e) unlined);
             carries = λ e. absurd (never (leaving_lined (point d n) e) unlined);
             left = out_left;
@@ -316,7 +337,7 @@ module _ (good : List ℕ → Type 0) (allows : List ℕ → List ℕ → Type 0
           }
 
           pub out_turned : (words : List ℕ) (homes : Homes) → Laid d words homes → Done v.own.passed words homes
-          out_turned words homes laid = turned good allows about s r me v at x h.via k is x.joined x.early x.late (grows_none x after (node_of e) refl refl refl) v.view.count v.view.joined v.own.passed z out_owes words homes laid
+          out_turned words homes laid = turned good allows about s r me v at x h.via k is x.joined x.early x.late (grows_none x after (node_of e) refl refl refl) v.view.count x.joined v.own.passed z out_owes words homes laid
 
           seated : seat d n ≡ seat_with (map (asker x.queue.order) v.own.passed) p st.reason
           seated = own_seat ∙ ap (λ (ps : List ℕ). seat_with ps p st.reason) places
@@ -341,13 +362,14 @@ module _ (good : List ℕ → Type 0) (allows : List ℕ → List ℕ → Type 0
 
       -- the line stays in hand
       module _ (ends : after.queue.ends ≡ x.queue.ends) (p : Point) (leaving : is_leaving p ≡ true) (own_seat : seat d n ≡ record st { point = p }) (bytes : d.bytes ≡ x.core.bytes) (closed : d.closed ≡ x.core.closed) (mask : d.mask ≡ x.core.mask) (turns : d.left ≡ x.core.left) where
-        stays_owes : Owes good allows about after v v.view.count v.view.joined v.own.passed z
+        stays_owes : Owes good allows about after v v.view.count x.joined v.own.passed z
         stays_owes = record {
           kept = subst (AreAllowed allows about.terms.opening.bytes) (sym ends) h.via.fine.kept;
           lawful = λ m. let w : MayServe (record st { point = p }) = subst MayServe own_seat m in subst (λ (q : List End × Line64). allows (bytes_after about.terms.opening.bytes q.0) q.1.bytes) (λ i. (sym ends i, sym bytes i)) (h.may w.passed w.serves);
           unjoined = λ q e. absurd (never (ap is_linking e) (ap (λ (s : Seat). is_linking s.point) own_seat ∙ leaving_unlinking p leaving));
+          waiting = λ e. let w : is_leaving Queued ≡ true = ap is_leaving (sym e) ∙ ap (λ (s : Seat). is_leaving s.point) own_seat ∙ leaving in cc;
           counts = counts;
-          joins = joins_same about r.past after v ok h.via.joined;
+          joins = joins_all about r.past after v ok h.via.joined;
           unwritten = λ e. let w : is_leaving Holding ≡ true = ap is_leaving (sym e) ∙ ap (λ (s : Seat). is_leaving s.point) own_seat ∙ leaving in cc;
           carries = λ _. record {
             bytes = h.bytes ∙ sym bytes;
@@ -361,7 +383,7 @@ module _ (good : List ℕ → Type 0) (allows : List ℕ → List ℕ → Type 0
         }
 
         pub stays_turned : (words : List ℕ) (homes : Homes) → Laid d words homes → Done v.own.passed words homes
-        stays_turned words homes laid = turned good allows about s r me v at x h.via k is x.joined x.early x.late (grows_none x after (node_of e) refl refl refl) v.view.count v.view.joined v.own.passed z stays_owes words homes laid
+        stays_turned words homes laid = turned good allows about s r me v at x h.via k is x.joined x.early x.late (grows_none x after (node_of e) refl refl refl) v.view.count x.joined v.own.passed z stays_owes words homes laid
 
         pub carries_on : Carries v (view_after v.own.passed) z p
         carries_on = record {

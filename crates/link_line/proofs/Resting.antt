@@ -10,7 +10,7 @@ use Rattle.qolb_model.specs.Requests.{Lacks, has}
 use Rattle.qolb_model.proofs.Clearing.{clears_ended}
 use Rattle.qolb_model.proofs.Requests.{lacks_from}
 use Rattle.link_core.specs.declared.point.Point.{Point}
-use Rattle.link_core.specs.declared.point.Point.TheVariants.{Idle, Ready, Left, Rolled, Shut}
+use Rattle.link_core.specs.declared.point.Point.TheVariants.{Idle, Ready, Queued, Left, Rolled, Shut}
 use Rattle.link_core.specs.declared.seat.Seat.{Seat}
 use Rattle.link_core.specs.State.{unused, empty, entry, seat, point, IsNode, IsWide, is_clear}
 use Rattle.link_core.specs.Steps.{Step}
@@ -63,7 +63,7 @@ module _ (good : List ℕ → Type 0) (allows : List ℕ → List ℕ → Type 0
         let is = after_is (on allows about r.may_open.nodes.few r.past r.fine k) in
         let st : Seat = record (seat r.past.core v.view.node) { point = Ready } in
         let own : seat y.core v.view.node ≡ st = own_seat st in
-        let t = quiet_turned good allows about s r me v at k refl Ready (ap (λ (z : Seat). z.point) own) refl node (ap (λ (q : Queue). q.order) is) (ap (λ (q : Queue). q.ends) is) (set s.words word 0) s.homes
+        let t = quiet_turned good allows about s r me v at k refl Ready (ap (λ (z : Seat). z.point) own) refl (λ z. cc z) node (ap (λ (q : Queue). q.order) is) (ap (λ (q : Queue). q.ends) is) (set s.words word 0) s.homes
         (entry_laid r.past.core y.core s.words s.homes s.homes v.view.node 0 empty r.laid node few (let w = inside.entries in let n = node.1 in omega arith) (sym pack_empty) refl refl refl r.laid.deep (in_slot r.past.core y.core s.homes r.past.core.place refl refl refl r.laid.slot)) in (
           view_after good allows about s r me v at k ∷ [],
           keeps,
@@ -113,7 +113,7 @@ module _ (good : List ℕ → Type 0) (allows : List ℕ → List ℕ → Type 0
           let is = after_is (on allows about r.may_open.nodes.few r.past r.fine k) in
           let st : Seat = record (seat r.past.core v.view.node) { point = Idle } in
           let own : seat y.core v.view.node ≡ st = own_seat st in
-          let t = quiet_turned good allows about s r me v at k refl Idle (ap (λ (z : Seat). z.point) own) refl node (ap (λ (q : Queue). q.order) is) (ap (λ (q : Queue). q.ends) is) (set s.words word (slice_index s.words word)) s.homes
+          let t = quiet_turned good allows about s r me v at k refl Idle (ap (λ (z : Seat). z.point) own) refl (λ z. cc z) node (ap (λ (q : Queue). q.order) is) (ap (λ (q : Queue). q.ends) is) (set s.words word (slice_index s.words word)) s.homes
           (same_laid r.past.core y.core s.words s.homes s.homes v.view.node r.laid node few refl refl refl r.laid.deep (in_slot r.past.core y.core s.homes r.past.core.place refl refl refl r.laid.slot)) in (
             view_after good allows about s r me v at k ∷ [],
             keeps,
@@ -130,13 +130,17 @@ module _ (good : List ℕ → Type 0) (allows : List ℕ → List ℕ → Type 0
       quiet_rest p (inl e) = ap is_quiet e
       quiet_rest p (inr e) = ap is_quiet e
 
+      rest_unqueued : {A : Type 0} (p : Point) → (p ≡ Left) ⊎ (p ≡ Rolled) → p ≡ Queued → A
+      rest_unqueued p (inl e) z = let y : Left ≡ Queued = sym e ∙ z in cc
+      rest_unqueued p (inr e) z = let y : Rolled ≡ Queued = sym e ∙ z in cc
+
       looks_busy : is_clear (point r.past.core v.view.node) (entry r.past.core v.view.node) ≡ false → Looks
       looks_busy un =
           let k = row.load_busy v.view.node node at_core un in
           let y : Past = after good allows about s r me v at k in
           let step' = on allows about r.may_open.nodes.few r.past r.fine k in
           let is = after_is step' in
-          let t = quiet_turned good allows about s r me v at k refl v.own.seat.point (here v.own.seat.point refl) (quiet_rest v.own.seat.point rest) node (ap (λ (q : Queue). q.order) is) (ap (λ (q : Queue). q.ends) is) (set s.words word (slice_index s.words word)) s.homes
+          let t = quiet_turned good allows about s r me v at k refl v.own.seat.point (here v.own.seat.point refl) (quiet_rest v.own.seat.point rest) (rest_unqueued v.own.seat.point rest) node (ap (λ (q : Queue). q.order) is) (ap (λ (q : Queue). q.ends) is) (set s.words word (slice_index s.words word)) s.homes
           (same_laid r.past.core y.core s.words s.homes s.homes v.view.node r.laid node few refl refl refl r.laid.deep r.laid.slot) in (
             view_after good allows about s r me v at k ∷ [],
             keeps,

@@ -16,7 +16,7 @@ use Rattle.qolb_model.specs.Views.{own, IsSubset}
 use Rattle.qolb_model.proofs.Agreeing.{extends_trans}
 use Rattle.qolb_model.proofs.Prefixes.{prefix_self, prefix_trans}
 use Rattle.qolb_model.proofs.Requests.{has_prefix, has_left, has_last, has_push}
-use Rattle.link_core.specs.declared.point.Point.TheVariants.{Linking, Holding, Freeing}
+use Rattle.link_core.specs.declared.point.Point.TheVariants.{Linking, Queued, Holding, Freeing}
 use Rattle.link_core.specs.declared.state.State.{State as Core}
 use Rattle.link_core.specs.declared.told.Told.{Told as Answer}
 use Rattle.link_core.specs.declared.event.Event.{Event}
@@ -78,6 +78,14 @@ joins_same about x y v ok e = record {
   more_joined = λ r h. h;
 }
 
+-- all joined ones are
+pub joins_all : (about : Setup) (x y : Past) (v : Known) → NodeOk about x v.view.node v → y.joined ≡ x.joined → Joins y v y.joined
+joins_all about x y v ok e = record {
+  own_joined = λ r mine h. h;
+  all_joined = λ r h. h;
+  more_joined = λ r h. subst (λ rs. Has rs r) (sym e) (ok.joins.all_joined r h);
+}
+
 pub joins_push : (about : Setup) (x y : Past) (v : Known) (own : Request) → NodeOk about x v.view.node v → y.joined ≡ x.joined ++ own ∷ [] → Joins y v (v.view.joined ++ own ∷ [])
 joins_push about x y v own ok e = record {
   own_joined = λ r mine h. elim (has_push x.joined own r (subst (λ rs. Has rs r) e h)) [
@@ -133,6 +141,10 @@ pub arrival_unlinked : (n q : ℕ) (b : Bool) → (seat_at_arrival n b).point �
 arrival_unlinked n q true e = cc
 arrival_unlinked n q false e = cc
 
+pub arrival_unqueued : (n : ℕ) (b : Bool) → (seat_at_arrival n b).point ≡ Queued → ⊥
+arrival_unqueued n true e = cc
+arrival_unqueued n false e = cc
+
 pub arrival_unfreeing : (n : ℕ) (b : Bool) → (seat_at_arrival n b).point ≡ Freeing → ⊥
 arrival_unfreeing n true e = cc
 arrival_unfreeing n false e = cc
@@ -144,6 +156,7 @@ module _ (good : List ℕ → Type 0) (allows : List ℕ → List ℕ → Type 0
     pub kept : AreAllowed allows about.terms.opening.bytes y.queue.ends
     pub lawful : MayServe (seat y.core v.view.node) → allows (bytes_after about.terms.opening.bytes y.queue.ends) y.core.bytes.bytes
     pub unjoined : (q : ℕ) → point y.core v.view.node ≡ Linking q → Lacks y.joined (last_of v.view.node y.queue.order)
+    pub waiting : point y.core v.view.node ≡ Queued → Has y.joined (last_of v.view.node y.queue.order)
     pub counts : count_of v.view.node y.queue.order ≡ count
     pub joins : Joins y v joined
     pub unwritten : point y.core v.view.node ≡ Holding → y.core.mask ≡ no_mask
@@ -227,7 +240,8 @@ module _ (good : List ℕ → Type 0) (allows : List ℕ → List ℕ → Type 0
       turned grows count joins passed line o words homes laid =
           let fine : PastOk allows about y = fine_next allows about few x via.fine k joined early late grows o.kept
           (λ z. o.lawful (subst (λ (n : ℕ). MayServe (seat d n)) is z))
-          (λ q z. subst (λ (n : ℕ). Lacks joined (last_of n y.queue.order)) (sym is) (o.unjoined q (ap (point d) (sym is) ∙ z))) in
+          (λ q z. subst (λ (n : ℕ). Lacks joined (last_of n y.queue.order)) (sym is) (o.unjoined q (ap (point d) (sym is) ∙ z)))
+          (λ z. subst (λ (n : ℕ). Has joined (last_of n y.queue.order)) (sym is) (o.waiting (ap (point d) (sym is) ∙ z))) in
           let z = whole_by grows fine (whole y v count joins passed line) in
           turned_by grows fine (whole y v count joins passed line) refl (own fine) z.0 z.1 z.2 o.joins.more_joined z.3 (λ q h. h) words homes laid
         where

@@ -24,7 +24,8 @@ use Rattle.link_line.specs.declared.release.Handed.TheVariants as handed
 use Rattle.link_line.specs.Links.{At}
 use Rattle.shared_line.specs.Steps.{SameSeat, HasSlot, HasNoSlot}
 use Rattle.link_line.specs.Steps.{LinkSeat, known_of, after_release, left_in, end_of, next_end, point_by, Ended, IsOneLeft, Passes, GoesOn}
-use Rattle.link_line.specs.Releases.{HandsOn, with_line, WalksOn, AreNodesAt, FreesAll}
+use Rattle.link_line.specs.Releases.{HandsOn, NamesTurn, with_line, WalksOn, AreNodesAt, FreesAll}
+use Rattle.link_line.specs.Stances.{word_of, turn_word}
 use Rattle.link_line.proofs.Stepping.{goes_trans}
 
 -- a walk that began at v has passed the requests of these nodes
@@ -282,6 +283,16 @@ walking_on allows s t u before nodes node steps later n result k slot state same
       walked = on.0;
       stands = on.1;
     }
+
+-- the line is away, and the word of the turn was named
+pub names_away : (w : Known) (word : ℕ) (result : Handed) → ((node : ℕ) → result ≢ handed.Passed node) → NamesTurn w word result → word ≡ turn_word w.view
+names_away w word handed.On none names = names
+names_away w word handed.Left none names = names
+names_away w word (handed.Passed node) none names = absurd (none node refl)
+
+-- it stays that while the passed nodes are freed
+pub turn_stays : (w x : Known) → FreesAll w x → turn_word x.view ≡ turn_word w.view
+turn_stays w x f = λ i. word_of (f.joined i) (turn_of (f.order i) (f.ends i))
 
 -- when the walk is over, the line is away
 pub away_by : (allows : List ℕ → List ℕ → Type 0) (s t : LinkSeat) (before : ℕ) (nodes : List ℕ) (result : Handed) (steps : ℕ) → ((node : ℕ) → result ≢ handed.Passed node) → (k : IsWalking allows s before nodes result t steps) → HasNoSlot t × IsAway nodes (known_of t) × (k.taken + length nodes + 6 ≤ 4 * (known_of s).view.terms.nodes) × (3 * length nodes ≤ k.taken + 2) × (k.taken ≤ 3 * length nodes)

@@ -205,6 +205,7 @@ module _ (allows : List ℕ → List ℕ → Type 0) (about : Setup) where
     pub lawful : (n : ℕ) → IsNode x.core n → MayServe (seat x.core n) → allows (bytes_after about.terms.opening.bytes x.queue.ends) x.core.bytes.bytes
     pub joined : (r : Request) → Has x.joined r → Has x.queue.order r
     pub unjoined : (n q : ℕ) → IsNode x.core n → point x.core n ≡ Linking q → Lacks x.joined (last_of n x.queue.order)
+    pub waiting : (n : ℕ) → IsNode x.core n → point x.core n ≡ Queued → Has x.joined (last_of n x.queue.order)
     pub freed : (r : Request) → Has x.early r ⊎ Has x.late r → Has x.queue.clear r ⊎ IsFreed x.core x.queue.order r
 
 module _ (good : List ℕ → Type 0) (allows : List ℕ → List ℕ → Type 0) (about : Setup) where

@@ -15,7 +15,7 @@ use Rattle.link_core.specs.declared.point.Point.TheVariants.{Idle, Left, Rolled,
 use Rattle.shared_line.specs.declared.rule.Parcel.{Parcel}
 use Rattle.shared_line.specs.Steps.{HasSlot, HasNoSlot, own_end}
 use Rattle.link_line.specs.Known.{Known}
-use Rattle.link_line.specs.Stances.{steps_to_ask}
+use Rattle.link_line.specs.Stances.{steps_to_ask, turn_word}
 use Rattle.link_line.specs.declared.release.Handed.{Handed}
 use Rattle.link_line.specs.declared.release.Handed.TheVariants as handed
 use Rattle.link_line.specs.Links.{At}
@@ -41,6 +41,12 @@ rest_of _ = Idle
 abbrev pub IsRenewed : PortState → Known → Known → Option ℕ → Type 0
 IsRenewed state v w (Some steps) = IsReady v w × (steps ≤ 2) × (steps + 1 ≡ steps_to_ask state)
 IsRenewed state v w None = ((state ≡ shows.Left) ⊎ (state ≡ shows.Rolled)) × (w.own.seat.point ≡ v.own.seat.point) × (w.view.state ≡ v.view.state) × (w.view.count ≡ v.view.count) × Lacks w.view.clear (own w.view)
+
+-- unless the next request was passed, this is the word of the turn
+abbrev pub NamesTurn : Known → ℕ → Handed → Type 0
+NamesTurn w word handed.On = word ≡ turn_word w.view
+NamesTurn w word handed.Left = word ≡ turn_word w.view
+NamesTurn w word (handed.Passed next) = Unit {0}
 
 -- the node with the line y in its hand
 abbrev pub with_line : Known → Parcel → Known
@@ -84,6 +90,7 @@ pub record FreesAll (v w : Known) : Type 0 where
   pub order : w.view.order ≡ v.view.order
   pub ends : w.view.ends ≡ v.view.ends
   pub marked : w.view.marked ≡ v.view.marked
+  pub joined : w.view.joined ≡ v.view.joined
   pub freed : (k p : ℕ) (r : Request) → At v.own.passed k p → At v.view.order p r → Has w.view.freed r
   pub clear : (k p : ℕ) (r : Request) → At v.own.passed k p → At v.view.order p r → Has w.view.clear r ⊎ ((p + 1 ≡ length w.view.ends) × IsShort w.view)
   pub own_clear : Has w.view.clear (own w.view)

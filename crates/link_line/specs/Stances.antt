@@ -1,16 +1,20 @@
 -- How a node stands in the list, by what its port shows.
-use Rattle.std.specs.Prelude.{◌≡◌, ℕ, ◌+◌, ◌-◌, ◌*◌, ◌≤◌, []}
+use Rattle.std.specs.Prelude.{◌≡◌, ℕ, ◌+◌, ◌-◌, ◌*◌, ◌≤◌, List, [], Option, Some, None, if◌then◌else◌}
 use Rattle.qolb_model.specs.declared.answer.PortState.{PortState}
 use Rattle.qolb_model.specs.declared.answer.PortState.TheVariants as shows
 use Rattle.qolb_model.specs.declared.answer.Enq.{Enq}
 use Rattle.qolb_model.specs.declared.answer.Enq.TheVariants as enq
 use Rattle.qolb_model.specs.declared.terms.TheConstants.{MOST_NODES}
 use Rattle.qolb_model.specs.declared.view.View.{View}
+use Rattle.qolb_model.specs.declared.request.Request.{Request}
+use Rattle.qolb_model.specs.Requests.{has}
+use Rattle.qolb_model.specs.Histories.{turn_of}
 use Rattle.link_core.specs.declared.point.Point.TheVariants.{Idle, Linking, Queued, Holding, Leaving, Left, Rolled, Shut}
 use Rattle.link_core.specs.State.{unused}
 use Rattle.shared_line.specs.declared.rule.Parcel.{Parcel}
 use Rattle.link_line.specs.declared.own.LinkOwn.{LinkOwn}
 use Rattle.link_line.specs.Known.{no_line}
+use Rattle.link_line.specs.Words.{home_at, entry_at}
 
 -- a new node
 abbrev pub fresh : LinkOwn
@@ -33,6 +37,19 @@ holding mark ended own = (own.seat.point ≡ Holding) × (own.passed ≡ [])
 -- a node to which this closed line came is in a release of it at once
 abbrev pub refused : ℕ → View → LinkOwn → Parcel → Type 0
 refused mark view own y = (own.seat.point ≡ Leaving view.node) × (own.line ≡ y) × (own.passed ≡ [])
+
+-- a node waits at its own entry, once it is linked to the one before
+abbrev pub waits_at : ℕ → ℕ → ℕ
+waits_at node mark = entry_at node
+
+-- so the word of a request is the entry of its node, or home where there is none that is known to be joined
+abbrev pub word_of : List Request → Option Request → ℕ
+word_of joined (Some r) = if has joined r then entry_at r.node else home_at
+word_of joined None = home_at
+
+-- the word of the turn is that of the request at its turn
+abbrev pub turn_word : View → ℕ
+turn_word v = word_of v.joined (turn_of v.order v.ends)
 
 -- each state may be shown
 abbrev pub may_show : PortState → Type 0

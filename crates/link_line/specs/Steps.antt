@@ -26,9 +26,9 @@ use Rattle.shared_line.specs.Steps as shared
 use Rattle.shared_line.specs.Steps.{write_of, own_end}
 use Rattle.link_line.specs.Known.{Known}
 use Rattle.link_line.specs.declared.own.LinkOwn.{LinkOwn}
-use Rattle.link_line.specs.Words.{word_count, is_granted, is_rolled, is_done, is_freed, link_of}
+use Rattle.link_line.specs.Words.{home_at, entry_at, word_count, is_granted, is_rolled, is_done, is_freed, link_of}
 use Rattle.link_line.specs.Links.{At}
-use Rattle.link_line.specs.Stances.{fresh, rests, holding, refused}
+use Rattle.link_line.specs.Stances.{fresh, rests, holding, refused, turn_word}
 
 -- The words of `shared_line`, for the nodes of a list. Where a port's mark means nothing, they hold of any.
 
@@ -225,7 +225,7 @@ module _ (allows : List ℕ → List ℕ → Type 0) where
 
   abbrev pub homed : Step Parcel → Contents → ℕ → Contents → Type 0
   homed st m n m' = GoesOn allows m m' 1 × ((y : Parcel) → m.1 ≡ (0, y) ∷ []
-      → (n ≡ st.first → (m'.1 ≡ []) × Ended (sole m.0) (sole m'.0) y × GoesOut (sole m.0) (sole m'.0) y)
+      → (n ≡ st.first → (m'.1 ≡ []) × Ended (sole m.0) (sole m'.0) y × GoesOut (sole m.0) (sole m'.0) y × (turn_word (sole m'.0).view ≡ home_at))
       × (n ≢ st.first → (m'.1 ≡ m.1) × Carries (sole m.0) (sole m'.0) y (Marking st.first) × IsOneLeft (sole m'.0)))
 
   abbrev pub marked : Step Parcel → Contents → ℕ → Contents → Type 0
@@ -235,7 +235,7 @@ module _ (allows : List ℕ → List ℕ → Type 0) where
 
   abbrev pub granted : Step Parcel → Contents → ℕ → Contents → Type 0
   granted st m n m' = GoesOn allows m m' 1 × ((y : Parcel) → m.1 ≡ (0, y) ∷ [] → Ended (sole m.0) (sole m'.0) y
-      × (is_rolled n ≡ false → (m'.1 ≡ []) × GoesOut (sole m.0) (sole m'.0) y)
+      × (is_rolled n ≡ false → (m'.1 ≡ []) × GoesOut (sole m.0) (sole m'.0) y × ((next : ℕ) → (sole m.0).own.seat.point ≡ Granting next → turn_word (sole m'.0).view ≡ entry_at next))
       × (is_rolled n ≡ true → (m'.1 ≡ m.1) × ((next : ℕ) → (sole m.0).own.seat.point ≡ Granting next → Passes (sole m.0) (sole m'.0) next)))
 
   abbrev pub freed : Step Parcel → Contents → ℕ → Contents → Type 0

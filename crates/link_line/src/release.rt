@@ -8,10 +8,10 @@ ghost use Rattle.link_core.specs.declared.point.Point.TheVariants.{Leaving, Free
 ghost use Rattle.shared_line.specs.declared.rule.Parcel.{Parcel};
 ghost use Rattle.shared_line.specs.Steps.{SameSeat, HasSlot, HasNoSlot};
 ghost use Rattle.link_line.specs.Links.{At};
-ghost use Rattle.link_line.specs.Stances.{lets_go_in};
+ghost use Rattle.link_line.specs.Stances.{lets_go_in, turn_word};
 ghost use Rattle.link_line.specs.Words as layout;
 ghost use Rattle.link_line.specs.Steps.{IsSeatOf, IsAt, IsOwnNode, Alone, known_of, GoesOn, MayLetGo};
-ghost use Rattle.link_line.specs.Releases.{AreFew, HandsOn, LetsLineGo, WalksOn, AreNodesAt, FreesAll};
+ghost use Rattle.link_line.specs.Releases.{AreFew, HandsOn, NamesTurn, LetsLineGo, WalksOn, AreNodesAt, FreesAll};
 
 use crate::rule::{Ground, LinkSeat};
 use crate::steps::{done, free, grant, home};
@@ -54,6 +54,7 @@ pub(crate) fn release<K: Keep>(
     ensures lets_go { (y : Parcel) → HasSlot seat.old y → LetsLineGo (known_of seat.old) y result.state (known_of seat.new) }
     ensures counted { lets_go_in (length (known_of seat.old).view.ends) (length (known_of seat.new).view.ends) result.steps }
     ensures to_wake { result.to_wake.word < layout.word_count }
+    ensures wakes { result.to_wake.word ≡ turn_word (known_of seat.new).view }
     ensures bound { result.steps + 3 ≤ 4 * (known_of seat.old).view.terms.nodes }
 {
     let mut steps = 0;
@@ -82,7 +83,7 @@ pub(crate) fn release<K: Keep>(
 }
 
 /// Lets the line go at the entry of the node `at`: home where nobody is behind it, else to the next request. `granted` is then the word that
-/// was granted.
+/// was granted, or the home word where none was.
 #[inline]
 fn hand_on<K: Keep>(
     ground: &Ground<K>,
@@ -95,12 +96,13 @@ fn hand_on<K: Keep>(
     requires alone { Alone seat.old.me }
     requires high { at ≤ MOST_NODES }
     requires few { AreFew steps.old }
-    requires granted { granted.old < layout.word_count }
     requires parcel { (y : Parcel) × HasSlot seat.old y × MayLetGo K.allows (known_of seat.old) y at }
     ensures same { SameSeat seat.old seat.new }
     ensures handed { (n : ℕ) × (steps.new ≡ steps.old + n) × GoesOn K.allows seat.old.me seat.new.me n × ((y : Parcel) → HasSlot seat.old y → HandsOn seat.old y seat.new n result) }
-    ensures granted { granted.new < layout.word_count }
+    ensures within { granted.new < layout.word_count }
+    ensures names { NamesTurn (known_of seat.new) granted.new result }
 {
+    *granted = HOME;
     // Home first: only where home names another node does a link come, so that a done entry without one is left for somebody.
     *steps += 1;
     if home(ground, seat, at) {
@@ -121,7 +123,7 @@ fn hand_on<K: Keep>(
 }
 
 /// Passes withdrawn requests, from that of the node `first` on up to one that is not, and frees their nodes. So many steps were taken before;
-/// returns how many there are now. `granted` is then the word that was granted last.
+/// returns how many there are now. `granted` is then the word that was granted last, or the home word where the line is at home or left.
 ///
 /// It is apart, and cold: room for the passed nodes is cleared at its entry, which a release that meets no withdrawn request need not pay.
 #[cold]
@@ -141,7 +143,7 @@ fn walk<K: Keep>(
     requires first { (r : Request) × At (known_of seat.old).view.order (length (known_of seat.old).view.ends) r × (r.node ≡ first) }
     requires nodes { (2 ≤ (known_of seat.old).view.terms.nodes) × ((known_of seat.old).view.terms.nodes ≤ MOST_NODES) }
     requires few { steps ≤ 6 }
-    requires granted { granted.old < layout.word_count }
+    requires within { granted.old < layout.word_count }
     requires parcel { HasSlot seat.old (known_of seat.old).own.line }
     requires state { (known_of seat.old).view.state ≡ states.left_by (known_of seat.old).own.line.closed }
     ensures same { SameSeat seat.old seat.new }
@@ -149,7 +151,8 @@ fn walk<K: Keep>(
     ensures goes_on { (n : ℕ) × (result ≡ steps + n) × GoesOn K.allows seat.old.me seat.new.me n }
     ensures walks_on { WalksOn (known_of seat.old) (known_of seat.new) }
     ensures counted { (n : ℕ) × (result ≡ steps + n) × (4 * length (known_of seat.new).view.ends ≤ 4 * length (known_of seat.old).view.ends + n + 2) × (n + 4 * length (known_of seat.old).view.ends ≤ 4 * length (known_of seat.new).view.ends) }
-    ensures granted { granted.new < layout.word_count }
+    ensures within { granted.new < layout.word_count }
+    ensures names { granted.new ≡ turn_word (known_of seat.new).view }
     ensures bound { result + 6 ≤ steps + 4 * (known_of seat.old).view.terms.nodes }
 {
     let mut steps = steps;

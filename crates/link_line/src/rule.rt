@@ -34,6 +34,10 @@ impl Shape for Links {
 
     ghost lays = { lies_alone };
 
+    ghost waits_at = { stances.waits_at };
+
+    ghost turn_word = { stances.turn_word };
+
     ghost may_show = { stances.may_show };
 
     ghost asks_in = { stances.asks_in };
@@ -47,6 +51,10 @@ impl Shape for Links {
     ghost rests_shown = { standing.rests_shown };
 
     ghost holding_shown = { standing.holding_shown };
+
+    ghost holder_waits_there = { standing.holder_waits_there };
+
+    ghost refused_waits_there = { standing.refused_waits_there };
 
     ghost most_some = { standing.most_some };
 

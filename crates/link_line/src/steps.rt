@@ -6,6 +6,8 @@ ghost use Rattle.qolb_model.specs.Asking.{Asks, IsJoined};
 ghost use Rattle.qolb_model.specs.Linking.{Links};
 ghost use Rattle.link_core.specs.declared.point.Point.TheVariants.{Idle, Ready, Linking, Queued, Marking, Granting, Freeing, Left, Rolled, Shut};
 ghost use Rattle.link_line.specs.Links.{At};
+ghost use Rattle.link_line.specs.Stances.{turn_word};
+ghost use Rattle.link_line.specs.Words as layout;
 ghost use Rattle.shared_line.specs.declared.rule.Parcel.{Parcel};
 ghost use Rattle.shared_line.specs.Steps.{SameSeat, HasSlot, HasNoSlot};
 ghost use Rattle.link_line.specs.Steps.{Alone, IsSeatOf, IsAt, IsOwnNode, known_of, GoesOn, IsReady, LinksTo, IsEarly, Comes, IsRolled, IsStill, MayLetGo, Carries, IsOneLeft, Ended, GoesOut, IsLeft, Passes, Frees};
@@ -135,6 +137,7 @@ pub(crate) fn home<K: Keep>(ground: &Ground<K>, seat: &mut LinkSeat, at: u64) ->
     ensures same { SameSeat seat.old seat.new }
     ensures goes_on { GoesOn K.allows seat.old.me seat.new.me 1 }
     ensures home { result ≡ true → HasNoSlot seat.new × ((y : Parcel) → HasSlot seat.old y → Ended (known_of seat.old) (known_of seat.new) y × GoesOut (known_of seat.old) (known_of seat.new) y) }
+    ensures names { result ≡ true → turn_word (known_of seat.new).view ≡ layout.home_at }
     ensures on { result ≡ false → (seat.new.me.1 ≡ seat.old.me.1) × IsOneLeft (known_of seat.new) × ((y : Parcel) → HasSlot seat.old y → Carries (known_of seat.old) (known_of seat.new) y (Marking at)) }
 {
     ground.compare_exchange::<Home<K>>(seat, HOME, at, 0) == at
@@ -153,6 +156,7 @@ pub(crate) fn done<K: Keep>(ground: &Ground<K>, seat: &mut LinkSeat, at: u64) ->
     ensures same { SameSeat seat.old seat.new }
     ensures goes_on { GoesOn K.allows seat.old.me seat.new.me 1 }
     ensures left { result ≡ 0 → HasNoSlot seat.new × Ended (known_of seat.old) (known_of seat.new) (known_of seat.old).own.line × IsLeft (known_of seat.old) (known_of seat.new) (known_of seat.old).own.line }
+    ensures names { result ≡ 0 → turn_word (known_of seat.new).view ≡ layout.home_at }
     ensures on { result ≢ 0 → (seat.new.me.1 ≡ seat.old.me.1) × (result ≤ MOST_NODES) × Carries (known_of seat.old) (known_of seat.new) (known_of seat.old).own.line (Granting result) }
 {
     link_of(ground.fetch_add::<Done<K>>(seat, entry_word(at), DONE))
@@ -168,6 +172,7 @@ pub(crate) fn grant<K: Keep>(ground: &Ground<K>, seat: &mut LinkSeat, next: u64)
     ensures goes_on { GoesOn K.allows seat.old.me seat.new.me 1 }
     ensures ended { Ended (known_of seat.old) (known_of seat.new) (known_of seat.old).own.line }
     ensures out { result ≡ false → HasNoSlot seat.new × GoesOut (known_of seat.old) (known_of seat.new) (known_of seat.old).own.line }
+    ensures names { result ≡ false → turn_word (known_of seat.new).view ≡ layout.entry_at next }
     ensures passes { result ≡ true → (seat.new.me.1 ≡ seat.old.me.1) × Passes (known_of seat.old) (known_of seat.new) next }
 {
     is_rolled(ground.fetch_add::<Grant<K>>(seat, entry_word(next), GRANTED))

@@ -1,12 +1,11 @@
 //! How a line is let go.
-ghost use Rattle.std.specs.Prelude.{◌≡◌, ◌≢◌, ◌+◌, ◌*◌, ◌<◌, ◌≤◌, [], ◌∷◌, length};
+ghost use Rattle.std.specs.Prelude.{◌≡◌, ◌≢◌, ◌+◌, ◌*◌, ◌≤◌, [], ◌∷◌, length};
 ghost use Rattle.qolb_model.specs.declared.request.Request.{Request};
 ghost use Rattle.qolb_model.specs.Requests.{AreOfOthers};
 ghost use Rattle.qolb_model.specs.declared.terms.TheConstants.{MOST_NODES};
 ghost use Rattle.qolb_model.specs.PortStates.{left_by};
 ghost use Rattle.shared_line.specs.declared.rule.Parcel.{Parcel};
 ghost use Rattle.shared_line.specs.Steps.{SameSeat, IsSeatOf, HasSlot, HasNoSlot};
-ghost use Rattle.array_line.specs.declared.words.TheConstants.{CELLS};
 ghost use Rattle.array_line.specs.Words.{word_count};
 ghost use Rattle.array_line.specs.Array.{At};
 ghost use Rattle.array_line.specs.Steps.{IsAt, IsOwnNode, entry_of, GoesOn, CarriesNext};
@@ -25,7 +24,7 @@ use qolb_model::{Keep, MOST_NODES, PortState};
 /// The most requests that a release passes: those of all nodes but its own.
 const MOST_PASSED: usize = MOST_NODES as usize - 1;
 
-/// A line that was let go: how many word steps it took, and the cell that was granted last.
+/// A line that was let go: how many word steps it took, and the cell that was granted last, whose node may have to be woken.
 #[derive(Clone, Copy)]
 pub(crate) struct LetGo {
     pub(crate) steps: u64,
@@ -73,7 +72,7 @@ pub(crate) fn release<K: Keep>(ground: &Ground<K>, seat: &mut RingSeat, cell: u6
     ensures slot { HasNoSlot seat.new }
     ensures goes_on { GoesOn K.allows seat.old.me seat.new.me result.steps }
     ensures lets_go { (y : Parcel) → HasSlot seat.old y → LetsLineGo (entry_of seat.old) y (entry_of seat.new) }
-    ensures cell { result.cell < CELLS }
+    ensures granted { result.cell ≡ turn_cell seat.new }
     ensures counted { result.steps + 1 + 3 * length (entry_of seat.old).view.ends ≡ 3 * length (entry_of seat.new).view.ends }
     ensures bound { result.steps + 1 ≤ 3 * (entry_of seat.old).view.terms.nodes }
 {
@@ -113,7 +112,7 @@ fn walk<K: Keep>(ground: &Ground<K>, seat: &mut RingSeat, cell: u64, found: u64)
     ensures slot { HasNoSlot seat.new }
     ensures goes_on { GoesOn K.allows seat.old.me seat.new.me result.steps }
     ensures walks_on { WalksOn (entry_of seat.old) (entry_of seat.new) }
-    ensures cell { result.cell < CELLS }
+    ensures granted { result.cell ≡ turn_cell seat.new }
     ensures counted { result.steps + 3 * length (entry_of seat.old).view.ends ≡ 3 * length (entry_of seat.new).view.ends }
     ensures bound { result.steps + 3 ≤ 3 * (entry_of seat.old).view.terms.nodes }
 {

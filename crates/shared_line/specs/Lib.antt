@@ -4,3 +4,4 @@ pub mod Steps
 pub mod Ports
 pub mod Finish
 pub mod Arrivals
+pub mod Turns

@@ -23,6 +23,7 @@ ghost use Rattle.shared_line.specs.declared.rule.Setup.{Setup};
 ghost use Rattle.shared_line.specs.declared.rule.Entry.{Entry};
 ghost use Rattle.shared_line.specs.Slots.{Slots, IsCopy};
 ghost use Rattle.shared_line.specs.Ports.{IsPutBack};
+ghost use Rattle.shared_line.specs.Turns.{SeesTurn};
 ghost use Rattle.shared_line.specs.Entries.{Contents, newcomers, AllRest, views_of};
 ghost use Rattle.shared_line.specs.Steps.{Alone, entry_of, SameSeat, IsSeatOf, IsOwnNode, HasNoSlot, HasLine, Rests, GoesOn, IsEarly, IsUnlinked, IsGivenUp, Comes, Carries, own_end, met, parked};
 
@@ -92,6 +93,12 @@ pub trait Shape {
     /// A node with this mark that is about to let this line go has laid it in these slots, for the next.
     ghost lays: { ℕ → Parcel → Slots → Type 0 };
 
+    /// The word at which a node with this mark waits: the node, the mark.
+    ghost waits_at: { ℕ → ℕ → ℕ };
+
+    /// The word at which that node waits whose request is at its turn, by what a port knows of the line. Where nobody waits for the turn, any word.
+    ghost turn_word: { View → ℕ };
+
     /// A port may show this state.
     ghost may_show: { PortState → Type 0 };
 
@@ -111,6 +118,13 @@ pub trait Shape {
     ghost rests_shown: { (state : PortState) (mark : ℕ) (own : Self.Own) → rests state mark own → may_show state };
 
     ghost holding_shown: { may_show shows.Holding };
+
+    /// A node that has the open line by this mark waited at the word of the turn, by what any port knows that sees whose turn it is: whoever lets
+    /// the line go to that node, and sees so, names the word at which it waits.
+    ghost holder_waits_there: { (mark : ℕ) (u v : View) (stance : Self.Own) → holding mark (length v.ends) stance → SeesTurn u v → waits_at v.node mark ≡ turn_word u };
+
+    /// And so did one to which the line came closed.
+    ghost refused_waits_there: { (mark : ℕ) (u v : View) (stance : Self.Own) (y : Parcel) → refused mark v stance y → SeesTurn u v → waits_at v.node mark ≡ turn_word u };
 
     /// A look takes a step.
     ghost most_some: { (nodes : ℕ) → 1 ≤ nodes → 1 ≤ most nodes };
@@ -250,12 +264,14 @@ pub trait Discipline<K: Keep>: Ruled<K> {
         ensures lets_go { (y : Parcel) → Self.lays mark y seat.old.me.1 → EndsTurn (entry_of Self.fresh seat.old).view (own_end (is_closed (entry_of Self.fresh seat.old).view.ends) y) (states.left_by y.closed) (entry_of Self.fresh seat.new).view }
         ensures counted { Self.lets_go_in (length (entry_of Self.fresh seat.old).view.ends) (length (entry_of Self.fresh seat.new).view.ends) result.steps }
         ensures to_wake { result.to_wake.word < word_count }
+        ensures wakes { result.to_wake.word ≡ Self.turn_word (entry_of Self.fresh seat.new).view }
         ensures bound { result.steps + 1 ≤ Self.most (entry_of Self.fresh seat.old).view.terms.nodes };
 
     /// The word at which a waiting node looks. When its turn comes, the lower 32 bits of this word change.
     fn awaited(node: u64, mark: u64) -> usize
         requires { node ≤ MOST_NODES }
-        ensures { result < word_count };
+        ensures bound { result < word_count }
+        ensures waits_at { result ≡ Self.waits_at node mark };
 
     /// Whether the turn may have come of a node that waits, and finds this in its word.
     fn may_have_come(mark: u64, word: u64) -> bool;

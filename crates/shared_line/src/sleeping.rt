@@ -71,6 +71,11 @@ fn wake_at<K: Keep, Q: Discipline<K>>(ground: &Ground<K, Q>, word: usize)
 }
 
 impl<K: Keep, Q: Discipline<K>> Line<K, Q> {
+    /// How many waiters sleep, or are about to.
+    pub fn sleepers(&self) -> u64 {
+        self.sleepers.count.load(Ordering::SeqCst)
+    }
+
     /// Sleeps until the request's turn may have come, or so much time is over. It may also return for no reason.
     ///
     /// It counts itself before it looks, and a release looks at the count after its grant. So either this finds the grant, or the release

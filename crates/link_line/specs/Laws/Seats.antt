@@ -74,6 +74,7 @@ module _ (good : List ℕ → Type 0) (allows : List ℕ → List ℕ → Type 0
       lawful = λ n a s. absurd (let z = (subst MayServe (seat_first PLACES n) s).leaves in cc z);
       joined = λ r h. absurd (cc h);
       unjoined = λ n q a e. absurd (let z = sym (ap (λ (s : Seat). s.point) (seat_first PLACES n)) ∙ e in cc z);
+      waiting = λ n a e. absurd (let z = sym (ap (λ (s : Seat). s.point) (seat_first PLACES n)) ∙ e in cc z);
       freed = λ r h. elim h [ inl a ↦ absurd (cc a) | inr b ↦ absurd (cc b) ];
     };
     laid = record {

@@ -1,4 +1,4 @@
-use Rattle.std.proofs.Common.{refl, inl, ◌∙◌, arith}
+use Rattle.std.proofs.Common.{refl, inl, sym, ◌∙◌, arith}
 use Rattle.link_line.proofs.Stepping.{goes_trans}
 use Rattle.link_line.proofs.Handing.{hands_left, hands_out, hands_passed}
 use Rattle.link_line.proofs.release.hand_on.Goals as goal
@@ -44,3 +44,12 @@ returns-else-grant-clause-handed g c =
           (goes_trans g.K.Keep.allows c.home.new.seat.me c.done-next.new.seat.me c.grant.new.seat.me 1 1 c.done-next.ensures.goes_on c.grant.ensures.goes_on),
       λ y slot. hands_out g.K.Keep.allows c.args.seat.now c.home.new.seat c.done-next.new.seat y c.args.at c.home.ensures.goes_on on.1 (on.2 y slot) c.grant.new.seat c.done-next.result linked.2 out.0 c.grant.ensures.ended out.1,
     )
+
+pub returns-then-home-clause-names : goal.returns-then-home-clause-names
+returns-then-home-clause-names g c = sym (c.home.ensures.names c.if-home.true)
+
+pub returns-then-next-eq0-clause-names : goal.returns-then-next-eq0-clause-names
+returns-then-next-eq0-clause-names g c = sym (c.done-next.ensures.names c.if-next-eq0.true)
+
+pub returns-else-grant-clause-names : goal.returns-else-grant-clause-names
+returns-else-grant-clause-names g c = c.entry_word.ensures ∙ sym (c.grant.ensures.names c.if-grant.false)

@@ -2,7 +2,7 @@ use Rattle.std.proofs.Common.{sym, subst, ap, ◌∙◌, ◌+◌, ℕ, List, len
 use Rattle.link_line.specs.declared.release.Handed.{Handed}
 use Rattle.link_line.specs.Steps.{known_of, GoesOn}
 use Rattle.link_line.proofs.Stepping.{goes_trans}
-use Rattle.link_line.proofs.Walking.{IsWalking, walking_on, walk_over, walked_long, away_by}
+use Rattle.link_line.proofs.Walking.{IsWalking, walking_on, walk_over, walked_long, away_by, names_away, turn_stays}
 use Rattle.link_line.proofs.release.walk.Goals as goal
 
 pub loop-handed-preserved : goal.loop-handed-preserved
@@ -11,7 +11,8 @@ loop-handed-preserved g c =
     let was = subst (λ (h : Handed). IsWalking g.K.Keep.allows c.args.seat.now c.args.steps c.loop-handed.passed.items h c.loop-handed.seat c.loop-handed.steps) c.in-Passed.is c.loop-handed.invariant.0 in (
       subst (λ (nodes : List ℕ). IsWalking g.K.Keep.allows c.args.seat.now c.args.steps nodes c.hand_on-handed.result c.hand_on-handed.new.seat c.hand_on-handed.new.steps) (sym c.push.ensures.items)
           (walking_on g.K.Keep.allows c.args.seat.now c.loop-handed.seat c.hand_on-handed.new.seat c.args.steps c.loop-handed.passed.items c.in-Passed.node c.loop-handed.steps c.hand_on-handed.new.steps on.0 c.hand_on-handed.result was c.requires.parcel c.requires.state c.hand_on-handed.ensures.same on.1 on.2 on.3),
-      c.hand_on-handed.ensures.granted,
+      c.hand_on-handed.ensures.within,
+      c.hand_on-handed.ensures.names,
     )
 
 pub returns : goal.returns
@@ -30,6 +31,7 @@ returns g c =
         omega (arith, walked_long (known_of c.args.seat.now) (known_of c.loop-handed.seat) (known_of c.free_passed.new.seat) c.loop-handed.passed.items k.walked c.free_passed.ensures.frees, away.3),
         omega (arith, walked_long (known_of c.args.seat.now) (known_of c.loop-handed.seat) (known_of c.free_passed.new.seat) c.loop-handed.passed.items k.walked c.free_passed.ensures.frees, away.4),
       );
-      granted = c.loop-handed.invariant.1;
+      within = c.loop-handed.invariant.1;
+      names = names_away (known_of c.loop-handed.seat) c.loop-handed.granted c.loop-handed.handed c.in_default.not-Passed c.loop-handed.invariant.2 ∙ sym (turn_stays (known_of c.loop-handed.seat) (known_of c.free_passed.new.seat) c.free_passed.ensures.frees);
       bound = omega (arith, k.counted, c.len.ensures.value, away.2);
     }

@@ -2,6 +2,7 @@ use Rattle.std.proofs.Common.{rules, arith, sym, ◌∙◌, subst, ℕ, ◌≤�
 use Rattle.qolb_model.specs.declared.terms.TheConstants.{MOST_NODES}
 use Rattle.link_core.specs.declared.point.Point.TheVariants.{Granting}
 use Rattle.link_line.specs.Steps.{known_of, Carries}
+use Rattle.link_line.specs.Laws.Standing.{names_short}
 use Rattle.link_line.proofs.Marking.{marks_next}
 use Rattle.link_line.proofs.steps.done.Goals as goal
 
@@ -10,6 +11,9 @@ fetch_add-requires g c = let r = c.requires.ready in let y = c.requires.parcel i
 
 pub returns-clause-left : goal.returns-clause-left
 returns-clause-left g c = λ none. (c.fetch_add.ensures.2.1 _ c.requires.parcel).0 (sym c.link_of.ensures ∙ none)
+
+pub returns-clause-names : goal.returns-clause-names
+returns-clause-names g c = λ none. names_short (known_of c.fetch_add.new.seat).view ((c.fetch_add.ensures.2.1 _ c.requires.parcel).0 (sym c.link_of.ensures ∙ none)).2.short
 
 pub returns-clause-on : goal.returns-clause-on
 returns-clause-on g c = λ more. let on = (c.fetch_add.ensures.2.1 _ c.requires.parcel).1 (λ z. more (c.link_of.ensures ∙ z)) in (

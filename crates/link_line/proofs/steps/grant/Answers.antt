@@ -10,7 +10,10 @@ pub returns-clause-ended : goal.returns-clause-ended
 returns-clause-ended g c = (c.fetch_add.ensures.2.1 _ c.requires.parcel).0
 
 pub returns-clause-out : goal.returns-clause-out
-returns-clause-out g c = λ no'. (c.fetch_add.ensures.2.1 _ c.requires.parcel).1 (sym c.is_rolled.ensures ∙ no')
+returns-clause-out g c = λ no'. let out = (c.fetch_add.ensures.2.1 _ c.requires.parcel).1 (sym c.is_rolled.ensures ∙ no') in (out.0, out.1)
+
+pub returns-clause-names : goal.returns-clause-names
+returns-clause-names g c = λ no'. ((c.fetch_add.ensures.2.1 _ c.requires.parcel).1 (sym c.is_rolled.ensures ∙ no')).2 _ c.requires.ready.1
 
 pub returns-clause-passes : goal.returns-clause-passes
 returns-clause-passes g c = λ yes'. let on = (c.fetch_add.ensures.2.1 _ c.requires.parcel).2 (sym c.is_rolled.ensures ∙ yes') in (on.0, on.1 _ c.requires.ready.1)

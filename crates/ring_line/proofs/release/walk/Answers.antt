@@ -1,4 +1,6 @@
 use Rattle.std.proofs.Common.{rules, refl, sym, subst, ap, arith, ◌≡◌, ◌≢◌, ◌∙◌, ◌++◌, ◌∷◌, [], ℕ, List, length}
+use Rattle.qolb_model.specs.declared.end.End.{End}
+use Rattle.array_line.specs.Words.{cell_of}
 use Rattle.array_line.specs.Steps.{entry_of}
 use Rattle.array_line.specs.Berths.{one_slot}
 use Rattle.array_line.proofs.Turning.{goes_none}
@@ -41,5 +43,5 @@ pub returns-clause-walks_on : goal.returns-clause-walks_on
 returns-clause-walks_on g c = let done : c.loop-passed.found ≡ 0 = search rules in
     walk_over (entry_of c.args.seat.now) (entry_of c.loop-passed.seat) (entry_of c.free_passed.new.seat) c.loop-passed.passed.items c.loop-passed.invariant.walking.walked (c.loop-passed.invariant.walking.home done).1 c.free_passed.ensures.frees
 
-pub returns-clause-cell : goal.returns-clause-cell
-returns-clause-cell g c = omega (arith, c.loop-passed.invariant.cell_is)
+pub returns-clause-granted : goal.returns-clause-granted
+returns-clause-granted g c = c.loop-passed.invariant.cell_is ∙ ap (λ (es : List End). cell_of (length es)) (sym c.free_passed.ensures.frees.ends)
