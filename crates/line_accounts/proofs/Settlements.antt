@@ -21,7 +21,7 @@ use Rattle.line_accounts.specs.Accounts.{AreBalances, StayBalances}
 use Rattle.qolb_model.specs.Sums.{KnowsOwnPlaces}
 use Rattle.line_accounts.specs.Paid.{paid_by, drawn_by}
 use Rattle.line_accounts.specs.Desks.{DeskOf, IsAtRest, AreOver, IsDeskOver}
-use Rattle.line_accounts.specs.Settled.{all_paid_in, all_paid_out, all_opened, AreAllThere, TakesLast}
+use Rattle.line_accounts.specs.Settled.{all_paid_in, all_paid_out, all_opened, AreAllThere, ArePortsOf, IsSettled, AreSettled, TakesLast}
 use Rattle.line_accounts.specs.declared.law.TheConstants.{MOST_BALANCE}
 use Rattle.qolb_model.proofs.Sums.{sum-plus, sum-each}
 use Rattle.line_accounts.proofs.Turns.{finished_total}
@@ -186,6 +186,55 @@ module _ {Line Port : Type 0} (belongs : Line → Port → Type 0) (view : Port 
         let (i, port, at_port, is) = among_map_port view ports v (k, at) in
         let (desk, at_desk, at_place) = port_was i port at_port in
         subst (λ (w : View). KnowsOwnPlaces w) (sym is) (left.at_rest i desk (length lines) port at_desk at_place).places
+
+-- what is left of all lines and desks: the first lines, and the first ports of each desk; and the lines that are gone are settled
+module _ {Line Port : Type 0} (belongs : Line → Port → Type 0) (view : Port → View) (label_of : Line → ℕ) (terms_of : Line → Terms) (all_lines : List Line) (all_desks : List (DeskOf Port)) where
+  pub record IsRest (lines : List Line) (desks : List (DeskOf Port)) : Type 0 where
+    pub line_was : (i : ℕ) (line : Line) → slice_get lines i ≡ Some line → slice_get all_lines i ≡ Some line
+    pub many : length desks ≡ length all_desks
+    pub port_was : (k : ℕ) (desk was : DeskOf Port) (i : ℕ) (port : Port) → slice_get desks k ≡ Some desk → slice_get all_desks k ≡ Some was → slice_get desk.ports i ≡ Some port → slice_get was.ports i ≡ Some port
+    pub gone : (i : ℕ) (line : Line) → length lines ≤ i → slice_get all_lines i ≡ Some line → IsSettled view label_of terms_of all_lines all_desks i line
+
+  pub rest_first : IsRest all_lines all_desks
+  rest_first = record {
+    line_was = λ i line at. at;
+    many = refl;
+    port_was = λ k desk was i port at at_was at_port. ap (λ (d : DeskOf Port). slice_get d.ports i) (same_some (sym at_was ∙ at)) ∙ at_port;
+    gone = λ i line le at. absurd (let lt = slice_get_within all_lines i line at in omega (arith, le, lt));
+  }
+
+  -- a line more is gone, and the last port of each desk
+  module _ (lines : List Line) (line : Line) (old new : List (DeskOf Port)) (ports : List Port) (left : IsLeft belongs view terms_of (lines ++ line ∷ []) old) (t : TakesLast old new ports) (rest : IsRest (lines ++ line ∷ []) old) where
+    taken_are : ArePortsOf all_desks (length lines) ports
+    taken_are = record {
+      as_many = t.ports_taken ∙ rest.many;
+      each = λ k desk at.
+          let within = slice_get_within all_desks k desk at in
+          let few = t.ports_taken in
+          let many = rest.many in
+          let (port, at_port) = element_at ports k (omega (arith, within, few, many)) in
+          let (was, at_was, at_place) = port_was belongs view terms_of lines line old new ports left t k port at_port in
+          at_port ∙ sym (rest.port_was k was desk (length lines) port at_was at at_place);
+    }
+
+    pub rest_then : (bytes : List ℕ) → IsFinished AreBalances StayBalances (label_of line) (terms_of line) (map view ports) bytes → IsRest lines new
+    rest_then bytes f = record {
+      line_was = λ i l at. rest.line_was i l (slice_get-append_left lines (line ∷ []) i (slice_get_within lines i l at) ∙ at);
+      many = t.desks_left ∙ rest.many;
+      port_was = λ k desk desk_was i port at at_was at_port.
+          let (before, last, at_before, is, long) = was belongs view terms_of lines line old new ports left t k desk at in
+          rest.port_was k before desk_was i port at_before at_was (kept_at belongs view terms_of lines line old new ports left t k desk before last is i port at_port);
+      gone = λ i l le at. elim (cases_eq i (length lines)) [
+        | inl e ↦
+            let same : line ≡ l = same_some (sym (rest.line_was (length lines) line (slice_get-push lines line)) ∙ (ap (slice_get all_lines) (sym e) ∙ at)) in
+            subst (λ (x : Line). IsSettled view label_of terms_of all_lines all_desks i x) same
+            (subst (λ n. IsSettled view label_of terms_of all_lines all_desks n line) (sym e) (record { ports = ports; are = taken_are; bytes = bytes; finished = f }))
+        | inr ne ↦ rest.gone i l (let more = length-append lines (line ∷ []) in omega (arith, le, ne, more)) at
+      ];
+    }
+
+  pub rest_last : (lines : List Line) (desks : List (DeskOf Port)) → lines ≡ [] → IsRest lines desks → AreSettled view label_of terms_of all_lines all_desks
+  rest_last lines desks none rest = λ i line at. rest.gone i line (let empty = ap length none in omega (arith, empty)) at
 
 -- what is settled so far and what is left add up to the whole
 abbrev pub AddsUp : {Line Port : Type 0} → (Port → View) → (Line → Terms) → List Line → List Line → List (DeskOf Port) → List (DeskOf Port) → ℕ → Type 0

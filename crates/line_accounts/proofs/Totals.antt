@@ -1,10 +1,10 @@
 -- Lanes and totals of a line in which a lane was written.
-use Rattle.std.proofs.Common.{◌≡◌, ◌≢◌, ℕ, ◌+◌, ◌-◌, ◌<◌, ◌≤◌, ◌^◌, inl, inr, List, length, get_or, ap, sym, ◌∙◌, subst, arith}
-use Rattle.std.specs.List.{sum}
+use Rattle.std.proofs.Common.{◌≡◌, ◌≢◌, ℕ, ◌+◌, ◌-◌, ◌<◌, ◌≤◌, ◌^◌, inl, inr, List, length, get_or, ap, sym, zero-add, ◌∙◌, subst, arith}
+use Rattle.std.specs.List.{sum, sum_by, range_with_len}
 use Rattle.std.proofs.Math.ListN.{set}
 use Rattle.std.proofs.lemmas.List.{ext_get_or, get_or-set_same, get_or-set_other, length-set}
-use Rattle.std.proofs.lemmas.List.FromFn.{length-map-range_with_len}
-use Rattle.std.proofs.lemmas.List.Sums.{sum_by-set}
+use Rattle.std.proofs.lemmas.List.FromFn.{length-map-range_with_len, get_or-range_with_len}
+use Rattle.std.proofs.lemmas.List.Sums.{sum_by-set, sum-map, get_or-le-sum_by}
 use Rattle.std.proofs.lemmas.Bool.{cases_eq}
 use Rattle.line_lanes.specs.Lane.{lane_of, with_lane_of, lanes_of, lanes_total}
 use Rattle.line_lanes.proofs.EachLane.{lanes_of-at}
@@ -152,3 +152,12 @@ looked line p = pays_as p (none (lanes_total line)) (none (lanes_total line))
   where
     none : (a : ℕ) → a - a ≡ 0
     none a = omega arith
+
+-- a balance is a part of its line's total
+pub lane_within : (line : List ℕ) (k : ℕ) → k < 8 → lane_of line k ≤ lanes_total line
+lane_within line k within =
+    let here : get_or (range_with_len 0 8) k 0 ≡ k = get_or-range_with_len 0 8 k 0 within ∙ zero-add k in
+    let part : lane_of line (get_or (range_with_len 0 8) k 0) ≤ sum_by (lane_of line) (range_with_len 0 8) = get_or-le-sum_by (lane_of line) (range_with_len 0 8) k 0 within in
+    let whole : lanes_total line ≡ sum_by (lane_of line) (range_with_len 0 8) = sum-map (lane_of line) (range_with_len 0 8) in
+    let lane = ap (lane_of line) here in
+    omega (arith, part, whole, lane)

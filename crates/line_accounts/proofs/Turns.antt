@@ -1,5 +1,6 @@
 -- The total of a line, over the turns of its ports.
-use Rattle.std.proofs.Common.{◌≡◌, ℕ, ◌+◌, ◌-◌, List, [], ◌∷◌, Some, slice_get, refl, ap, sym, ◌∙◌, arith}
+use Rattle.std.proofs.Common.{◌≡◌, ℕ, zero, suc, ◌+◌, ◌-◌, ◌≤◌, List, [], ◌∷◌, length, take, Some, slice_get, refl, ap, sym, ◌∙◌, subst, arith}
+use Rattle.std.proofs.lemmas.List.{take-append-le}
 use Rattle.std.specs.List.{sum_by}
 use Rattle.line_lanes.specs.Lane.{lanes_total}
 use Rattle.qolb_model.specs.declared.end.End.{End}
@@ -7,6 +8,7 @@ use Rattle.qolb_model.specs.declared.end.End.TheVariants.{Served, Gone, Told}
 use Rattle.qolb_model.specs.declared.terms.Terms.{Terms}
 use Rattle.qolb_model.specs.declared.view.View.{View}
 use Rattle.qolb_model.specs.Ends.{written, bytes_after}
+use Rattle.qolb_model.specs.OneHistory.{IsAmong}
 use Rattle.qolb_model.specs.Finishing.{IsFinished}
 use Rattle.qolb_model.specs.Sums.{sum_of_all, KnowsOwnPlaces}
 use Rattle.qolb_model.proofs.Sums.{sums_of_ports}
@@ -34,3 +36,30 @@ finished_total good allows label terms views bytes f places =
     ∙ (ap (λ n. lanes_total (bytes_after terms.opening.bytes f.history.ends) + n) (sym (whole fall))
     ∙ (turns-balance terms.opening.bytes f.history.ends
     ∙ ap (λ n. lanes_total terms.opening.bytes + n) (whole rise)))
+
+-- what the first turns did is a part of what all did
+sum_of_first : (does : List ℕ → List ℕ → ℕ) (bytes : List ℕ) (p : ℕ) (ends : List End) → sum_of_all does bytes (take p ends) ≤ sum_of_all does bytes ends
+sum_of_first does bytes zero ends = omega arith
+sum_of_first does bytes (suc p) [] = omega arith
+sum_of_first does bytes (suc p) (Served write shut ∷ ends) = let rest = sum_of_first does (written bytes write) p ends in omega (arith, rest)
+sum_of_first does bytes (suc p) (Gone ∷ ends) = sum_of_first does bytes p ends
+sum_of_first does bytes (suc p) (Told ∷ ends) = sum_of_first does bytes p ends
+
+-- a port of a finished line has at no place known of more than the opening's total and all that was paid in
+pub found_within : (good : List ℕ → Type 0) (allows : List ℕ → List ℕ → Type 0) (label : ℕ) (terms : Terms) (views : List View) (bytes : List ℕ)
+    → IsFinished good allows label terms views bytes → ((i : ℕ) (v : View) → slice_get views i ≡ Some v → KnowsOwnPlaces v) → (v : View) → IsAmong views v → (p : ℕ) → p ≤ length v.ends
+    → lanes_total (bytes_after v.terms.opening.bytes (take p v.ends)) ≤ lanes_total terms.opening.bytes + sum_by paid_by views
+found_within good allows label terms views bytes f places v among p le =
+    let h = f.history in
+    let knows = h.known v among in
+    let cut : take p h.ends ≡ take p v.ends = ap (take p) (sym knows.ends_begin.1) ∙ take-append-le p v.ends knows.ends_begin.0 le in
+    let same : bytes_after v.terms.opening.bytes (take p v.ends) ≡ bytes_after terms.opening.bytes (take p h.ends) =
+    ap (bytes_after v.terms.opening.bytes) (sym cut) ∙ ap (λ (t : Terms). bytes_after t.opening.bytes (take p h.ends)) (knows.terms_are ∙ f.terms_are) in
+    let balance = turns-balance terms.opening.bytes (take p h.ends) in
+    let part = sum_of_first rise terms.opening.bytes p h.ends in
+    let whole = sums_of_ports good allows rise label terms views bytes f (λ v (i, at). places i v at) in
+    let total = ap lanes_total same in
+    sums _ _ _ _ _ _ _ total balance part whole
+  where
+    sums : (now same falls opened first all paid : ℕ) → now ≡ same → same + falls ≡ opened + first → first ≤ all → all ≡ paid → now ≤ opened + paid
+    sums now same falls opened first all paid a b c d = omega (arith, a, b, c, d)

@@ -37,11 +37,11 @@ use Rattle.std.specs.declared.result.Result.TheVariants.{Ok, Err}
 use Rattle.line_accounts.specs.declared.answer.Reply.{Reply}
 use Rattle.line_accounts.specs.declared.answer.Reply.TheVariants as answer
 use Rattle.line_accounts.specs.Accounts.{AreBalances, StayBalances, balances_after}
-use Rattle.qolb_model.specs.Sums.{sum_of_turns, KnowsOwnPlaces}
+use Rattle.qolb_model.specs.Sums.{sum_of_turns, KnowsOwnPlaces, HasNotShut}
 use Rattle.line_accounts.specs.Paid.{rise, fall, paid_by, drawn_by}
 use Rattle.line_accounts.specs.Desks.{IsAtRest}
 use Rattle.line_accounts.specs.Moves.{Pays, IsServed, Holds, Leaves, TakesTurn, AsksInVain}
-use Rattle.qolb_model.proofs.OwnTurns.{NoneServedBeyond, asks_later, places_same, places_asked, sums_kept, granted_beyond, withdrawn_beyond, told_beyond, busy_beyond, quiet_after, may_ask-left_by, left_bytes, more_turns}
+use Rattle.qolb_model.proofs.OwnTurns.{NoneServedBeyond, asks_later, places_same, places_asked, sums_kept, unshut_kept, unshut_released, granted_beyond, withdrawn_beyond, told_beyond, busy_beyond, quiet_after, may_ask-left_by, left_bytes, more_turns}
 
 plus-zero : (a b : ℕ) → a ≡ b → a ≡ b + 0
 plus-zero a b e = omega arith
@@ -54,6 +54,9 @@ module _ (old new : View) (rest : IsAtRest old) (past : KnowsOwnPast old) (go_on
     paid_out = plus-zero (drawn_by new) (drawn_by old) (sums_kept old new go_on.extends go_on.history rest.quiet past beyond fall);
   }
 
+  unshut_still : NoneServedBeyond old new → HasNotShut old → HasNotShut new
+  unshut_still beyond = unshut_kept old new go_on.extends go_on.history rest.quiet past beyond
+
   at_rest_asked : Asks old new → may_ask new.state ≡ true → IsAtRest new
   at_rest_asked asks quiet = record { quiet = quiet; places = places_asked old new go_on.extends go_on.history asks rest.places }
 
@@ -64,6 +67,7 @@ module _ (old new : View) (rest : IsAtRest old) (past : KnowsOwnPast old) (go_on
   late asks withdrawn = record {
     continues = go_on;
     at_rest = at_rest_asked asks (quiet_by Rolled withdrawn.state refl);
+    unshut = unshut_still (withdrawn_beyond old new go_on.extends go_on.history asks rest.places withdrawn);
     pays = pays_nothing (withdrawn_beyond old new go_on.extends go_on.history asks rest.places withdrawn);
   }
 
@@ -71,6 +75,7 @@ module _ (old new : View) (rest : IsAtRest old) (past : KnowsOwnPast old) (go_on
   closed asks told = record {
     continues = go_on;
     at_rest = at_rest_asked asks (quiet_after (length told.before + 1) Shut new refl told.lets_go);
+    unshut = unshut_still (told_beyond old new go_on.extends go_on.history asks rest.places told);
     pays = pays_nothing (told_beyond old new go_on.extends go_on.history asks rest.places told);
   }
 
@@ -78,6 +83,7 @@ module _ (old new : View) (rest : IsAtRest old) (past : KnowsOwnPast old) (go_on
   busy b = record {
     continues = go_on;
     at_rest = record { quiet = quiet_busy b.was; places = places_same old new go_on.extends go_on.history b.count rest.places };
+    unshut = unshut_still (busy_beyond old new go_on.extends go_on.history rest.places b);
     pays = pays_nothing (busy_beyond old new go_on.extends go_on.history rest.places b);
   }
     where
@@ -91,6 +97,7 @@ module _ (old new : View) (rest : IsAtRest old) (past : KnowsOwnPast old) (go_on
     places = places_asked old new go_on.extends go_on.history asks rest.places;
     asks = asks;
     granted = granted;
+    unshut = unshut_still (granted_beyond old new go_on.extends go_on.history turn asks rest.places granted);
     pays = pays_nothing (granted_beyond old new go_on.extends go_on.history turn asks rest.places granted);
   }
 
@@ -140,6 +147,7 @@ module _ (held new : View) (write : Write) (releases : Releases StayBalances fal
     };
     asks = asks_later old held new h.asks releases.continues.extends releases.ends_turn.count;
     served = served_so;
+    unshut = λ unshut. unshut_released StayBalances held new write releases at_turn (h.unshut unshut);
     pays = record {
       paid_in = more_turns StayBalances held new write releases at_turn rise ∙ ap (λ n. n + rise (bytes_of held) write.bytes.bytes) (h.pays.paid_in ∙ zero-plus (paid_by old));
       paid_out = more_turns StayBalances held new write releases at_turn fall ∙ ap (λ n. n + fall (bytes_of held) write.bytes.bytes) (h.pays.paid_out ∙ zero-plus (drawn_by old));

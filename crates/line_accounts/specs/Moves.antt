@@ -15,7 +15,7 @@ use Rattle.qolb_model.specs.Calls.{Releases}
 use Rattle.line_accounts.specs.declared.answer.Reply.{Reply}
 use Rattle.line_accounts.specs.declared.answer.Reply.TheVariants.{Done, Short, Over, Late, Closed, Busy, NoAccount, SameAccount}
 use Rattle.line_accounts.specs.Accounts.{StayBalances, HasRoom, raised, lowered}
-use Rattle.qolb_model.specs.Sums.{KnowsOwnPlaces}
+use Rattle.qolb_model.specs.Sums.{KnowsOwnPlaces, HasNotShut}
 use Rattle.line_accounts.specs.Paid.{rise, fall, paid_by, drawn_by}
 use Rattle.line_accounts.specs.Desks.{IsAtRest}
 
@@ -39,12 +39,13 @@ pub record IsServed (v : View) (found left : List ℕ) : Type 0 where
 abbrev pub Leaves : View → View → List ℕ → Type 0
 Leaves held new left = (write : Write) × (write.bytes.bytes ≡ left) × Releases StayBalances false held new write
 
--- the port asked, and had a turn that found these bytes and left those
+-- the port asked, and had a turn that found these bytes and left those, in which it didn't shut the line
 pub record TakesTurn (old new : View) (found left : List ℕ) : Type 0 where
   pub continues : Continues StayBalances old new
   pub at_rest : IsAtRest new
   pub asks : Asks old new
   pub served : IsServed new found left
+  pub unshut : HasNotShut old → HasNotShut new
   pub pays : Pays old new (rise found left) (fall found left)
 
 -- the port looked at the line in a turn, and changed nothing
@@ -57,12 +58,14 @@ pub record Holds (old new : View) (turn : Write) : Type 0 where
   pub places : KnowsOwnPlaces new
   pub asks : Asks old new
   pub granted : IsGranted new turn
+  pub unshut : HasNotShut old → HasNotShut new
   pub pays : Pays old new 0 0
 
 -- the port asked in vain
 pub record AsksInVain (old new : View) : Type 0 where
   pub continues : Continues StayBalances old new
   pub at_rest : IsAtRest new
+  pub unshut : HasNotShut old → HasNotShut new
   pub pays : Pays old new 0 0
 
 -- why: its request was withdrawn; or was told that the line is closed; or it could not be made. No other answer is given then

@@ -1,12 +1,13 @@
 -- Settling: all lines are taken apart, with all desks over them. (Of this project.)
-use Rattle.std.specs.Prelude.{◌≡◌, ◌≢◌, ℕ, ◌<◌, List, ◌++◌, ◌∷◌, [], length, slice_get, Option, Some, None}
+use Rattle.std.specs.Prelude.{◌≡◌, ◌≢◌, ℕ, ◌<◌, List, ◌++◌, ◌∷◌, [], length, map, slice_get, Option, Some, None}
 use Rattle.std.specs.List.{sum_by}
 use Rattle.line_lanes.specs.Lane.{lanes_total}
 use Rattle.qolb_model.specs.declared.terms.Terms.{Terms}
 use Rattle.qolb_model.specs.declared.view.View.{View}
-use Rattle.qolb_model.specs.Finishing.{EachNode, IsLeast}
+use Rattle.qolb_model.specs.Finishing.{EachNode, IsLeast, IsFinished}
 use Rattle.line_accounts.specs.declared.answer.SettleError.{SettleError}
 use Rattle.line_accounts.specs.declared.answer.SettleError.TheVariants.{Memory, Missing}
+use Rattle.line_accounts.specs.Accounts.{AreBalances, StayBalances}
 use Rattle.line_accounts.specs.Desks.{DeskOf}
 
 -- the sum of what was paid in at all desks, and paid out
@@ -54,6 +55,23 @@ module _ {Line Port : Type 0} (view : Port → View) (terms_of : Line → Terms)
 abbrev pub IsBack : {X : Type 0} → X → SettleError → Option X → Type 0
 IsBack all (Missing i node) back = back ≡ Some all
 IsBack all Memory back = back ≡ None
+
+-- these are the desks' ports of line i, in the desks' order
+pub record ArePortsOf {Port : Type 0} (desks : List (DeskOf Port)) (i : ℕ) (ports : List Port) : Type 0 where
+  pub as_many : length ports ≡ length desks
+  pub each : (k : ℕ) (desk : DeskOf Port) → slice_get desks k ≡ Some desk → slice_get ports k ≡ slice_get desk.ports i
+
+module _ {Line Port : Type 0} (view : Port → View) (label_of : Line → ℕ) (terms_of : Line → Terms) (lines : List Line) (desks : List (DeskOf Port)) where
+  -- line i was finished with the desks' ports of it: they are of one history, in which all of its requests have ended
+  pub record IsSettled (i : ℕ) (line : Line) : Type 0 where
+    pub ports : List Port
+    pub are : ArePortsOf desks i ports
+    pub bytes : List ℕ
+    pub finished : IsFinished AreBalances StayBalances (label_of line) (terms_of line) (map view ports) bytes
+
+  -- and so was each line
+  abbrev pub AreSettled : Type 0
+  AreSettled = (i : ℕ) (line : Line) → slice_get lines i ≡ Some line → IsSettled i line
 
 -- the last port of each desk was taken
 pub record TakesLast {Port : Type 0} (old new : List (DeskOf Port)) (ports : List Port) : Type 0 where

@@ -2,7 +2,7 @@
 ghost use Rattle.std.specs.Prelude.{◌≡◌, ◌+◌, ◌<◌, ◌≤◌, ℕ, All, List, length, map, slice_get, Some, IfOk, IfErr, IfSome, MatchBool, MatchOption};
 ghost use Rattle.qolb_model.specs.Finishing.{EachNode, IsLeast};
 ghost use Rattle.line_accounts.specs.Desks.{DeskOf, AreOver, IsDeskOver};
-ghost use Rattle.line_accounts.specs.Settled.{all_paid_in, all_paid_out, all_opened, HasPort, LacksPort, AreAllThere, IsFirstMissing, MayNotSettle, IsBack, TakesLast};
+ghost use Rattle.line_accounts.specs.Settled.{all_paid_in, all_paid_out, all_opened, HasPort, LacksPort, AreAllThere, IsFirstMissing, AreSettled, MayNotSettle, IsBack, TakesLast};
 
 use crate::answer::SettleError;
 use crate::desk::Desk;
@@ -88,6 +88,7 @@ where
     requires over { All (IsDeskOver L.belongs L.view lines.items) desks.items }
     requires there { AreAllThere L.view L.terms_of lines.items desks.items }
     ensures total { IfSome result (λ total. total + all_paid_out desks.items ≡ all_opened L.terms_of lines.items + all_paid_in desks.items) }
+    ensures settled { IfSome result (λ _. AreSettled L.view L.label_of L.terms_of lines.items desks.items) }
 {
     let mut lines = lines;
     let mut desks = desks;
@@ -111,6 +112,7 @@ where
     L::Port: Drop,
     requires over { All (IsDeskOver L.belongs L.view lines.items) desks.items }
     ensures total { IfOk result (λ total. total + all_paid_out desks.items ≡ all_opened L.terms_of lines.items + all_paid_in desks.items) }
+    ensures settled { IfOk result (λ _. AreSettled L.view L.label_of L.terms_of lines.items desks.items) }
     ensures there { IfOk result (λ _. AreAllThere L.view L.terms_of lines.items desks.items) }
     ensures why { IfErr result (λ refused. MayNotSettle L.view L.terms_of lines.items desks.items refused.why) }
     ensures back { IfErr result (λ refused. IsBack (lines, desks) refused.why refused.back) }

@@ -2,7 +2,6 @@
 use Rattle.std.proofs.Common.{◌≡◌, ◌≢◌, ◌⊎◌, inl, inr, ℕ, zero, suc, ◌+◌, ◌*◌, ◌^◌, ◌<◌, ◌≤◌, ◌==◌, true, false, List, [], ◌∷◌, ◌++◌, length, take, lit≤, All, Vec, vec_len, Some, None, slice_get, slice_set, get_or, map, refl, ap, sym, ◌∙◌, subst, arith, length-append}
 use Rattle.std.specs.Global.{Global}
 use Rattle.std.specs.List.{sum_by}
-use Rattle.std.proofs.lemmas.Bool.{cases_eq, cases_lt}
 use Rattle.std.proofs.lemmas.List.{length-take-le}
 use Rattle.std.proofs.lemmas.List.Sums.{sum_by-le, sum_by-cons, count_by-le-length, length-filter}
 use Rattle.std.proofs.lemmas.List.Elements.{All-nil, All-push, All-append, All-take, All-head, All-tail}
@@ -13,27 +12,27 @@ use Rattle.line_lanes.specs.Lane.{lanes_total}
 use Rattle.qolb_model.specs.declared.terms.Terms.{Terms}
 use Rattle.qolb_model.specs.declared.terms.TheConstants.{MOST_NODES}
 use Rattle.qolb_model.specs.declared.view.View.{View}
+use Rattle.qolb_model.specs.Sums.{HasNotShut}
 use Rattle.qolb_model.proofs.Lists.{same_some, element_at}
 use Rattle.line_accounts.specs.declared.answer.Reply.{Reply}
 use Rattle.line_accounts.specs.declared.answer.Reply.TheVariants.{Done, Short, Over, Late, Closed, Busy, NoAccount, SameAccount}
-use Rattle.line_accounts.specs.Accounts.{AreBalances, line_of, lane_in}
+use Rattle.line_accounts.specs.Accounts.{AreBalances, lane_in}
 use Rattle.line_accounts.specs.Desks.{DeskOf, IsDeskOver}
 use Rattle.line_accounts.specs.NewDesks.{IsNewPort, IsUnpaid, AreDealt, IsFirstShort, MayHaveNoDesks}
 use Rattle.line_accounts.specs.declared.answer.DesksError.{DesksError}
 use Rattle.line_accounts.specs.declared.answer.DesksError.TheVariants.{Few}
-use Rattle.line_accounts.specs.Moves.{IsRefused, IsRefusedEither, PaysIn, PaysOut, MovesWithin, MovesAcross}
-use Rattle.line_accounts.specs.Calls.{AreTwo}
+use Rattle.line_accounts.specs.Moves.{PaysIn, PaysOut}
 use Rattle.line_accounts.specs.Settled.{all_paid_in, all_paid_out, all_opened, LacksPort, IsFirstMissing}
-use Rattle.line_accounts.proofs.Accounted.{slice_get-set_same, slice_get-set_other, refused_in_vain}
 use Rattle.qolb_script.specs.declared.job.Job.{Job}
 use Rattle.qolb_script.specs.declared.job.Job.TheVariants.{Put, Take, PayIn, PayOut, Move}
 use Rattle.qolb_script.specs.Jobs.{worker_of}
 use Rattle.qolb_script.specs.declared.schedule.TheConstants.{MOST_COMMANDS}
 use Rattle.qolb_run.specs.Jobs.{jobs_of}
 use Rattle.qolb_run.specs.JustOpened.{IsJustOpened, IsNewLine, work_terms}
-use Rattle.qolb_run.specs.Workers.{AreDone, AreFresh}
+use Rattle.qolb_run.specs.Workers.{AreDone, AreFresh, HasEnded}
 use Rattle.qolb_run.specs.BankRuns.{is_outcome, paid_in_of, paid_out_of, paid_in_by, paid_out_by, ComesTo}
-use Rattle.qolb_run.specs.BankWork.{ArePaid, PaysOneAmount, IsAmount, is_again, Asks, Tries, not_yet, again, Makes, nothing, another, HasBanked}
+use Rattle.qolb_run.specs.BankWork.{ArePaid, PaysOneAmount, IsAmount, is_again, Asks, Tries, not_yet, again, Makes, nothing, another, HasBanked, WasTold}
+use Rattle.qolb_run.proofs.Called.{AllGo, most_in, is_no_account, all_stay, all_then, all_go, one_told}
 
 -- sums over desks
 module _ {Port : Type 0} (desks : List (DeskOf Port)) (i : ℕ) (few : length desks ≤ MOST_NODES) (small : All (λ desk. ArePaid MOST_COMMANDS desk) desks) (le : i ≤ length desks) where
@@ -53,21 +52,39 @@ module _ {Port : Type 0} (desks : List (DeskOf Port)) (i : ℕ) (few : length de
   pub fits_out : (total one : ℕ) → total ≡ sum_by (λ desk. desk.paid_out) (take i desks) → one ≤ MOST_COMMANDS * 2 ^ 64 → total + one < 2 ^ 128
   fits_out = fits (λ desk. desk.paid_out) (λ k d below. (small k d below).paid_out)
 
+-- the desk of a worker that came to its end, whether it was told that a line is closed or not
+pub record IsHere {Line Port : Type 0} (belongs : Line → Port → Type 0) (view : Port → View) (lines : List Line) (worker : ℕ) (desk : DeskOf Port) : Type 0 where
+  pub over : IsDeskOver belongs view lines desk
+  pub of_worker : (i : ℕ) (port : Port) → slice_get desk.ports i ≡ Some port → (view port).node ≡ worker
+  pub unshut : (i : ℕ) (port : Port) → slice_get desk.ports i ≡ Some port → HasNotShut (view port)
+  pub small : ArePaid MOST_COMMANDS desk
+
 -- all workers' desks
-module _ {Line Port : Type 0} (belongs : Line → Port → Type 0) (view : Port → View) (terms_of : Line → Terms) (lines : List Line) (jobs : List Job) (desks : List (DeskOf Port)) (done : AreDone (HasBanked belongs view terms_of) lines jobs desks) where
-  banked_at : (k : ℕ) (d : DeskOf Port) → k < length desks → HasBanked belongs view terms_of lines (k + 1) (get_or desks k d) (jobs_of (k + 1) jobs)
-  banked_at k d below = done k (get_or desks k d) (slice_get-get_or desks k d below)
+module _ {Line Port : Type 0} (belongs : Line → Port → Type 0) (view : Port → View) (terms_of : Line → Terms) (lines : List Line) (jobs : List Job) (desks : List (DeskOf Port)) where
+  pub all_here : AreDone (HasEnded (HasBanked belongs view terms_of) (WasTold belongs view)) lines jobs desks → length jobs ≤ MOST_COMMANDS → (k : ℕ) (desk : DeskOf Port) → slice_get desks k ≡ Some desk → IsHere belongs view lines (k + 1) desk
+  all_here ended most k desk at = elim (ended k desk at) [
+    | inl done ↦
+        let kept = length-filter (λ job. worker_of job == k + 1) jobs in
+        let few = count_by-le-length (λ job. worker_of job == k + 1) jobs in
+        let low_in = done.small.paid_in in
+        let low_out = done.small.paid_out in record {
+          over = done.over;
+          of_worker = done.of_worker;
+          unshut = done.unshut;
+          small = record { paid_in = omega (arith, kept, few, low_in, most); paid_out = omega (arith, kept, few, low_out, most) };
+        }
+    | inr told ↦ record { over = told.over; of_worker = told.of_worker; unshut = told.unshut; small = told.small }
+  ]
 
-  pub all_over : All (IsDeskOver belongs view lines) desks
-  all_over = λ k d below. (banked_at k d below).over
+  module _ (here : (k : ℕ) (desk : DeskOf Port) → slice_get desks k ≡ Some desk → IsHere belongs view lines (k + 1) desk) where
+    here_at : (k : ℕ) (d : DeskOf Port) → k < length desks → IsHere belongs view lines (k + 1) (get_or desks k d)
+    here_at k d below = here k (get_or desks k d) (slice_get-get_or desks k d below)
 
-  pub all_small : length jobs ≤ MOST_COMMANDS → All (λ desk. ArePaid MOST_COMMANDS desk) desks
-  all_small most = λ k d below.
-      let kept = length-filter (λ job. worker_of job == k + 1) jobs in
-      let few = count_by-le-length (λ job. worker_of job == k + 1) jobs in
-      let low_in = (banked_at k d below).small.paid_in in
-      let low_out = (banked_at k d below).small.paid_out in
-      record { paid_in = omega (arith, kept, few, low_in, most); paid_out = omega (arith, kept, few, low_out, most) }
+    pub all_over : All (IsDeskOver belongs view lines) desks
+    all_over = λ k d below. (here_at k d below).over
+
+    pub all_small : All (λ desk. ArePaid MOST_COMMANDS desk) desks
+    all_small = λ k d below. (here_at k d below).small
 
 -- lines that are opened with zeros have no balance
 pub opened_empty : {Line : Type 0} (terms_of : Line → Terms) (workers : ℕ) (lines : List Line) → All (λ line. terms_of line ≡ work_terms workers) lines → all_opened terms_of lines ≡ 0
@@ -95,6 +112,9 @@ banked_nothing {Line} {Port} belongs view terms_of workers opened lines desks ar
       of_worker = λ i port at_port.
           let (line, at_line, (label, is)) = opened_at k desk at is_over i port at_port in
           ap (λ (v : View). v.node) is;
+      unshut = λ i port at_port.
+          let (line, at_line, (label, is)) = opened_at k desk at is_over i port at_port in
+          subst (λ (v : View). HasNotShut v) (sym is) (λ p r write shut at_r same at_end. absurd (let no : None ≡ Some r = at_r in cc no));
       fresh = desk;
       unpaid = none;
       opened = opened_at k desk at is_over;
@@ -132,76 +152,7 @@ no_money (suc (suc (suc (suc (suc (suc zero)))))) lt = lit≤ tt
 no_money (suc (suc (suc (suc (suc (suc (suc zero))))))) lt = lit≤ tt
 no_money (suc (suc (suc (suc (suc (suc (suc (suc k)))))))) lt = absurd (omega arith)
 
--- what became of the ports of a desk, and of its counters
-abbrev NodesStay : {Port : Type 0} → (Port → View) → List Port → List Port → Type 0
-NodesStay {Port} view old new = (i : ℕ) (port : Port) → slice_get new i ≡ Some port → (was : Port) × (slice_get old i ≡ Some was) × ((view port).node ≡ (view was).node)
-
-nodes_then : {Port : Type 0} (view : Port → View) (a b c : List Port) → NodesStay view a b → NodesStay view b c → NodesStay view a c
-nodes_then view a b c f h i port at =
-    let (mid, at_mid, is) = h i port at in
-    let (was, at_was, before) = f i mid at_mid in
-    (was, at_was, is ∙ before)
-
-nodes_same : {Port : Type 0} (view : Port → View) (old new : List Port) → new ≡ old → NodesStay view old new
-nodes_same view old new e i port at = (port, ap (λ l. slice_get l i) (sym e) ∙ at, refl)
-
-nodes_set : {Port : Type 0} (view : Port → View) (old new : List Port) (place : ℕ) (port port_then : Port) → slice_get old place ≡ Some port → new ≡ slice_set old place port_then → (view port_then).node ≡ (view port).node → NodesStay view old new
-nodes_set {Port} view old new place port port_then was is node i p at = elim (cases_eq i place) [
-  | inl e ↦
-      let here : slice_get (slice_set old place port_then) place ≡ Some port_then = slice_get-set_same old place port_then (slice_get_within old place port was) in
-      let same : port_then ≡ p = same_some (sym here ∙ (ap (slice_get (slice_set old place port_then)) (sym e) ∙ (ap (λ l. slice_get l i) (sym is) ∙ at))) in
-      (port, ap (slice_get old) e ∙ was, ap (λ (x : Port). (view x).node) (sym same) ∙ node)
-  | inr ne ↦ (p, sym (slice_get-set_other old place i port_then ne) ∙ (ap (λ l. slice_get l i) (sym is) ∙ at), refl)
-]
-
--- one call of a port changes nothing of whose it is
-vain_node : (v w : View) (reply : Reply) → IsRefused v w reply → w.node ≡ v.node
-vain_node v w reply refused = (refused_in_vain v w reply refused).continues.extends.node
-
-either_node : (a b c d : View) (reply : Reply) → IsRefusedEither a b c d reply → (b.node ≡ a.node) × (d.node ≡ c.node)
-either_node a b c d reply (inl (refused, same)) = (vain_node a b reply refused, ap (λ (v : View). v.node) same)
-either_node a b c d reply (inr (found, turn, refused)) = (turn.continues.extends.node, vain_node c d reply refused)
-
-pays_in_node : (v w : View) (lane amount sum sum_then : ℕ) (reply : Reply) → PaysIn v w lane amount sum sum_then reply → w.node ≡ v.node
-pays_in_node v w lane amount sum sum_then Done (found, turn, room, pays, e) = turn.continues.extends.node
-pays_in_node v w lane amount sum sum_then Over (found, turn, why, e) = turn.continues.extends.node
-pays_in_node v w lane amount sum sum_then Short h = absurd h
-pays_in_node v w lane amount sum sum_then Late (r, e) = vain_node v w Late r
-pays_in_node v w lane amount sum sum_then Closed (r, e) = vain_node v w Closed r
-pays_in_node v w lane amount sum sum_then Busy (r, e) = vain_node v w Busy r
-pays_in_node v w lane amount sum sum_then NoAccount h = absurd h
-pays_in_node v w lane amount sum sum_then SameAccount h = absurd h
-
-pays_out_node : (v w : View) (lane amount sum sum_then : ℕ) (reply : Reply) → PaysOut v w lane amount sum sum_then reply → w.node ≡ v.node
-pays_out_node v w lane amount sum sum_then Done (found, turn, enough, pays, e) = turn.continues.extends.node
-pays_out_node v w lane amount sum sum_then Short (found, turn, less, e) = turn.continues.extends.node
-pays_out_node v w lane amount sum sum_then Over (found, turn, enough, most, e) = turn.continues.extends.node
-pays_out_node v w lane amount sum sum_then Late (r, e) = vain_node v w Late r
-pays_out_node v w lane amount sum sum_then Closed (r, e) = vain_node v w Closed r
-pays_out_node v w lane amount sum sum_then Busy (r, e) = vain_node v w Busy r
-pays_out_node v w lane amount sum sum_then NoAccount h = absurd h
-pays_out_node v w lane amount sum sum_then SameAccount h = absurd h
-
-moves_node : (v w : View) (source target amount : ℕ) (reply : Reply) → MovesWithin v w source target amount reply → w.node ≡ v.node
-moves_node v w source target amount Done (found, turn, enough, room, pays) = turn.continues.extends.node
-moves_node v w source target amount Short (found, turn, less) = turn.continues.extends.node
-moves_node v w source target amount Over (found, turn, enough, no_room) = turn.continues.extends.node
-moves_node v w source target amount Late r = vain_node v w Late r
-moves_node v w source target amount Closed r = vain_node v w Closed r
-moves_node v w source target amount Busy r = vain_node v w Busy r
-moves_node v w source target amount NoAccount h = absurd h
-moves_node v w source target amount SameAccount h = absurd h
-
-across_node : (refused : Reply → Type 0) (a b c d : View) (from to amount : ℕ) (reply : Reply) → ((reply : Reply) → refused reply → (b.node ≡ a.node) × (d.node ≡ c.node)) → MovesAcross refused a b c d from to amount reply → (b.node ≡ a.node) × (d.node ≡ c.node)
-across_node refused a b c d from to amount Done by (found, turn, enough, pays, there, turn_there, room, pays_there) = (turn.continues.extends.node, turn_there.continues.extends.node)
-across_node refused a b c d from to amount Short by (found, turn, less, there, turn_there) = (turn.continues.extends.node, turn_there.continues.extends.node)
-across_node refused a b c d from to amount Over by (found, turn, enough, there, turn_there, no_room) = (turn.continues.extends.node, turn_there.continues.extends.node)
-across_node refused a b c d from to amount Late by r = by Late r
-across_node refused a b c d from to amount Closed by r = by Closed r
-across_node refused a b c d from to amount Busy by r = by Busy r
-across_node refused a b c d from to amount NoAccount by h = absurd h
-across_node refused a b c d from to amount SameAccount by h = absurd h
-
+-- what a payment adds to the sum of its kind
 pays_in_sum : (v w : View) (lane amount sum sum_then worker account : ℕ) (reply : Reply) → PaysIn v w lane amount sum sum_then reply → sum_then ≡ sum + paid_in_of (PayIn worker account amount) reply
 pays_in_sum v w lane amount sum sum_then worker account Done (found, turn, room, pays, e) = e
 pays_in_sum v w lane amount sum sum_then worker account Over (found, turn, why, e) = omega (arith, e)
@@ -222,35 +173,14 @@ pays_out_sum v w lane amount sum sum_then worker account Busy (r, e) = omega (ar
 pays_out_sum v w lane amount sum sum_then worker account NoAccount h = absurd h
 pays_out_sum v w lane amount sum sum_then worker account SameAccount h = absurd h
 
--- an answer is that there is no account, or it is not
-is_no_account : (reply : Reply) → (reply ≡ NoAccount) ⊎ (reply ≢ NoAccount)
-is_no_account Done = inr (λ e. let no : Done ≡ NoAccount = e in cc no)
-is_no_account Short = inr (λ e. let no : Short ≡ NoAccount = e in cc no)
-is_no_account Over = inr (λ e. let no : Over ≡ NoAccount = e in cc no)
-is_no_account Late = inr (λ e. let no : Late ≡ NoAccount = e in cc no)
-is_no_account Closed = inr (λ e. let no : Closed ≡ NoAccount = e in cc no)
-is_no_account Busy = inr (λ e. let no : Busy ≡ NoAccount = e in cc no)
-is_no_account NoAccount = inl refl
-is_no_account SameAccount = inr (λ e. let no : SameAccount ≡ NoAccount = e in cc no)
-
-is_same_account : (reply : Reply) → (reply ≡ SameAccount) ⊎ (reply ≢ SameAccount)
-is_same_account Done = inr (λ e. let no : Done ≡ SameAccount = e in cc no)
-is_same_account Short = inr (λ e. let no : Short ≡ SameAccount = e in cc no)
-is_same_account Over = inr (λ e. let no : Over ≡ SameAccount = e in cc no)
-is_same_account Late = inr (λ e. let no : Late ≡ SameAccount = e in cc no)
-is_same_account Closed = inr (λ e. let no : Closed ≡ SameAccount = e in cc no)
-is_same_account Busy = inr (λ e. let no : Busy ≡ SameAccount = e in cc no)
-is_same_account SameAccount = inl refl
-is_same_account NoAccount = inr (λ e. let no : NoAccount ≡ SameAccount = e in cc no)
-
 plus_none : (n : ℕ) → n ≡ n + 0
 plus_none n = omega arith
 
--- what one call at the desk did: it paid the job's amount where it was done, and the ports are of the same nodes
+-- what one call at the desk did: it paid the job's amount where it was done, and its ports went on so
 pub record Effect {Port : Type 0} (view : Port → View) (job : Job) (old new : DeskOf Port) (reply : Reply) : Type 0 where
   pub paid_in : new.paid_in ≡ old.paid_in + paid_in_of job reply
   pub paid_out : new.paid_out ≡ old.paid_out + paid_out_of job reply
-  pub nodes : (i : ℕ) (port : Port) → slice_get new.ports i ≡ Some port → (was : Port) × (slice_get old.ports i ≡ Some was) × ((view port).node ≡ (view was).node)
+  pub ports : AllGo view (most_in job reply) old.ports new.ports
 
 module _ {Port : Type 0} (view : Port → View) (lines : ℕ) where
   pub effect : (job : Job) (old new : DeskOf Port) (reply : Reply) → Asks view lines job old new reply → Effect view job old new reply
@@ -261,13 +191,13 @@ module _ {Port : Type 0} (view : Port → View) (lines : ℕ) where
         let same = (asks.unknown e).1 in record {
           paid_in = ap (λ (d : DeskOf Port). d.paid_in) same ∙ (plus_none old.paid_in ∙ ap (λ r. old.paid_in + paid_in_of (PayIn worker account amount) r) (sym e));
           paid_out = ap (λ (d : DeskOf Port). d.paid_out) same ∙ plus_none old.paid_out;
-          nodes = nodes_same view old.ports new.ports (ap (λ (d : DeskOf Port). d.ports) same);
+          ports = all_go view lines (PayIn worker account amount) old new reply asks;
         }
     | inr ne ↦
         let p = asks.pays ne in record {
           paid_in = pays_in_sum (view p.port) (view p.port_then) (lane_in account) amount old.paid_in new.paid_in worker account reply p.does;
           paid_out = asks.paid_out ∙ plus_none old.paid_out;
-          nodes = nodes_set view old.ports new.ports (line_of account) p.port p.port_then p.was p.is (pays_in_node (view p.port) (view p.port_then) (lane_in account) amount old.paid_in new.paid_in reply p.does);
+          ports = all_go view lines (PayIn worker account amount) old new reply asks;
         }
   ]
   effect (PayOut worker account amount) old new reply asks = elim (is_no_account reply) [
@@ -275,51 +205,20 @@ module _ {Port : Type 0} (view : Port → View) (lines : ℕ) where
         let same = (asks.unknown e).1 in record {
           paid_in = ap (λ (d : DeskOf Port). d.paid_in) same ∙ plus_none old.paid_in;
           paid_out = ap (λ (d : DeskOf Port). d.paid_out) same ∙ (plus_none old.paid_out ∙ ap (λ r. old.paid_out + paid_out_of (PayOut worker account amount) r) (sym e));
-          nodes = nodes_same view old.ports new.ports (ap (λ (d : DeskOf Port). d.ports) same);
+          ports = all_go view lines (PayOut worker account amount) old new reply asks;
         }
     | inr ne ↦
         let p = asks.pays ne in record {
           paid_in = asks.paid_in ∙ plus_none old.paid_in;
           paid_out = pays_out_sum (view p.port) (view p.port_then) (lane_in account) amount old.paid_out new.paid_out worker account reply p.does;
-          nodes = nodes_set view old.ports new.ports (line_of account) p.port p.port_then p.was p.is (pays_out_node (view p.port) (view p.port_then) (lane_in account) amount old.paid_out new.paid_out reply p.does);
+          ports = all_go view lines (PayOut worker account amount) old new reply asks;
         }
   ]
   effect (Move worker source target amount) old new reply asks = record {
     paid_in = asks.paid_in ∙ plus_none old.paid_in;
     paid_out = asks.paid_out ∙ plus_none old.paid_out;
-    nodes = by (is_no_account reply) (is_same_account reply);
+    ports = all_go view lines (Move worker source target amount) old new reply asks;
   }
-    where
-      two : AreTwo lines source target → NodesStay view old.ports new.ports
-      two t = elim (cases_eq (line_of source) (line_of target)) [
-        | inl e ↦
-            let p = asks.within t e in
-            nodes_set view old.ports new.ports (line_of source) p.port p.port_then p.was p.is (moves_node (view p.port) (view p.port_then) (lane_in source) (lane_in target) amount reply p.does)
-        | inr ne ↦ elim (cases_lt (line_of source) (line_of target)) [
-          | inl lt ↦
-              let p = asks.up t lt in
-              let n = across_node (IsRefusedEither (view p.one) (view p.one_then) (view p.other) (view p.other_then)) (view p.one) (view p.one_then) (view p.other) (view p.other_then) (lane_in source) (lane_in target) amount reply
-              (λ r refused. either_node (view p.one) (view p.one_then) (view p.other) (view p.other_then) r refused) p.does in
-              both p.one p.one_then p.other p.other_then p.one_was p.other_was ne p.is n
-          | inr ge ↦
-              let p = asks.down t (omega (arith, ge, ne)) in
-              let n = across_node (IsRefusedEither (view p.other) (view p.other_then) (view p.one) (view p.one_then)) (view p.one) (view p.one_then) (view p.other) (view p.other_then) (lane_in source) (lane_in target) amount reply
-              (λ r refused. let e = either_node (view p.other) (view p.other_then) (view p.one) (view p.one_then) r refused in (e.1, e.0)) p.does in
-              both p.one p.one_then p.other p.other_then p.one_was p.other_was ne p.is n
-        ]
-      ]
-        where
-          both : (one one_then other other_then : Port) → slice_get old.ports (line_of source) ≡ Some one → slice_get old.ports (line_of target) ≡ Some other → (line_of source ≡ line_of target → ⊥)
-              → new.ports ≡ slice_set (slice_set old.ports (line_of source) one_then) (line_of target) other_then → ((view one_then).node ≡ (view one).node) × ((view other_then).node ≡ (view other).node) → NodesStay view old.ports new.ports
-          both one one_then other other_then one_was other_was ne is n =
-              nodes_then view old.ports (slice_set old.ports (line_of source) one_then) new.ports
-              (nodes_set view old.ports (slice_set old.ports (line_of source) one_then) (line_of source) one one_then one_was refl n.0)
-              (nodes_set view (slice_set old.ports (line_of source) one_then) new.ports (line_of target) other other_then (slice_get-set_other old.ports (line_of source) (line_of target) one_then (λ e. ne (sym e)) ∙ other_was) is n.1)
-
-      by : (reply ≡ NoAccount) ⊎ (reply ≢ NoAccount) → (reply ≡ SameAccount) ⊎ (reply ≢ SameAccount) → NodesStay view old.ports new.ports
-      by (inl e) same = nodes_same view old.ports new.ports (ap (λ (d : DeskOf Port). d.ports) (asks.unknown e).1)
-      by (inr ne) (inl e) = nodes_same view old.ports new.ports (ap (λ (d : DeskOf Port). d.ports) (asks.same e).2)
-      by (inr ne) (inr other) = two (asks.two ne other)
 
   -- tries in vain paid nothing
   not_paid : (job : Job) (reply : Reply) → is_again reply ≡ true → (paid_in_of job reply ≡ 0) × (paid_out_of job reply ≡ 0)
@@ -346,13 +245,23 @@ module _ {Port : Type 0} (view : Port → View) (lines : ℕ) where
   not_paid job NoAccount is = absurd (let no : false ≡ true = is in cc no)
   not_paid job SameAccount is = absurd (let no : false ≡ true = is in cc no)
 
+  none_put : (job : Job) (reply : Reply) → is_again reply ≡ true → most_in job reply ≡ 0
+  none_put job Late is = refl
+  none_put job Busy is = refl
+  none_put job Done is = absurd (let no : false ≡ true = is in cc no)
+  none_put job Short is = absurd (let no : false ≡ true = is in cc no)
+  none_put job Over is = absurd (let no : false ≡ true = is in cc no)
+  none_put job Closed is = absurd (let no : false ≡ true = is in cc no)
+  none_put job NoAccount is = absurd (let no : false ≡ true = is in cc no)
+  none_put job SameAccount is = absurd (let no : false ≡ true = is in cc no)
+
   pub record InVain (from to : DeskOf Port) : Type 0 where
     pub paid_in : to.paid_in ≡ from.paid_in
     pub paid_out : to.paid_out ≡ from.paid_out
-    pub nodes : (i : ℕ) (port : Port) → slice_get to.ports i ≡ Some port → (was : Port) × (slice_get from.ports i ≡ Some was) × ((view port).node ≡ (view was).node)
+    pub ports : AllGo view 0 from.ports to.ports
 
   pub in_vain : (job : Job) (from to : DeskOf Port) → Tries view lines job from to → InVain from to
-  in_vain job from to not_yet = record { paid_in = refl; paid_out = refl; nodes = nodes_same view from.ports from.ports refl }
+  in_vain job from to not_yet = record { paid_in = refl; paid_out = refl; ports = all_stay view 0 from.ports from.ports refl }
   in_vain job from to (again {mid = mid} reply tries asks is) =
       let before = in_vain job from mid tries in
       let e = effect job mid to reply asks in
@@ -362,8 +271,12 @@ module _ {Port : Type 0} (view : Port → View) (lines : ℕ) where
       record {
         paid_in = e.paid_in ∙ (ap (λ n. mid.paid_in + n) none.0 ∙ (sym (plus_none mid.paid_in) ∙ a));
         paid_out = e.paid_out ∙ (ap (λ n. mid.paid_out + n) none.1 ∙ (sym (plus_none mid.paid_out) ∙ b));
-        nodes = nodes_then view from.ports mid.ports to.ports before.nodes e.nodes;
+        ports = all_then view 0 0 from.ports mid.ports to.ports before.ports (subst (λ n. AllGo view n mid.ports to.ports) (none_put job reply is) e.ports);
       }
+
+  -- a job that was asked for in vain, and then answered so
+  pub all_went : (job : Job) (from late to : DeskOf Port) (reply : Reply) → Tries view lines job from late → Asks view lines job late to reply → AllGo view (0 + most_in job reply) from.ports to.ports
+  all_went job from late to reply tries asks = all_then view 0 (most_in job reply) from.ports late.ports to.ports (in_vain job from late tries).ports (all_go view lines job late to reply asks)
 
 -- one job more, each of which has one outcome
 by_more : (f : Job → Reply → ℕ) (jobs : List Job) (replies : List Reply) (job : Job) (reply : Reply) (by : List Job → List Reply → ℕ) → ((r : List Reply) → by [] r ≡ 0) → ((j : Job) (js : List Job) (r : Reply) (rs : List Reply) → by (j ∷ js) (r ∷ rs) ≡ f j r + by js rs)
@@ -383,12 +296,11 @@ module _ {Line Port : Type 0} (belongs : Line → Port → Type 0) (view : Port 
   banked_more job reply tries asks outcome over pays amount =
       let vain = in_vain view (length lines) job desk late tries in
       let e = effect view (length lines) job late new reply asks in
+      let went = all_went view (length lines) job desk late new reply tries asks in
       record {
         over = over;
-        of_worker = λ i port at.
-            let (mid, at_mid, is) = e.nodes i port at in
-            let (was, at_was, before) = vain.nodes i mid at_mid in
-            is ∙ (before ∙ h.of_worker i was at_was);
+        of_worker = λ i port at. let (was, at_was, goes) = went i port at in goes.extends.node ∙ h.of_worker i was at_was;
+        unshut = λ i port at. let (was, at_was, goes) = went i port at in goes.unshut (h.unshut i was at_was);
         fresh = h.fresh;
         unpaid = h.unpaid;
         opened = h.opened;
@@ -412,10 +324,49 @@ module _ {Line Port : Type 0} (belongs : Line → Port → Type 0) (view : Port 
             };
       }
 
+  -- or it is told that a line is closed
+  pub banked_told : (job : Job) → Tries view (length lines) job desk late → Asks view (length lines) job late new Closed → IsDeskOver belongs view lines new → ArePaid MOST_COMMANDS desk → WasTold belongs view lines worker new
+  banked_told job tries asks over few =
+      let vain = in_vain view (length lines) job desk late tries in
+      let e = effect view (length lines) job late new Closed asks in
+      let went = all_went view (length lines) job desk late new Closed tries asks in
+      let (place, port, at, told) = one_told view (length lines) job late new asks in
+      let none = none_paid job in
+      let low_in = few.paid_in in
+      let low_out = few.paid_out in
+      let a = vain.paid_in in
+      let b = vain.paid_out in
+      let x = e.paid_in in
+      let y = e.paid_out in
+      record {
+        over = over;
+        of_worker = λ i p at_p. let (was, at_was, goes) = went i p at_p in goes.extends.node ∙ h.of_worker i was at_was;
+        unshut = λ i p at_p. let (was, at_was, goes) = went i p at_p in goes.unshut (h.unshut i was at_was);
+        place = place;
+        port = port;
+        at = at;
+        told = told;
+        small = record { paid_in = omega (arith, low_in, a, x, none.0); paid_out = omega (arith, low_out, b, y, none.1) };
+      }
+    where
+      none_paid : (job : Job) → (paid_in_of job Closed ≡ 0) × (paid_out_of job Closed ≡ 0)
+      none_paid (Put worker task) = (refl, refl)
+      none_paid (Take worker) = (refl, refl)
+      none_paid (PayIn worker account amount) = (refl, refl)
+      none_paid (PayOut worker account amount) = (refl, refl)
+      none_paid (Move worker source target amount) = (refl, refl)
+
+-- a worker that has not done as many jobs as a script may have was not paid too much
+pub small_still : {Line Port : Type 0} (belongs : Line → Port → Type 0) (view : Port → View) (terms_of : Line → Terms) (lines : List Line) (worker : ℕ) (desk : DeskOf Port) (jobs : List Job) → HasBanked belongs view terms_of lines worker desk jobs → length jobs < MOST_COMMANDS → ArePaid MOST_COMMANDS desk
+small_still belongs view terms_of lines worker desk jobs h few =
+    let low_in = h.small.paid_in in
+    let low_out = h.small.paid_out in
+    record { paid_in = omega (arith, low_in, few); paid_out = omega (arith, low_out, few) }
+
 -- each node of each line has its port at the desk of its worker
-pub none_missing : {Line Port : Type 0} (belongs : Line → Port → Type 0) (view : Port → View) (terms_of : Line → Terms) (lines : List Line) (workers : ℕ) (jobs : List Job) (desks : List (DeskOf Port)) → AreDone (HasBanked belongs view terms_of) lines jobs desks → length desks ≡ workers
+pub none_missing : {Line Port : Type 0} (belongs : Line → Port → Type 0) (view : Port → View) (terms_of : Line → Terms) (lines : List Line) (workers : ℕ) (desks : List (DeskOf Port)) → ((k : ℕ) (desk : DeskOf Port) → slice_get desks k ≡ Some desk → IsHere belongs view lines (k + 1) desk) → length desks ≡ workers
     → All (λ line. terms_of line ≡ work_terms workers) lines → (i node : ℕ) → IsFirstMissing view terms_of lines desks i node → ⊥
-none_missing {Line} {Port} belongs view terms_of lines workers jobs desks done many terms i node missing = by node missing.least.first missing.least.last missing.least.fails
+none_missing {Line} {Port} belongs view terms_of lines workers desks here many terms i node missing = by node missing.least.first missing.least.last missing.least.fails
   where
     of_line : (terms_of missing.line).nodes ≡ workers
     of_line = ap (λ (t : Terms). t.nodes) (subst (λ (line : Line). terms_of line ≡ work_terms workers) (get_or_from_slice_get lines i missing.line missing.line missing.at) (terms i missing.line (slice_get_within lines i missing.line missing.at)))
@@ -424,7 +375,7 @@ none_missing {Line} {Port} belongs view terms_of lines workers jobs desks done m
     by zero first last lacks = omega (arith, first)
     by (suc k) first last lacks =
         let (desk, at) = element_at desks k (omega (arith, last, of_line, many)) in
-        let h = done k desk at in
+        let h = here k desk at in
         let there = slice_get_within lines i missing.line missing.at in
         let count = h.over.over.count in
         let (port, at_port) = element_at desk.ports i (omega (arith, there, count)) in

@@ -81,6 +81,7 @@ module _ {Line Outer Port : Type 0} (belongs : Line → Port → Type 0) (view :
       paid = banked.over.paid;
     };
     of_worker = banked.of_worker;
+    unshut = banked.unshut;
     fresh = banked.fresh;
     unpaid = banked.unpaid;
     opened = λ i port at.

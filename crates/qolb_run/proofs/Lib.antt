@@ -14,9 +14,12 @@ pub mod Gathering
 pub mod Hands
 pub mod Untold
 pub mod Summing
+pub mod Called
 pub mod Banking
 pub mod Alone
 pub mod OneBanker
 pub mod OneBank
+pub mod Unclosed
+pub mod Fitting
 pub mod Reported
 pub mod Inside

@@ -21,6 +21,7 @@ use Rattle.qolb_script.specs.declared.schedule.TheConstants.{MOST_COMMANDS}
 use Rattle.qolb_run.specs.BankRuns.{is_outcome, paid_in_of, paid_out_of, with_balance, outcome_at, balances_after, BankRun, after_reply, after_job, after_jobs}
 use Rattle.qolb_run.specs.BankWork.{IsAmount, is_again, Asks, Tries, not_yet, again, Makes, nothing, another}
 use Rattle.qolb_run.proofs.Alone.{IsAlone, long, good, alone_then, vain_late, vain_busy, turn_found, turn_left}
+use Rattle.qolb_run.proofs.Called.{each_set}
 use Rattle.qolb_run.proofs.Banking.{effect}
 
 -- the bytes of line i hold these balances
@@ -64,8 +65,19 @@ module _ (f : ℕ → ℕ) (account balance i lane : ℕ) (at : IsAt account i l
 shows_same : (f : ℕ → ℕ) (a b : List ℕ) (i : ℕ) → a ≡ b → Shows f a i → Shows f b i
 shows_same f a b i e shows = subst (λ bytes. Shows f bytes i) e shows
 
-none_true : {X : Type 0} → false ≡ true → X
+pub none_true : {X : Type 0} → false ≡ true → X
 none_true e = absurd (let no : false ≡ true = e in cc no)
+
+-- a job with an outcome had its accounts
+pub outcome_known : (reply : Reply) → is_outcome reply ≡ true → reply ≢ NoAccount
+outcome_known Done is e = let no : Done ≡ NoAccount = e in cc no
+outcome_known Short is e = let no : Short ≡ NoAccount = e in cc no
+outcome_known Over is e = let no : Over ≡ NoAccount = e in cc no
+outcome_known SameAccount is e = let no : SameAccount ≡ NoAccount = e in cc no
+outcome_known Late is e = none_true is
+outcome_known Busy is e = none_true is
+outcome_known Closed is e = none_true is
+outcome_known NoAccount is e = none_true is
 
 -- the port of a line, after a call: it is alone, and shows these balances
 pub record Then (f : ℕ → ℕ) (w : View) (i : ℕ) : Type 0 where
@@ -365,16 +377,6 @@ module _ (f : ℕ → ℕ) (worker source target amount : ℕ) (apart : source �
     down_again reply is (inl (r, e)) = record { source_then = same_view s s' i e a shows; target_then = refused f t t' j b shows_there reply is r }
     down_again reply is (inr (found, turn, r)) = record { source_then = refused f s s' i a shows reply is r; target_then = looked f t t' j b shows_there found turn }
 
--- ports of which one was called
-each_set : {Port : Type 0} (Q : ℕ → Port → Type 0) (old new : List Port) (place : ℕ) (port port_then : Port) → slice_get old place ≡ Some port → new ≡ slice_set old place port_then
-    → ((i : ℕ) (p : Port) → i ≢ place → slice_get old i ≡ Some p → Q i p) → Q place port_then → (i : ℕ) (p : Port) → slice_get new i ≡ Some p → Q i p
-each_set {Port} Q old new place port port_then was is others here i p at = elim (cases_eq i place) [
-  | inl e ↦
-      let same : port_then ≡ p = same_some (sym (slice_get-set_same old place port_then (slice_get_within old place port was)) ∙ (ap (slice_get (slice_set old place port_then)) (sym e) ∙ (ap (λ l. slice_get l i) (sym is) ∙ at))) in
-      subst (λ n. Q n p) (sym e) (subst (λ (x : Port). Q place x) same here)
-  | inr ne ↦ others i p ne (sym (slice_get-set_other old place i port_then ne) ∙ (ap (λ l. slice_get l i) (sym is) ∙ at))
-]
-
 module _ {Port : Type 0} (view : Port → View) (lines : ℕ) where
   -- the ports of a desk, each alone at its line, show these balances
   abbrev pub AllShow : (ℕ → ℕ) → List Port → Type 0
@@ -396,16 +398,6 @@ module _ {Port : Type 0} (view : Port → View) (lines : ℕ) where
       (λ k p ne_i at ne_j. record { alone = (all k p at).alone; shows = others (bytes_of (view p)) k ne_i ne_j (all k p at).shows })
       (λ ne_j. first) k p at ne_j)
       second
-
-  outcome_known : (reply : Reply) → is_outcome reply ≡ true → reply ≢ NoAccount
-  outcome_known Done is e = let no : Done ≡ NoAccount = e in cc no
-  outcome_known Short is e = let no : Short ≡ NoAccount = e in cc no
-  outcome_known Over is e = let no : Over ≡ NoAccount = e in cc no
-  outcome_known SameAccount is e = let no : SameAccount ≡ NoAccount = e in cc no
-  outcome_known Late is e = none_true is
-  outcome_known Busy is e = none_true is
-  outcome_known Closed is e = none_true is
-  outcome_known NoAccount is e = none_true is
 
   again_known : (reply : Reply) → is_again reply ≡ true → (reply ≢ NoAccount) × (reply ≢ SameAccount)
   again_known Late is = (λ e. let no : Late ≡ NoAccount = e in cc no, λ e. let no : Late ≡ SameAccount = e in cc no)

@@ -1,5 +1,6 @@
 -- What the jobs of a bank come to, by their outcomes. (Of this project.)
 use Rattle.std.specs.Prelude.{◌≡◌, ℕ, ◌+◌, ◌-◌, ◌==◌, nat_lt, if◌then◌else◌, Bool, true, false, List, [], ◌∷◌, length, All, Some, slice_get}
+use Rattle.std.specs.List.{sum_by}
 use Rattle.line_accounts.specs.declared.law.TheConstants.{MOST_BALANCE}
 use Rattle.line_accounts.specs.declared.answer.Reply.{Reply}
 use Rattle.line_accounts.specs.declared.answer.Reply.TheVariants.{Done, Short, Over, Late, Closed, Busy, NoAccount, SameAccount}
@@ -48,6 +49,28 @@ all_in_by first jobs (replies ∷ others) = paid_in_by (jobs_of first jobs) repl
 abbrev pub all_out_by : ℕ → List Job → List (List Reply) → ℕ
 all_out_by first jobs [] = 0
 all_out_by first jobs (replies ∷ others) = paid_out_by (jobs_of first jobs) replies + all_out_by (first + 1) jobs others
+
+-- what a job is to pay in; and what it is to put into an account, as a payment in does, and a move
+abbrev pub payment_in : Job → ℕ
+payment_in (PayIn worker account amount) = amount
+payment_in (PayOut worker account amount) = 0
+payment_in (Move worker source target amount) = 0
+payment_in (Put worker task) = 0
+payment_in (Take worker) = 0
+
+abbrev pub amount_in : Job → ℕ
+amount_in (PayIn worker account amount) = amount
+amount_in (PayOut worker account amount) = 0
+amount_in (Move worker source target amount) = amount
+amount_in (Put worker task) = 0
+amount_in (Take worker) = 0
+
+-- all payments in of these jobs together; and these with all moves
+abbrev pub payments_in : List Job → ℕ
+payments_in jobs = sum_by payment_in jobs
+
+abbrev pub amounts_in : List Job → ℕ
+amounts_in jobs = sum_by amount_in jobs
 
 -- each job of these workers, from the first on, has one outcome, and by them so much was paid in and out
 pub record ComesTo (first workers : ℕ) (jobs : List Job) (paid_in paid_out : ℕ) : Type 0 where

@@ -2,6 +2,8 @@
 use Rattle.std.specs.Prelude.{◌≡◌, ℕ, ◌+◌, ◌*◌, ◌^◌, ◌<◌, ◌≤◌, Bool, true, false, List, [], ◌∷◌, ◌++◌, length, All, Some, slice_get}
 use Rattle.qolb_model.specs.declared.terms.Terms.{Terms}
 use Rattle.qolb_model.specs.declared.view.View.{View}
+use Rattle.qolb_model.specs.LettingGo.{IsTold}
+use Rattle.qolb_model.specs.Sums.{HasNotShut}
 use Rattle.line_accounts.specs.Desks.{DeskOf, IsDeskOver}
 use Rattle.line_accounts.specs.NewDesks.{IsUnpaid}
 use Rattle.line_accounts.specs.Settled.{all_paid_in, all_paid_out}
@@ -12,6 +14,7 @@ use Rattle.qolb_script.specs.declared.job.Job.{Job}
 use Rattle.qolb_script.specs.declared.job.Job.TheVariants.{Put, Take, PayIn, PayOut, Move}
 use Rattle.qolb_script.specs.declared.report.Report.{Report}
 use Rattle.qolb_script.specs.declared.report.Report.TheVariants.{Board, Bank}
+use Rattle.qolb_script.specs.declared.schedule.TheConstants.{MOST_COMMANDS}
 use Rattle.qolb_script.specs.WorkScript.{WorkScript}
 use Rattle.qolb_run.specs.JustOpened.{IsJustOpened, work_terms}
 use Rattle.qolb_run.specs.Workers.{AreDone}
@@ -67,10 +70,11 @@ module _ {Port : Type 0} (view : Port → View) (lines : ℕ) where
     another : {jobs : List Job} {replies : List Reply} {before late new : DeskOf Port} (job : Job) (reply : Reply) → Makes from jobs replies before → Tries job before late → Asks job late new reply → is_outcome reply ≡ true → Makes from (jobs ++ job ∷ []) (replies ++ reply ∷ []) new
 
 -- a worker of the bank, between its jobs: from a new desk on, whose ports were opened with their lines, it has made these, and the desk, which
--- has its node's ports, is one over the lines
+-- has its node's ports, is one over the lines; it has shut none of them
 pub record HasBanked {Line Port : Type 0} (belongs : Line → Port → Type 0) (view : Port → View) (terms_of : Line → Terms) (lines : List Line) (worker : ℕ) (desk : DeskOf Port) (jobs : List Job) : Type 0 where
   pub over : IsDeskOver belongs view lines desk
   pub of_worker : (i : ℕ) (port : Port) → slice_get desk.ports i ≡ Some port → (view port).node ≡ worker
+  pub unshut : (i : ℕ) (port : Port) → slice_get desk.ports i ≡ Some port → HasNotShut (view port)
   pub fresh : DeskOf Port
   pub unpaid : IsUnpaid fresh
   pub opened : (i : ℕ) (port : Port) → slice_get fresh.ports i ≡ Some port → (line : Line) × (slice_get lines i ≡ Some line) × IsJustOpened (terms_of line) worker (view port)
@@ -81,6 +85,17 @@ pub record HasBanked {Line Port : Type 0} (belongs : Line → Port → Type 0) (
   pub paid_in : desk.paid_in ≡ paid_in_by jobs replies
   pub paid_out : desk.paid_out ≡ paid_out_by jobs replies
   pub small : ArePaid (length jobs) desk
+
+-- a worker of the bank that was told that one of its lines is closed: it has shut none of them
+pub record WasTold {Line Port : Type 0} (belongs : Line → Port → Type 0) (view : Port → View) (lines : List Line) (worker : ℕ) (desk : DeskOf Port) : Type 0 where
+  pub over : IsDeskOver belongs view lines desk
+  pub of_worker : (i : ℕ) (port : Port) → slice_get desk.ports i ≡ Some port → (view port).node ≡ worker
+  pub unshut : (i : ℕ) (port : Port) → slice_get desk.ports i ≡ Some port → HasNotShut (view port)
+  pub place : ℕ
+  pub port : Port
+  pub at : slice_get desk.ports place ≡ Some port
+  pub told : IsTold (view port)
+  pub small : ArePaid MOST_COMMANDS desk
 
 -- there are lines that were opened for the work, and a desk over them for each worker, at which its jobs were made; and this much was paid in
 -- and out at all desks

@@ -1,12 +1,13 @@
 -- What a report says of the work that was done. (Of this project.)
-use Rattle.std.specs.Prelude.{◌≡◌, ℕ, ◌+◌, List}
+use Rattle.std.specs.Prelude.{◌≡◌, ◌≤◌, ℕ, ◌+◌, List}
+use Rattle.line_accounts.specs.declared.law.TheConstants.{MOST_BALANCE}
 use Rattle.qolb_script.specs.declared.job.Job.{Job}
 use Rattle.qolb_script.specs.declared.job.WorkKind.TheVariants as kind
 use Rattle.qolb_script.specs.declared.report.Report.{Report}
 use Rattle.qolb_script.specs.declared.report.Report.TheVariants.{Board, Bank}
 use Rattle.qolb_script.specs.WorkScript.{WorkScript}
 use Rattle.qolb_run.specs.Jobs.{puts_in, takes_in, IsInterleaving}
-use Rattle.qolb_run.specs.BankRuns.{ComesTo}
+use Rattle.qolb_run.specs.BankRuns.{ComesTo, payments_in, amounts_in}
 use Rattle.qolb_run.specs.BankRuns as bank
 use Rattle.qolb_run.specs.BoardRuns.{after_jobs, empty_board, report_of}
 
@@ -26,11 +27,13 @@ pub record IsOfBoard (work : WorkScript) (stored full taken empty left : ℕ) : 
   pub takes : taken + empty ≡ takes_in work.jobs
 
 -- of a bank: each worker's jobs have one outcome each, and what was paid in and out is the sum of the payments that were done; what was paid
--- in was paid out or is there. With one worker it is just what one owner of empty accounts reports who does the jobs one after another
+-- in was paid out or is there. Where all payments in and all moves together fit one balance, each payment in was done: what was paid in is the
+-- sum of them all. With one worker it is just what one owner of empty accounts reports who does the jobs one after another
 pub record IsOfBank (work : WorkScript) (paid_in paid_out total : ℕ) : Type 0 where
   pub of_bank : work.kind ≡ kind.Bank
   pub comes_to : ComesTo 1 work.workers work.jobs paid_in paid_out
   pub kept : paid_in ≡ paid_out + total
+  pub in_full : amounts_in work.jobs ≤ MOST_BALANCE → paid_in ≡ payments_in work.jobs
   pub alone : work.workers ≡ 1 → Bank paid_in paid_out total ≡ bank.report_of (bank.after_jobs bank.empty_bank work.jobs)
 
 abbrev pub IsReportOf : WorkScript → Report → Type 0

@@ -5,9 +5,9 @@ ghost use Rattle.qolb_model.specs.declared.terms.TheConstants.{MOST_NODES};
 ghost use Rattle.qolb_model.specs.Opening.{AreNodes};
 ghost use Rattle.line_accounts.specs.Desks.{IsDeskOver};
 ghost use Rattle.line_accounts.specs.Settled.{all_paid_in, all_paid_out};
-ghost use Rattle.qolb_run.specs.Workers.{AreDone, AreFresh, MayStop, IsWithinLimits};
+ghost use Rattle.qolb_run.specs.Workers.{AreDone, AreFresh, HasEnded, MayStop, IsWithinLimits};
 ghost use Rattle.qolb_run.specs.Jobs.{IsBankJob};
-ghost use Rattle.qolb_run.specs.BankWork.{HasBanked, Asks, PaysOneAmount, ArePaid, IsAmount, IsBankedOver};
+ghost use Rattle.qolb_run.specs.BankWork.{HasBanked, WasTold, Asks, PaysOneAmount, ArePaid, IsAmount, IsBankedOver};
 ghost use Rattle.qolb_run.specs.JustOpened.{IsNewLine, work_terms};
 ghost use Rattle.qolb_run.specs.Reports.{IsReportOf};
 
@@ -38,7 +38,7 @@ impl<L: LineSync<AccountLaw>> Site for Bank<L> {
 
     ghost has_done = { λ bank worker desk jobs. HasBanked L.belongs L.view L.terms_of bank.lines.items worker desk jobs };
 
-    ghost was_told = { λ bank worker desk. ⊥ };
+    ghost was_told = { λ bank worker desk. WasTold L.belongs L.view bank.lines.items worker desk };
 
     ghost takes = { λ bank job. IsBankJob (length bank.lines.items) job };
 
@@ -46,7 +46,7 @@ impl<L: LineSync<AccountLaw>> Site for Bank<L> {
         for _ in rt.forever() {
             match try_once(&self.lines, desk, job) {
                 Reply::Late | Reply::Busy => yield_now(),
-                Reply::Closed => return JobEnd::GaveUp,
+                Reply::Closed => return JobEnd::Told,
                 Reply::Done | Reply::Short | Reply::Over | Reply::SameAccount => {
                     return JobEnd::Done;
                 }
@@ -104,7 +104,8 @@ fn sum_up<L: LineSync<AccountLaw>>(desks: &[Desk<L>]) -> (u128, u128)
     (paid_in, paid_out)
 }
 
-/// The report of a bank whose workers have done all their jobs, which takes its lines apart.
+/// The report of a bank whose workers are done, which takes its lines apart. None of them was told that a line is closed: no call of a bank
+/// shuts one, and none has a lease.
 fn finish<L: LineSync<AccountLaw> + Drop>(
     alloc: Global,
     bank: Bank<L>,
@@ -118,7 +119,7 @@ where
     requires limits { IsWithinLimits work.now }
     requires lines { vec_len bank.lines ≡ work.now.lines }
     requires as_many { vec_len desks ≡ work.now.workers }
-    requires done { AreDone (HasBanked L.belongs L.view L.terms_of) bank.lines.items work.now.jobs desks.items }
+    requires ended { AreDone (HasEnded (HasBanked L.belongs L.view L.terms_of) (WasTold L.belongs L.view)) bank.lines.items work.now.jobs desks.items }
     ensures report { IfOk result (IsReportOf work.now) }
     ensures banked { IfOk result (IsBankedOver L.belongs L.view L.terms_of work.now) }
     ensures stalled { IfErr result (MayStop work.now) }

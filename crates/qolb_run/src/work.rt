@@ -26,8 +26,7 @@ pub enum RunError {
     /// A growth of memory was refused, or a thread could not be started.
     #[error("out of memory")]
     Memory,
-    /// This worker gave up, and none before it: the gate refused it `MOST_REFUSALS` times before one job; or, at a bank alone, it was told that
-    /// a line is closed.
+    /// This worker gave up, and none before it: the gate refused it `MOST_REFUSALS` times before one job.
     #[error("stalled {0}")]
     Stalled(u64),
 }

@@ -22,10 +22,8 @@ pub(crate) const PATIENCE: u64 = 64;
 pub(crate) enum JobEnd {
     /// It is done.
     Done,
-    /// The worker was told that its line is closed, and brings back what it has in hand.
+    /// The worker was told that a line is closed.
     Told,
-    /// The worker was told so, and gives up.
-    GaveUp,
 }
 
 /// Where workers work: a board, or a bank.
@@ -36,7 +34,7 @@ pub(crate) trait Site {
     /// With what it has in hand, this worker has done these jobs here.
     ghost has_done: { Self → ℕ → Self.Hand → List Job → Type 0 };
 
-    /// With this in hand, this worker was told here that its line is closed.
+    /// With this in hand, this worker was told here that a line is closed.
     ghost was_told: { Self → ℕ → Self.Hand → Type 0 };
 
     /// The job is of a kind that is done here.
@@ -93,7 +91,8 @@ where
     together::together(rt, alloc, &jobs, site, hands)
 }
 
-/// A worker does its jobs one after another, each once the gate lets it, until it is told that its line is closed. `None` where it gives up.
+/// A worker does its jobs one after another, each once the gate lets it, until it is told that a line is closed. `None` where the gate refuses
+/// it, and it gives up.
 fn work_through<R: Wait, G: Gate, S: Site>(
     rt: &R,
     gate: &G,
@@ -118,7 +117,6 @@ where
             match site.does(rt, &mut hand, job) {
                 JobEnd::Done => at += 1,
                 JobEnd::Told => return Some(hand),
-                JobEnd::GaveUp => return None,
             }
         }
     }

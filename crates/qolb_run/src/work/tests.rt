@@ -406,6 +406,29 @@ fn each_job_of_a_bank_comes_to_something(rt: HostRuntime) -> Result<(), Fail> {
 }
 
 #[test]
+fn payments_that_fit_with_all_moves_are_all_paid_in(rt: HostRuntime) -> Result<(), Fail> {
+    // Into account 0 2^48 - 110, 60 and 10, 20 of it to account 8, and 10 into account 9 and from there to account 0: 2^48 - 30 are paid in,
+    // and with the moves 2^48.
+    let script =
+        "bank workers 2 lines 2\n1 in 0 281474976710546\n2 in 0 60\n2 in 9 10\n2 move 0 8 20\n1 move 9 0 10\n1 in 0 10\n";
+    let work = read_work(rt.alloc(), script.as_bytes(), WorkKind::Bank)?;
+    let report = Report::Bank {
+        paid_in: 281_474_976_710_626,
+        paid_out: 0,
+        total: 281_474_976_710_626,
+    };
+    for lines in ALL {
+        for waits in EITHER {
+            for _ in 0..100 {
+                let found = run_work(&rt, rt.alloc(), &AlwaysOpen, &work, lines, waits);
+                assert_eq!(rt; found, Ok(report), "by {lines:?}, {waits:?}");
+            }
+        }
+    }
+    Ok(())
+}
+
+#[test]
 fn a_late_put_is_no_full_board(rt: HostRuntime) -> Result<(), Fail> {
     let script = "board workers 2\n1 put 1\n1 put 2\n1 put 3\n2 put 4\n2 put 5\n2 put 6\n2 put 7\n";
     let work = read_work(rt.alloc(), script.as_bytes(), WorkKind::Board)?;
