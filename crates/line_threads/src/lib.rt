@@ -2,6 +2,7 @@
 #![tactic(auto)]
 
 mod asleep;
+mod hooked_line;
 mod meetings;
 mod sleeping_line;
 #[cfg(test)]
@@ -10,6 +11,7 @@ pub mod together;
 mod waiting;
 
 pub use asleep::{Within, acquire_asleep, acquire_within};
+pub use hooked_line::{HookedLine, Hooks};
 pub use meetings::{meet_all, meet_others};
 pub use sleeping_line::SleepingLine;
 pub use waiting::{Got, acquire};

@@ -24,7 +24,7 @@ use ticket_line::TicketLine;
 const BUSY_MILLIS: u64 = 30;
 
 /// Waits until the count is no longer 0.
-fn wait_until_some<R: Wait>(rt: &R, count: &AtomicU64) {
+pub(super) fn wait_until_some<R: Wait>(rt: &R, count: &AtomicU64) {
     for _ in rt.forever() {
         if count.load(Ordering::SeqCst) > 0 {
             return;

@@ -1,0 +1,183 @@
+//! A line round a line: the same line, with something done beside its calls.
+ghost use Rattle.std.specs.Prelude.{◌≡◌, map, All, IfOk, IfErr};
+ghost use Rattle.qolb_model.specs.Finishing.{MayRefuse, IsFinished};
+
+use line_lanes::{Line64, Mask};
+use qolb_model::{
+    Enq, Keep, LineSync, OpenError, OpenLine, Out, Poll, PortState, Sleeping, Terms, Unfinished,
+};
+use std::alloc::Global;
+use std::sync::Wait;
+use std::time::Duration;
+
+/// What is done beside the calls of a line. It reads the line and the port, and changes neither.
+pub trait Hooks {
+    /// A look has found that the request waits. Nothing, unless it is said what.
+    fn looked_in_vain<K: Keep, L: Sleeping<K>>(&self, line: &L, port: &L::Port)
+        requires belongs { L.belongs line.now port.now }
+        requires state { (L.view port.now).state ≡ PortState.Queued }
+    {
+        let _ = line;
+        let _ = port;
+    }
+
+    /// The holder is about to let the line go. Nothing, unless it is said what.
+    fn lets_go(&self) {}
+
+    /// A waiter is to sleep. It sleeps at the line, unless it is said what it does.
+    fn sleep<R: Wait, K: Keep, L: Sleeping<K>>(
+        &self,
+        rt: &R,
+        line: &L,
+        port: &L::Port,
+        at_most: Duration,
+    )
+        requires belongs { L.belongs line.now port.now }
+        requires state { (L.view port.now).state ≡ PortState.Queued }
+    {
+        line.sleep(rt, port, at_most)
+    }
+}
+
+/// The line that it was made of, with what its hooks do.
+#[derive(Drop)]
+pub struct HookedLine<H, L> {
+    hooks: H,
+    line: L,
+}
+
+impl<H, L> HookedLine<H, L> {
+    /// The line, with these hooks.
+    pub fn with(hooks: H, line: L) -> HookedLine<H, L>
+        ensures { result.line ≡ line }
+    {
+        HookedLine { hooks, line }
+    }
+}
+
+impl<H: Hooks + Drop, K: Keep, L: Sleeping<K>> LineSync<K> for HookedLine<H, L> {
+    type Port = L::Port;
+
+    ghost view = { L.view };
+
+    ghost turn = { L.turn };
+
+    ghost looks = { L.looks };
+
+    ghost taken = { L.taken };
+
+    ghost most = { λ hooked. L.most hooked.line };
+
+    ghost belongs = { λ hooked port. L.belongs hooked.line port };
+
+    ghost label_of = { λ hooked. L.label_of hooked.line };
+
+    ghost terms_of = { λ hooked. L.terms_of hooked.line };
+
+    fn label(&self) -> u64 {
+        self.line.label()
+    }
+
+    fn nodes(&self) -> u64 {
+        self.line.nodes()
+    }
+
+    fn node(port: &L::Port) -> u64 {
+        L::node(port)
+    }
+
+    fn state(port: &L::Port) -> PortState {
+        L::state(port)
+    }
+
+    fn owns(&self, port: &L::Port) -> bool {
+        self.line.owns(port)
+    }
+
+    fn bytes(port: &L::Port) -> &Line64 {
+        L::bytes(port)
+    }
+
+    fn turns_left(&self, port: &L::Port) -> Option<u64> {
+        self.line.turns_left(port)
+    }
+
+    fn write(port: &mut L::Port, mask: Mask, bytes: &Line64) {
+        L::write(port, mask, bytes)
+    }
+
+    fn enqolb(&self, port: &mut L::Port) -> Enq {
+        self.line.enqolb(port)
+    }
+
+    fn poll(&self, port: &mut L::Port) -> Poll {
+        let found = self.line.poll(port);
+        if found == Poll::Waiting {
+            self.hooks.looked_in_vain(&self.line, port);
+        }
+        found
+    }
+
+    fn withdraw(&self, port: &mut L::Port) -> Out {
+        self.line.withdraw(port)
+    }
+
+    fn deqolb(&self, port: &mut L::Port) {
+        self.hooks.lets_go();
+        self.line.deqolb(port)
+    }
+
+    fn shut(&self, port: &mut L::Port) {
+        self.hooks.lets_go();
+        self.line.shut(port)
+    }
+
+    fn meet(&self, a: &mut L::Port, b: &mut L::Port) {
+        self.line.meet(a, b)
+    }
+
+    fn finish(
+        self,
+        alloc: Global,
+        ports: Vec<L::Port>,
+    ) -> Result<Line64, Unfinished<HookedLine<H, L>, L::Port>>
+        requires belong { All (λ port. (L.view port).label ≡ L.label_of self.line → L.belongs self.line port) ports.items }
+        ensures finished { IfOk result (λ line. IsFinished K.good K.allows (L.label_of self.line) (L.terms_of self.line) (map L.view ports.items) line.bytes) }
+        ensures why { IfErr result (λ back. MayRefuse (L.label_of self.line) (L.terms_of self.line).nodes (map L.view ports.items) back.why) }
+        ensures line { IfErr result (λ back. back.line ≡ self) }
+        ensures ports { IfErr result (λ back. back.ports.items ≡ ports.items) }
+    {
+        let HookedLine { hooks, line } = self;
+        match line.finish(alloc, ports) {
+            Ok(last) => Ok(last),
+            Err(back) => Err(Unfinished {
+                line: HookedLine {
+                    hooks,
+                    line: back.line,
+                },
+                ports: back.ports,
+                why: back.why,
+            }),
+        }
+    }
+
+    ghost sound = { λ hooked port belongs. L.sound hooked.line port belongs };
+}
+
+impl<H: Hooks + Drop, K: Keep, L: Sleeping<K>> Sleeping<K> for HookedLine<H, L> {
+    fn sleep<R: Wait>(&self, rt: &R, port: &L::Port, at_most: Duration) {
+        self.hooks.sleep(rt, &self.line, port, at_most)
+    }
+}
+
+impl<H: Hooks + Default + Drop, K: Keep, L: OpenLine<K> + Sleeping<K>> OpenLine<K>
+    for HookedLine<H, L> {
+    fn open_with(
+        alloc: Global,
+        label: u64,
+        terms: Terms,
+    ) -> Result<(HookedLine<H, L>, Vec<L::Port>), OpenError> {
+        let (line, ports) = L::open_with(alloc, label, terms)?;
+        Ok((HookedLine::with(H::default(), line), ports))
+    }
+}

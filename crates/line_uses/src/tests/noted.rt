@@ -1,0 +1,326 @@
+//! How waiters sleep: a line whose waiters' sleeps are noted, and a clock that goes on by a millisecond whenever it is read.
+ghost use Rattle.std.specs.Prelude.{IfSome, IsTrue};
+ghost use Rattle.qolb_model.specs.PortStates.{may_ask};
+
+use crate::tests::again::wait_until_some;
+use line_lanes::Line64;
+use line_threads::together::{Work, together};
+use line_threads::{Got, HookedLine, Hooks, SleepingLine, Within, acquire_asleep, acquire_within};
+use link_line::LinkLine;
+use qolb_model::{Enq, Free, Keep, LineSync, OpenLine, Poll, Sleeping, Terms};
+use ring_line::RingLine;
+use std::alloc::Global;
+use std::io;
+use std::process::Abort;
+use std::rt::Clock;
+use std::sync::Wait;
+use std::sync::atomic::{AtomicU64, Ordering};
+use std::test::Fail;
+use std::thread::Threads;
+use std::time::Duration;
+use ticket_line::TicketLine;
+
+/// What is noted of the sleeps at a line: how many there were, and how many nanoseconds the last and the longest were to take at most.
+#[derive(Drop)]
+struct Notes {
+    sleeps: AtomicU64,
+    last: AtomicU64,
+    longest: AtomicU64,
+}
+
+impl Notes {
+    fn none() -> Notes {
+        Notes {
+            sleeps: AtomicU64::new(0),
+            last: AtomicU64::new(0),
+            longest: AtomicU64::new(0),
+        }
+    }
+
+    fn note(&self, at_most: Duration) {
+        let nanos = u64::try_from(at_most.as_nanos()).unwrap_or(u64::MAX);
+        self.last.store(nanos, Ordering::SeqCst);
+        self.longest.fetch_max(nanos, Ordering::SeqCst);
+        self.sleeps.fetch_add(1, Ordering::SeqCst);
+    }
+
+    fn sleeps(&self) -> u64 {
+        self.sleeps.load(Ordering::SeqCst)
+    }
+
+    fn last(&self) -> u64 {
+        self.last.load(Ordering::SeqCst)
+    }
+
+    fn longest(&self) -> u64 {
+        self.longest.load(Ordering::SeqCst)
+    }
+}
+
+/// The line that it was made of, but that a sleep is noted, and over at once.
+type NotedLine<'n, L> = HookedLine<&'n Notes, L>;
+
+impl Hooks for &Notes {
+    fn sleep<R: Wait, K: Keep, L: Sleeping<K>>(
+        &self,
+        _rt: &R,
+        _line: &L,
+        _port: &L::Port,
+        at_most: Duration,
+    ) {
+        self.note(at_most);
+    }
+}
+
+/// A clock that goes on by a millisecond whenever it is read, or one that can't be read.
+#[derive(Drop)]
+struct Ticking<'r, R> {
+    /// By which its reader may wait.
+    _rt: &'r R,
+    runs: bool,
+    readings: AtomicU64,
+}
+
+impl<'r, R> Ticking<'r, R> {
+    fn new(rt: &'r R, runs: bool) -> Ticking<'r, R> {
+        Ticking {
+            _rt: rt,
+            runs,
+            readings: AtomicU64::new(0),
+        }
+    }
+}
+
+impl<R: Wait> Wait for Ticking<'_, R> {}
+
+impl<R> Clock for Ticking<'_, R> {
+    fn monotonic(&self) -> io::Result<Duration> {
+        let reading = self.readings.fetch_add(1, Ordering::SeqCst);
+        if self.runs {
+            Ok(Duration::from_millis(reading))
+        } else {
+            Err(io::Error::from(io::ErrorKind::Other))
+        }
+    }
+
+    fn since_1970(&self) -> io::Result<Duration> {
+        self.monotonic()
+    }
+}
+
+/// The terms of a line of two nodes.
+fn two_nodes() -> Terms {
+    Terms {
+        nodes: 2,
+        opening: Line64::zero(),
+        lease: None,
+    }
+}
+
+/// A new line of two nodes, whose sleeps are noted, and its ports.
+fn open_noted<'n, L: OpenLine<Free> + Sleeping<Free>>(
+    alloc: Global,
+    notes: &'n Notes,
+) -> Option<(NotedLine<'n, L>, L::Port, L::Port)>
+where
+    L: Drop,
+    L::Port: Drop,
+    ensures one { IfSome result (λ r. L.belongs r.0.line r.1 × IsTrue (may_ask (L.view r.1).state)) }
+    ensures two { IfSome result (λ r. L.belongs r.0.line r.2 × IsTrue (may_ask (L.view r.2).state)) }
+{
+    let (line, ports) = L::open_with(alloc, 1, two_nodes()).ok()?;
+    let mut ports = ports;
+    let two = ports.pop()?;
+    let one = ports.pop()?;
+    Some((NotedLine::with(notes, line), one, two))
+}
+
+/// What node 2 is answered that waits so many milliseconds while node 1 has the line, by a clock that runs or can't be read; and how often
+/// it read that.
+fn wait_by<R: Wait, L: OpenLine<Free> + Sleeping<Free> + Drop>(
+    rt: &R,
+    alloc: Global,
+    notes: &Notes,
+    runs: bool,
+    millis: u64,
+) -> Option<(Within, u64)>
+where
+    L::Port: Drop,
+{
+    let (line, mut one, mut two) = open_noted::<L>(alloc, notes)?;
+    let Enq::Granted = line.enqolb(&mut one) else {
+        return None;
+    };
+    let clock = Ticking::new(rt, runs);
+    let at_most = Duration::from_millis(millis);
+    let got = acquire_within(&clock, &line, &mut two, at_most);
+    Some((got, clock.readings.load(Ordering::SeqCst)))
+}
+
+/// A wait begins at the first reading, 0 milliseconds, reads the clock between its looks, and is late where it reads the limit. No sleep is
+/// to take longer than what is left.
+fn a_wait_keeps_to_its_time<R: Wait + Abort, L: OpenLine<Free> + Sleeping<Free> + Drop>(
+    rt: &R,
+    alloc: Global,
+)
+where
+    L::Port: Drop,
+{
+    let notes = Notes::none();
+    let found = wait_by::<R, L>(rt, alloc, &notes, true, 200);
+    assert_eq!(rt; found, Some((Within::Late, 201)));
+    assert!(rt; notes.sleeps() > 0);
+    assert_eq!(rt; notes.last(), 1_000_000);
+    assert_eq!(rt; notes.longest(), notes.sleeps().saturating_mul(1_000_000));
+}
+
+/// With no time, or by a clock that can't be read, it is late without a sleep.
+fn no_time_is_over_at_once<R: Wait + Abort, L: OpenLine<Free> + Sleeping<Free> + Drop>(
+    rt: &R,
+    alloc: Global,
+)
+where
+    L::Port: Drop,
+{
+    let notes = Notes::none();
+    let found = wait_by::<R, L>(rt, alloc, &notes, true, 0);
+    assert_eq!(rt; found, Some((Within::Late, 2)));
+    let found = wait_by::<R, L>(rt, alloc, &notes, false, 200);
+    assert_eq!(rt; found.map(|found| found.0), Some(Within::Late));
+    assert_eq!(rt; notes.sleeps(), 0);
+}
+
+/// Node 2 looks twice in vain at a line whose waiters sleep, and once more when node 1 has let go. Whether each answer was as it has to be.
+fn look_asleep<R: Wait, L: OpenLine<Free> + Sleeping<Free> + Drop>(
+    rt: &R,
+    alloc: Global,
+    notes: &Notes,
+) -> Option<bool>
+where
+    L::Port: Drop,
+{
+    let (line, mut one, mut two) = open_noted::<L>(alloc, notes)?;
+    let line = SleepingLine::new(rt, line);
+    let Enq::Granted = line.enqolb(&mut one) else {
+        return Some(false);
+    };
+    let Enq::Queued = line.enqolb(&mut two) else {
+        return Some(false);
+    };
+    let Poll::Waiting = line.poll(&mut two) else {
+        return Some(false);
+    };
+    let Poll::Waiting = line.poll(&mut two) else {
+        return Some(false);
+    };
+    line.deqolb(&mut one);
+    Some(line.poll(&mut two) == Poll::Granted)
+}
+
+/// Of the looks at a line whose waiters sleep each sleeps once that finds that the request waits, and no other.
+fn each_look_in_vain_sleeps_once<R: Wait + Abort, L: OpenLine<Free> + Sleeping<Free> + Drop>(
+    rt: &R,
+    alloc: Global,
+)
+where
+    L::Port: Drop,
+{
+    let notes = Notes::none();
+    assert_eq!(rt; look_asleep::<R, L>(rt, alloc, &notes), Some(true));
+    assert_eq!(rt; notes.sleeps(), 2);
+    assert_eq!(rt; notes.last(), u64::MAX);
+}
+
+/// Node 1 has the line until node 2, which waits for it, was to sleep.
+#[derive(Drop)]
+struct Handing<'n> {
+    notes: &'n Notes,
+    held: AtomicU64,
+}
+
+impl<R: Wait, L: Sleeping<Free>> Work<R, L, L::Port> for Handing<'_>
+where
+    L::Port: Drop,
+{
+    type Back = bool;
+
+    ghost fits = { λ _ line _ port. L.belongs line port × IsTrue (may_ask (L.view port).state) };
+
+    ghost done = { λ _ _ _ _. Unit {0} };
+
+    fn work(&self, rt: &R, line: &L, place: usize, port: L::Port) -> bool {
+        let mut port = port;
+        if place == 0 {
+            let Enq::Granted = line.enqolb(&mut port) else {
+                return false;
+            };
+            self.held.store(1, Ordering::SeqCst);
+            wait_until_some(rt, &self.notes.sleeps);
+            line.deqolb(&mut port);
+            true
+        } else {
+            wait_until_some(rt, &self.held);
+            acquire_asleep(rt, line, &mut port) == Got::Granted
+        }
+    }
+}
+
+/// Whether each of two nodes of a new line had it, the first until the second was to sleep.
+fn hand_to_a_sleeper<R: Threads + Wait + Sync, L: OpenLine<Free> + Sleeping<Free> + Sync + Drop>(
+    rt: &R,
+    alloc: Global,
+    notes: &Notes,
+) -> Option<[bool; 2]>
+where
+    L::Port: Send + Drop,
+{
+    let handing = Handing {
+        notes,
+        held: AtomicU64::new(0),
+    };
+    let (line, ports) = L::open_with(alloc, 1, two_nodes()).ok()?;
+    let line = NotedLine::with(notes, line);
+    let had = together(rt, alloc, &handing, &line, ports)?;
+    match *had.as_slice() {
+        [one, two] => Some([one, two]),
+        _ => None,
+    }
+}
+
+/// A waiter that sleeps does sleep where its turn does not come, and for as long as it may.
+fn a_long_wait_sleeps<
+    R: Threads + Wait + Abort + Sync,
+    L: OpenLine<Free> + Sleeping<Free> + Sync + Drop,
+>(rt: &R, alloc: Global)
+where
+    L::Port: Send + Drop,
+{
+    let notes = Notes::none();
+    assert_eq!(rt;
+        hand_to_a_sleeper::<R, L>(rt, alloc, &notes),
+        Some([true, true])
+    );
+    assert_eq!(rt; notes.last(), u64::MAX);
+}
+
+/// Each of these over lines of this type.
+fn each_sleep<R: Threads + Wait + Abort + Sync, L: OpenLine<Free> + Sleeping<Free> + Sync + Drop>(
+    rt: &R,
+    alloc: Global,
+)
+where
+    L::Port: Send + Drop,
+{
+    a_wait_keeps_to_its_time::<R, L>(rt, alloc);
+    no_time_is_over_at_once::<R, L>(rt, alloc);
+    each_look_in_vain_sleeps_once::<R, L>(rt, alloc);
+    a_long_wait_sleeps::<R, L>(rt, alloc);
+}
+
+#[test]
+fn waiters_sleep_as_long_as_they_may(rt: HostRuntime) -> Result<(), Fail> {
+    each_sleep::<_, RingLine<Free>>(&rt, rt.alloc());
+    each_sleep::<_, TicketLine<Free>>(&rt, rt.alloc());
+    each_sleep::<_, LinkLine<Free>>(&rt, rt.alloc());
+    Ok(())
+}
