@@ -3,7 +3,7 @@ use Rattle.std.proofs.Common.{◌≡◌, ℕ, zero, suc, ◌+◌, ◌<◌, ◌�
 use Rattle.std.proofs.lemmas.List.{length-take-le}
 use Rattle.std.proofs.lemmas.List.Sums.{length-filter, count_by-le-length}
 use Rattle.std.proofs.lemmas.Option.{slice_get_within, slice_get-get_or, get_or_from_slice_get}
-use Rattle.std.specs.Prelude.{IfSome, Vec}
+use Rattle.std.specs.Prelude.{IfSome, MatchOption, Vec}
 use Rattle.std.specs.Global.{Global}
 use Rattle.qolb_model.proofs.Lists.{same_some}
 use Rattle.qolb_script.specs.declared.job.Job.{Job}
@@ -15,7 +15,7 @@ use Rattle.qolb_model.specs.Opening.{AreNew, new_view}
 use Rattle.line_threads.specs.Places.{AllAt}
 use Rattle.qolb_run.specs.JustOpened.{AreJustOpened}
 use Rattle.qolb_run.specs.Jobs.{jobs_of}
-use Rattle.qolb_run.specs.Workers.{AreBack, AreDone, AreFresh, HasEnded, MayBeGone}
+use Rattle.qolb_run.specs.Workers.{AreBack, AreDone, AreFresh, AreRefused, HasEnded, MayBeGone}
 use Rattle.qolb_run.specs.declared.work.RunError.TheVariants.{Stalled}
 
 -- what stands at a place of a list that was mapped is of what stood there
@@ -75,11 +75,20 @@ each_pushed P (z ∷ xs) x all own zero y at = all 0 y at
 each_pushed P (z ∷ xs) x all own (suc k) y at = each_pushed (λ n. P (suc n)) xs x (λ j i. all (suc j) i) own k y at
 
 -- what threads gave back, each by its place
-pub back_at : {Site Hand : Type 0} (has_done : Site → ℕ → Hand → List Job → Type 0) (site : Site) (jobs : List Job) (o : Option (Vec (Option Hand) Global))
-    → IfSome o (λ all. AllAt (λ k (back : Option Hand). IfSome back (λ hand. has_done site (k + 1) hand (jobs_of (k + 1) jobs))) all.items) → IfSome o (λ all. AreBack has_done site jobs all.items)
-back_at has_done site jobs None each = tt
-back_at {Site} {Hand} has_done site jobs (Some all) each = λ k hand at.
-    subst (λ (back : Option Hand). IfSome back (λ hand. has_done site (k + 1) hand (jobs_of (k + 1) jobs))) (get_or_from_slice_get all.items k (Some hand) (Some hand) at) (each k (Some hand) (slice_get_within all.items k (Some hand) at))
+module _ {Site Hand : Type 0} (has_done : Site → ℕ → Hand → List Job → Type 0) (may_refuse : ℕ → Type 0) (site : Site) (jobs : List Job) where
+  abbrev MayGiveBack : ℕ → Option Hand → Type 0
+  MayGiveBack k back = MatchOption back (may_refuse (k + 1)) (λ hand. has_done site (k + 1) hand (jobs_of (k + 1) jobs))
+
+  given_at : (all : List (Option Hand)) → AllAt MayGiveBack all → (k : ℕ) (back : Option Hand) → slice_get all k ≡ Some back → MayGiveBack k back
+  given_at all each k back at = subst (λ (back : Option Hand). MayGiveBack k back) (get_or_from_slice_get all k back back at) (each k back (slice_get_within all k back at))
+
+  pub back_at : (o : Option (Vec (Option Hand) Global)) → IfSome o (λ all. AllAt MayGiveBack all.items) → IfSome o (λ all. AreBack has_done site jobs all.items)
+  back_at None each = tt
+  back_at (Some all) each = λ k hand at. given_at all.items each k (Some hand) at
+
+  pub refused_at : (o : Option (Vec (Option Hand) Global)) → IfSome o (λ all. AllAt MayGiveBack all.items) → IfSome o (λ all. AreRefused may_refuse all.items)
+  refused_at None each = tt
+  refused_at (Some all) each = λ k at. given_at all.items each k None at
 
 -- ports as they were opened
 get_map : {P V : Type 0} (view : P → V) (ports : List P) (k : ℕ) (port : P) → slice_get ports k ≡ Some port → slice_get (map view ports) k ≡ Some (view port)

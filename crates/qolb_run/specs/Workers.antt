@@ -30,6 +30,10 @@ MayBeGone back Memory = Unit {0}
 MayBeGone {Hand} back (Stalled worker) =
     (k : ℕ) × (worker ≡ k + 1) × (slice_get back k ≡ Some None) × ((j : ℕ) → j < k → (hand : Hand) × (slice_get back j ≡ Some (Some hand)))
 
+-- each that gave up is a worker that its gate may refuse
+abbrev pub AreRefused : {Hand : Type 0} → (ℕ → Type 0) → List (Option Hand) → Type 0
+AreRefused {Hand} may_refuse back = (k : ℕ) → slice_get back k ≡ Some None → may_refuse (k + 1)
+
 -- why there is no report: want of memory, or one of the workers gave up
 abbrev pub MayStop : WorkScript → RunError → Type 0
 MayStop work Memory = Unit {0}

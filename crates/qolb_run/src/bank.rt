@@ -1,5 +1,5 @@
 //! Workers at a bank.
-ghost use Rattle.std.specs.Prelude.{◌≡◌, ◌≤◌, [], All, IfOk, IfErr, length, map, vec_len};
+ghost use Rattle.std.specs.Prelude.{◌≡◌, ◌≤◌, ℕ, [], All, Err, IfOk, IfErr, length, map, vec_len};
 ghost use Rattle.qolb_script.specs.declared.schedule.TheConstants.{MOST_COMMANDS};
 ghost use Rattle.qolb_model.specs.declared.terms.TheConstants.{MOST_NODES};
 ghost use Rattle.qolb_model.specs.Opening.{AreNodes};
@@ -122,7 +122,7 @@ where
     requires ended { AreDone (HasEnded (HasBanked L.belongs L.view L.terms_of) (WasTold L.belongs L.view)) bank.lines.items work.now.jobs desks.items }
     ensures report { IfOk result (IsReportOf work.now) }
     ensures banked { IfOk result (IsBankedOver L.belongs L.view L.terms_of work.now) }
-    ensures stalled { IfErr result (MayStop work.now) }
+    ensures memory { IfErr result (λ error. error ≡ RunError.Memory) }
 {
     let (paid_in, paid_out) = sum_up(desks.as_slice());
     let total = match settle(alloc, bank.lines, desks) {
@@ -218,6 +218,7 @@ where
     ensures report { IfOk result (IsReportOf work.now) }
     ensures banked { IfOk result (IsBankedOver L.belongs L.view L.terms_of work.now) }
     ensures stalled { IfErr result (MayStop work.now) }
+    ensures by_gate { (worker : ℕ) → result ≡ Err (RunError.Stalled worker) → G.may_refuse gate.now worker }
 {
     let workers = work.workers();
     let opened = open_lines::<L>(alloc, work.lines(), workers)?;
@@ -256,6 +257,7 @@ where
     ensures report { IfOk result (IsReportOf work.now) }
     ensures banked { IfOk result (IsBankedOver L.belongs L.view L.terms_of work.now) }
     ensures stalled { IfErr result (MayStop work.now) }
+    ensures by_gate { (worker : ℕ) → result ≡ Err (RunError.Stalled worker) → G.may_refuse gate.now worker }
 {
     let room = Vec::with_capacity(alloc, desks.len())?;
     let bank = Bank { lines };

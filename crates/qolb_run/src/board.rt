@@ -1,5 +1,5 @@
 //! Workers at a board.
-ghost use Rattle.std.specs.Prelude.{◌≡◌, ◌*◌, [], ◌∷◌, ◌≤◌, All, IfOk, IfErr, IfNone, Some, true, false, length, map, vec_len};
+ghost use Rattle.std.specs.Prelude.{◌≡◌, ◌*◌, ℕ, [], ◌∷◌, ◌≤◌, All, Err, IfOk, IfErr, IfNone, Some, true, false, length, map, vec_len};
 ghost use Rattle.qolb_script.specs.declared.schedule.TheConstants.{MOST_COMMANDS};
 ghost use Rattle.qolb_model.specs.declared.terms.TheConstants.{MOST_NODES};
 ghost use Rattle.qolb_model.specs.LettingGo.{IsTold};
@@ -212,7 +212,7 @@ where
     requires ended { AreDone (HasEnded (HasWorked L.belongs L.view) (WasTold L.belongs L.view)) board.line work.now.jobs hands.items }
     ensures report { IfOk result (IsReportOf work.now) }
     ensures boarded { IfOk result (IsBoardedOver L.belongs L.view L.terms_of work.now) }
-    ensures stalled { IfErr result (MayStop work.now) }
+    ensures memory { IfErr result (λ error. error ≡ RunError.Memory) }
 {
     let counts = sum_up(hands.as_slice());
     let ports = ports_of(alloc, hands)?;
@@ -248,6 +248,7 @@ where
     ensures report { IfOk result (IsReportOf work.now) }
     ensures boarded { IfOk result (IsBoardedOver L.belongs L.view L.terms_of work.now) }
     ensures stalled { IfErr result (MayStop work.now) }
+    ensures by_gate { (worker : ℕ) → result ≡ Err (RunError.Stalled worker) → G.may_refuse gate.now worker }
 {
     let (line, ports) = open_line::<BoardLaw, L>(alloc, 0, work.workers())?;
     // That a script has no more jobs than it may is a fact of its reader.
@@ -279,6 +280,7 @@ where
     ensures report { IfOk result (IsReportOf work.now) }
     ensures boarded { IfOk result (IsBoardedOver L.belongs L.view L.terms_of work.now) }
     ensures stalled { IfErr result (MayStop work.now) }
+    ensures by_gate { (worker : ℕ) → result ≡ Err (RunError.Stalled worker) → G.may_refuse gate.now worker }
 {
     let hands = fresh_hands(alloc, &line, ports)?;
     let room = Vec::with_capacity(alloc, hands.len())?;

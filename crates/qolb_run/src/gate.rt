@@ -1,5 +1,5 @@
 //! Gates: what says when a worker may go on.
-ghost use Rattle.std.specs.Prelude.{◌≡◌, true};
+ghost use Rattle.std.specs.Prelude.{◌≡◌, ℕ, false};
 
 use std::thread::yield_now;
 
@@ -8,12 +8,16 @@ pub const MOST_REFUSALS: u32 = 1_000_000;
 
 /// Says when a worker may do its next job.
 pub trait Gate {
+    /// The gate may refuse this worker.
+    ghost may_refuse: { Self → ℕ → Type 0 };
+
     /// The workers are about to begin, with so many jobs in all. A gate that does not count does nothing.
     fn begins(&self, _jobs: usize) {}
 
     /// Whether the worker may do its job number `at`, counted from 0. After its last job it asks once more, with the number of its jobs,
     /// and does not look at the answer.
-    fn may(&self, worker: u64, at: u64) -> bool;
+    fn may(&self, worker: u64, at: u64) -> bool
+        ensures { result ≡ false → may_refuse self.now worker };
 }
 
 /// The gate that is always open.
@@ -21,16 +25,18 @@ pub trait Gate {
 pub struct AlwaysOpen;
 
 impl Gate for AlwaysOpen {
-    fn may(&self, _worker: u64, _at: u64) -> bool
-        ensures { result ≡ true }
-    {
+    ghost may_refuse = { λ gate worker. ⊥ };
+
+    fn may(&self, _worker: u64, _at: u64) -> bool {
         true
     }
 }
 
 /// Asks until the worker may go on. `false` where it was refused `MOST_REFUSALS` times.
-pub(crate) fn passes<G: Gate>(gate: &G, worker: u64, at: u64) -> bool {
-    for _ in 0..MOST_REFUSALS {
+pub(crate) fn passes<G: Gate>(gate: &G, worker: u64, at: u64) -> bool
+    ensures { result ≡ false → G.may_refuse gate.now worker }
+{
+    for _refusals in 0..MOST_REFUSALS {
         if gate.may(worker, at) {
             return true;
         }

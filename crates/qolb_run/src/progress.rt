@@ -1,6 +1,4 @@
 //! A gate that says how far the work is.
-ghost use Rattle.std.specs.Prelude.{◌≡◌, true};
-
 use crate::gate::Gate;
 use std::io;
 use std::rt::Clock;
@@ -56,13 +54,13 @@ impl<'a, R: Clock + Eprint> Progress<'a, R> {
 }
 
 impl<R: Clock + Eprint> Gate for Progress<'_, R> {
+    ghost may_refuse = { λ gate worker. ⊥ };
+
     fn begins(&self, jobs: usize) {
         self.jobs.store(jobs as u64, Ordering::SeqCst);
     }
 
-    fn may(&self, _worker: u64, at: u64) -> bool
-        ensures { result ≡ true }
-    {
+    fn may(&self, _worker: u64, at: u64) -> bool {
         // A worker that asks for its next job has done the one before.
         if at > 0 {
             self.say(self.done.fetch_add(1, Ordering::SeqCst).saturating_add(1));

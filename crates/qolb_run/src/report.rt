@@ -67,6 +67,7 @@ pub fn report_work<T: Threads + Wait + Sync, G: Gate + Sync, R: Read, W: Write>(
 ) -> Result<(), TaskError>
     ensures ok { OnOk result (IfSome (R.remaining (inner_of reader.old)) (λ input. (text : List ℕ) × IsWorkReply kind input text × Appends (W.contents (inner_of writer.old)) (W.contents (inner_of writer.new)) text)) }
     ensures refused { IfErr result (λ error. IfSome (R.remaining (inner_of reader.old)) (λ input. MayEnd (task.Work kind lines waits) input error)) }
+    ensures by_gate { (worker : ℕ) → result ≡ Err (TaskError.Stalled worker) → G.may_refuse gate.now worker }
     ensures unwritten { IfErr result (λ error. error ≢ TaskError.Replay ReplayError.Write → writer.new ≡ writer.old) }
     ensures read_fault { (result ≡ Err (TaskError.Replay ReplayError.Read)) ↔ (has_failed reader.new ≡ true) }
     ensures write_fault { result ≡ Err (TaskError.Replay ReplayError.Write) → has_failed writer.new ≡ true }

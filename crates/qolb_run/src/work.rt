@@ -1,5 +1,5 @@
 //! Runs of work scripts: workers share a board, or the lines of a bank.
-ghost use Rattle.std.specs.Prelude.{◌≡◌, IfOk, IfErr};
+ghost use Rattle.std.specs.Prelude.{◌≡◌, ℕ, Err, IfOk, IfErr};
 ghost use Rattle.qolb_run.specs.declared.work.RunError.TheVariants.{Memory};
 ghost use Rattle.qolb_run.specs.Workers.{MayStop};
 ghost use Rattle.qolb_run.specs.Reports.{IsReportOf};
@@ -57,6 +57,7 @@ pub fn run_work<R: Threads + Wait + Sync, G: Gate + Sync>(
     ensures bank_of_lists { let by = ⟦<LinkLine<AccountLaw> as LineSync<AccountLaw>>⟧ in lines ≡ Lines.Link → IfOk result (IsBankedOver by.belongs by.view by.terms_of work.now) }
     ensures bank_of_tickets { let by = ⟦<TicketLine<AccountLaw> as LineSync<AccountLaw>>⟧ in lines ≡ Lines.Ticket → IfOk result (IsBankedOver by.belongs by.view by.terms_of work.now) }
     ensures stalled { IfErr result (MayStop work.now) }
+    ensures by_gate { (worker : ℕ) → result ≡ Err (RunError.Stalled worker) → G.may_refuse gate.now worker }
 {
     over_named!(
         lines,
@@ -81,6 +82,7 @@ where
     ensures boarded { IfOk result (IsBoardedOver B.belongs B.view B.terms_of work.now) }
     ensures banked { IfOk result (IsBankedOver A.belongs A.view A.terms_of work.now) }
     ensures stalled { IfErr result (MayStop work.now) }
+    ensures by_gate { (worker : ℕ) → result ≡ Err (RunError.Stalled worker) → G.may_refuse gate.now worker }
 {
     gate.begins(work.jobs().len());
     match work.kind() {

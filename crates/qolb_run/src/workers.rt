@@ -1,10 +1,10 @@
 //! Workers: each does its jobs at one site, in a thread of its own.
-ghost use Rattle.std.specs.Prelude.{◌≡◌, ◌+◌, ◌++◌, ◌∷◌, [], ◌<◌, ◌≤◌, ℕ, List, All, IfSome, IfOk, IfErr, Some, length, map, vec_len};
+ghost use Rattle.std.specs.Prelude.{◌≡◌, ◌+◌, ◌++◌, ◌∷◌, [], ◌<◌, ◌≤◌, ℕ, List, All, IfSome, IfOk, IfErr, MatchOption, Some, length, map, vec_len};
 ghost use Rattle.qolb_script.specs.declared.job.Job.{Job};
 ghost use Rattle.qolb_script.specs.declared.schedule.TheConstants.{MOST_COMMANDS};
 ghost use Rattle.qolb_model.specs.declared.terms.TheConstants.{MOST_NODES};
 ghost use Rattle.qolb_run.specs.Jobs.{jobs_of};
-ghost use Rattle.qolb_run.specs.Workers.{AreBack, AreFresh, HasEnded, MayBeGone};
+ghost use Rattle.qolb_run.specs.Workers.{AreBack, AreFresh, AreRefused, HasEnded, MayBeGone};
 
 use crate::gate::{Gate, passes};
 use crate::work::RunError;
@@ -63,7 +63,7 @@ where
 
     ghost fits = { λ jobs site place hand. S.has_done site (place + 1) hand [] × All (S.takes site) jobs.work.now.jobs };
 
-    ghost done = { λ jobs site place back. IfSome back (λ hand. HasEnded S.has_done S.was_told site (place + 1) hand (jobs_of (place + 1) jobs.work.now.jobs)) };
+    ghost done = { λ jobs site place back. MatchOption back (G.may_refuse jobs.gate.now (place + 1)) (λ hand. HasEnded S.has_done S.was_told site (place + 1) hand (jobs_of (place + 1) jobs.work.now.jobs)) };
 
     fn work(&self, rt: &R, site: &S, place: usize, hand: S::Hand) -> Option<S::Hand> {
         let number = place as u64 + 1;
@@ -86,6 +86,7 @@ where
     requires takes { All (S.takes site.now) work.now.jobs }
     ensures as_many { IfSome result (λ back. vec_len back ≡ vec_len hands) }
     ensures back { IfSome result (λ back. AreBack (HasEnded S.has_done S.was_told) site.now work.now.jobs back.items) }
+    ensures refused { IfSome result (λ back. AreRefused (G.may_refuse gate.now) back.items) }
 {
     let jobs = Jobs { gate, work };
     together::together(rt, alloc, &jobs, site, hands)
@@ -105,7 +106,7 @@ where
     S::Hand: Drop,
     requires fresh { S.has_done site.now number hand [] }
     requires takes { All (S.takes site.now) work.now.jobs }
-    ensures { IfSome result (λ hand. HasEnded S.has_done S.was_told site.now number hand (jobs_of number work.now.jobs)) }
+    ensures { MatchOption result (G.may_refuse gate.now number) (λ hand. HasEnded S.has_done S.was_told site.now number hand (jobs_of number work.now.jobs)) }
 {
     let mut hand = hand;
     let mut at = 0u64;

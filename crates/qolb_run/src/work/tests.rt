@@ -117,6 +117,8 @@ fn no_deposit_of_four_workers_is_lost(rt: HostRuntime) -> Result<(), Fail> {
 struct Closed;
 
 impl Gate for Closed {
+    ghost may_refuse = { λ gate worker. Unit {0} };
+
     fn may(&self, _worker: u64, _at: u64) -> bool {
         false
     }
@@ -144,6 +146,8 @@ struct Meeting {
 }
 
 impl Gate for Meeting {
+    ghost may_refuse = { λ gate worker. Unit {0} };
+
     fn may(&self, worker: u64, _at: u64) -> bool {
         let (mine, other) = if worker == 1 {
             (&self.first, &self.second)
@@ -256,6 +260,8 @@ impl Counting {
 }
 
 impl Gate for Counting {
+    ghost may_refuse = { λ gate worker. Unit {0} };
+
     fn begins(&self, jobs: usize) {
         self.begun.fetch_add(1, Ordering::SeqCst);
         self.jobs.store(jobs as u64, Ordering::SeqCst);
