@@ -1,3 +1,5 @@
+mod asleep;
+
 use super::*;
 use crate::gate::AlwaysOpen;
 use crate::report::report_work;

@@ -1,0 +1,158 @@
+//! Workers sleep that are to, and others do not, over lines that a holder keeps until somebody has waited so.
+use super::*;
+use line_threads::{HookedLine, Hooks};
+use qolb_model::Keep;
+use std::time::Duration;
+
+/// Waits until the count is no longer 0.
+fn wait_until_some(count: &AtomicU64) {
+    for _ in 0..u64::MAX {
+        if count.load(Ordering::SeqCst) > 0 {
+            return;
+        }
+        yield_now();
+    }
+}
+
+/// Nobody lets the line go before somebody has slept at it. So work at it does not end where two ask for it, and the waiter does not sleep.
+#[derive(Drop)]
+struct UntilSlept {
+    sleeps: AtomicU64,
+}
+
+impl Default for UntilSlept {
+    fn default() -> UntilSlept {
+        UntilSlept {
+            sleeps: AtomicU64::new(0),
+        }
+    }
+}
+
+impl Hooks for UntilSlept {
+    fn lets_go(&self) {
+        wait_until_some(&self.sleeps);
+    }
+
+    fn sleep<R: Wait, K: Keep, L: Sleeping<K>>(
+        &self,
+        rt: &R,
+        line: &L,
+        port: &L::Port,
+        at_most: Duration,
+    ) {
+        self.sleeps.fetch_add(1, Ordering::SeqCst);
+        line.sleep(rt, port, at_most)
+    }
+}
+
+/// Nobody lets the line go before somebody has looked for it in vain, and a sleep at it does not end. So work at it does not end where two
+/// ask for it, and the waiter sleeps.
+#[derive(Drop)]
+struct UntilLooked {
+    looks: AtomicU64,
+}
+
+impl Default for UntilLooked {
+    fn default() -> UntilLooked {
+        UntilLooked {
+            looks: AtomicU64::new(0),
+        }
+    }
+}
+
+impl Hooks for UntilLooked {
+    fn looked_in_vain<K: Keep, L: Sleeping<K>>(&self, _line: &L, _port: &L::Port) {
+        self.looks.fetch_add(1, Ordering::SeqCst);
+    }
+
+    fn lets_go(&self) {
+        wait_until_some(&self.looks);
+    }
+
+    fn sleep<R: Wait, K: Keep, L: Sleeping<K>>(
+        &self,
+        _rt: &R,
+        _line: &L,
+        _port: &L::Port,
+        _at_most: Duration,
+    ) {
+        for _ in 0..u64::MAX {
+            yield_now();
+        }
+    }
+}
+
+/// The work over lines with these hooks.
+fn work_hooked<
+    R: Threads + Wait + Sync,
+    H: Hooks + Default + Sync + Drop,
+    B: OpenLine<BoardLaw> + Sleeping<BoardLaw> + Sync + Drop,
+    A: OpenLine<AccountLaw> + Sleeping<AccountLaw> + Sync + Drop,
+>(rt: &R, alloc: Global, work: &Work, waits: Waits) -> Result<Report, RunError>
+where
+    B::Port: Send + Drop,
+    A::Port: Send + Drop,
+{
+    run_work_over::<R, AlwaysOpen, HookedLine<H, B>, HookedLine<H, A>>(
+        rt,
+        alloc,
+        &AlwaysOpen,
+        work,
+        waits,
+    )
+}
+
+/// Two workers of a board, and two of a bank, do a job each over lines of each kind with these hooks.
+fn expect_hooked<R: Threads + Wait + Abort + Sync, H: Hooks + Default + Sync + Drop>(
+    rt: &R,
+    alloc: Global,
+    waits: Waits,
+) -> Result<(), Fail> {
+    let board = Report::Board {
+        stored: 2,
+        full: 0,
+        taken: 0,
+        empty: 0,
+        left: 2,
+    };
+    let bank = Report::Bank {
+        paid_in: 2,
+        paid_out: 0,
+        total: 2,
+    };
+    for (kind, script, report) in [
+        (
+            WorkKind::Board,
+            "board workers 2\n1 put 5\n2 put 6\n",
+            board,
+        ),
+        (
+            WorkKind::Bank,
+            "bank workers 2 lines 1\n1 in 0 1\n2 in 0 1\n",
+            bank,
+        ),
+    ] {
+        let work = read_work(alloc, script.as_bytes(), kind)?;
+        for lines in ALL {
+            let found = over_named!(
+                lines,
+                work_hooked,
+                [R, H],
+                [BoardLaw, AccountLaw],
+                (rt, alloc, &work, waits)
+            );
+            assert_eq!(rt; found, Ok(report), "by {lines:?}");
+        }
+    }
+    Ok(())
+}
+
+#[test]
+fn workers_sleep_that_are_to(rt: HostRuntime) -> Result<(), Fail> {
+    expect_hooked::<HostRuntime, UntilSlept>(&rt, rt.alloc(), Waits::Asleep)
+}
+
+#[test]
+fn workers_stay_awake_that_are_to(rt: HostRuntime) -> Result<(), Fail> {
+    expect_hooked::<HostRuntime, UntilLooked>(&rt, rt.alloc(), Waits::Awake)
+}
