@@ -37,6 +37,7 @@ where
     lines::a_release_passes_all_other_nodes_of_200::<R, L>(rt, alloc, steps.many)?;
     lines::finish_wants_a_quiet_port_of_each_node::<R, L>(rt, alloc)?;
     lines::finish_wants_no_other_port::<R, L>(rt, alloc)?;
+    lines::each_allocation_of_opening_is_refused::<R, L>(rt, alloc)?;
     lines::each_growth_of_finish_is_refused::<R, L>(rt, alloc)?;
     lines::four_nodes_are_served_in_order::<R, L>(rt, alloc)?;
     lines::a_line_is_handed_over_with_its_bytes::<R, L>(rt, alloc)?;
@@ -59,12 +60,4 @@ fn a_list_answers_each_call(rt: HostRuntime) -> Result<(), Fail> {
 fn a_ticket_line_answers_each_call(rt: HostRuntime) -> Result<(), Fail> {
     let steps = Steps { few: 5, many: 399 };
     each_call::<_, TicketLine<Free>>(&rt, rt.alloc(), &steps)
-}
-
-/// To be run with each allocation failing in turn, by `rt try --test --fail-alloc 1`, `2` and so on.
-#[test]
-fn opening_and_finishing_answer_want_of_memory(rt: HostRuntime) -> Result<(), Fail> {
-    lines::want_of_memory_is_answered::<_, RingLine<Free>>(&rt, rt.alloc())?;
-    lines::want_of_memory_is_answered::<_, TicketLine<Free>>(&rt, rt.alloc())?;
-    lines::want_of_memory_is_answered::<_, LinkLine<Free>>(&rt, rt.alloc())
 }

@@ -49,6 +49,7 @@ where
     desks::a_late_transfer_moves_nothing::<R, L>(rt, alloc)?;
     desks::the_lower_line_is_asked_for_first::<R, L>(rt, alloc, 0, 9)?;
     desks::the_lower_line_is_asked_for_first::<R, L>(rt, alloc, 9, 0)?;
+    desks::settling_is_refused_for_want_of_memory::<R, L>(rt, alloc)?;
     desks::what_was_paid_in_is_settled::<R, L>(rt, alloc)
 }
 
@@ -107,12 +108,4 @@ fn desks_over_ticket_lines(rt: HostRuntime) -> Result<(), Fail> {
 #[test]
 fn counts_over_ticket_lines(rt: HostRuntime) -> Result<(), Fail> {
     each_count::<_, TicketLine<Free>>(&rt, rt.alloc())
-}
-
-/// To be run with each allocation failing in turn, by `rt try --test --fail-alloc 1`, `2` and so on.
-#[test]
-fn want_of_memory_is_answered(rt: HostRuntime) -> Result<(), Fail> {
-    desks::want_of_memory_is_answered::<_, RingLine<AccountLaw>>(&rt, rt.alloc())?;
-    desks::want_of_memory_is_answered::<_, TicketLine<AccountLaw>>(&rt, rt.alloc())?;
-    desks::want_of_memory_is_answered::<_, LinkLine<AccountLaw>>(&rt, rt.alloc())
 }

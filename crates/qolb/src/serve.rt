@@ -189,4 +189,6 @@ pub fn fail<E: Write>(err: &mut E, error: TaskError) -> u8
 #[cfg(test)]
 mod hostile;
 #[cfg(test)]
+mod scarce;
+#[cfg(test)]
 mod tests;

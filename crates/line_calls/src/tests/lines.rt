@@ -1,6 +1,7 @@
 //! What each line answers, called by one thread, node by node.
 
 use crate::row::{Counted, Row};
+use hoard::{GRAIN, Siege};
 use line_lanes::{Line64, Mask, changed, lane, placed, with_lane};
 use line_rows::handing::hand_over;
 use line_rows::opened::{open_zeros, with_two};
@@ -343,8 +344,9 @@ where
     Ok(())
 }
 
-/// To be run with each allocation failing in turn, by `rt try --test --fail-alloc 1`, `2` and so on.
-pub(super) fn want_of_memory_is_answered<R: Abort, L: Counted + Drop>(
+/// In a room that grows by the grain of the heap a line is refused for want of memory, until all that it takes is there; each of its
+/// allocations is refused on the way.
+pub(super) fn each_allocation_of_opening_is_refused<R: Abort, L: Counted + Drop>(
     rt: &R,
     alloc: Global,
 ) -> Result<(), Fail>
@@ -352,26 +354,28 @@ where
     L::Port: Drop,
 {
     let terms = Terms {
-        nodes: 200,
+        nodes: 4,
         opening: Line64::from_bytes([3; 64]),
         lease: None,
     };
-    let row = match Row::<L>::open(alloc, 7, terms) {
-        Ok(row) => row,
-        Err(why) => {
-            assert_eq!(rt; why, OpenError::Memory);
-            return Ok(());
+    let siege = Siege::begin(alloc, 1 << 20)?;
+    let mut refused = 0u32;
+    for grains in 2..20_000usize {
+        let rest = siege.leave(alloc, GRAIN * grains)?;
+        let opened = Row::<L>::open(alloc, 7, terms);
+        drop(rest);
+        match opened {
+            Ok(row) => {
+                let line = row.finish(alloc).ok().ok_or("finished")?;
+                assert_eq!(rt; line.to_bytes(), [3; 64]);
+                assert!(rt; refused > 0);
+                return Ok(());
+            }
+            Err(why) => assert_eq!(rt; why, OpenError::Memory, "at {grains}"),
         }
-    };
-    let line = match row.finish(alloc) {
-        Ok(line) => line,
-        Err((why, row)) => {
-            assert_eq!(rt; why, FinishError::Memory);
-            row.finish(alloc).ok().ok_or("nothing was handed back")?
-        }
-    };
-    assert_eq!(rt; line.to_bytes(), [3; 64]);
-    Ok(())
+        refused = refused.saturating_add(1);
+    }
+    Err(Fail::from("no room was large enough"))
 }
 
 /// What a function over any line hands from one node to another.

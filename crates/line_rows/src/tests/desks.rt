@@ -8,6 +8,7 @@ use crate::desks::{
 };
 use crate::opened::{open_zeros, with_last, with_two};
 use crate::transfers::{ACCOUNTS, PAID_IN, transfer_at_random};
+use hoard::{GRAIN, Siege};
 use line_accounts::{AccountLaw, Reply, SettleError};
 use qolb_model::{Enq, OpenLine};
 use std::alloc::Global;
@@ -287,32 +288,42 @@ where
     Ok(())
 }
 
-/// Two lines for one node. Where memory is there, the total is settled; where it is refused to `settle`, nothing comes back. To be run with each
-/// allocation failing in turn, by `rt try --test --fail-alloc 1`, `2` and so on.
-pub(super) fn want_of_memory_is_answered<R: Abort, L: OpenLine<AccountLaw> + Drop>(
+/// Two lines for one node. In a room that grows by the grain of the heap settling is refused for want of memory, with nothing handed back,
+/// until all that it takes is there.
+pub(super) fn settling_is_refused_for_want_of_memory<R: Abort, L: OpenLine<AccountLaw> + Drop>(
     rt: &R,
     alloc: Global,
 ) -> Result<(), Fail>
 where
     L::Port: Drop,
 {
-    let (Some((first, first_port)), Some((second, second_port))) = (
-        accounts::<L>(alloc, None),
-        accounts::<L>(alloc, None),
-    ) else {
-        return Ok(());
-    };
-    let Some((lines, mut desk)) = over_two(alloc, first, first_port, second, second_port) else {
-        return Ok(());
-    };
-    assert_eq!(rt; across(&lines, &mut desk), [Reply::Done, Reply::Done]);
-    match settle_with(alloc, lines, desk) {
-        Some(Ok(total)) => assert_eq!(rt; total, 10),
-        Some(Err(refused)) => {
-            assert_eq!(rt; refused.why, SettleError::Memory);
-            assert!(rt; refused.back.is_none());
+    let siege = Siege::begin(alloc, 1 << 20)?;
+    let mut refused = 0u32;
+    for grains in 2..4_000usize {
+        let (first, first_port) = accounts::<L>(alloc, None).ok_or("opened")?;
+        let (second, second_port) = accounts::<L>(alloc, None).ok_or("opened")?;
+        let (lines, mut desk) = over_two(alloc, first, first_port, second, second_port).ok_or(
+            "a desk",
+        )?;
+        let paid = across(&lines, &mut desk);
+        let rest = siege.leave(alloc, GRAIN * grains)?;
+        let settled = settle_with(alloc, lines, desk);
+        drop(rest);
+        assert_eq!(rt; paid, [Reply::Done, Reply::Done]);
+        match settled {
+            Some(Ok(total)) => {
+                assert_eq!(rt; total, 10);
+                assert!(rt; refused > 0);
+                return Ok(());
+            }
+            Some(Err(back)) => {
+                assert_eq!(rt; back.why, SettleError::Memory);
+                assert!(rt; back.back.is_none());
+                refused = refused.saturating_add(1);
+            }
+            // The list of desks itself was refused.
+            None => {}
         }
-        None => {}
     }
-    Ok(())
+    Err(Fail::from("no room was large enough"))
 }

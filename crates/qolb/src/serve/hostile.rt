@@ -23,14 +23,17 @@ const BANK: &str = "bank workers 1 lines 2\n1 in 0 10\n1 move 0 9 4\n1 out 9 9\n
 const BANK_REPORT: &str = "in 10\nout 1\ntotal 9\n";
 
 /// The words of each subcommand, a script, and what is written.
-const RUNS: [(&[&str], &str, &str); 8] = [
+pub(super) const RUNS: [(&[&str], &str, &str); 11] = [
     (&["replay", "--kind", "plain"], HAND_OVER, HANDED_OVER),
     (&["replay", "--kind", "ring"], HAND_OVER, HANDED_OVER),
     (&["replay", "--kind", "link"], HAND_OVER, HANDED_OVER),
+    (&["replay", "--kind", "ticket"], HAND_OVER, HANDED_OVER),
     (&["steps"], LATE_LINK, LINKED),
     (&["board", "--kind", "ring"], BOARD, BOARD_REPORT),
+    (&["board", "--kind", "ticket"], BOARD, BOARD_REPORT),
     (&["board"], BOARD, BOARD_REPORT),
     (&["bank", "--kind", "ring"], BANK, BANK_REPORT),
+    (&["bank", "--kind", "ticket"], BANK, BANK_REPORT),
     (&["bank"], BANK, BANK_REPORT),
 ];
 
@@ -111,8 +114,8 @@ fn each_read_fails(rt: HostRuntime) -> Result<(), Fail> {
     for (words, script, reply) in RUNS {
         for part in PARTS {
             // The last read tells that nothing is left.
-            let reads = script.len().div_ceil(part) + 1;
-            for good in 0..reads + 1 {
+            let reads = script.len().div_ceil(part).saturating_add(1);
+            for good in 0..reads.saturating_add(1) {
                 let mut reader = FailingReader {
                     rest: script.as_bytes(),
                     part,
@@ -147,7 +150,7 @@ fn each_write_fails(rt: HostRuntime) -> Result<(), Fail> {
     for (words, script, reply) in RUNS {
         for (part, fails) in [(1, true), (1, false), (7, true), (4096, false)] {
             let mut served = false;
-            for good in 0..reply.len() + 1 {
+            for good in 0..reply.len().saturating_add(1) {
                 let mut writer = FailingWriter {
                     taken: Vec::new(rt.alloc()),
                     part,
@@ -213,7 +216,7 @@ fn a_script_that_was_cut_off(rt: HostRuntime) -> Result<(), Fail> {
     ];
     for (script, want, text, fault) in rows {
         assert!(rt; HAND_OVER.starts_with(script));
-        for kind in ["plain", "ring", "link"] {
+        for kind in ["plain", "ring", "link", "ticket"] {
             let mut reader = script.as_bytes();
             let mut out: Vec<u8> = Vec::new(rt.alloc());
             let (status, err) = run(

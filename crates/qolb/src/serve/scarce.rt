@@ -1,0 +1,78 @@
+//! The program in a room of memory that grows.
+use super::hostile::RUNS;
+use super::*;
+use hoard::Siege;
+use std::process::Abort;
+use std::test::Fail;
+
+/// Rooms in which threads find no place for their stacks, and rooms in which they do, in bytes: the first, the one that none comes up to,
+/// and how much a room is larger than the one before.
+const ROOMS: [(usize, usize, usize); 2] = [(64, 1 << 18, 64), (1 << 20, 1 << 26, 1 << 20)];
+
+/// The script is answered in a room of so many bytes: whether it was. Else it was refused for want of memory, with nothing written.
+fn is_answered<T: Threads + Wait + Clock + Eprint + Sync + Abort>(
+    rt: &T,
+    alloc: Global,
+    siege: &Siege,
+    bytes: usize,
+    words: &[String],
+    script: &str,
+    reply: &str,
+) -> Result<bool, Fail> {
+    let mut reader = script.as_bytes();
+    let mut out: Vec<u8> = Vec::with_capacity(alloc, 1 << 10)?;
+    let mut err: Vec<u8> = Vec::with_capacity(alloc, 1 << 10)?;
+    let rest = siege.leave(alloc, bytes)?;
+    let status = serve(rt, alloc, words, &mut reader, &mut out, &mut err);
+    drop(rest);
+    let answered = status == 0;
+    let (want, text, complaint) = if answered {
+        (0, reply, "")
+    } else {
+        (3, "", "out of memory\n")
+    };
+    assert_eq!(rt; status, want, "{words:?} in {bytes} bytes");
+    assert_eq!(rt;
+        out.as_slice(),
+        text.as_bytes(),
+        "{words:?} in {bytes} bytes"
+    );
+    assert_eq!(rt;
+        err.as_slice(),
+        complaint.as_bytes(),
+        "{words:?} in {bytes} bytes"
+    );
+    Ok(answered)
+}
+
+#[test]
+fn each_allocation_is_refused(rt: HostRuntime) -> Result<(), Fail> {
+    let alloc = rt.alloc();
+    let siege = Siege::begin(alloc, 1 << 28)?;
+    for (words, script, reply) in RUNS {
+        let mut all = vec![in alloc; "qolb".to_string(alloc)?]?;
+        for word in words {
+            all.push(word.to_string(alloc)?)?;
+        }
+        let mut refused = 0u32;
+        let mut answered = false;
+        for (first, end, step) in ROOMS {
+            for bytes in (first..end).step_by(step) {
+                if !answered {
+                    answered = is_answered(
+                        &rt,
+                        alloc,
+                        &siege,
+                        bytes,
+                        all.as_slice(),
+                        script,
+                        reply,
+                    )?;
+                    refused = refused.saturating_add(1);
+                }
+            }
+        }
+        assert!(rt; answered && refused > 100, "{words:?}");
+    }
+    Ok(())
+}
