@@ -162,8 +162,8 @@ fn wait_asleep<R: Wait, K: Keep, L: Sleeping<K>>(rt: &R, line: &L, port: &mut L:
 /// As `acquire_asleep`, and no longer than so much time: then the request is withdrawn. A port whose last request is not clear asks again
 /// and again within that time.
 ///
-/// It looks at least once, and gives up only after a look. Where the turn has come by then, it is granted after all. A clock that can't be
-/// read counts as time that is over.
+/// Once it has asked, it looks at least once, and gives up only after a look. Where the turn has come by then, it is granted after all. A
+/// clock that can't be read counts as time that is over.
 pub fn acquire_within<R: Wait + Clock, K: Keep, L: Sleeping<K>>(
     rt: &R,
     line: &L,

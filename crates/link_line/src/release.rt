@@ -63,12 +63,12 @@ pub(crate) fn release<K: Keep>(
         Handed::On => Released {
             state: left_by(closed),
             steps,
-            to_wake: ToWake { word: granted },
+            to_wake: ToWake::at(granted),
         },
         Handed::Left => Released {
             state: PortState::Left,
             steps,
-            to_wake: ToWake { word: granted },
+            to_wake: ToWake::at(granted),
         },
         Handed::Passed(first) => {
             let mut last = HOME;
@@ -76,7 +76,7 @@ pub(crate) fn release<K: Keep>(
             Released {
                 state: left_by(closed),
                 steps,
-                to_wake: ToWake { word: last },
+                to_wake: ToWake::at(last),
             }
         }
     }

@@ -99,9 +99,7 @@ impl<K: Keep> Discipline<K> for Ring {
         Released {
             state: left_by(closed),
             steps: gone.steps,
-            to_wake: ToWake {
-                word: cell_word(gone.cell),
-            },
+            to_wake: ToWake::at(cell_word(gone.cell)),
         }
     }
 

@@ -18,7 +18,7 @@ mod sync;
 
 pub use line::{Line, Width};
 pub use port::Port;
-pub use queue::{Asked, Discipline, Linked, Released, Requested, Ruled, Shape, ToWake};
+pub use queue::{Asked, Discipline, Linked, Released, Requested, Ruled, Shape};
 pub use rule::{Entry, Ground, LineSeat, Parcel, Rule, Setup};
-pub use sleeping::{NoSleepers, Sleepers, Waking};
+pub use sleeping::{NoSleepers, Sleepers, ToWake, Waking};
 pub use slot::{put_alone, take_alone, unlay_alone};

@@ -28,6 +28,7 @@ ghost use Rattle.shared_line.specs.Entries.{Contents, newcomers, AllRest, views_
 ghost use Rattle.shared_line.specs.Steps.{Alone, entry_of, SameSeat, IsSeatOf, IsOwnNode, HasNoSlot, HasLine, Rests, GoesOn, IsEarly, IsUnlinked, IsGivenUp, Comes, Carries, own_end, met, parked};
 
 use crate::rule::{Ground, LineSeat, Parcel};
+use crate::sleeping::ToWake;
 use atomic_table::Closed;
 use qolb_model::{Keep, PortState};
 use std::alloc::{AllocError, Global};
@@ -56,13 +57,6 @@ pub struct Released {
     pub state: PortState,
     pub steps: u64,
     pub to_wake: ToWake,
-}
-
-/// The word at which the one waits to whom a line went, and may sleep. Any word where it went to nobody.
-///
-/// It is not `Drop`, so that no call that lets a line go can forget to wake: only what takes it apart is rid of it.
-pub struct ToWake {
-    pub word: usize,
 }
 
 /// How the nodes of a queue stand, whatever the law of the line.

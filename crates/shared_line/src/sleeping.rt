@@ -4,13 +4,30 @@ ghost use Rattle.shared_line.specs.Ports.{BelongsTo};
 
 use crate::line::Line;
 use crate::port::Port;
-use crate::queue::{Discipline, ToWake};
+use crate::queue::Discipline;
 use crate::rule::Ground;
 use crossbeam_utils::CachePadded;
 use qolb_model::{Keep, PortState};
 use std::sync::Wait;
 use std::sync::atomic::{AtomicU64, Ordering};
 use std::time::Duration;
+
+/// The word at which the one waits to whom a line went, and may sleep. Any word where it went to nobody.
+///
+/// It is not `Drop`, and this module alone can take it apart. So whatever lets a line go has to wake: it gets rid of it in no other way.
+pub struct ToWake {
+    word: usize,
+}
+
+impl ToWake {
+    /// Whoever sleeps at this word.
+    #[inline(always)]
+    pub fn at(word: usize) -> ToWake
+        ensures { result.word ≡ word }
+    {
+        ToWake { word }
+    }
+}
 
 /// Who wakes the waiters of a line that sleep, if any may.
 pub trait Waking: Drop {
@@ -78,8 +95,8 @@ impl<K: Keep, Q: Discipline<K>> Line<K, Q> {
 
     /// Sleeps until the request's turn may have come, or so much time is over. It may also return for no reason.
     ///
-    /// It counts itself before it looks, and a release looks at the count after its grant. So either this finds the grant, or the release
-    /// finds a sleeper; and as the sleep begins only where the word is what was seen, a wake between look and sleep is not slept over.
+    /// It is counted before its sleep begins, and a release looks at the count after its grant. So either the sleep finds the grant, or the
+    /// release finds a sleeper; and as the sleep begins only where the word is what was seen, a wake between look and sleep is not slept over.
     pub fn sleep<R: Wait>(&self, rt: &R, port: &Port<Q>, at_most: Duration)
         requires belongs { BelongsTo K.good K.allows self.now.table.shared.key self.now.table.shared.table_id port.now }
         requires state { port.now.view.state ≡ PortState.Queued }

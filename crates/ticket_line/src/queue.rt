@@ -98,9 +98,7 @@ impl<K: Keep> Discipline<K> for Ticket {
         Released {
             state: left_by(closed),
             steps: gone.steps,
-            to_wake: ToWake {
-                word: cell_word(gone.ticket),
-            },
+            to_wake: ToWake::at(cell_word(gone.ticket)),
         }
     }
 

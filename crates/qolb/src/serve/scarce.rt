@@ -5,9 +5,13 @@ use hoard::Siege;
 use std::process::Abort;
 use std::test::Fail;
 
-/// Rooms in which threads find no place for their stacks, and rooms in which they do, in bytes: the first, the one that none comes up to,
-/// and how much a room is larger than the one before.
-const ROOMS: [(usize, usize, usize); 2] = [(64, 1 << 18, 64), (1 << 20, 1 << 26, 1 << 20)];
+/// Rooms, in bytes: the first, the one that none comes up to, and how much a room is larger than the one before. In the last of them threads
+/// find a place for their stacks.
+const ROOMS: [(usize, usize, usize); 3] = [
+    (1 << 6, 1 << 16, 1 << 6),
+    (1 << 16, 1 << 18, 1 << 10),
+    (1 << 20, 1 << 26, 1 << 20),
+];
 
 /// The script is answered in a room of so many bytes: whether it was. Else it was refused for want of memory, with nothing written.
 fn is_answered<T: Threads + Wait + Clock + Eprint + Sync + Abort>(
