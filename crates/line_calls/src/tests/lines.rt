@@ -201,6 +201,8 @@ where
     }
     assert_eq!(rt; row.release(1), Some(true));
     assert_eq!(rt; row.steps(1), Some(steps));
+    let line = row.finish(alloc).ok().ok_or("200 ports do not finish")?;
+    assert_eq!(rt; line.to_bytes(), [0; 64]);
     Ok(())
 }
 
