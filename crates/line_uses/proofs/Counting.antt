@@ -1,5 +1,5 @@
 -- Counting: a round, what is so before the first one, and the number at last.
-use Rattle.std.proofs.Common.{◌≡◌, ℕ, suc, ◌+◌, ◌-◌, ◌*◌, ◌%◌, ◌^◌, ◌<◌, inl, inr, true, false, List, [], ◌∷◌, length, map, Some, None, option_map, slice_get, get_or, IsTrue, ap, sym, subst, ◌∙◌, arith}
+use Rattle.std.proofs.Common.{◌≡◌, ◌≢◌, ℕ, suc, ◌+◌, ◌-◌, ◌*◌, ◌%◌, ◌^◌, ◌<◌, inl, inr, true, false, refl, List, [], ◌∷◌, length, map, Some, None, option_map, slice_get, get_or, IsTrue, ap, sym, subst, ◌∙◌, arith}
 use Rattle.std.specs.List.{sum_by}
 use Rattle.std.proofs.lemmas.List.Sums.{sum_by-cons}
 use Rattle.std.proofs.lemmas.Option.{slice_get_within, slice_get-get_or, slice_get-map, get_or_from_slice_get}
@@ -21,7 +21,7 @@ use Rattle.qolb_model.specs.PortStates.{may_ask, left_by}
 use Rattle.qolb_model.specs.Views.{bytes_of}
 use Rattle.qolb_model.specs.OneHistory.{OneHistory, IsAmong}
 use Rattle.qolb_model.specs.Sound.{KnowsOwnPast, Continues}
-use Rattle.qolb_model.specs.Asking.{Asks}
+use Rattle.qolb_model.specs.Asking.{IsBusy, Asks}
 use Rattle.qolb_model.specs.Turns.{IsGranted}
 use Rattle.qolb_model.specs.LettingGo.{IsTold}
 use Rattle.qolb_model.specs.Finishing.{IsFinished}
@@ -31,9 +31,12 @@ use Rattle.qolb_model.specs.Sums.{sum_of_all, sum_of_own, KnowsOwnPlaces, HasNot
 use Rattle.qolb_model.proofs.Lists.{same_some}
 use Rattle.qolb_model.proofs.Agreeing.{among_map_port}
 use Rattle.qolb_model.proofs.Sums.{sums_of_ports, sum-each}
-use Rattle.qolb_model.proofs.OwnTurns.{quiet_after, may_ask-left_by, places_same, places_asked, sums_kept, unshut_kept, granted_beyond, told_beyond, more_turns, unshut_released, unused_places, unused_sum, unused_unshut}
+use Rattle.qolb_model.proofs.OwnTurns.{quiet_after, may_ask-left_by, places_same, places_asked, NoneServedBeyond, sums_kept, unshut_kept, granted_beyond, withdrawn_beyond, told_beyond, busy_beyond, more_turns, unshut_released, unused_places, unused_sum, unused_unshut}
 use Rattle.qolb_model.proofs.Unshut.{untold}
-use Rattle.line_uses.specs.Counter.{rise, added_by, Adds, HasAdded}
+use Rattle.line_threads.specs.declared.asleep.Within.{Within}
+use Rattle.line_threads.specs.declared.asleep.Within.TheVariants as within
+use Rattle.line_threads.specs.Acquiring.{IsLate, AcquiresWithin}
+use Rattle.line_uses.specs.Counter.{rise, added_by, Adds, AddsJust, HasAdded}
 
 -- one more, modulo 2^64, is a rise by 1
 one_more : (x y : ℕ) → y ≡ (x + 1) % 2 ^ 64 → (y + (2 ^ 64 - x % 2 ^ 64)) % 2 ^ 64 ≡ 1
@@ -70,6 +73,28 @@ module _ (allows : List ℕ → List ℕ → Type 0) (old mid : View) (quiet : m
 
     pub told_added : added_by mid ≡ added_by old
     told_added = sums_kept old mid c.extends c.history quiet past (told_beyond old mid c.extends c.history asks places told) rise
+
+-- a port that asked in vain, or not at all, within its time
+module _ (allows : List ℕ → List ℕ → Type 0) (old new : View) (quiet : may_ask old.state ≡ true) (past : KnowsOwnPast old) (places : KnowsOwnPlaces old) where
+  none_added : Continues allows old new → KnowsOwnPlaces new → NoneServedBeyond old new → AddsJust 0 old new
+  none_added c known beyond = record {
+    places = known;
+    unshut = unshut_kept old new c.extends c.history quiet past beyond;
+    added = let kept = sums_kept old new c.extends c.history quiet past beyond rise in omega (arith, kept);
+  }
+
+  late_adds_nothing : Continues allows old new → IsLate old new → AddsJust 0 old new
+  late_adds_nothing c (inl (asks, joined, withdrawn)) =
+      none_added c (places_asked old new c.extends c.history asks places) (withdrawn_beyond old new c.extends c.history asks places withdrawn)
+  late_adds_nothing c (inr busy) =
+      none_added c (places_same old new c.extends c.history busy.count places) (busy_beyond old new c.extends c.history places busy)
+
+  pub ungranted_adds_nothing : (turn : Write) (got : Within) → AcquiresWithin allows old new turn got → got ≢ within.Granted → AddsJust 0 old new
+  ungranted_adds_nothing turn within.Granted a other = absurd (other refl)
+  ungranted_adds_nothing turn within.Late a other = late_adds_nothing a.continues (a.late refl)
+  ungranted_adds_nothing turn within.Closed a other =
+      let asks = a.asks (λ e. cc e) in
+      none_added a.continues (places_asked old new a.continues.extends a.continues.history asks places) (told_beyond old new a.continues.extends a.continues.history asks places (a.told refl))
 
 -- the first lane after all ends, modulo 2^64
 lane_step : (b n s l : ℕ) → l % 2 ^ 64 ≡ (n + s) % 2 ^ 64 → l % 2 ^ 64 ≡ (b + ((n + (2 ^ 64 - b % 2 ^ 64)) % 2 ^ 64 + s)) % 2 ^ 64

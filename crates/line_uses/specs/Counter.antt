@@ -23,6 +23,12 @@ pub record Adds (rounds : ℕ) (old new : View) : Type 0 where
   pub added : added_by new ≡ added_by old + turns
   pub all : (turns ≡ rounds) ⊎ IsTold new
 
+-- the port's turns since then have added just this much, and have not shut the line
+pub record AddsJust (many : ℕ) (old new : View) : Type 0 where
+  pub places : KnowsOwnPlaces new
+  pub unshut : HasNotShut old → HasNotShut new
+  pub added : added_by new ≡ added_by old + many
+
 -- all turns of the port have added this much, and have not shut the line; or it is told that the line is closed
 pub record HasAdded (rounds : ℕ) (v : View) : Type 0 where
   pub places : KnowsOwnPlaces v

@@ -1,6 +1,7 @@
 //! The uses, over all lines.
 mod again;
 mod asleep;
+mod counted;
 mod noted;
 mod parked;
 mod passing;

@@ -3,7 +3,9 @@ ghost use Rattle.std.specs.Prelude.{◌≡◌, ◌≢◌, IsTrue};
 ghost use Rattle.qolb_model.specs.PortStates.{may_ask};
 ghost use Rattle.qolb_model.specs.Asking.{Asks};
 ghost use Rattle.qolb_model.specs.LettingGo.{IsTold};
+ghost use Rattle.qolb_model.specs.Sums.{KnowsOwnPlaces};
 ghost use Rattle.line_threads.specs.Acquiring.{IsLate};
+ghost use Rattle.line_uses.specs.Counter.{AddsJust};
 
 use crate::counter::add_one;
 use line_threads::{Within, acquire_within};
@@ -26,6 +28,8 @@ pub fn add_within<R: Wait + Clock, L: Sleeping<Free>>(
     ensures asks { result ≢ Within.Late → Asks (L.view port.old) (L.view port.new) }
     ensures told { result ≡ Within.Closed → IsTold (L.view port.new) }
     ensures late { result ≡ Within.Late → IsLate (L.view port.old) (L.view port.new) }
+    ensures adds { result ≡ Within.Granted → KnowsOwnPlaces (L.view port.old) → AddsJust 1 (L.view port.old) (L.view port.new) }
+    ensures adds_nothing { result ≢ Within.Granted → KnowsOwnPlaces (L.view port.old) → AddsJust 0 (L.view port.old) (L.view port.new) }
 {
     let got = acquire_within(rt, line, port, at_most);
     if let Within::Granted = got {

@@ -5,7 +5,7 @@ ghost use Rattle.qolb_model.specs.PortStates.{may_ask};
 use crate::timed::add_within;
 use line_lanes::Line64;
 use line_threads::together::{Work, together};
-use line_threads::{Got, Within, acquire, acquire_asleep, acquire_within};
+use line_threads::{Got, Within, acquire, acquire_asleep};
 use link_line::LinkLine;
 use qolb_model::{Enq, Free, OpenLine, Sleeping, Terms};
 use ring_line::RingLine;
@@ -81,7 +81,7 @@ where
             Again::Awake => acquire(rt, line, &mut port) == Got::Granted,
             Again::Asleep => acquire_asleep(rt, line, &mut port) == Got::Granted,
             Again::Within(at_most) => {
-                acquire_within(rt, line, &mut port, at_most) == Within::Granted
+                add_within(rt, line, &mut port, at_most) == Within::Granted
             }
         }
     }

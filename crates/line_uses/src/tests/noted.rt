@@ -20,12 +20,14 @@ use std::thread::Threads;
 use std::time::Duration;
 use ticket_line::TicketLine;
 
-/// What is noted of the sleeps at a line: how many there were, and how many nanoseconds the last and the longest were to take at most.
+/// What is noted at a line: how many sleeps there were, how many nanoseconds the last and the longest were to take at most, and how often a
+/// holder let go.
 #[derive(Drop)]
 struct Notes {
     sleeps: AtomicU64,
     last: AtomicU64,
     longest: AtomicU64,
+    let_go: AtomicU64,
 }
 
 impl Notes {
@@ -34,6 +36,7 @@ impl Notes {
             sleeps: AtomicU64::new(0),
             last: AtomicU64::new(0),
             longest: AtomicU64::new(0),
+            let_go: AtomicU64::new(0),
         }
     }
 
@@ -55,12 +58,20 @@ impl Notes {
     fn longest(&self) -> u64 {
         self.longest.load(Ordering::SeqCst)
     }
+
+    fn let_go(&self) -> u64 {
+        self.let_go.load(Ordering::SeqCst)
+    }
 }
 
-/// The line that it was made of, but that a sleep is noted, and over at once.
+/// The line that it was made of, but that it is noted when a holder lets go, and that a sleep is noted and over at once.
 type NotedLine<'n, L> = HookedLine<&'n Notes, L>;
 
 impl Hooks for &Notes {
+    fn lets_go(&self) {
+        self.let_go.fetch_add(1, Ordering::SeqCst);
+    }
+
     fn sleep<R: Wait, K: Keep, L: Sleeping<K>>(
         &self,
         _rt: &R,
@@ -157,8 +168,9 @@ where
     Some((got, clock.readings.load(Ordering::SeqCst)))
 }
 
-/// A wait begins at the first reading, 0 milliseconds, reads the clock between its looks, and is late where it reads the limit. No sleep is
-/// to take longer than what is left.
+/// A wait begins at the first reading, 0 milliseconds, reads the clock between its looks, and is late where it reads the limit. After 72 of
+/// its 199 looks it stays awake, 64 times for a moment and 8 times while others have the processor; after each other one it sleeps. No sleep
+/// is to take longer than what is left.
 fn a_wait_keeps_to_its_time<R: Wait + Abort, L: OpenLine<Free> + Sleeping<Free> + Drop>(
     rt: &R,
     alloc: Global,
@@ -169,9 +181,9 @@ where
     let notes = Notes::none();
     let found = wait_by::<R, L>(rt, alloc, &notes, true, 200);
     assert_eq!(rt; found, Some((Within::Late, 201)));
-    assert!(rt; notes.sleeps() > 0);
+    assert_eq!(rt; notes.sleeps(), 127);
     assert_eq!(rt; notes.last(), 1_000_000);
-    assert_eq!(rt; notes.longest(), notes.sleeps().saturating_mul(1_000_000));
+    assert_eq!(rt; notes.longest(), 127_000_000);
 }
 
 /// With no time, or by a clock that can't be read, it is late without a sleep.
@@ -229,6 +241,39 @@ where
     assert_eq!(rt; look_asleep::<R, L>(rt, alloc, &notes), Some(true));
     assert_eq!(rt; notes.sleeps(), 2);
     assert_eq!(rt; notes.last(), u64::MAX);
+}
+
+/// Node 1 lets the line go, and node 2 shuts it. How often it was noted after the one and after the other.
+fn let_go_and_shut<L: OpenLine<Free> + Sleeping<Free> + Drop>(
+    alloc: Global,
+    notes: &Notes,
+) -> Option<(u64, u64)>
+where
+    L::Port: Drop,
+{
+    let (line, mut one, mut two) = open_noted::<L>(alloc, notes)?;
+    let Enq::Granted = line.enqolb(&mut one) else {
+        return None;
+    };
+    line.deqolb(&mut one);
+    let after_one = notes.let_go();
+    let Enq::Granted = line.enqolb(&mut two) else {
+        return None;
+    };
+    line.shut(&mut two);
+    Some((after_one, notes.let_go()))
+}
+
+/// A line with hooks tells them once of each holder that lets go, also of one that shuts the line.
+fn each_holder_that_lets_go_is_noted<R: Abort, L: OpenLine<Free> + Sleeping<Free> + Drop>(
+    rt: &R,
+    alloc: Global,
+)
+where
+    L::Port: Drop,
+{
+    let notes = Notes::none();
+    assert_eq!(rt; let_go_and_shut::<L>(alloc, &notes), Some((1, 2)));
 }
 
 /// Node 1 has the line until node 2, which waits for it, was to sleep.
@@ -315,6 +360,7 @@ where
     no_time_is_over_at_once::<R, L>(rt, alloc);
     each_look_in_vain_sleeps_once::<R, L>(rt, alloc);
     a_long_wait_sleeps::<R, L>(rt, alloc);
+    each_holder_that_lets_go_is_noted::<R, L>(rt, alloc);
 }
 
 #[test]

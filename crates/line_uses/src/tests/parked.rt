@@ -1,7 +1,10 @@
 //! How long a sleep takes, over all lines, by the system's clock.
-ghost use Rattle.std.specs.Prelude.{◌≡◌};
+ghost use Rattle.std.specs.Prelude.{◌≡◌, IfSome, IsTrue};
+ghost use Rattle.qolb_model.specs.PortStates.{may_ask};
 
+use crate::counter::add;
 use line_lanes::Line64;
+use line_threads::{HookedLine, Hooks};
 use link_line::LinkLine;
 use qolb_model::{Enq, Free, OpenLine, PortState, Sleeping, Terms};
 use ring_line::RingLine;
@@ -12,6 +15,21 @@ use std::sync::Wait;
 use std::test::Fail;
 use std::time::{Duration, Instant};
 use ticket_line::TicketLine;
+
+/// How many turns there were at the line before anybody sleeps at it.
+const TURNS_BEFORE: u64 = 300;
+
+/// Nothing is done beside the calls.
+#[derive(Drop)]
+struct NoHooks;
+
+impl Default for NoHooks {
+    fn default() -> NoHooks {
+        NoHooks
+    }
+}
+
+impl Hooks for NoHooks {}
 
 /// How long sleeps took: the shortest and the longest of ten while the turn did not come, and one when it had come.
 #[derive(Clone, Copy, Debug)]
@@ -36,7 +54,29 @@ fn sleep_for<R: Wait + Clock, L: Sleeping<Free>>(
     begin.elapsed(rt).ok()
 }
 
-/// Node 2 sleeps ten times for so long while node 1 has a new line, and once for a thousand times as long when that has let go.
+/// A new line of three nodes, and its ports.
+fn open_three<L: OpenLine<Free> + Drop>(alloc: Global) -> Option<(L, L::Port, L::Port, L::Port)>
+where
+    L::Port: Drop,
+    ensures one { IfSome result (λ r. L.belongs r.0 r.1 × IsTrue (may_ask (L.view r.1).state)) }
+    ensures two { IfSome result (λ r. L.belongs r.0 r.2 × IsTrue (may_ask (L.view r.2).state)) }
+    ensures three { IfSome result (λ r. L.belongs r.0 r.3 × IsTrue (may_ask (L.view r.3).state)) }
+{
+    let terms = Terms {
+        nodes: 3,
+        opening: Line64::zero(),
+        lease: None,
+    };
+    let (line, ports) = L::open_with(alloc, 1, terms).ok()?;
+    let mut ports = ports;
+    let three = ports.pop()?;
+    let two = ports.pop()?;
+    let one = ports.pop()?;
+    Some((line, one, two, three))
+}
+
+/// Node 2 sleeps ten times for so long while node 1 has the line and node 3 waits behind it, and once for a thousand times as long when
+/// node 1 has let go.
 fn sleep_behind_another<R: Wait + Clock, L: OpenLine<Free> + Sleeping<Free> + Drop>(
     rt: &R,
     alloc: Global,
@@ -45,19 +85,15 @@ fn sleep_behind_another<R: Wait + Clock, L: OpenLine<Free> + Sleeping<Free> + Dr
 where
     L::Port: Drop,
 {
-    let terms = Terms {
-        nodes: 2,
-        opening: Line64::zero(),
-        lease: None,
-    };
-    let (line, ports) = L::open_with(alloc, 1, terms).ok()?;
-    let mut ports = ports;
-    let mut two = ports.pop()?;
-    let mut one = ports.pop()?;
+    let (line, mut one, mut two, mut three) = open_three::<L>(alloc)?;
+    add(rt, &line, &mut one, TURNS_BEFORE);
     let Enq::Granted = line.enqolb(&mut one) else {
         return None;
     };
     let Enq::Queued = line.enqolb(&mut two) else {
+        return None;
+    };
+    let Enq::Queued = line.enqolb(&mut three) else {
         return None;
     };
     let mut shortest = Duration::MAX;
@@ -84,14 +120,16 @@ fn a_sleep_lasts_as_long_as_it_may<
 where
     L::Port: Drop,
 {
-    let at_most = Duration::from_millis(20);
-    let took = sleep_behind_another::<R, L>(rt, alloc, at_most);
-    let held = took.is_some_and(|took| {
-        took.longest >= at_most
-            && took.shortest < at_most.saturating_mul(2)
-            && took.after < at_most.saturating_mul(500)
-    });
-    assert!(rt; held, "{took:?}");
+    for millis in [4, 20] {
+        let at_most = Duration::from_millis(millis);
+        let took = sleep_behind_another::<R, L>(rt, alloc, at_most);
+        let held = took.is_some_and(|took| {
+            took.longest >= at_most
+                && took.shortest < at_most.saturating_mul(2)
+                && took.after < at_most.saturating_mul(500)
+        });
+        assert!(rt; held, "{millis} ms: {took:?}");
+    }
 }
 
 #[test]
@@ -99,5 +137,6 @@ fn sleeps_last_as_long_as_they_may(rt: HostRuntime) -> Result<(), Fail> {
     a_sleep_lasts_as_long_as_it_may::<_, RingLine<Free>>(&rt, rt.alloc());
     a_sleep_lasts_as_long_as_it_may::<_, TicketLine<Free>>(&rt, rt.alloc());
     a_sleep_lasts_as_long_as_it_may::<_, LinkLine<Free>>(&rt, rt.alloc());
+    a_sleep_lasts_as_long_as_it_may::<_, HookedLine<NoHooks, LinkLine<Free>>>(&rt, rt.alloc());
     Ok(())
 }

@@ -1,0 +1,117 @@
+//! Whoever sleeps is counted, over all lines, and no longer than that.
+ghost use Rattle.std.specs.Prelude.{IsTrue};
+ghost use Rattle.qolb_model.specs.PortStates.{may_ask};
+
+use crate::tests::again::wait_until_some;
+use line_lanes::Line64;
+use line_threads::together::{Work, together};
+use line_threads::{Got, acquire_asleep};
+use link_line::LinkLine;
+use qolb_model::{Enq, Free, OpenLine, Sleeping, Terms};
+use ring_line::RingLine;
+use shared_line::{Discipline, Line};
+use std::alloc::Global;
+use std::process::Abort;
+use std::sync::Wait;
+use std::sync::atomic::{AtomicU64, Ordering};
+use std::test::Fail;
+use std::thread::{Threads, yield_now};
+use ticket_line::TicketLine;
+
+/// A line that counts its sleepers.
+trait Counting: OpenLine<Free> + Sleeping<Free> {
+    /// How many waiters sleep, or are about to.
+    fn sleepers(&self) -> u64;
+}
+
+impl<Q: Discipline<Free>> Counting for Line<Free, Q> {
+    fn sleepers(&self) -> u64 {
+        Line::<Free, Q>::sleepers(self)
+    }
+}
+
+/// Waits until one sleeper is counted.
+fn wait_for_a_sleeper<R: Wait, L: Counting>(rt: &R, line: &L) {
+    for _ in rt.forever() {
+        if line.sleepers() == 1 {
+            return;
+        }
+        yield_now();
+    }
+}
+
+/// Node 1 has the line until node 2, which waits for it, is counted as a sleeper.
+#[derive(Drop)]
+struct Counted {
+    held: AtomicU64,
+}
+
+impl<R: Wait, L: Counting> Work<R, L, L::Port> for Counted
+where
+    L::Port: Drop,
+{
+    type Back = bool;
+
+    ghost fits = { λ _ line _ port. L.belongs line port × IsTrue (may_ask (L.view port).state) };
+
+    ghost done = { λ _ _ _ _. Unit {0} };
+
+    fn work(&self, rt: &R, line: &L, place: usize, port: L::Port) -> bool {
+        let mut port = port;
+        if place == 0 {
+            let Enq::Granted = line.enqolb(&mut port) else {
+                return false;
+            };
+            self.held.store(1, Ordering::SeqCst);
+            wait_for_a_sleeper(rt, line);
+            line.deqolb(&mut port);
+            true
+        } else {
+            wait_until_some(rt, &self.held);
+            acquire_asleep(rt, line, &mut port) == Got::Granted
+        }
+    }
+}
+
+/// Whether each of two nodes of a new line had it, the first until the second was counted; and how many are counted when both are done.
+fn count_a_sleeper<R: Threads + Wait + Sync, L: Counting + Sync + Drop>(
+    rt: &R,
+    alloc: Global,
+) -> Option<([bool; 2], u64)>
+where
+    L::Port: Send + Drop,
+{
+    let terms = Terms {
+        nodes: 2,
+        opening: Line64::zero(),
+        lease: None,
+    };
+    let counted = Counted {
+        held: AtomicU64::new(0),
+    };
+    let (line, ports) = L::open_with(alloc, 1, terms).ok()?;
+    let had = together(rt, alloc, &counted, &line, ports)?;
+    match *had.as_slice() {
+        [one, two] => Some(([one, two], line.sleepers())),
+        _ => None,
+    }
+}
+
+/// A sleeper is counted while it sleeps, and then no more.
+fn a_sleeper_is_counted<R: Threads + Wait + Abort + Sync, L: Counting + Sync + Drop>(
+    rt: &R,
+    alloc: Global,
+)
+where
+    L::Port: Send + Drop,
+{
+    assert_eq!(rt; count_a_sleeper::<R, L>(rt, alloc), Some(([true, true], 0)));
+}
+
+#[test]
+fn sleepers_are_counted(rt: HostRuntime) -> Result<(), Fail> {
+    a_sleeper_is_counted::<_, RingLine<Free>>(&rt, rt.alloc());
+    a_sleeper_is_counted::<_, TicketLine<Free>>(&rt, rt.alloc());
+    a_sleeper_is_counted::<_, LinkLine<Free>>(&rt, rt.alloc());
+    Ok(())
+}
