@@ -40,6 +40,15 @@ pub record IsWorkReply (kind : WorkKind) (input text : List ℕ) : Type 0 where
   pub of_work : IsReportOf work report
   pub text_is : text ≡ report_text report
 
+-- the same, and the work was done so
+pub record IsReplyOver (IsOver : WorkScript → Report → Type 0) (kind : WorkKind) (input text : List ℕ) : Type 0 where
+  pub work : WorkScript
+  pub is : IsWork kind input work
+  pub report : Report
+  pub of_work : IsReportOf work report
+  pub over : IsOver work report
+  pub text_is : text ≡ report_text report
+
 -- the text is the reply to the bytes, and the first fault in them is this one, as what the task takes
 abbrev pub Answers : Task → List ℕ → List ℕ → Type 0
 Answers (Replay kind) input text = IsReply input text

@@ -68,3 +68,6 @@ impl<R: Clock + Eprint> Gate for Progress<'_, R> {
         true
     }
 }
+
+#[cfg(test)]
+mod tests;

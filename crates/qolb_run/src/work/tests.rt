@@ -33,6 +33,12 @@ fn expect<R: Threads + Wait + Abort + Sync, G: Gate + Sync>(
 }
 
 #[test]
+fn all_locks_are_these(rt: HostRuntime) -> Result<(), Fail> {
+    assert_eq!(rt; ALL, [Lines::Ring, Lines::Link, Lines::Ticket]);
+    Ok(())
+}
+
+#[test]
 fn one_worker_at_a_board(rt: HostRuntime) -> Result<(), Fail> {
     let script = "board workers 1\n1 put 5\n1 put 9\n1 take\n1 take\n1 take\n";
     let report = Report::Board {

@@ -102,36 +102,78 @@ where
     )
 }
 
-/// Two workers of a board, and two of a bank, do a job each over lines of each kind with these hooks.
-fn expect_hooked<R: Threads + Wait + Abort + Sync, H: Hooks + Default + Sync + Drop>(
-    rt: &R,
-    alloc: Global,
-    waits: Waits,
-) -> Result<(), Fail> {
-    let board = Report::Board {
+/// A job of each kind for each of two workers or three, and its report. At each line two ask at least.
+fn jobs_of_each_kind() -> [(WorkKind, &'static str, Report); 7] {
+    let two_stored = Report::Board {
         stored: 2,
         full: 0,
         taken: 0,
         empty: 0,
         left: 2,
     };
-    let bank = Report::Bank {
+    let nothing_taken = Report::Board {
+        stored: 0,
+        full: 0,
+        taken: 0,
+        empty: 2,
+        left: 0,
+    };
+    let two_paid = Report::Bank {
         paid_in: 2,
         paid_out: 0,
         total: 2,
     };
-    for (kind, script, report) in [
+    let nothing_paid = Report::Bank {
+        paid_in: 0,
+        paid_out: 0,
+        total: 0,
+    };
+    [
         (
             WorkKind::Board,
             "board workers 2\n1 put 5\n2 put 6\n",
-            board,
+            two_stored,
+        ),
+        (
+            WorkKind::Board,
+            "board workers 2\n1 take\n2 take\n",
+            nothing_taken,
         ),
         (
             WorkKind::Bank,
             "bank workers 2 lines 1\n1 in 0 1\n2 in 0 1\n",
-            bank,
+            two_paid,
         ),
-    ] {
+        (
+            WorkKind::Bank,
+            "bank workers 2 lines 1\n1 out 0 1\n2 out 0 1\n",
+            nothing_paid,
+        ),
+        (
+            WorkKind::Bank,
+            "bank workers 2 lines 1\n1 move 0 1 1\n2 move 0 1 1\n",
+            nothing_paid,
+        ),
+        (
+            WorkKind::Bank,
+            "bank workers 3 lines 2\n1 move 0 8 1\n2 out 0 1\n3 out 8 1\n",
+            nothing_paid,
+        ),
+        (
+            WorkKind::Bank,
+            "bank workers 3 lines 2\n1 move 8 0 1\n2 out 0 1\n3 out 8 1\n",
+            nothing_paid,
+        ),
+    ]
+}
+
+/// Workers do a job of each kind over lines of each kind with these hooks.
+fn expect_hooked<R: Threads + Wait + Abort + Sync, H: Hooks + Default + Sync + Drop>(
+    rt: &R,
+    alloc: Global,
+    waits: Waits,
+) -> Result<(), Fail> {
+    for (kind, script, report) in jobs_of_each_kind() {
         let work = read_work(alloc, script.as_bytes(), kind)?;
         for lines in ALL {
             let found = over_named!(
@@ -141,7 +183,7 @@ fn expect_hooked<R: Threads + Wait + Abort + Sync, H: Hooks + Default + Sync + D
                 [BoardLaw, AccountLaw],
                 (rt, alloc, &work, waits)
             );
-            assert_eq!(rt; found, Ok(report), "by {lines:?}");
+            assert_eq!(rt; found, Ok(report), "{script} by {lines:?}");
         }
     }
     Ok(())
