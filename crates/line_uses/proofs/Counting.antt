@@ -21,7 +21,7 @@ use Rattle.qolb_model.specs.PortStates.{may_ask, left_by}
 use Rattle.qolb_model.specs.Views.{bytes_of}
 use Rattle.qolb_model.specs.OneHistory.{OneHistory, IsAmong}
 use Rattle.qolb_model.specs.Sound.{KnowsOwnPast, Continues}
-use Rattle.qolb_model.specs.Asking.{IsBusy, Asks}
+use Rattle.qolb_model.specs.Asking.{Asks}
 use Rattle.qolb_model.specs.Turns.{IsGranted}
 use Rattle.qolb_model.specs.LettingGo.{IsTold}
 use Rattle.qolb_model.specs.Finishing.{IsFinished}

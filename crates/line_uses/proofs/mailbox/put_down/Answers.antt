@@ -1,5 +1,4 @@
-use Rattle.std.proofs.Common.{rules, sym, subst, ap, ◌≡◌, ◌∙◌, true}
-use Rattle.qolb_model.specs.declared.answer.PortState.TheVariants.{Holding}
+use Rattle.std.proofs.Common.{rules, sym, subst, ap, ◌∙◌}
 use Rattle.qolb_model.specs.Turns.{IsGranted}
 use Rattle.line_uses.proofs.Counting.{released_quiet}
 use Rattle.line_uses.proofs.mailbox.put_down.Goals as goal

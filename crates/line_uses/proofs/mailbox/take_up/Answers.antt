@@ -1,4 +1,4 @@
-use Rattle.std.proofs.Common.{rules, ap, inr, ◌≡◌, ◌∙◌}
+use Rattle.std.proofs.Common.{rules, ap, inr, ◌∙◌}
 use Rattle.qolb_model.specs.Turns.{IsGranted}
 use Rattle.line_uses.proofs.mailbox.take_up.Goals as goal
 
