@@ -1,18 +1,17 @@
 -- The port of a line with one node: what it knows of the line is all that became of it.
-use Rattle.std.proofs.Common.{◌≡◌, ◌⊎◌, inl, inr, ℕ, zero, suc, ◌+◌, ◌-◌, ◌<◌, ◌≤◌, ◌==◌, Bool, true, false, cond, List, [], ◌∷◌, ◌++◌, length, take, drop, Some, slice_get, refl, ap, sym, ◌∙◌, subst, arith}
+use Rattle.std.proofs.Common.{◌≡◌, inl, inr, ℕ, suc, ◌+◌, ◌-◌, ◌<◌, ◌≤◌, ◌==◌, Bool, true, false, cond, List, [], ◌∷◌, ◌++◌, length, take, Some, slice_get, refl, ap, sym, ◌∙◌, subst, arith}
 use Rattle.std.proofs.lemmas.Bool.{eq-eqb, cases_lt}
 use Rattle.std.proofs.lemmas.List.{length-take, take_all}
 use Rattle.std.proofs.lemmas.List.Sums.{sum_by-cons}
 use Rattle.std.proofs.lemmas.Option.{slice_get_within}
 use Rattle.std.proofs.Math.Seq.{take-append-add}
-use Rattle.line_lanes.specs.Line.{zeros}
 use Rattle.qolb_model.specs.declared.request.Request.{Request}
 use Rattle.qolb_model.specs.declared.end.End.{End}
 use Rattle.qolb_model.specs.declared.end.End.TheVariants.{Served, Gone, Told}
 use Rattle.qolb_model.specs.declared.terms.Terms.{Terms}
 use Rattle.qolb_model.specs.declared.view.View.{View}
 use Rattle.qolb_model.specs.Requests.{count_of}
-use Rattle.qolb_model.specs.Ends.{written, bytes_after}
+use Rattle.qolb_model.specs.Ends.{bytes_after}
 use Rattle.qolb_model.specs.EndKinds.{is_served, is_gone}
 use Rattle.qolb_model.specs.Views.{own, bytes_of}
 use Rattle.qolb_model.specs.OneHistory.{Knows, OneHistory}
@@ -20,7 +19,7 @@ use Rattle.qolb_model.specs.Kept.{IsKept}
 use Rattle.qolb_model.specs.Sound.{KnowsOwnPast, Continues}
 use Rattle.qolb_model.specs.Asking.{IsBusy, Asks}
 use Rattle.qolb_model.specs.Turns.{IsWithdrawn}
-use Rattle.qolb_model.proofs.Lists.{never, same_some, element_at, slice_get-take}
+use Rattle.qolb_model.proofs.Lists.{never, element_at, slice_get-take}
 use Rattle.qolb_model.proofs.Prefixes.{prefix_get, prefix_length}
 use Rattle.qolb_model.proofs.Histories.{same_place_legal, bytes_after-append}
 use Rattle.qolb_model.proofs.Agreed.{length-bytes_after}
@@ -28,9 +27,7 @@ use Rattle.qolb_model.proofs.Agreeing.{among_first}
 use Rattle.qolb_model.proofs.Writes.{good_after}
 use Rattle.line_accounts.specs.Accounts.{AreBalances, StayBalances, balances_after}
 use Rattle.line_accounts.specs.Desks.{IsAtRest}
-use Rattle.line_accounts.specs.Moves.{TakesTurn, AsksInVain, IsRefused}
-use Rattle.line_accounts.specs.declared.answer.Reply.{Reply}
-use Rattle.line_accounts.specs.declared.answer.Reply.TheVariants.{Late, Busy}
+use Rattle.line_accounts.specs.Moves.{TakesTurn}
 use Rattle.qolb_model.proofs.Sums.{slice_get-append_right}
 use Rattle.qolb_run.specs.JustOpened.{work_terms}
 use Rattle.qolb_run.proofs.Banking.{no_money}

@@ -1,5 +1,5 @@
 -- A board's call, and the turn that its port had in it.
-use Rattle.std.proofs.Common.{◌≡◌, ℕ, zero, suc, ◌+◌, ◌<◌, ◌≤◌, ◌⊎◌, inl, inr, Bool, true, false, if◌then◌else◌, List, [], ◌∷◌, ◌++◌, length, take, drop, replicate, None, Some, slice_get, refl, ap, sym, subst, ◌∙◌, arith, append-nil, append_assoc, length-append}
+use Rattle.std.proofs.Common.{◌≡◌, ℕ, zero, suc, ◌+◌, ◌<◌, ◌≤◌, ◌⊎◌, inl, inr, Bool, true, false, if◌then◌else◌, List, [], ◌∷◌, ◌++◌, length, take, drop, replicate, None, Some, slice_get, refl, ap, sym, subst, ◌∙◌, arith, append-nil, length-append}
 use Rattle.std.proofs.lemmas.Bool.{eq-eqb, cases_lt}
 use Rattle.std.proofs.lemmas.List.{length-take-le, take-append-drop, take-append-le}
 use Rattle.std.proofs.lemmas.Option.{slice_get_within}
@@ -35,9 +35,8 @@ use Rattle.line_board.specs.declared.answer.Take.TheVariants as take
 use Rattle.line_board.specs.Law.{Changes}
 use Rattle.line_board.specs.declared.board.TheConstants.{MOST_TASKS}
 use Rattle.line_board.specs.Board.{Stand}
-use Rattle.line_board.specs.PutsAndTakes.{standing}
 use Rattle.qolb_model.specs.Patience.{IsUnserved}
-use Rattle.line_board.specs.Calls.{HadTurn, HasFound, Puts, Takes}
+use Rattle.line_board.specs.Calls.{HadTurn, Puts, Takes}
 use Rattle.line_board.proofs.Boards.{laid-stand}
 use Rattle.line_board.proofs.Steps.{standing-stand}
 use Rattle.qolb_run.specs.BoardWork.{Turn, turn_between, node_turns, turns_of, HasTurns, HasStored, FoundFull, HasTakenOne, FoundNone}

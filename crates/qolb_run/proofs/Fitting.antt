@@ -1,6 +1,5 @@
 -- A bank whose payments in and moves together fit one balance: no payment in is over.
-use Rattle.std.proofs.Common.{◌≡◌, ◌≢◌, ◌⊎◌, inl, inr, ℕ, zero, ◌+◌, ◌<◌, ◌≤◌, ◌^◌, true, List, [], ◌∷◌, ◌++◌, length, map, take, All, Some, None, slice_get, refl, ap, sym, ◌∙◌, subst, arith, length-append}
-use Rattle.std.specs.List.{sum_by}
+use Rattle.std.proofs.Common.{◌≡◌, ◌⊎◌, inl, inr, ℕ, ◌+◌, ◌<◌, ◌≤◌, ◌^◌, true, List, [], ◌∷◌, ◌++◌, length, map, take, All, Some, slice_get, refl, ap, sym, ◌∙◌, subst, arith, length-append}
 use Rattle.std.proofs.lemmas.Bool.{cases_lt}
 use Rattle.std.proofs.lemmas.List.{take-append-le}
 use Rattle.std.proofs.lemmas.List.Sums.{sum_by_push, sum_by-le-sum_by}
@@ -27,15 +26,15 @@ use Rattle.qolb_script.specs.declared.job.Job.{Job}
 use Rattle.qolb_script.specs.declared.job.Job.TheVariants.{Put, Take, PayIn, PayOut, Move}
 use Rattle.qolb_script.specs.Jobs.{worker_of}
 use Rattle.qolb_run.specs.Jobs.{jobs_of}
-use Rattle.qolb_run.specs.JustOpened.{IsJustOpened, work_terms}
+use Rattle.qolb_run.specs.JustOpened.{work_terms}
 use Rattle.qolb_run.specs.Workers.{AreDone}
 use Rattle.qolb_run.specs.BankRuns.{is_outcome, payment_in, amount_in, payments_in, amounts_in, paid_in_of}
 use Rattle.qolb_run.specs.BankWork.{Asks, Tries, Makes, nothing, another, HasBanked}
-use Rattle.qolb_run.proofs.Called.{AllGo, most_in, most_within}
+use Rattle.qolb_run.proofs.Called.{most_within}
 use Rattle.qolb_run.proofs.Banking.{IsHere, effect, in_vain, all_went}
 use Rattle.qolb_run.proofs.OneBanker.{none_true, outcome_known}
 use Rattle.qolb_run.proofs.Shares.{share_within, sum_of_all, sum_with_less}
-use Rattle.qolb_run.proofs.Unclosed.{places_known, view_at, line_at, terms_at}
+use Rattle.qolb_run.proofs.Unclosed.{places_known, view_at, terms_at}
 
 -- payments in are a part of all that is put in
 payment_within : (job : Job) → payment_in job ≤ amount_in job

@@ -1,5 +1,5 @@
 -- What is known over lines that stand inside others, as those at which workers sleep: the same over the lines inside. (Of this project.)
-use Rattle.std.proofs.Common.{◌≡◌, ℕ, zero, suc, ◌+◌, ◌<◌, List, [], ◌∷◌, All, Vec, map, length, get_or, option_map, slice_get, Option, Some, None, Result, Ok, Err, IfOk, sym, subst, ap, ◌∙◌, refl, arith}
+use Rattle.std.proofs.Common.{◌≡◌, ℕ, zero, suc, ◌+◌, ◌<◌, List, [], ◌∷◌, All, Vec, map, length, get_or, option_map, slice_get, Result, Ok, Err, IfOk, sym, subst, ap, ◌∙◌, refl, arith}
 use Rattle.std.specs.Global.{Global}
 use Rattle.std.proofs.lemmas.List.{length-map}
 use Rattle.std.proofs.lemmas.List.Elements.{All-map, All-weaker}

@@ -1,5 +1,5 @@
 -- All turns of a board's line, as one owner's jobs in turn.
-use Rattle.std.proofs.Common.{◌≡◌, ◌≢◌, ℕ, zero, suc, ◌+◌, ◌*◌, ◌<◌, ◌≤◌, ◌==◌, ◌&&◌, ◌⊎◌, inl, inr, Bool, true, false, cond, if◌then◌else◌, nat_lt, List, [], ◌∷◌, ◌++◌, length, drop, Some, None, slice_get, refl, ap, sym, ◌∙◌, subst, arith, zero-add, length-append}
+use Rattle.std.proofs.Common.{◌≡◌, ◌≢◌, ℕ, suc, ◌+◌, ◌*◌, ◌<◌, ◌≤◌, ◌==◌, ◌&&◌, inl, inr, Bool, true, false, cond, if◌then◌else◌, nat_lt, List, [], ◌∷◌, ◌++◌, length, drop, Some, slice_get, refl, ap, sym, ◌∙◌, subst, arith, zero-add, length-append}
 use Rattle.std.specs.List.{sum_by, count_by}
 use Rattle.std.proofs.lemmas.Bool.{eq-eqb, ne_eqb, cases_eq, lt-ltb, ltb-true, ltb-false}
 use Rattle.std.proofs.lemmas.List.Sums.{sum_by-cons}
@@ -9,7 +9,6 @@ use Rattle.qolb_model.specs.declared.end.End.{End}
 use Rattle.qolb_model.specs.declared.end.End.TheVariants.{Served, Gone, Told}
 use Rattle.qolb_model.specs.declared.view.View.{View}
 use Rattle.qolb_model.specs.Ends.{written, bytes_after}
-use Rattle.qolb_model.proofs.Lists.{same_some}
 use Rattle.qolb_model.proofs.Sums.{sum-plus, sum-zero, sum-each}
 use Rattle.line_board.specs.PutsAndTakes.{standing}
 use Rattle.qolb_script.specs.declared.job.Job.{Job}
@@ -17,7 +16,7 @@ use Rattle.qolb_script.specs.declared.job.Job.TheVariants.{Put, Take, PayIn, Pay
 use Rattle.qolb_script.specs.Jobs.{worker_of}
 use Rattle.qolb_run.specs.Jobs.{is_put, is_take, puts_in, takes_in, jobs_of}
 use Rattle.qolb_run.specs.declared.board.BoardCounts.{BoardCounts}
-use Rattle.qolb_run.specs.BoardRuns.{tasks_after, counts_after, BoardRun, after_job, after_jobs, no_counts}
+use Rattle.qolb_run.specs.BoardRuns.{counts_after, BoardRun, after_job, after_jobs, no_counts}
 use Rattle.qolb_run.specs.BoardWork.{Turn, turn_between, node_turns, Does, Did, stores, finds_full, takes, finds_none, counts_of}
 use Rattle.qolb_run.proofs.Turns.{node_turns-none}
 

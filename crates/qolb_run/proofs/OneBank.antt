@@ -1,5 +1,5 @@
 -- One worker alone at a bank: what it reports is what one owner does who does its jobs one after another.
-use Rattle.std.proofs.Common.{◌≡◌, ◌≢◌, ℕ, zero, suc, ◌+◌, ◌-◌, ◌*◌, ◌^◌, ◌<◌, ◌≤◌, ◌==◌, cond, List, [], ◌∷◌, ◌++◌, length, All, Some, None, slice_get, lit≤, refl, ap, sym, ◌∙◌, subst, arith, length-append}
+use Rattle.std.proofs.Common.{◌≡◌, ℕ, zero, suc, ◌+◌, ◌-◌, ◌*◌, ◌^◌, ◌<◌, ◌≤◌, List, [], ◌∷◌, ◌++◌, length, All, Some, slice_get, lit≤, refl, ap, sym, ◌∙◌, subst, arith, length-append}
 use Rattle.std.proofs.lemmas.List.Elements.{All-head, All-tail}
 use Rattle.std.proofs.lemmas.List.Sums.{sum_by-cons}
 use Rattle.std.proofs.lemmas.Option.{slice_get_within, get_or_from_slice_get}
@@ -22,7 +22,7 @@ use Rattle.qolb_script.specs.Jobs.{worker_of}
 use Rattle.qolb_script.specs.declared.report.Report.TheVariants.{Bank}
 use Rattle.qolb_script.specs.declared.schedule.TheConstants.{MOST_COMMANDS}
 use Rattle.qolb_run.specs.Jobs.{jobs_of}
-use Rattle.qolb_run.specs.JustOpened.{IsJustOpened, work_terms}
+use Rattle.qolb_run.specs.JustOpened.{work_terms}
 use Rattle.qolb_run.specs.Workers.{AreDone}
 use Rattle.qolb_run.specs.BankRuns.{paid_in_of, paid_out_of, BankRun, after_reply, after_job, after_jobs, empty_bank, report_of}
 use Rattle.qolb_run.specs.BankWork.{IsAmount, Makes, nothing, another, HasBanked}

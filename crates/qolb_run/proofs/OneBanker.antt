@@ -1,12 +1,10 @@
 -- One worker alone at a bank: its desk shows the balances of one owner's bank.
-use Rattle.std.proofs.Common.{◌≡◌, ◌≢◌, ◌⊎◌, inl, inr, ℕ, zero, suc, ◌+◌, ◌-◌, ◌*◌, ◌^◌, ◌<◌, ◌≤◌, ◌==◌, nat_lt, Bool, true, false, if◌then◌else◌, List, [], ◌∷◌, ◌++◌, length, All, Some, None, slice_get, slice_set, refl, ap, sym, ◌∙◌, subst, arith, length-append}
+use Rattle.std.proofs.Common.{◌≡◌, ◌≢◌, inl, inr, ℕ, ◌+◌, ◌-◌, ◌*◌, ◌^◌, ◌<◌, ◌≤◌, nat_lt, true, false, if◌then◌else◌, List, length, Some, slice_get, slice_set, refl, ap, sym, ◌∙◌, subst, arith}
 use Rattle.std.proofs.lemmas.Bool.{eq-eqb, ne_eqb, cases_eq, cases_lt, lt-ltb, le-ltb}
-use Rattle.std.proofs.lemmas.Option.{slice_get_within}
 use Rattle.line_lanes.specs.Lane.{lane_of, with_lane_of}
 use Rattle.line_lanes.proofs.LaneBytes.{lane-with_lane_same, lane-with_lane_other, length-with_lane}
 use Rattle.qolb_model.specs.declared.view.View.{View}
 use Rattle.qolb_model.specs.Views.{bytes_of}
-use Rattle.qolb_model.proofs.Lists.{same_some}
 use Rattle.line_accounts.specs.declared.law.TheConstants.{MOST_BALANCE}
 use Rattle.line_accounts.specs.declared.answer.Reply.{Reply}
 use Rattle.line_accounts.specs.declared.answer.Reply.TheVariants.{Done, Short, Over, Late, Closed, Busy, NoAccount, SameAccount}
@@ -14,15 +12,13 @@ use Rattle.line_accounts.specs.Accounts.{HasRoom, line_of, lane_in, raised, lowe
 use Rattle.line_accounts.specs.Desks.{DeskOf}
 use Rattle.line_accounts.specs.Moves.{TakesTurn, IsRefused, IsRefusedEither, PaysIn, PaysOut, MovesWithin, MovesAcross}
 use Rattle.line_accounts.specs.Calls.{AreTwo}
-use Rattle.line_accounts.proofs.Accounted.{slice_get-set_same, slice_get-set_other}
+use Rattle.line_accounts.proofs.Accounted.{slice_get-set_other}
 use Rattle.qolb_script.specs.declared.job.Job.{Job}
 use Rattle.qolb_script.specs.declared.job.Job.TheVariants.{Put, Take, PayIn, PayOut, Move}
-use Rattle.qolb_script.specs.declared.schedule.TheConstants.{MOST_COMMANDS}
-use Rattle.qolb_run.specs.BankRuns.{is_outcome, paid_in_of, paid_out_of, with_balance, outcome_at, balances_after, BankRun, after_reply, after_job, after_jobs}
-use Rattle.qolb_run.specs.BankWork.{IsAmount, is_again, Asks, Tries, not_yet, again, Makes, nothing, another}
+use Rattle.qolb_run.specs.BankRuns.{is_outcome, with_balance, outcome_at, balances_after}
+use Rattle.qolb_run.specs.BankWork.{IsAmount, is_again, Asks, Tries, not_yet, again}
 use Rattle.qolb_run.proofs.Alone.{IsAlone, long, good, alone_then, vain_late, vain_busy, turn_found, turn_left}
 use Rattle.qolb_run.proofs.Called.{each_set}
-use Rattle.qolb_run.proofs.Banking.{effect}
 
 -- the bytes of line i hold these balances
 abbrev pub Shows : (ℕ → ℕ) → List ℕ → ℕ → Type 0

@@ -1,5 +1,5 @@
 -- Why a line is not taken apart: with all ports there and at rest, for want of memory alone.
-use Rattle.std.proofs.Common.{◌≡◌, ℕ, zero, suc, true, false, List, refl, sym, ◌∙◌}
+use Rattle.std.proofs.Common.{◌≡◌, ℕ, zero, suc, List, refl}
 use Rattle.qolb_model.specs.declared.unfinished.FinishError.{FinishError}
 use Rattle.qolb_model.specs.declared.unfinished.FinishError.TheVariants.{Memory, Unquiet, Missing}
 use Rattle.qolb_model.specs.declared.view.View.{View}

@@ -1,6 +1,6 @@
 -- The counts of all hands at a board, and the report that they make.
 use Rattle.std.proofs.Common.{◌≡◌, ℕ, zero, suc, ◌+◌, ◌*◌, ◌<◌, ◌≤◌, ◌==◌, inl, inr, Bool, true, false, cond, List, [], ◌∷◌, length, map, take, All, Some, None, slice_get, get_or, refl, ap, sym, ◌∙◌, subst, arith, zero-add}
-use Rattle.std.specs.List.{sum_by, count_by, filter}
+use Rattle.std.specs.List.{sum_by, count_by}
 use Rattle.std.proofs.lemmas.Bool.{cases_lt, eqb-true, eq-eqb, ne_eqb}
 use Rattle.std.proofs.lemmas.List.{length-take-le}
 use Rattle.std.proofs.lemmas.List.Sums.{sum_by-le, sum_by-cons, count_by-le-length, length-filter}
@@ -13,7 +13,6 @@ use Rattle.qolb_model.specs.declared.terms.Terms.{Terms}
 use Rattle.qolb_model.specs.declared.terms.TheConstants.{MOST_NODES}
 use Rattle.qolb_model.specs.declared.view.View.{View}
 use Rattle.qolb_model.specs.Ends.{bytes_after}
-use Rattle.qolb_model.specs.OneHistory.{IsAmong}
 use Rattle.qolb_model.specs.Finishing.{IsFinished}
 use Rattle.qolb_model.proofs.Lists.{never, same_some}
 use Rattle.qolb_model.specs.Sums.{KnowsOwnPlaces, HasNotShut}
@@ -25,7 +24,6 @@ use Rattle.line_board.specs.Law.{Changes}
 use Rattle.line_board.specs.PutsAndTakes.{standing}
 use Rattle.line_board.proofs.Steps.{standing-stand}
 use Rattle.qolb_script.specs.declared.job.Job.{Job}
-use Rattle.qolb_script.specs.declared.report.Report.{Report}
 use Rattle.qolb_script.specs.declared.report.Report.TheVariants.{Board}
 use Rattle.qolb_script.specs.declared.schedule.TheConstants.{MOST_COMMANDS}
 use Rattle.qolb_script.specs.Jobs.{worker_of}
@@ -41,7 +39,7 @@ use Rattle.qolb_run.specs.BoardWork.{Turn, turns_of, node_turns, Did, HasWorked,
 use Rattle.qolb_run.proofs.Hands.{view_at, hand_at}
 use Rattle.qolb_run.proofs.Shares.{counts_of_all}
 use Rattle.qolb_run.proofs.Turns.{turns_whole, node_turns-unserved}
-use Rattle.qolb_run.proofs.Merging.{AreOwn, Merged, all_turns, plus, merge, did_long, did_puts, did_takes, kept_run, counts_whole, one_owner}
+use Rattle.qolb_run.proofs.Merging.{Merged, all_turns, plus, merge, did_long, did_puts, did_takes, kept_run, counts_whole, one_owner}
 
 -- the counts of the first so many hands are small
 module _ {Port : Type 0} (hands : List (BoardHand Port)) (i : ℕ) (all : BoardCounts) (few : length hands ≤ MOST_NODES) (small : All (λ hand. AreWithin MOST_COMMANDS hand.counts) hands) (lt : i < length hands) (sums : AreSums (take i hands) all) where

@@ -1,5 +1,5 @@
 -- The turns of a node, read off the ends of a board's line.
-use Rattle.std.proofs.Common.{◌≡◌, ◌≢◌, ℕ, zero, suc, ◌+◌, ◌<◌, ◌≤◌, ◌==◌, ◌⊎◌, inl, inr, Bool, true, false, if◌then◌else◌, List, [], ◌∷◌, ◌++◌, length, take, drop, replicate, Some, slice_get, refl, ap, sym, ◌∙◌, subst, arith, append-nil, append_assoc}
+use Rattle.std.proofs.Common.{◌≡◌, ℕ, zero, suc, ◌+◌, ◌<◌, ◌≤◌, ◌==◌, inl, inr, true, false, if◌then◌else◌, List, [], ◌∷◌, ◌++◌, length, take, drop, replicate, Some, slice_get, refl, ap, sym, ◌∙◌, arith, append-nil, append_assoc}
 use Rattle.std.proofs.lemmas.Bool.{ne_eqb, cases_lt}
 use Rattle.std.proofs.lemmas.Option.{slice_get_within}
 use mathlib.Core.List.{IsPrefix}
@@ -19,7 +19,7 @@ use Rattle.qolb_model.proofs.Agreeing.{among_first}
 use Rattle.qolb_model.specs.Sums.{KnowsOwnPlaces}
 use Rattle.line_accounts.specs.Desks.{IsAtRest}
 use Rattle.qolb_model.proofs.Sums.{slice_get-append_right, own_place}
-use Rattle.qolb_run.specs.BoardWork.{Turn, turn_between, node_turns, turns_of}
+use Rattle.qolb_run.specs.BoardWork.{turn_between, node_turns, turns_of}
 
 -- no request has ended: no turn
 pub node_turns-none : (node : ℕ) (bytes : List ℕ) (order : List Request) → node_turns node bytes order [] ≡ []

@@ -1,5 +1,5 @@
 -- No worker of a bank is told that a line is closed: none of them has shut any.
-use Rattle.std.proofs.Common.{◌≡◌, ℕ, ◌+◌, List, length, map, All, option_map, Some, None, slice_get, ap, sym, ◌∙◌, subst, arith}
+use Rattle.std.proofs.Common.{◌≡◌, ℕ, ◌+◌, List, map, All, option_map, Some, slice_get, ap, sym, ◌∙◌, subst, arith}
 use Rattle.std.proofs.lemmas.Option.{slice_get_within, slice_get-map, get_or_from_slice_get}
 use Rattle.qolb_model.specs.declared.terms.Terms.{Terms}
 use Rattle.qolb_model.specs.declared.view.View.{View}

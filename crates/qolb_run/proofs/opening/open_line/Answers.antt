@@ -1,6 +1,4 @@
-use Rattle.std.proofs.Common.{ℕ, None, ap, ◌∙◌}
-use Rattle.line_lanes.specs.declared.line.Line64.{Line64}
-use Rattle.qolb_model.specs.declared.terms.Terms.{Terms}
+use Rattle.std.proofs.Common.{None, ◌∙◌}
 use Rattle.qolb_run.proofs.Gathering.{just_opened}
 use Rattle.qolb_run.proofs.opening.open_line.Goals as goal
 

@@ -1,4 +1,4 @@
-use Rattle.std.proofs.Common.{ap, sym, ◌∙◌}
+use Rattle.std.proofs.Common.{sym, ◌∙◌}
 use Rattle.qolb_run.proofs.Reported.{board_banked, bank_boarded}
 use Rattle.qolb_run.proofs.work.run_work_over.Goals as goal
 
