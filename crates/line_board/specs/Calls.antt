@@ -1,20 +1,18 @@
 -- What each call of a board promises: one record a call, one field an answer. `old` and `new` are what the port knew before and after.
 -- (Of this project.)
-use Rattle.std.specs.Prelude.{◌≡◌, ◌≢◌, ℕ, ◌+◌, ◌<◌, true, false, List, [], ◌∷◌, ◌++◌, length, replicate, slice_get, Some}
+use Rattle.std.specs.Prelude.{◌≡◌, ◌≢◌, ℕ, ◌+◌, true, false, List, [], ◌∷◌, ◌++◌, length, replicate, slice_get, Some}
 use Rattle.line_lanes.specs.Mask.{changed_mask}
 use Rattle.qolb_model.specs.declared.write.Write.{Write}
 use Rattle.qolb_model.specs.declared.end.End.{End}
 use Rattle.qolb_model.specs.declared.end.End.TheVariants.{Served, Gone}
-use Rattle.qolb_model.specs.declared.request.Request.{Request}
 use Rattle.qolb_model.specs.declared.view.View.{View}
-use Rattle.qolb_model.specs.EndKinds.{is_served}
 use Rattle.qolb_model.specs.PortStates.{may_ask, left_by}
 use Rattle.qolb_model.specs.Leases.{closes}
 use Rattle.qolb_model.specs.Ends.{is_closed, bytes_after}
 use Rattle.qolb_model.specs.Views.{own, bytes_of}
 use Rattle.qolb_model.specs.Sound.{Continues}
 use Rattle.qolb_model.specs.Asking.{IsBusy, Asks, IsJoined}
-use Rattle.qolb_model.specs.Turns.{IsClearBefore, IsGranted, IsWithdrawn}
+use Rattle.qolb_model.specs.Turns.{IsClearBefore, IsWithdrawn}
 use Rattle.qolb_model.specs.LettingGo.{LetsGo, IsTold}
 use Rattle.qolb_model.specs.Patience.{IsUnserved}
 use Rattle.line_board.specs.declared.board.TheConstants.{MOST_TASKS}

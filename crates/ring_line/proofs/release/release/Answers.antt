@@ -1,4 +1,4 @@
-use Rattle.std.proofs.Common.{subst, ◌∙◌, length, arith}
+use Rattle.std.proofs.Common.{subst, ◌∙◌, arith}
 use Rattle.array_line.specs.Array.{ArrayEntry}
 use Rattle.array_line.specs.Steps.{entry_of, Ended}
 use Rattle.array_line.proofs.Turning.{goes_trans}
