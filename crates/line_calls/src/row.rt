@@ -1,13 +1,13 @@
 //! A line with ports, which is called by node.
-ghost use Rattle.std.specs.Prelude.{◌≡◌, All, IfErr};
+ghost use Rattle.std.specs.Prelude.{◌≡◌, All, IfErr, IsTrue};
+ghost use Rattle.qolb_model.specs.PortStates.{may_ask};
 
 use line_lanes::{Line64, Mask};
-use link_line::LinkLine;
 use qolb_model::{
     Enq, FinishError, Free, LineSync, OpenError, OpenLine, Out, Poll, PortState, Prep, Terms,
     Unfinished,
 };
-use shared_line::{Discipline, Line, Port};
+use shared_line::{Discipline, Line, Linked, Port};
 use std::alloc::{Allocator, Global};
 use std::marker::Model;
 
@@ -49,6 +49,31 @@ impl<Q: Discipline<Free>> Counted for Line<Free, Q> {
         ensures ports { IfErr result (λ back. back.ports.items ≡ ports.items) }
     {
         Line::<Free, Q>::finish(self, alloc, ports)
+    }
+}
+
+/// A line for which a node also asks by two calls.
+pub trait Halved: Counted {
+    /// The first half of asking.
+    fn prepend(&self, port: &mut Self::Port) -> Prep
+        requires belongs { Self.belongs self.now port.old }
+        requires state { IsTrue (may_ask (Self.view port.old).state) }
+        ensures belongs { Self.belongs self.now port.new };
+
+    /// The second half.
+    fn link(&self, port: &mut Self::Port) -> Enq
+        requires belongs { Self.belongs self.now port.old }
+        requires state { (Self.view port.old).state ≡ PortState.Linking }
+        ensures belongs { Self.belongs self.now port.new };
+}
+
+impl<Q: Linked<Free>> Halved for Line<Free, Q> {
+    fn prepend(&self, port: &mut Port<Q>) -> Prep {
+        Line::<Free, Q>::prepend(self, port)
+    }
+
+    fn link(&self, port: &mut Port<Q>) -> Enq {
+        Line::<Free, Q>::link(self, port)
     }
 }
 
@@ -274,11 +299,14 @@ where
     }
 }
 
-impl Row<LinkLine<Free>> {
+impl<L: Halved + Drop> Row<L>
+where
+    L::Port: Drop,
+{
     /// The first half of asking for the node, if its port may ask.
     pub fn prepend(&mut self, node: u64) -> Option<Prep> {
         let mut port = self.take(node)?;
-        let may_ask = LinkLine::<Free>::state(&port).may_ask();
+        let may_ask = L::state(&port).may_ask();
         let answer = if self.owns(&port) && may_ask {
             Some(self.line.prepend(&mut port))
         } else {
@@ -291,7 +319,7 @@ impl Row<LinkLine<Free>> {
     /// The second half, if its port is linking.
     pub fn link(&mut self, node: u64) -> Option<Enq> {
         let mut port = self.take(node)?;
-        let is_linking = LinkLine::<Free>::state(&port) == PortState::Linking;
+        let is_linking = L::state(&port) == PortState::Linking;
         let answer = if self.owns(&port) && is_linking {
             Some(self.line.link(&mut port))
         } else {

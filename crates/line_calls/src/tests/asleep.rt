@@ -42,20 +42,21 @@ where
     Some((after_its_time, line.sleepers()))
 }
 
+/// Neither time is it counted.
+fn a_waiter_that_has_slept_is_counted_no_more<R: Wait + Abort, L: Counted + Sleeping<Free> + Drop>(
+    rt: &R,
+    alloc: Global,
+)
+where
+    L::Port: Drop,
+{
+    assert_eq!(rt; counted_after_a_sleep::<R, L>(rt, alloc), Some((0, 0)));
+}
+
 #[test]
-fn a_waiter_that_has_slept_is_counted_no_more(rt: HostRuntime) -> Result<(), Fail> {
-    let alloc = rt.alloc();
-    assert_eq!(rt;
-        counted_after_a_sleep::<_, RingLine<Free>>(&rt, alloc),
-        Some((0, 0))
-    );
-    assert_eq!(rt;
-        counted_after_a_sleep::<_, TicketLine<Free>>(&rt, alloc),
-        Some((0, 0))
-    );
-    assert_eq!(rt;
-        counted_after_a_sleep::<_, LinkLine<Free>>(&rt, alloc),
-        Some((0, 0))
-    );
+fn waiters_that_have_slept_are_counted_no_more(rt: HostRuntime) -> Result<(), Fail> {
+    a_waiter_that_has_slept_is_counted_no_more::<_, RingLine<Free>>(&rt, rt.alloc());
+    a_waiter_that_has_slept_is_counted_no_more::<_, TicketLine<Free>>(&rt, rt.alloc());
+    a_waiter_that_has_slept_is_counted_no_more::<_, LinkLine<Free>>(&rt, rt.alloc());
     Ok(())
 }
