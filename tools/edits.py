@@ -142,7 +142,7 @@ def told(text):
 def by_log(path, only, names):
     """Says of each edit what the log of a run says of it."""
     bad = 0
-    for crate, edit, text in re.findall(r"^must-fail ([a-z0-9_]+)/(\S+)\.edit: (.*)$", pathlib.Path(path).read_text(), re.M):
+    for crate, edit, text in re.findall(r"^(?:rt: )?must-fail ([a-z0-9_]+)/(\S+)\.edit: (.*)$", pathlib.Path(path).read_text(), re.M):
         if only not in edit or (names and crate not in names):
             continue
         kind, goal = told(text)
