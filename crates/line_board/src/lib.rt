@@ -15,6 +15,3 @@ pub use board::{MOST_TASKS, Tasks, decode, encode};
 pub use law::BoardLaw;
 pub use putting::put;
 pub use taking::take;
-
-#[cfg(test)]
-mod tests;

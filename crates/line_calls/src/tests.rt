@@ -1,16 +1,19 @@
-//! Each call of each lock: what it answers is written once, over any line.
+//! Each call of each lock: what it answers is written once, over any line, and each lock is named once. It takes the prover some seconds to
+//! see that a lock is a line, wherever it is named.
 
 mod asleep;
+mod did;
 mod late;
 mod lines;
 mod named;
 
 use crate::row::Counted;
 use link_line::LinkLine;
-use qolb_model::Free;
+use qolb_model::{Free, Sleeping};
 use ring_line::RingLine;
 use std::alloc::Global;
 use std::process::Abort;
+use std::sync::Wait;
 use std::test::Fail;
 use ticket_line::TicketLine;
 
@@ -22,10 +25,15 @@ struct Steps {
 }
 
 /// Each call, over lines of this type.
-fn each_call<R: Abort, L: Counted + Drop>(rt: &R, alloc: Global, steps: &Steps) -> Result<(), Fail>
+fn each_call<R: Wait + Abort, L: Counted + Sleeping<Free> + Drop>(
+    rt: &R,
+    alloc: Global,
+    steps: &Steps,
+) -> Result<(), Fail>
 where
     L::Port: Drop,
 {
+    asleep::a_waiter_that_has_slept_is_counted_no_more::<R, L>(rt, alloc);
     lines::lines_have_nodes_and_turns::<R, L>(rt, alloc);
     lines::a_release_passes_those_who_withdrew::<R, L>(rt, alloc, steps.few)?;
     lines::a_node_asks_again_once_it_was_passed::<R, L>(rt, alloc)?;

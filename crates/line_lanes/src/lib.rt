@@ -11,6 +11,3 @@ pub use compare::{agrees, changed};
 pub use lanes::{add_lanes, lane, lane_sum, with_lane};
 pub use line::{Line64, Mask};
 pub use write::{merge, placed};
-
-#[cfg(test)]
-mod tests;

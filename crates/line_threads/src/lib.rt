@@ -5,8 +5,6 @@ mod asleep;
 mod hooked_line;
 mod meetings;
 mod sleeping_line;
-#[cfg(test)]
-mod tests;
 pub mod together;
 mod waiting;
 

@@ -16,7 +16,7 @@ use std::sync::atomic::{AtomicU64, Ordering};
 use std::thread::{Threads, yield_now};
 
 /// How often a node looks for its turn before it takes its request back.
-const PATIENCE: u64 = 100;
+pub const PATIENCE: u64 = 100;
 
 /// All bytes of a line. Its first lane has the value; 0 is none.
 const WHOLE: Mask = Mask(0xffff_ffff_ffff_ffff);
@@ -74,6 +74,7 @@ pub fn put_down<L: LineSync<Free>>(line: &L, port: &mut L::Port, value: u64) -> 
     ensures state { IsTrue (may_ask (L.view port.new).state) }
     ensures put { IsTrue result → HadTurn 0 value (L.view port.new) }
     ensures once { (L.view port.new).count ≤ (L.view port.old).count + 1 }
+    ensures patient { L.looks port.new ≤ L.looks port.old + PATIENCE }
     ensures full { result ≡ false → HadNoTurn (L.view port.old) (L.view port.new) ⊎ WasFull (L.view port.new) }
 {
     if ask(line, port, PATIENCE) != Asked::Granted {
@@ -97,6 +98,7 @@ pub fn take_up<L: LineSync<Free>>(line: &L, port: &mut L::Port) -> Option<u64>
     ensures value { IfSome result (λ value. value ≢ 0) }
     ensures taken { IfSome result (λ value. HadTurn value 0 (L.view port.new)) }
     ensures once { (L.view port.new).count ≤ (L.view port.old).count + 1 }
+    ensures patient { L.looks port.new ≤ L.looks port.old + PATIENCE }
     ensures empty { IfNone result (HadNoTurn (L.view port.old) (L.view port.new) ⊎ HadTurn 0 0 (L.view port.new)) }
 {
     if ask(line, port, PATIENCE) != Asked::Granted {

@@ -1,48 +1,160 @@
-//! The uses, over all lines.
+//! The uses, over all lines. What is tried is written for any line, and each lock is named once: it takes the prover some seconds to see that
+//! a lock is a line, wherever it is named.
 mod again;
 mod asleep;
 mod counted;
+mod kept;
 mod noted;
 mod parked;
 mod passing;
+mod together;
 
 use crate::mailbox::Asked;
 use crate::{counter, fair, mailbox, seats};
+use counted::Counting;
 use line_lanes::Line64;
-use line_threads::{Got, acquire};
+use line_threads::{Got, HookedLine, acquire};
 use link_line::LinkLine;
+use parked::NoHooks;
 use qolb_model::{Free, OpenLine, PortState, Terms};
 use ring_line::RingLine;
 use seats::House;
 use std::alloc::Global;
 use std::process::Abort;
+use std::rt::Clock;
 use std::sync::Wait;
 use std::test::Fail;
+use std::thread::Threads;
 use ticket_line::TicketLine;
 
-#[test]
-fn no_addition_is_lost(rt: HostRuntime) -> Result<(), Fail> {
-    let alloc = rt.alloc();
-    let by_ring = counter::count::<HostRuntime, RingLine<Free>>(&rt, alloc, 3, 1_000);
-    assert_eq!(rt; by_ring, Some(3_000));
-    let by_tickets = counter::count::<HostRuntime, TicketLine<Free>>(&rt, alloc, 3, 1_000);
-    assert_eq!(rt; by_tickets, Some(3_000));
-    let by_list = counter::count::<HostRuntime, LinkLine<Free>>(&rt, alloc, 3, 1_000);
-    assert_eq!(rt; by_list, Some(3_000));
+/// What is tried over lines of one type.
+#[derive(Clone, Copy)]
+enum Row {
+    Additions,
+    Turns,
+    Mailbox,
+    Lanes,
+    Closing,
+    Fairness,
+    Patience,
+    Waits,
+    Sleeps,
+    LongSleeps,
+    Sleepers,
+    Busy,
+}
+
+/// The row over lines of this type.
+fn try_over<R: Threads + Wait + Clock + Abort + Sync, L: Counting + Sync + Drop>(
+    rt: &R,
+    alloc: Global,
+    row: Row,
+) -> Result<(), Fail>
+where
+    L::Port: Send + Drop,
+{
+    match row {
+        Row::Additions => no_addition_is_lost::<R, L>(rt, alloc),
+        Row::Turns => kept::each_addition_is_a_turn::<R, L>(rt, alloc)?,
+        Row::Mailbox => each_value_is_taken_up::<R, L>(rt, alloc),
+        Row::Lanes => {
+            kept::a_value_lies_in_its_lane::<R, L>(rt, alloc, false)?;
+            kept::a_value_lies_in_its_lane::<R, L>(rt, alloc, true)?;
+        }
+        Row::Closing => granted_and_then_told::<R, L>(rt, alloc)?,
+        Row::Fairness => {
+            let wanted = Some([Got::Granted, Got::Closed]);
+            assert_eq!(rt; one_after_the_other::<R, L>(rt, alloc), wanted);
+        }
+        Row::Patience => {
+            let wanted = Some([Asked::Late, Asked::Late, Asked::Granted]);
+            assert_eq!(rt; late::<L>(alloc), wanted);
+        }
+        Row::Waits => asleep::each_wait::<R, L>(rt, alloc),
+        Row::Sleeps => noted::each_sleep::<R, L>(rt, alloc),
+        Row::LongSleeps => {
+            parked::a_sleep_lasts_as_long_as_it_may::<R, L>(rt, alloc);
+            parked::a_sleep_lasts_as_long_as_it_may::<R, HookedLine<NoHooks, L>>(rt, alloc);
+        }
+        Row::Sleepers => counted::a_sleeper_is_counted::<R, L>(rt, alloc),
+        Row::Busy => again::each_manner::<R, L>(rt, alloc),
+    }
     Ok(())
 }
 
-#[test]
-fn each_value_is_taken_up(rt: HostRuntime) -> Result<(), Fail> {
-    let alloc = rt.alloc();
-    // 1 to 1,000 add up to 500,500.
-    let by_ring = mailbox::hand_over::<HostRuntime, RingLine<Free>>(&rt, alloc, 1_000);
-    assert_eq!(rt; by_ring, Some(500_500));
-    let by_tickets = mailbox::hand_over::<HostRuntime, TicketLine<Free>>(&rt, alloc, 1_000);
-    assert_eq!(rt; by_tickets, Some(500_500));
-    let by_list = mailbox::hand_over::<HostRuntime, LinkLine<Free>>(&rt, alloc, 1_000);
-    assert_eq!(rt; by_list, Some(500_500));
-    Ok(())
+fn over_rings<R: Threads + Wait + Clock + Abort + Sync>(
+    rt: &R,
+    alloc: Global,
+    row: Row,
+) -> Result<(), Fail> {
+    try_over::<_, RingLine<Free>>(rt, alloc, row)
+}
+
+fn over_lists<R: Threads + Wait + Clock + Abort + Sync>(
+    rt: &R,
+    alloc: Global,
+    row: Row,
+) -> Result<(), Fail> {
+    try_over::<_, LinkLine<Free>>(rt, alloc, row)
+}
+
+fn over_ticket_lines<R: Threads + Wait + Clock + Abort + Sync>(
+    rt: &R,
+    alloc: Global,
+    row: Row,
+) -> Result<(), Fail> {
+    try_over::<_, TicketLine<Free>>(rt, alloc, row)
+}
+
+/// The row over each lock.
+fn over_each<R: Threads + Wait + Clock + Abort + Sync>(
+    rt: &R,
+    alloc: Global,
+    row: Row,
+) -> Result<(), Fail> {
+    over_rings(rt, alloc, row)?;
+    over_lists(rt, alloc, row)?;
+    over_ticket_lines(rt, alloc, row)
+}
+
+/// Three threads count to 3,000; a line has 1 to 200 nodes.
+fn no_addition_is_lost<R: Threads + Wait + Abort + Sync, L: OpenLine<Free> + Sync + Drop>(
+    rt: &R,
+    alloc: Global,
+)
+where
+    L::Port: Send + Drop,
+{
+    for (nodes, rounds, wanted) in [(3, 1_000, Some(3_000)), (0, 1, None), (201, 1, None)] {
+        let counted = counter::count::<R, L>(rt, alloc, nodes, rounds);
+        assert_eq!(rt; counted, wanted, "by {nodes} nodes");
+    }
+}
+
+/// 1 to 1,000 add up to 500,500.
+fn each_value_is_taken_up<R: Threads + Wait + Abort + Sync, L: OpenLine<Free> + Sync + Drop>(
+    rt: &R,
+    alloc: Global,
+)
+where
+    L::Port: Send + Drop,
+{
+    let sum = mailbox::hand_over::<R, L>(rt, alloc, 1_000);
+    assert_eq!(rt; sum, Some(500_500));
+}
+
+/// Four times 40 customers want 100 seats; four times 20 leave 20 of them free.
+fn the_house_is_sold_out<R: Threads + Wait + Abort + Sync, H: OpenLine<House> + Sync + Drop>(
+    rt: &R,
+    alloc: Global,
+)
+where
+    H::Port: Send + Drop,
+{
+    for (clerks, customers, sold) in [(4, 40, Some(100)), (4, 20, Some(80)), (201, 1, None)] {
+        let found = seats::sell::<R, H>(rt, alloc, clerks, customers);
+        assert_eq!(rt; found, sold, "by {clerks} clerks to {customers} each");
+    }
 }
 
 /// A line of one node: its node is granted it, closes it, and is then told so.
@@ -70,13 +182,6 @@ where
     Ok(())
 }
 
-#[test]
-fn a_line_is_granted_and_then_closed(rt: HostRuntime) -> Result<(), Fail> {
-    granted_and_then_told::<_, RingLine<Free>>(&rt, rt.alloc())?;
-    granted_and_then_told::<_, TicketLine<Free>>(&rt, rt.alloc())?;
-    granted_and_then_told::<_, LinkLine<Free>>(&rt, rt.alloc())
-}
-
 /// Two nodes, one after the other: node 2 shuts the line in its turn. What each was answered.
 fn one_after_the_other<R: Wait, L: OpenLine<Free> + Drop>(rt: &R, alloc: Global) -> Option<[Got; 2]>
 where
@@ -97,19 +202,6 @@ where
     };
     line.shut(&mut two);
     Some([first, fair::after_the_other(rt, &line, &mut one)])
-}
-
-#[test]
-fn a_turn_comes_or_the_line_is_closed(rt: HostRuntime) -> Result<(), Fail> {
-    let alloc = rt.alloc();
-    let wanted = Some([Got::Granted, Got::Closed]);
-    let by_ring = one_after_the_other::<HostRuntime, RingLine<Free>>(&rt, alloc);
-    assert_eq!(rt; by_ring, wanted);
-    let by_tickets = one_after_the_other::<HostRuntime, TicketLine<Free>>(&rt, alloc);
-    assert_eq!(rt; by_tickets, wanted);
-    let by_list = one_after_the_other::<HostRuntime, LinkLine<Free>>(&rt, alloc);
-    assert_eq!(rt; by_list, wanted);
-    Ok(())
 }
 
 /// Node 1 holds; node 2 asks with little patience, and asks again; node 1 lets go, and node 2 asks once more. What node 2 was answered.
@@ -143,25 +235,77 @@ where
 }
 
 #[test]
-fn a_late_node_asks_again(rt: HostRuntime) -> Result<(), Fail> {
-    let wanted = Some([Asked::Late, Asked::Late, Asked::Granted]);
-    assert_eq!(rt; late::<RingLine<Free>>(rt.alloc()), wanted);
-    assert_eq!(rt; late::<TicketLine<Free>>(rt.alloc()), wanted);
-    assert_eq!(rt; late::<LinkLine<Free>>(rt.alloc()), wanted);
+fn no_addition_is_lost_over_any_lock(rt: HostRuntime) -> Result<(), Fail> {
+    over_each(&rt, rt.alloc(), Row::Additions)
+}
+
+#[test]
+fn each_addition_is_a_turn(rt: HostRuntime) -> Result<(), Fail> {
+    over_each(&rt, rt.alloc(), Row::Turns)
+}
+
+#[test]
+fn each_value_of_a_mailbox_is_taken_up(rt: HostRuntime) -> Result<(), Fail> {
+    over_each(&rt, rt.alloc(), Row::Mailbox)
+}
+
+#[test]
+fn a_value_lies_in_its_lane(rt: HostRuntime) -> Result<(), Fail> {
+    over_each(&rt, rt.alloc(), Row::Lanes)
+}
+
+#[test]
+fn no_more_seats_are_sold_than_there_are(rt: HostRuntime) -> Result<(), Fail> {
+    the_house_is_sold_out::<_, RingLine<House>>(&rt, rt.alloc());
     Ok(())
 }
 
 #[test]
-fn the_house_is_sold_out(rt: HostRuntime) -> Result<(), Fail> {
-    let alloc = rt.alloc();
-    // Four times 40 customers want 100 seats; four times 20 leave 20 of them free.
-    for (customers, sold) in [(40, 100), (20, 80)] {
-        let by_ring = seats::sell::<HostRuntime, RingLine<House>>(&rt, alloc, 4, customers);
-        assert_eq!(rt; by_ring, Some(sold));
-        let by_tickets = seats::sell::<HostRuntime, TicketLine<House>>(&rt, alloc, 4, customers);
-        assert_eq!(rt; by_tickets, Some(sold));
-        let by_list = seats::sell::<HostRuntime, LinkLine<House>>(&rt, alloc, 4, customers);
-        assert_eq!(rt; by_list, Some(sold));
-    }
-    Ok(())
+fn a_line_is_granted_and_then_closed(rt: HostRuntime) -> Result<(), Fail> {
+    over_each(&rt, rt.alloc(), Row::Closing)
+}
+
+#[test]
+fn a_turn_comes_or_the_line_is_closed(rt: HostRuntime) -> Result<(), Fail> {
+    over_each(&rt, rt.alloc(), Row::Fairness)
+}
+
+#[test]
+fn a_late_node_asks_again(rt: HostRuntime) -> Result<(), Fail> {
+    over_each(&rt, rt.alloc(), Row::Patience)
+}
+
+#[test]
+fn waiters_sleep_at_a_ring(rt: HostRuntime) -> Result<(), Fail> {
+    over_rings(&rt, rt.alloc(), Row::Waits)
+}
+
+#[test]
+fn waiters_sleep_at_a_list(rt: HostRuntime) -> Result<(), Fail> {
+    over_lists(&rt, rt.alloc(), Row::Waits)
+}
+
+#[test]
+fn waiters_sleep_at_a_ticket_line(rt: HostRuntime) -> Result<(), Fail> {
+    over_ticket_lines(&rt, rt.alloc(), Row::Waits)
+}
+
+#[test]
+fn waiters_sleep_as_long_as_they_may(rt: HostRuntime) -> Result<(), Fail> {
+    over_each(&rt, rt.alloc(), Row::Sleeps)
+}
+
+#[test]
+fn sleeps_last_as_long_as_they_may(rt: HostRuntime) -> Result<(), Fail> {
+    over_each(&rt, rt.alloc(), Row::LongSleeps)
+}
+
+#[test]
+fn sleepers_are_counted(rt: HostRuntime) -> Result<(), Fail> {
+    over_each(&rt, rt.alloc(), Row::Sleepers)
+}
+
+#[test]
+fn whoever_is_busy_asks_again(rt: HostRuntime) -> Result<(), Fail> {
+    over_each(&rt, rt.alloc(), Row::Busy)
 }

@@ -26,6 +26,3 @@ pub use point::Point;
 pub use replaying::replay;
 pub use seat::{Passed, Reason, Seat};
 pub use told::{NotEnabled, Told};
-
-#[cfg(test)]
-mod tests;

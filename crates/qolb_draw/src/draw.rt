@@ -76,6 +76,3 @@ fn picture<A: Allocator + Copy>(alloc: A, schedule: &Schedule<A>) -> Result<Vec<
     text.extend_from_slice(LEGEND)?;
     Ok(text)
 }
-
-#[cfg(test)]
-mod tests;

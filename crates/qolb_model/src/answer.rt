@@ -91,23 +91,3 @@ pub enum OpenError {
     /// The lease is of no turn.
     Lease = 3,
 }
-
-#[cfg(test)]
-mod tests {
-    use super::*;
-
-    #[test]
-    fn node_asks_once_its_request_neither_waits_nor_holds(rt: HostRuntime) {
-        for (state, want) in [
-            (PortState::Idle, true),
-            (PortState::Linking, false),
-            (PortState::Queued, false),
-            (PortState::Holding, false),
-            (PortState::Left, true),
-            (PortState::Rolled, true),
-            (PortState::Shut, true),
-        ] {
-            assert_eq!(rt; state.may_ask(), want, "{state:?}");
-        }
-    }
-}

@@ -109,14 +109,3 @@ pub fn closed_by_lease_alone<K: Keep>()
 pub fn none_is_told<K: Keep>()
     ensures { NoneIsTold K.good K.allows }
 {}
-
-#[cfg(test)]
-mod tests {
-    use super::*;
-    use crate::keep::Free;
-
-    #[test]
-    fn the_free_law_keeps_all_bytes(_rt: HostRuntime) {
-        good_stays_good::<Free>();
-    }
-}

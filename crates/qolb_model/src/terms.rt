@@ -34,27 +34,3 @@ impl Terms {
         Ok(())
     }
 }
-
-#[cfg(test)]
-mod tests {
-    use super::*;
-
-    #[test]
-    fn terms_are_of_some_nodes_and_turns(rt: HostRuntime) {
-        for (nodes, lease, want) in [
-            (1, None, Ok(())),
-            (MOST_NODES, Some(1), Ok(())),
-            (MOST_NODES, Some(0), Err(OpenError::Lease)),
-            (0, None, Err(OpenError::Nodes)),
-            (MOST_NODES + 1, Some(0), Err(OpenError::Nodes)),
-        ] {
-            let opening = Line64::zero();
-            let terms = Terms {
-                nodes,
-                opening,
-                lease,
-            };
-            assert_eq!(rt; terms.check(), want, "{nodes} nodes, a lease of {lease:?}");
-        }
-    }
-}

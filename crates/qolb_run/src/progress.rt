@@ -68,6 +68,3 @@ impl<R: Clock + Eprint> Gate for Progress<'_, R> {
         true
     }
 }
-
-#[cfg(test)]
-mod tests;

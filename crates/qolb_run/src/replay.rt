@@ -274,6 +274,3 @@ where
     }
     Ok(all)
 }
-
-#[cfg(test)]
-mod tests;

@@ -121,6 +121,3 @@ fn nodes_left(core: &Core) -> u64
     }
     left
 }
-
-#[cfg(test)]
-mod tests;

@@ -90,6 +90,3 @@ where
         WorkKind::Bank => run_bank::<R, G, A>(rt, alloc, gate, work, waits),
     }
 }
-
-#[cfg(test)]
-mod tests;

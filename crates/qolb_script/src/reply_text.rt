@@ -204,6 +204,3 @@ fn put_number<A: Allocator>(text: &mut Vec<u8, A>, words: &[u8], number: u64)
     text.extend_from_slice(words).unwrap();
     text.extend_from_slice(digits.as_bytes()).unwrap();
 }
-
-#[cfg(test)]
-mod tests;

@@ -73,6 +73,3 @@ fn write_figure<W: Write, N: Integer>(
     out.write_all(buffer.format(number).as_bytes())?;
     out.write_all(b"\n")
 }
-
-#[cfg(test)]
-mod tests;

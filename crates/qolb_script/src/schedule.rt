@@ -97,6 +97,3 @@ pub fn read_schedule<A: Allocator>(alloc: A, text: &[u8]) -> Result<Schedule<A>,
         commands,
     })
 }
-
-#[cfg(test)]
-mod tests;

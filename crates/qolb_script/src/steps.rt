@@ -78,6 +78,3 @@ pub fn read_steps<A: Allocator>(alloc: A, text: &[u8]) -> Result<Steps<A>, Scrip
         events,
     })
 }
-
-#[cfg(test)]
-mod tests;

@@ -90,6 +90,3 @@ impl<W: Write> Watched<W> {
         Ok(())
     }
 }
-
-#[cfg(test)]
-mod tests;

@@ -100,6 +100,3 @@ pub fn read_work<A: Allocator>(
         jobs,
     })
 }
-
-#[cfg(test)]
-mod tests;

@@ -2,15 +2,11 @@
 
 use crate::row::Counted;
 use line_lanes::Line64;
-use link_line::LinkLine;
 use qolb_model::{Enq, Free, Sleeping, Terms};
-use ring_line::RingLine;
 use std::alloc::Global;
 use std::process::Abort;
 use std::sync::Wait;
-use std::test::Fail;
 use std::time::Duration;
-use ticket_line::TicketLine;
 
 /// How many sleepers a line counts when its one waiter has slept for all of its time, and when it has not slept, since its turn had come.
 fn counted_after_a_sleep<R: Wait, L: Counted + Sleeping<Free> + Drop>(
@@ -43,20 +39,12 @@ where
 }
 
 /// Neither time is it counted.
-fn a_waiter_that_has_slept_is_counted_no_more<R: Wait + Abort, L: Counted + Sleeping<Free> + Drop>(
-    rt: &R,
-    alloc: Global,
-)
+pub(super) fn a_waiter_that_has_slept_is_counted_no_more<
+    R: Wait + Abort,
+    L: Counted + Sleeping<Free> + Drop,
+>(rt: &R, alloc: Global)
 where
     L::Port: Drop,
 {
     assert_eq!(rt; counted_after_a_sleep::<R, L>(rt, alloc), Some((0, 0)));
-}
-
-#[test]
-fn waiters_that_have_slept_are_counted_no_more(rt: HostRuntime) -> Result<(), Fail> {
-    a_waiter_that_has_slept_is_counted_no_more::<_, RingLine<Free>>(&rt, rt.alloc());
-    a_waiter_that_has_slept_is_counted_no_more::<_, TicketLine<Free>>(&rt, rt.alloc());
-    a_waiter_that_has_slept_is_counted_no_more::<_, LinkLine<Free>>(&rt, rt.alloc());
-    Ok(())
 }

@@ -1,12 +1,26 @@
 //! What a line answers for which nodes ask by two calls, as the list: a release does not wait for the link.
 
 use crate::row::{Halved, Row};
-use line_lanes::{Line64, placed};
+use crate::tests::did::{Did, expect_by_halves};
+use line_lanes::Line64;
 use link_line::LinkLine;
 use qolb_model::{Enq, FinishError, Free, Out, Poll, PortState, Prep, Terms};
 use std::alloc::Global;
 use std::process::Abort;
 use std::test::Fail;
+
+/// Node 2 links after the release.
+static LATE: [(u64, Did); 9] = [
+    (1, Did::Ask(Enq::Granted)),
+    (1, Did::Write(0xab)),
+    (2, Did::Prepend(Prep::Linking)),
+    (1, Did::Release),
+    (1, Did::State(PortState::Left)),
+    (1, Did::Ask(Enq::Busy)),
+    (2, Did::Link(Enq::Granted)),
+    (2, Did::Sees(0xab)),
+    (1, Did::Ask(Enq::Queued)),
+];
 
 fn a_late_linker_finds_the_line_in_the_mailbox_before_it<R: Abort, L: Halved + Drop>(
     rt: &R,
@@ -16,18 +30,23 @@ where
     L::Port: Drop,
 {
     let mut row = Row::<L>::of_zeros(alloc, 2)?;
-    assert_eq!(rt; row.ask(1), Some(Enq::Granted));
-    let (mask, bytes) = placed(0, &[0xab]).ok_or("no place")?;
-    assert_eq!(rt; row.write(1, mask, &bytes), Some(true));
-    assert_eq!(rt; row.prepend(2), Some(Prep::Linking));
-    assert_eq!(rt; row.release(1), Some(true));
-    assert_eq!(rt; row.state(1), Some(PortState::Left));
-    assert_eq!(rt; row.ask(1), Some(Enq::Busy));
-    assert_eq!(rt; row.link(2), Some(Enq::Granted));
-    assert_eq!(rt; row.bytes(2).map(|bytes| bytes[0]), Some(0xab));
-    assert_eq!(rt; row.ask(1), Some(Enq::Queued));
+    expect_by_halves(rt, &mut row, &LATE);
     Ok(())
 }
+
+/// Node 3 asks behind node 2, which links last.
+static BEHIND: [(u64, Did); 10] = [
+    (1, Did::Ask(Enq::Granted)),
+    (2, Did::Prepend(Prep::Linking)),
+    (3, Did::Ask(Enq::Queued)),
+    (1, Did::Release),
+    (1, Did::State(PortState::Left)),
+    (3, Did::Poll(Poll::Waiting)),
+    (2, Did::Link(Enq::Granted)),
+    (2, Did::Release),
+    (2, Did::State(PortState::Idle)),
+    (3, Did::Poll(Poll::Granted)),
+];
 
 fn those_behind_a_late_linker_wait_for_it<R: Abort, L: Halved + Drop>(
     rt: &R,
@@ -37,18 +56,24 @@ where
     L::Port: Drop,
 {
     let mut row = Row::<L>::of_zeros(alloc, 3)?;
-    assert_eq!(rt; row.ask(1), Some(Enq::Granted));
-    assert_eq!(rt; row.prepend(2), Some(Prep::Linking));
-    assert_eq!(rt; row.ask(3), Some(Enq::Queued));
-    assert_eq!(rt; row.release(1), Some(true));
-    assert_eq!(rt; row.state(1), Some(PortState::Left));
-    assert_eq!(rt; row.poll(3), Some(Poll::Waiting));
-    assert_eq!(rt; row.link(2), Some(Enq::Granted));
-    assert_eq!(rt; row.release(2), Some(true));
-    assert_eq!(rt; row.state(2), Some(PortState::Idle));
-    assert_eq!(rt; row.poll(3), Some(Poll::Granted));
+    expect_by_halves(rt, &mut row, &BEHIND);
     Ok(())
 }
+
+/// Node 2 has not linked yet, and may not poll.
+static LINKING: [(u64, Did); 3] = [
+    (1, Did::Prepend(Prep::Granted)),
+    (2, Did::Prepend(Prep::Linking)),
+    (2, Did::State(PortState::Linking)),
+];
+
+/// Now it links, and gets the line.
+static LINKED: [(u64, Did); 4] = [
+    (2, Did::Link(Enq::Queued)),
+    (1, Did::Release),
+    (1, Did::State(PortState::Idle)),
+    (2, Did::Poll(Poll::Granted)),
+];
 
 fn one_who_links_before_the_release_waits<R: Abort, L: Halved + Drop>(
     rt: &R,
@@ -58,16 +83,30 @@ where
     L::Port: Drop,
 {
     let mut row = Row::<L>::of_zeros(alloc, 2)?;
-    assert_eq!(rt; row.prepend(1), Some(Prep::Granted));
-    assert_eq!(rt; row.prepend(2), Some(Prep::Linking));
-    assert_eq!(rt; row.state(2), Some(PortState::Linking));
+    expect_by_halves(rt, &mut row, &LINKING);
     assert_eq!(rt; row.poll(2), None);
-    assert_eq!(rt; row.link(2), Some(Enq::Queued));
-    assert_eq!(rt; row.release(1), Some(true));
-    assert_eq!(rt; row.state(1), Some(PortState::Idle));
-    assert_eq!(rt; row.poll(2), Some(Poll::Granted));
+    expect_by_halves(rt, &mut row, &LINKED);
     Ok(())
 }
+
+/// Two withdraw before one that links last.
+static CHAIN: [(u64, Did); 15] = [
+    (1, Did::Ask(Enq::Granted)),
+    (2, Did::Ask(Enq::Queued)),
+    (3, Did::Ask(Enq::Queued)),
+    (2, Did::Withdraw(Out::Withdrawn)),
+    (3, Did::Withdraw(Out::Withdrawn)),
+    (4, Did::Prepend(Prep::Linking)),
+    (1, Did::Release),
+    (1, Did::Steps(10)),
+    (1, Did::State(PortState::Idle)),
+    (3, Did::Ask(Enq::Busy)),
+    (2, Did::Ask(Enq::Queued)),
+    (4, Did::Link(Enq::Granted)),
+    (3, Did::Ask(Enq::Queued)),
+    (4, Did::Release),
+    (2, Did::Poll(Poll::Granted)),
+];
 
 fn a_chain_of_withdrawn_nodes_ends_at_a_late_linker<R: Abort, L: Halved + Drop>(
     rt: &R,
@@ -77,21 +116,7 @@ where
     L::Port: Drop,
 {
     let mut row = Row::<L>::of_zeros(alloc, 4)?;
-    assert_eq!(rt; row.ask(1), Some(Enq::Granted));
-    assert_eq!(rt; row.ask(2), Some(Enq::Queued));
-    assert_eq!(rt; row.ask(3), Some(Enq::Queued));
-    assert_eq!(rt; row.withdraw(2), Some(Out::Withdrawn));
-    assert_eq!(rt; row.withdraw(3), Some(Out::Withdrawn));
-    assert_eq!(rt; row.prepend(4), Some(Prep::Linking));
-    assert_eq!(rt; row.release(1), Some(true));
-    assert_eq!(rt; row.steps(1), Some(10));
-    assert_eq!(rt; row.state(1), Some(PortState::Idle));
-    assert_eq!(rt; row.ask(3), Some(Enq::Busy));
-    assert_eq!(rt; row.ask(2), Some(Enq::Queued));
-    assert_eq!(rt; row.link(4), Some(Enq::Granted));
-    assert_eq!(rt; row.ask(3), Some(Enq::Queued));
-    assert_eq!(rt; row.release(4), Some(true));
-    assert_eq!(rt; row.poll(2), Some(Poll::Granted));
+    expect_by_halves(rt, &mut row, &CHAIN);
     Ok(())
 }
 
@@ -107,6 +132,15 @@ where
     Ok(row)
 }
 
+/// Node 1 has left the line, and node 2 is to link.
+static LEFT: [(u64, Did); 2] = [
+    (1, Did::State(PortState::Left)),
+    (2, Did::State(PortState::Linking)),
+];
+
+/// Node 2 links, and lets the line go.
+static AT_REST: [(u64, Did); 2] = [(2, Did::Link(Enq::Granted)), (2, Did::Release)];
+
 fn finish_waits_for_a_late_linker<R: Abort, L: Halved + Drop>(
     rt: &R,
     alloc: Global,
@@ -114,13 +148,11 @@ fn finish_waits_for_a_late_linker<R: Abort, L: Halved + Drop>(
 where
     L::Port: Drop,
 {
-    let row = left_behind::<L>(alloc)?;
-    assert_eq!(rt; row.state(1), Some(PortState::Left));
-    assert_eq!(rt; row.state(2), Some(PortState::Linking));
+    let mut row = left_behind::<L>(alloc)?;
+    expect_by_halves(rt, &mut row, &LEFT);
     let (why, mut row) = row.finish(alloc).err().ok_or("one is linking")?;
     assert_eq!(rt; why, FinishError::Unquiet(2));
-    assert_eq!(rt; row.link(2), Some(Enq::Granted));
-    assert_eq!(rt; row.release(2), Some(true));
+    expect_by_halves(rt, &mut row, &AT_REST);
     assert!(rt; row.finish(alloc).is_ok());
     Ok(())
 }

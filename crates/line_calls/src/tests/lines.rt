@@ -1,8 +1,9 @@
 //! What each line answers, called by one thread, node by node.
 
 use crate::row::{Counted, Row};
+use crate::tests::did::{Did, expect};
 use hoard::{GRAIN, Siege};
-use line_lanes::{Line64, Mask, changed, lane, placed, with_lane};
+use line_lanes::{Line64, Mask, changed, lane, with_lane};
 use line_rows::handing::hand_over;
 use line_rows::opened::{open_zeros, with_two};
 use linked_list_allocator::LocalHeap;
@@ -37,6 +38,16 @@ where
     }
 }
 
+/// Two withdraw, and a release passes both.
+static TWO_PASSED: [(u64, Did); 6] = [
+    (1, Did::Ask(Enq::Granted)),
+    (2, Did::Ask(Enq::Queued)),
+    (3, Did::Ask(Enq::Queued)),
+    (2, Did::Withdraw(Out::Withdrawn)),
+    (3, Did::Withdraw(Out::Withdrawn)),
+    (1, Did::Release),
+];
+
 pub(super) fn a_release_passes_those_who_withdrew<R: Abort, L: Counted + Drop>(
     rt: &R,
     alloc: Global,
@@ -46,16 +57,26 @@ where
     L::Port: Drop,
 {
     let mut row = Row::<L>::of_zeros(alloc, 3)?;
-    assert_eq!(rt; row.ask(1), Some(Enq::Granted));
-    assert_eq!(rt; row.ask(2), Some(Enq::Queued));
-    assert_eq!(rt; row.ask(3), Some(Enq::Queued));
-    assert_eq!(rt; row.withdraw(2), Some(Out::Withdrawn));
-    assert_eq!(rt; row.withdraw(3), Some(Out::Withdrawn));
-    assert_eq!(rt; row.release(1), Some(true));
-    assert_eq!(rt; row.steps(1), Some(steps));
-    assert_eq!(rt; row.ask(3), Some(Enq::Granted));
+    expect(rt, &mut row, &TWO_PASSED);
+    let last = [(1, Did::Steps(steps)), (3, Did::Ask(Enq::Granted))];
+    expect(rt, &mut row, last.as_slice());
     Ok(())
 }
+
+/// A node is busy until the release that passes it.
+static PASSED: [(u64, Did); 11] = [
+    (2, Did::Steps(0)),
+    (1, Did::Ask(Enq::Granted)),
+    (2, Did::Ask(Enq::Queued)),
+    (3, Did::Ask(Enq::Queued)),
+    (2, Did::Withdraw(Out::Withdrawn)),
+    (2, Did::Ask(Enq::Busy)),
+    (1, Did::Release),
+    (2, Did::Ask(Enq::Queued)),
+    (3, Did::Poll(Poll::Granted)),
+    (3, Did::Release),
+    (2, Did::Poll(Poll::Granted)),
+];
 
 pub(super) fn a_node_asks_again_once_it_was_passed<R: Abort, L: Counted + Drop>(
     rt: &R,
@@ -65,19 +86,18 @@ where
     L::Port: Drop,
 {
     let mut row = Row::<L>::of_zeros(alloc, 3)?;
-    assert_eq!(rt; row.steps(2), Some(0));
-    assert_eq!(rt; row.ask(1), Some(Enq::Granted));
-    assert_eq!(rt; row.ask(2), Some(Enq::Queued));
-    assert_eq!(rt; row.ask(3), Some(Enq::Queued));
-    assert_eq!(rt; row.withdraw(2), Some(Out::Withdrawn));
-    assert_eq!(rt; row.ask(2), Some(Enq::Busy));
-    assert_eq!(rt; row.release(1), Some(true));
-    assert_eq!(rt; row.ask(2), Some(Enq::Queued));
-    assert_eq!(rt; row.poll(3), Some(Poll::Granted));
-    assert_eq!(rt; row.release(3), Some(true));
-    assert_eq!(rt; row.poll(2), Some(Poll::Granted));
+    expect(rt, &mut row, &PASSED);
     Ok(())
 }
+
+/// A node withdraws after the release that came to it.
+static AT_ITS_TURN: [(u64, Did); 5] = [
+    (1, Did::Ask(Enq::Granted)),
+    (2, Did::Ask(Enq::Queued)),
+    (1, Did::Release),
+    (2, Did::Withdraw(Out::Granted)),
+    (2, Did::Release),
+];
 
 pub(super) fn who_withdraws_at_its_turn_is_granted<R: Abort, L: Counted + Drop>(
     rt: &R,
@@ -87,13 +107,22 @@ where
     L::Port: Drop,
 {
     let mut row = Row::<L>::of_zeros(alloc, 2)?;
-    assert_eq!(rt; row.ask(1), Some(Enq::Granted));
-    assert_eq!(rt; row.ask(2), Some(Enq::Queued));
-    assert_eq!(rt; row.release(1), Some(true));
-    assert_eq!(rt; row.withdraw(2), Some(Out::Granted));
-    assert_eq!(rt; row.release(2), Some(true));
+    expect(rt, &mut row, &AT_ITS_TURN);
     Ok(())
 }
+
+/// Two wait when the line is closed, and are told in turn; whoever asks is told at once.
+static TOLD: [(u64, Did); 9] = [
+    (1, Did::Ask(Enq::Granted)),
+    (2, Did::Ask(Enq::Queued)),
+    (3, Did::Ask(Enq::Queued)),
+    (1, Did::Shut),
+    (3, Did::Poll(Poll::Waiting)),
+    (2, Did::Poll(Poll::Closed)),
+    (3, Did::Poll(Poll::Closed)),
+    (1, Did::Ask(Enq::Closed)),
+    (2, Did::Ask(Enq::Closed)),
+];
 
 pub(super) fn all_are_told_of_a_closed_line<R: Abort, L: Counted + Drop>(
     rt: &R,
@@ -103,18 +132,27 @@ where
     L::Port: Drop,
 {
     let mut row = Row::<L>::of_zeros(alloc, 3)?;
-    assert_eq!(rt; row.ask(1), Some(Enq::Granted));
-    assert_eq!(rt; row.ask(2), Some(Enq::Queued));
-    assert_eq!(rt; row.ask(3), Some(Enq::Queued));
-    assert_eq!(rt; row.shut(1), Some(true));
-    assert_eq!(rt; row.poll(3), Some(Poll::Waiting));
-    assert_eq!(rt; row.poll(2), Some(Poll::Closed));
-    assert_eq!(rt; row.poll(3), Some(Poll::Closed));
-    assert_eq!(rt; row.ask(1), Some(Enq::Closed));
-    assert_eq!(rt; row.ask(2), Some(Enq::Closed));
+    expect(rt, &mut row, &TOLD);
     assert!(rt; row.finish(alloc).is_ok());
     Ok(())
 }
+
+/// Two turns, and none more.
+static TWO_TURNS: [(u64, Did); 13] = [
+    (1, Did::Ask(Enq::Granted)),
+    (1, Did::TurnsLeft(Some(2))),
+    (1, Did::Write(7)),
+    (2, Did::Ask(Enq::Queued)),
+    (1, Did::Release),
+    (1, Did::State(PortState::Idle)),
+    (2, Did::Poll(Poll::Granted)),
+    (2, Did::TurnsLeft(Some(1))),
+    (1, Did::Ask(Enq::Queued)),
+    (2, Did::Release),
+    (2, Did::State(PortState::Shut)),
+    (1, Did::Poll(Poll::Closed)),
+    (2, Did::Ask(Enq::Closed)),
+];
 
 pub(super) fn the_last_turn_of_a_lease_closes_the_line<R: Abort, L: Counted + Drop>(
     rt: &R,
@@ -129,26 +167,16 @@ where
         lease: Some(2),
     };
     let mut row = Row::<L>::open(alloc, 7, terms)?;
-    assert_eq!(rt; row.ask(1), Some(Enq::Granted));
-    assert_eq!(rt; row.turns_left(1), Some(Some(2)));
-    let (mask, bytes) = placed(0, &[7]).ok_or("no place")?;
-    assert_eq!(rt; row.write(1, mask, &bytes), Some(true));
-    assert_eq!(rt; row.ask(2), Some(Enq::Queued));
-    assert_eq!(rt; row.release(1), Some(true));
-    assert_eq!(rt; row.state(1), Some(PortState::Idle));
-    assert_eq!(rt; row.poll(2), Some(Poll::Granted));
-    assert_eq!(rt; row.turns_left(2), Some(Some(1)));
-    assert_eq!(rt; row.ask(1), Some(Enq::Queued));
-    assert_eq!(rt; row.release(2), Some(true));
-    assert_eq!(rt; row.state(2), Some(PortState::Shut));
-    assert_eq!(rt; row.poll(1), Some(Poll::Closed));
-    assert_eq!(rt; row.ask(2), Some(Enq::Closed));
+    expect(rt, &mut row, &TWO_TURNS);
     let line = row.finish(alloc).ok().ok_or("no end")?;
     let mut want = [0; 64];
     want[0] = 7;
     assert_eq!(rt; line.to_bytes(), want);
     Ok(())
 }
+
+/// A turn at a line without a lease.
+static NO_LEASE: [(u64, Did); 2] = [(1, Did::Ask(Enq::Granted)), (1, Did::TurnsLeft(None))];
 
 pub(super) fn a_line_without_a_lease_counts_no_turns<R: Abort, L: Counted + Drop>(
     rt: &R,
@@ -158,8 +186,7 @@ where
     L::Port: Drop,
 {
     let mut row = Row::<L>::of_zeros(alloc, 1)?;
-    assert_eq!(rt; row.ask(1), Some(Enq::Granted));
-    assert_eq!(rt; row.turns_left(1), Some(None));
+    expect(rt, &mut row, &NO_LEASE);
     Ok(())
 }
 
@@ -192,19 +219,33 @@ where
     L::Port: Drop,
 {
     let mut row = Row::<L>::of_zeros(alloc, 200)?;
-    assert_eq!(rt; row.ask(1), Some(Enq::Granted));
+    expect(rt, &mut row, [(1, Did::Ask(Enq::Granted))].as_slice());
     for node in 2..201u64 {
-        assert_eq!(rt; row.ask(node), Some(Enq::Queued), "node {node}");
+        expect(rt, &mut row, [(node, Did::Ask(Enq::Queued))].as_slice());
     }
     for node in 2..201u64 {
-        assert_eq!(rt; row.withdraw(node), Some(Out::Withdrawn), "node {node}");
+        expect(
+            rt,
+            &mut row,
+            [(node, Did::Withdraw(Out::Withdrawn))].as_slice(),
+        );
     }
-    assert_eq!(rt; row.release(1), Some(true));
-    assert_eq!(rt; row.steps(1), Some(steps));
+    let last = [(1, Did::Release), (1, Did::Steps(steps))];
+    expect(rt, &mut row, last.as_slice());
     let line = row.finish(alloc).ok().ok_or("200 ports do not finish")?;
     assert_eq!(rt; line.to_bytes(), [0; 64]);
     Ok(())
 }
+
+/// One holds and one waits.
+static UNQUIET: [(u64, Did); 2] = [(1, Did::Ask(Enq::Granted)), (2, Did::Ask(Enq::Queued))];
+
+/// Both have their turn, and are idle.
+static QUIET: [(u64, Did); 3] = [
+    (1, Did::Release),
+    (2, Did::Poll(Poll::Granted)),
+    (2, Did::Release),
+];
 
 pub(super) fn finish_wants_a_quiet_port_of_each_node<R: Abort, L: Counted + Drop>(
     rt: &R,
@@ -224,14 +265,11 @@ where
     assert_eq!(rt; why, FinishError::Missing(2));
 
     assert!(rt; row.put(two));
-    assert_eq!(rt; row.ask(1), Some(Enq::Granted));
-    assert_eq!(rt; row.ask(2), Some(Enq::Queued));
+    expect(rt, &mut row, &UNQUIET);
     let (why, mut row) = row.finish(alloc).err().ok_or("a holder finishes")?;
     assert_eq!(rt; why, FinishError::Unquiet(1));
 
-    assert_eq!(rt; row.release(1), Some(true));
-    assert_eq!(rt; row.poll(2), Some(Poll::Granted));
-    assert_eq!(rt; row.release(2), Some(true));
+    expect(rt, &mut row, &QUIET);
     let line = row.finish(alloc).ok().ok_or("idle ports do not finish")?;
     assert_eq!(rt; line.to_bytes(), [7; 64]);
     Ok(())
@@ -300,6 +338,22 @@ where
     Ok(())
 }
 
+/// Four ask, and are served in the order in which they asked.
+static IN_ORDER: [(u64, Did); 12] = [
+    (4, Did::Ask(Enq::Granted)),
+    (3, Did::Ask(Enq::Queued)),
+    (1, Did::Ask(Enq::Queued)),
+    (2, Did::Ask(Enq::Queued)),
+    (4, Did::Release),
+    (1, Did::Poll(Poll::Waiting)),
+    (3, Did::Poll(Poll::Granted)),
+    (3, Did::Release),
+    (2, Did::Poll(Poll::Waiting)),
+    (1, Did::Poll(Poll::Granted)),
+    (1, Did::Release),
+    (2, Did::Poll(Poll::Granted)),
+];
+
 pub(super) fn four_nodes_are_served_in_order<R: Abort, L: Counted + Drop>(
     rt: &R,
     alloc: Global,
@@ -308,20 +362,21 @@ where
     L::Port: Drop,
 {
     let mut row = Row::<L>::of_zeros(alloc, 4)?;
-    assert_eq!(rt; row.ask(4), Some(Enq::Granted));
-    assert_eq!(rt; row.ask(3), Some(Enq::Queued));
-    assert_eq!(rt; row.ask(1), Some(Enq::Queued));
-    assert_eq!(rt; row.ask(2), Some(Enq::Queued));
-    assert_eq!(rt; row.release(4), Some(true));
-    assert_eq!(rt; row.poll(1), Some(Poll::Waiting));
-    assert_eq!(rt; row.poll(3), Some(Poll::Granted));
-    assert_eq!(rt; row.release(3), Some(true));
-    assert_eq!(rt; row.poll(2), Some(Poll::Waiting));
-    assert_eq!(rt; row.poll(1), Some(Poll::Granted));
-    assert_eq!(rt; row.release(1), Some(true));
-    assert_eq!(rt; row.poll(2), Some(Poll::Granted));
+    expect(rt, &mut row, &IN_ORDER);
     Ok(())
 }
+
+/// Node 1 writes, and node 2 sees it.
+static HAND_OVER: [(u64, Did); 8] = [
+    (1, Did::Ask(Enq::Granted)),
+    (1, Did::Write(0xa1)),
+    (2, Did::Ask(Enq::Queued)),
+    (2, Did::Poll(Poll::Waiting)),
+    (1, Did::Release),
+    (2, Did::Poll(Poll::Granted)),
+    (2, Did::Sees(0xa1)),
+    (2, Did::Release),
+];
 
 pub(super) fn a_line_is_handed_over_with_its_bytes<R: Abort, L: Counted + Drop>(
     rt: &R,
@@ -331,18 +386,11 @@ where
     L::Port: Drop,
 {
     let mut row = Row::<L>::of_zeros(alloc, 2)?;
-    assert_eq!(rt; row.ask(1), Some(Enq::Granted));
-    let (mask, bytes) = placed(0, &[0xa1, 0xb2]).ok_or("no seat")?;
-    assert_eq!(rt; row.write(1, mask, &bytes), Some(true));
-    assert_eq!(rt; row.ask(2), Some(Enq::Queued));
-    assert_eq!(rt; row.poll(2), Some(Poll::Waiting));
-    assert_eq!(rt; row.release(1), Some(true));
-    assert_eq!(rt; row.poll(2), Some(Poll::Granted));
+    expect(rt, &mut row, &HAND_OVER);
+    let line = row.finish(alloc).ok().ok_or("no end")?;
     let mut want = [0; 64];
     want[0] = 0xa1;
-    want[1] = 0xb2;
-    assert_eq!(rt; row.bytes(2), Some(want));
-    assert_eq!(rt; row.release(2), Some(true));
+    assert_eq!(rt; line.to_bytes(), want);
     Ok(())
 }
 

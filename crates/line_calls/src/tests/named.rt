@@ -14,10 +14,10 @@ fn a_line_is_opened<R: Abort, Q: Discipline<Free>>(rt: &R, alloc: Global) -> Res
     let (line, ports) = Line::<Free, Q>::open(alloc, 3, 2, Line64::zero())?;
     assert_eq!(rt; (line.label(), line.nodes(), ports.len()), (3, 2, 2));
     for (at, port) in ports.iter().enumerate() {
-        assert_eq!(rt; Line::<Free, Q>::node(port), at as u64 + 1);
-        assert_eq!(rt; Line::<Free, Q>::state(port), PortState::Idle);
-        assert_eq!(rt; line.steps(port), 0);
-        assert!(rt; line.owns(port));
+        let node = Line::<Free, Q>::node(port);
+        let state = Line::<Free, Q>::state(port);
+        let found = (node, state, line.steps(port), line.owns(port));
+        assert_eq!(rt; found, (at as u64 + 1, PortState::Idle, 0, true));
     }
     let refused = Line::<Free, Q>::open(alloc, 3, 201, Line64::zero()).err();
     assert_eq!(rt; refused, Some(OpenError::Nodes));
@@ -38,16 +38,15 @@ fn a_line_is_opened_with_a_lease<R: Abort, Q: Discipline<Free>>(
     Ok(())
 }
 
-#[test]
-fn lines_are_opened(rt: HostRuntime) -> Result<(), Fail> {
-    a_line_is_opened::<_, Ring>(&rt, rt.alloc())?;
-    a_line_is_opened::<_, Ticket>(&rt, rt.alloc())?;
-    a_line_is_opened::<_, Links>(&rt, rt.alloc())
+/// Each way of opening a line of its own.
+fn each_opening<R: Abort, Q: Discipline<Free>>(rt: &R, alloc: Global) -> Result<(), Fail> {
+    a_line_is_opened::<R, Q>(rt, alloc)?;
+    a_line_is_opened_with_a_lease::<R, Q>(rt, alloc)
 }
 
 #[test]
-fn lines_are_opened_with_a_lease(rt: HostRuntime) -> Result<(), Fail> {
-    a_line_is_opened_with_a_lease::<_, Ring>(&rt, rt.alloc())?;
-    a_line_is_opened_with_a_lease::<_, Ticket>(&rt, rt.alloc())?;
-    a_line_is_opened_with_a_lease::<_, Links>(&rt, rt.alloc())
+fn lines_are_opened(rt: HostRuntime) -> Result<(), Fail> {
+    each_opening::<_, Ring>(&rt, rt.alloc())?;
+    each_opening::<_, Ticket>(&rt, rt.alloc())?;
+    each_opening::<_, Links>(&rt, rt.alloc())
 }

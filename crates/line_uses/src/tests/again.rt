@@ -6,19 +6,15 @@ use crate::timed::add_within;
 use line_lanes::Line64;
 use line_threads::together::{Work, together};
 use line_threads::{Got, Within, acquire, acquire_asleep};
-use link_line::LinkLine;
 use qolb_model::{Enq, Free, OpenLine, Sleeping, Terms};
-use ring_line::RingLine;
 use std::alloc::Global;
 use std::process::Abort;
 use std::rt::Clock;
 use std::sync::Wait;
 use std::sync::atomic::{AtomicU64, Ordering};
-use std::test::Fail;
 use std::thread;
 use std::thread::{Threads, yield_now};
 use std::time::Duration;
-use ticket_line::TicketLine;
 
 /// For how many milliseconds node 1 still has the line when node 2 asks again.
 const BUSY_MILLIS: u64 = 30;
@@ -115,7 +111,7 @@ where
 }
 
 /// In each manner, over lines of this type.
-fn each_manner<
+pub(super) fn each_manner<
     R: Threads + Wait + Clock + Abort + Sync,
     L: OpenLine<Free> + Sleeping<Free> + Sync + Drop,
 >(rt: &R, alloc: Global)
@@ -127,12 +123,4 @@ where
         let had = ask_again::<R, L>(rt, alloc, again);
         assert_eq!(rt; had, Some([true, true]), "{again:?}");
     }
-}
-
-#[test]
-fn whoever_is_busy_asks_again(rt: HostRuntime) -> Result<(), Fail> {
-    each_manner::<_, RingLine<Free>>(&rt, rt.alloc());
-    each_manner::<_, TicketLine<Free>>(&rt, rt.alloc());
-    each_manner::<_, LinkLine<Free>>(&rt, rt.alloc());
-    Ok(())
 }

@@ -9,19 +9,15 @@ use crate::timed::add_within;
 use line_lanes::{Line64, lane};
 use line_threads::together::{Work, together};
 use line_threads::{Got, Within, acquire_asleep, acquire_within};
-use link_line::LinkLine;
 use qolb_model::{Free, OpenLine, PortState, Sleeping, Terms};
-use ring_line::RingLine;
 use std::alloc::Global;
 use std::process::Abort;
 use std::rt::Clock;
 use std::sync::Wait;
 use std::sync::atomic::{AtomicU64, Ordering};
-use std::test::Fail;
 use std::thread;
 use std::thread::Threads;
 use std::time::Duration;
-use ticket_line::TicketLine;
 
 /// How each thread asks.
 #[derive(Clone, Copy)]
@@ -336,7 +332,7 @@ where
 }
 
 /// Each of these over lines of this type.
-fn each_wait<
+pub(super) fn each_wait<
     R: Threads + Wait + Clock + Abort + Sync,
     L: OpenLine<Free> + Sleeping<Free> + Sync + Drop,
 >(rt: &R, alloc: Global)
@@ -351,22 +347,4 @@ where
     sleepers_and_late_ones_share_a_lease::<R, L>(rt, alloc);
     whoever_is_late_asks_again::<R, L>(rt, alloc);
     whoever_passes_a_closed_line_on_wakes::<R, L>(rt, alloc);
-}
-
-#[test]
-fn waiters_sleep_at_a_ring(rt: HostRuntime) -> Result<(), Fail> {
-    each_wait::<_, RingLine<Free>>(&rt, rt.alloc());
-    Ok(())
-}
-
-#[test]
-fn waiters_sleep_at_a_ticket_line(rt: HostRuntime) -> Result<(), Fail> {
-    each_wait::<_, TicketLine<Free>>(&rt, rt.alloc());
-    Ok(())
-}
-
-#[test]
-fn waiters_sleep_at_a_list(rt: HostRuntime) -> Result<(), Fail> {
-    each_wait::<_, LinkLine<Free>>(&rt, rt.alloc());
-    Ok(())
 }

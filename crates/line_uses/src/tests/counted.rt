@@ -6,20 +6,16 @@ use crate::tests::again::wait_until_some;
 use line_lanes::Line64;
 use line_threads::together::{Work, together};
 use line_threads::{Got, acquire_asleep};
-use link_line::LinkLine;
 use qolb_model::{Enq, Free, OpenLine, Sleeping, Terms};
-use ring_line::RingLine;
 use shared_line::{Discipline, Line};
 use std::alloc::Global;
 use std::process::Abort;
 use std::sync::Wait;
 use std::sync::atomic::{AtomicU64, Ordering};
-use std::test::Fail;
 use std::thread::{Threads, yield_now};
-use ticket_line::TicketLine;
 
 /// A line that counts its sleepers.
-trait Counting: OpenLine<Free> + Sleeping<Free> {
+pub(super) trait Counting: OpenLine<Free> + Sleeping<Free> {
     /// How many waiters sleep, or are about to.
     fn sleepers(&self) -> u64;
 }
@@ -98,7 +94,7 @@ where
 }
 
 /// A sleeper is counted while it sleeps, and then no more.
-fn a_sleeper_is_counted<R: Threads + Wait + Abort + Sync, L: Counting + Sync + Drop>(
+pub(super) fn a_sleeper_is_counted<R: Threads + Wait + Abort + Sync, L: Counting + Sync + Drop>(
     rt: &R,
     alloc: Global,
 )
@@ -106,12 +102,4 @@ where
     L::Port: Send + Drop,
 {
     assert_eq!(rt; count_a_sleeper::<R, L>(rt, alloc), Some(([true, true], 0)));
-}
-
-#[test]
-fn sleepers_are_counted(rt: HostRuntime) -> Result<(), Fail> {
-    a_sleeper_is_counted::<_, RingLine<Free>>(&rt, rt.alloc());
-    a_sleeper_is_counted::<_, TicketLine<Free>>(&rt, rt.alloc());
-    a_sleeper_is_counted::<_, LinkLine<Free>>(&rt, rt.alloc());
-    Ok(())
 }

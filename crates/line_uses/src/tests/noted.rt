@@ -6,19 +6,15 @@ use crate::tests::again::wait_until_some;
 use line_lanes::Line64;
 use line_threads::together::{Work, together};
 use line_threads::{Got, HookedLine, Hooks, SleepingLine, Within, acquire_asleep, acquire_within};
-use link_line::LinkLine;
 use qolb_model::{Enq, Free, Keep, LineSync, OpenLine, Poll, Sleeping, Terms};
-use ring_line::RingLine;
 use std::alloc::Global;
 use std::io;
 use std::process::Abort;
 use std::rt::Clock;
 use std::sync::Wait;
 use std::sync::atomic::{AtomicU64, Ordering};
-use std::test::Fail;
 use std::thread::Threads;
 use std::time::Duration;
-use ticket_line::TicketLine;
 
 /// What is noted at a line: how many sleeps there were, how many nanoseconds the last and the longest were to take at most, and how often a
 /// holder let go.
@@ -349,10 +345,10 @@ where
 }
 
 /// Each of these over lines of this type.
-fn each_sleep<R: Threads + Wait + Abort + Sync, L: OpenLine<Free> + Sleeping<Free> + Sync + Drop>(
-    rt: &R,
-    alloc: Global,
-)
+pub(super) fn each_sleep<
+    R: Threads + Wait + Abort + Sync,
+    L: OpenLine<Free> + Sleeping<Free> + Sync + Drop,
+>(rt: &R, alloc: Global)
 where
     L::Port: Send + Drop,
 {
@@ -361,12 +357,4 @@ where
     each_look_in_vain_sleeps_once::<R, L>(rt, alloc);
     a_long_wait_sleeps::<R, L>(rt, alloc);
     each_holder_that_lets_go_is_noted::<R, L>(rt, alloc);
-}
-
-#[test]
-fn waiters_sleep_as_long_as_they_may(rt: HostRuntime) -> Result<(), Fail> {
-    each_sleep::<_, RingLine<Free>>(&rt, rt.alloc());
-    each_sleep::<_, TicketLine<Free>>(&rt, rt.alloc());
-    each_sleep::<_, LinkLine<Free>>(&rt, rt.alloc());
-    Ok(())
 }

@@ -5,23 +5,19 @@ ghost use Rattle.qolb_model.specs.PortStates.{may_ask};
 use crate::counter::add;
 use line_lanes::Line64;
 use line_threads::{HookedLine, Hooks};
-use link_line::LinkLine;
 use qolb_model::{Enq, Free, OpenLine, PortState, Sleeping, Terms};
-use ring_line::RingLine;
 use std::alloc::Global;
 use std::process::Abort;
 use std::rt::Clock;
 use std::sync::Wait;
-use std::test::Fail;
 use std::time::{Duration, Instant};
-use ticket_line::TicketLine;
 
 /// How many turns there were at the line before anybody sleeps at it.
 const TURNS_BEFORE: u64 = 300;
 
 /// Nothing is done beside the calls.
 #[derive(Drop)]
-struct NoHooks;
+pub(super) struct NoHooks;
 
 impl Default for NoHooks {
     fn default() -> NoHooks {
@@ -113,7 +109,7 @@ where
 }
 
 /// Of ten sleeps one takes as long as it may, and one not twice as long. Once the turn has come none is left.
-fn a_sleep_lasts_as_long_as_it_may<
+pub(super) fn a_sleep_lasts_as_long_as_it_may<
     R: Wait + Clock + Abort,
     L: OpenLine<Free> + Sleeping<Free> + Drop,
 >(rt: &R, alloc: Global)
@@ -130,13 +126,4 @@ where
         });
         assert!(rt; held, "{millis} ms: {took:?}");
     }
-}
-
-#[test]
-fn sleeps_last_as_long_as_they_may(rt: HostRuntime) -> Result<(), Fail> {
-    a_sleep_lasts_as_long_as_it_may::<_, RingLine<Free>>(&rt, rt.alloc());
-    a_sleep_lasts_as_long_as_it_may::<_, TicketLine<Free>>(&rt, rt.alloc());
-    a_sleep_lasts_as_long_as_it_may::<_, LinkLine<Free>>(&rt, rt.alloc());
-    a_sleep_lasts_as_long_as_it_may::<_, HookedLine<NoHooks, LinkLine<Free>>>(&rt, rt.alloc());
-    Ok(())
 }

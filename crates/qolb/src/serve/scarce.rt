@@ -80,3 +80,41 @@ fn each_allocation_is_refused(rt: HostRuntime) -> Result<(), Fail> {
     }
     Ok(())
 }
+
+/// The kinds of lines, those that take less memory first. With 200 nodes a plain line takes 3.3 KB, a list 26 KB of words, a ring 42 KB, a
+/// ticket line as many and 49 KB of slots; and each of the last three 27 KB of ports.
+static BY_SIZE: [&str; 4] = ["plain", "link", "ring", "ticket"];
+
+/// Rooms, in KB, in each of which eight lines of one kind more find place.
+static LARGER_ROOMS: [usize; 4] = [300, 490, 750, 1_200];
+
+/// What a replay of eight lines for 200 nodes says of them.
+const EIGHT_LINES: &str =
+    "line 0 served 0 withdrawn 0 told 0 left 0\nline 1 served 0 withdrawn 0 told 0 left 0\nline 2 served 0 withdrawn 0 told 0 left 0\nline 3 served 0 withdrawn 0 told 0 left 0\nline 4 served 0 withdrawn 0 told 0 left 0\nline 5 served 0 withdrawn 0 told 0 left 0\nline 6 served 0 withdrawn 0 told 0 left 0\nline 7 served 0 withdrawn 0 told 0 left 0\n";
+
+#[test]
+fn a_replay_takes_lines_of_the_kind_that_is_named(rt: HostRuntime) -> Result<(), Fail> {
+    let alloc = rt.alloc();
+    let siege = Siege::begin(alloc, 1 << 22)?;
+    for (place, kind) in BY_SIZE.iter().enumerate() {
+        let words = vec![in alloc;
+            "qolb".to_string(alloc)?,
+            "replay".to_string(alloc)?,
+            "--kind".to_string(alloc)?,
+            kind.to_string(alloc)?,
+        ]?;
+        for (larger, room) in LARGER_ROOMS.iter().enumerate() {
+            let answered = is_answered(
+                &rt,
+                alloc,
+                &siege,
+                room << 10,
+                words.as_slice(),
+                "nodes 200 lines 8\n",
+                EIGHT_LINES,
+            )?;
+            assert_eq!(rt; answered, place <= larger, "{kind} in {room} KB");
+        }
+    }
+    Ok(())
+}

@@ -1,0 +1,70 @@
+//! What a use leaves of the other lanes, and that each addition is a turn.
+use crate::{counter, mailbox};
+use line_lanes::{Line64, with_lane};
+use qolb_model::{Free, OpenLine, Terms};
+use std::alloc::Global;
+use std::process::Abort;
+use std::sync::Wait;
+use std::test::Fail;
+
+/// A line for one node, of sevens but for its first lane, which is 0.
+fn opening() -> Line64 {
+    with_lane(&Line64::from_bytes([7; 64]), 0, 0)
+}
+
+/// Ten additions under a lease of three turns add three, and leave the other lanes.
+pub(super) fn each_addition_is_a_turn<R: Wait + Abort, L: OpenLine<Free> + Drop>(
+    rt: &R,
+    alloc: Global,
+) -> Result<(), Fail>
+where
+    L::Port: Drop,
+{
+    let terms = Terms {
+        nodes: 1,
+        opening: opening(),
+        lease: Some(3),
+    };
+    let (line, mut ports) = L::open_with(alloc, 1, terms)?;
+    let Some(mut port) = ports.pop() else {
+        return Err(Fail::from("no port"));
+    };
+    counter::add(rt, &line, &mut port, 10);
+    ports.push(port)?;
+    let last = line.finish(alloc, ports).ok().ok_or("finished")?;
+    assert_eq!(rt; last, with_lane(&opening(), 0, 3));
+    Ok(())
+}
+
+/// A value that is put down lies in the first lane, and one that is taken up is gone from there; the other lanes stay.
+pub(super) fn a_value_lies_in_its_lane<R: Abort, L: OpenLine<Free> + Drop>(
+    rt: &R,
+    alloc: Global,
+    takes: bool,
+) -> Result<(), Fail>
+where
+    L::Port: Drop,
+{
+    let terms = Terms {
+        nodes: 1,
+        opening: opening(),
+        lease: None,
+    };
+    let (line, mut ports) = L::open_with(alloc, 1, terms)?;
+    let Some(mut port) = ports.pop() else {
+        return Err(Fail::from("no port"));
+    };
+    let put = mailbox::put_down(&line, &mut port, 5);
+    let taken = if takes {
+        mailbox::take_up(&line, &mut port)
+    } else {
+        None
+    };
+    ports.push(port)?;
+    let last = line.finish(alloc, ports).ok().ok_or("finished")?;
+    assert!(rt; put);
+    assert_eq!(rt; taken.is_some(), takes);
+    let lies = if takes { 0 } else { 5 };
+    assert_eq!(rt; last, with_lane(&opening(), 0, lies));
+    Ok(())
+}

@@ -1,0 +1,42 @@
+//! Threads without a line.
+use line_threads::together::{Work, together};
+use std::alloc::Global;
+use std::sync::Wait;
+use std::test::Fail;
+
+/// Each thread adds its part to what is shared, and 1,000 for each part before it.
+struct Adding;
+
+impl<R: Wait> Work<R, u64, u64> for Adding {
+    type Back = u64;
+
+    ghost fits = { λ _ _ _ _. Unit {0} };
+
+    ghost done = { λ _ _ _ _. Unit {0} };
+
+    fn work(&self, _rt: &R, shared: &u64, place: usize, part: u64) -> u64 {
+        let before = (place as u64).wrapping_mul(1_000);
+        shared.wrapping_add(part).wrapping_add(before)
+    }
+}
+
+#[test]
+fn what_comes_back_stands_in_the_order_of_the_parts(rt: HostRuntime) -> Result<(), Fail> {
+    let alloc = rt.alloc();
+    let parts = vec![in alloc; 5, 3, 9]?;
+    let Some(back) = together(&rt, alloc, &Adding, &100, parts) else {
+        return Err(Fail::from("refused"));
+    };
+    assert_eq!(rt; back.as_slice(), [105, 1_103, 2_109].as_slice());
+    Ok(())
+}
+
+#[test]
+fn no_part_needs_no_thread(rt: HostRuntime) -> Result<(), Fail> {
+    let alloc: Global = rt.alloc();
+    let Some(back) = together(&rt, alloc, &Adding, &100, Vec::new(alloc)) else {
+        return Err(Fail::from("refused"));
+    };
+    assert_eq!(rt; back.len(), 0);
+    Ok(())
+}

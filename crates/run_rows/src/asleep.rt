@@ -1,0 +1,208 @@
+//! Workers sleep that are to, and others do not, over lines that a holder keeps until somebody has waited so.
+use line_accounts::AccountLaw;
+use line_board::BoardLaw;
+use line_threads::{HookedLine, Hooks};
+use locks::RingLine;
+use qolb_model::{Keep, OpenLine, Sleeping};
+use qolb_run::{AlwaysOpen, RunError, Waits, run_work_over};
+use qolb_script::{Report, Work, WorkKind, read_work};
+use std::alloc::Global;
+use std::process::Abort;
+use std::sync::Wait;
+use std::sync::atomic::{AtomicU64, Ordering};
+use std::test::Fail;
+use std::thread::{Threads, yield_now};
+use std::time::Duration;
+
+/// Waits until the count is no longer 0.
+fn wait_until_some(count: &AtomicU64) {
+    for _ in 0..u64::MAX {
+        if count.load(Ordering::SeqCst) > 0 {
+            return;
+        }
+        yield_now();
+    }
+}
+
+/// Nobody lets the line go before somebody has slept at it. So work at it does not end where two ask for it, and the waiter does not sleep.
+#[derive(Drop)]
+struct UntilSlept {
+    sleeps: AtomicU64,
+}
+
+impl Default for UntilSlept {
+    fn default() -> UntilSlept {
+        UntilSlept {
+            sleeps: AtomicU64::new(0),
+        }
+    }
+}
+
+impl Hooks for UntilSlept {
+    fn lets_go(&self) {
+        wait_until_some(&self.sleeps);
+    }
+
+    fn sleep<R: Wait, K: Keep, L: Sleeping<K>>(
+        &self,
+        rt: &R,
+        line: &L,
+        port: &L::Port,
+        at_most: Duration,
+    ) {
+        self.sleeps.fetch_add(1, Ordering::SeqCst);
+        line.sleep(rt, port, at_most)
+    }
+}
+
+/// Nobody lets the line go before somebody has looked for it in vain, and a sleep at it does not end. So work at it does not end where two
+/// ask for it, and the waiter sleeps.
+#[derive(Drop)]
+struct UntilLooked {
+    looks: AtomicU64,
+}
+
+impl Default for UntilLooked {
+    fn default() -> UntilLooked {
+        UntilLooked {
+            looks: AtomicU64::new(0),
+        }
+    }
+}
+
+impl Hooks for UntilLooked {
+    fn looked_in_vain<K: Keep, L: Sleeping<K>>(&self, _line: &L, _port: &L::Port) {
+        self.looks.fetch_add(1, Ordering::SeqCst);
+    }
+
+    fn lets_go(&self) {
+        wait_until_some(&self.looks);
+    }
+
+    fn sleep<R: Wait, K: Keep, L: Sleeping<K>>(
+        &self,
+        _rt: &R,
+        _line: &L,
+        _port: &L::Port,
+        _at_most: Duration,
+    ) {
+        for _ in 0..u64::MAX {
+            yield_now();
+        }
+    }
+}
+
+/// The work over lines with these hooks.
+fn work_hooked<
+    R: Threads + Wait + Sync,
+    H: Hooks + Default + Sync + Drop,
+    B: OpenLine<BoardLaw> + Sleeping<BoardLaw> + Sync + Drop,
+    A: OpenLine<AccountLaw> + Sleeping<AccountLaw> + Sync + Drop,
+>(rt: &R, alloc: Global, work: &Work, waits: Waits) -> Result<Report, RunError>
+where
+    B::Port: Send + Drop,
+    A::Port: Send + Drop,
+{
+    run_work_over::<R, AlwaysOpen, HookedLine<H, B>, HookedLine<H, A>>(
+        rt,
+        alloc,
+        &AlwaysOpen,
+        work,
+        waits,
+    )
+}
+
+/// What two jobs come to that store, and two that find nothing.
+const TWO_STORED: Report = Report::Board {
+    stored: 2,
+    full: 0,
+    taken: 0,
+    empty: 0,
+    left: 2,
+};
+
+const NOTHING_TAKEN: Report = Report::Board {
+    stored: 0,
+    full: 0,
+    taken: 0,
+    empty: 2,
+    left: 0,
+};
+
+const TWO_PAID: Report = Report::Bank {
+    paid_in: 2,
+    paid_out: 0,
+    total: 2,
+};
+
+const NOTHING_PAID: Report = Report::Bank {
+    paid_in: 0,
+    paid_out: 0,
+    total: 0,
+};
+
+/// A job of each kind for each of two workers or three, and its report. At each line two ask at least.
+static JOBS_OF_EACH_KIND: [(WorkKind, &str, Report); 7] = [
+    (
+        WorkKind::Board,
+        "board workers 2\n1 put 5\n2 put 6\n",
+        TWO_STORED,
+    ),
+    (
+        WorkKind::Board,
+        "board workers 2\n1 take\n2 take\n",
+        NOTHING_TAKEN,
+    ),
+    (
+        WorkKind::Bank,
+        "bank workers 2 lines 1\n1 in 0 1\n2 in 0 1\n",
+        TWO_PAID,
+    ),
+    (
+        WorkKind::Bank,
+        "bank workers 2 lines 1\n1 out 0 1\n2 out 0 1\n",
+        NOTHING_PAID,
+    ),
+    (
+        WorkKind::Bank,
+        "bank workers 2 lines 1\n1 move 0 1 1\n2 move 0 1 1\n",
+        NOTHING_PAID,
+    ),
+    (
+        WorkKind::Bank,
+        "bank workers 3 lines 2\n1 move 0 8 1\n2 out 0 1\n3 out 8 1\n",
+        NOTHING_PAID,
+    ),
+    (
+        WorkKind::Bank,
+        "bank workers 3 lines 2\n1 move 8 0 1\n2 out 0 1\n3 out 8 1\n",
+        NOTHING_PAID,
+    ),
+];
+
+/// Workers do a job of each kind over rings with these hooks: how a worker waits is not a lock's matter, and it takes the prover a minute to
+/// see of each lock that it is a line with hooks.
+fn expect_hooked<R: Threads + Wait + Abort + Sync, H: Hooks + Default + Sync + Drop>(
+    rt: &R,
+    alloc: Global,
+    waits: Waits,
+) -> Result<(), Fail> {
+    for (kind, script, report) in &JOBS_OF_EACH_KIND {
+        let work = read_work(alloc, script.as_bytes(), *kind)?;
+        let found = work_hooked::<R, H, RingLine<BoardLaw>, RingLine<AccountLaw>>(
+            rt, alloc, &work, waits,
+        );
+        assert_eq!(rt; found, Ok(*report), "{script}");
+    }
+    Ok(())
+}
+
+#[test]
+fn workers_sleep_that_are_to(rt: HostRuntime) -> Result<(), Fail> {
+    expect_hooked::<HostRuntime, UntilSlept>(&rt, rt.alloc(), Waits::Asleep)
+}
+
+#[test]
+fn workers_stay_awake_that_are_to(rt: HostRuntime) -> Result<(), Fail> {
+    expect_hooked::<HostRuntime, UntilLooked>(&rt, rt.alloc(), Waits::Awake)
+}

@@ -1,0 +1,264 @@
+//! Workers before a gate.
+use crate::work::expect;
+use locks::{ALL, Lines};
+use qolb_run::{Gate, RunError, Waits, report_work, run_work};
+use qolb_script::{Report, Watched, WorkKind, read_work};
+use std::sync::atomic::{AtomicU64, Ordering};
+use std::test::Fail;
+use std::thread::yield_now;
+
+/// A gate that never opens.
+struct Closed;
+
+impl Gate for Closed {
+    ghost may_refuse = { λ gate worker. Unit {0} };
+
+    fn may(&self, _worker: u64, _at: u64) -> bool {
+        false
+    }
+}
+
+#[test]
+fn a_worker_gives_up_before_a_closed_gate(rt: HostRuntime) -> Result<(), Fail> {
+    let script = "board workers 2\n2 put 5\n";
+    expect(
+        &rt,
+        rt.alloc(),
+        &Closed,
+        script,
+        WorkKind::Board,
+        Err(RunError::Stalled(2)),
+    )
+}
+
+#[test]
+fn a_worker_of_a_bank_gives_up_before_a_closed_gate(rt: HostRuntime) -> Result<(), Fail> {
+    let script = "bank workers 2 lines 1\n2 in 0 1\n";
+    expect(
+        &rt,
+        rt.alloc(),
+        &Closed,
+        script,
+        WorkKind::Bank,
+        Err(RunError::Stalled(2)),
+    )
+}
+
+/// A gate that opens once two workers stand before it at the same time.
+#[derive(Drop)]
+struct Meeting {
+    first: AtomicU64,
+    second: AtomicU64,
+    met: AtomicU64,
+}
+
+impl Gate for Meeting {
+    ghost may_refuse = { λ gate worker. Unit {0} };
+
+    fn may(&self, worker: u64, _at: u64) -> bool {
+        let (mine, other) = if worker == 1 {
+            (&self.first, &self.second)
+        } else {
+            (&self.second, &self.first)
+        };
+        mine.store(1, Ordering::SeqCst);
+        for _ in 0..100 {
+            if other.load(Ordering::SeqCst) == 1 {
+                self.met.store(1, Ordering::SeqCst);
+            }
+            if self.met.load(Ordering::SeqCst) == 1 {
+                return true;
+            }
+            yield_now();
+        }
+        mine.store(0, Ordering::SeqCst);
+        false
+    }
+}
+
+#[test]
+fn workers_stand_before_a_gate_at_the_same_time(rt: HostRuntime) -> Result<(), Fail> {
+    let report = Report::Bank {
+        paid_in: 2,
+        paid_out: 0,
+        total: 2,
+    };
+    let script = "bank workers 2 lines 1\n1 in 0 1\n2 in 0 1\n";
+    let work = read_work(rt.alloc(), script.as_bytes(), WorkKind::Bank)?;
+    for lines in ALL {
+        let gate = Meeting {
+            first: AtomicU64::new(0),
+            second: AtomicU64::new(0),
+            met: AtomicU64::new(0),
+        };
+        let found = run_work(&rt, rt.alloc(), &gate, &work, lines, Waits::Awake);
+        assert_eq!(rt; found, Ok(report), "by {lines:?}");
+    }
+    Ok(())
+}
+
+/// A gate that opens at so many asks for a job, each time, and counts the asks for each number.
+#[derive(Drop)]
+pub(crate) struct Counting {
+    opens_at: u64,
+    asked: [AtomicU64; 4],
+    /// The numbers that were asked for, one digit each, 1 more than the number.
+    numbers: AtomicU64,
+    /// How often the gate was told that work begins, of how many jobs, and how often a worker asked before that.
+    begun: AtomicU64,
+    jobs: AtomicU64,
+    early: AtomicU64,
+}
+
+impl Counting {
+    pub(crate) fn new(opens_at: u64) -> Counting {
+        Counting {
+            opens_at,
+            asked: [
+                AtomicU64::new(0),
+                AtomicU64::new(0),
+                AtomicU64::new(0),
+                AtomicU64::new(0),
+            ],
+            numbers: AtomicU64::new(0),
+            begun: AtomicU64::new(0),
+            jobs: AtomicU64::new(0),
+            early: AtomicU64::new(0),
+        }
+    }
+
+    pub(crate) fn asks_for(&self, at: usize) -> u64 {
+        self.asked[at % 4].load(Ordering::SeqCst)
+    }
+}
+
+impl Gate for Counting {
+    ghost may_refuse = { λ gate worker. Unit {0} };
+
+    fn begins(&self, jobs: usize) {
+        self.begun.fetch_add(1, Ordering::SeqCst);
+        self.jobs.store(jobs as u64, Ordering::SeqCst);
+    }
+
+    fn may(&self, worker: u64, at: u64) -> bool {
+        if self.begun.load(Ordering::SeqCst) == 0 {
+            self.early.fetch_add(1, Ordering::SeqCst);
+        }
+        if worker != 1 {
+            return true;
+        }
+        let asks = self.asked[(at % 4) as usize]
+            .fetch_add(1, Ordering::SeqCst)
+            .saturating_add(1);
+        if asks == 1 {
+            let before = self.numbers.load(Ordering::SeqCst);
+            let next = before.wrapping_mul(10).wrapping_add(at % 4 + 1);
+            self.numbers.store(next, Ordering::SeqCst);
+        }
+        asks >= self.opens_at
+    }
+}
+
+#[test]
+fn a_worker_asks_before_each_job_and_once_after_the_last(rt: HostRuntime) -> Result<(), Fail> {
+    let script = "board workers 2\n1 put 5\n2 put 6\n1 take\n";
+    let work = read_work(rt.alloc(), script.as_bytes(), WorkKind::Board)?;
+    for lines in ALL {
+        let gate = Counting::new(1);
+        assert!(rt;
+            run_work(&rt, rt.alloc(), &gate, &work, lines, Waits::Asleep).is_ok(),
+            "by {lines:?}"
+        );
+        assert_eq!(rt; gate.numbers.load(Ordering::SeqCst), 123, "by {lines:?}");
+        for at in 0..3usize {
+            assert_eq!(rt; gate.asks_for(at), 1, "for {at} by {lines:?}");
+        }
+    }
+    Ok(())
+}
+
+#[test]
+fn a_gate_is_told_once_of_all_jobs_before_any_worker_asks(rt: HostRuntime) -> Result<(), Fail> {
+    let board = "board workers 2\n1 put 5\n2 put 6\n1 take\n";
+    let bank = "bank workers 2 lines 1\n1 in 0 1\n2 in 1 1\n1 out 0 1\n";
+    for (script, kind) in [(board, WorkKind::Board), (bank, WorkKind::Bank)] {
+        let work = read_work(rt.alloc(), script.as_bytes(), kind)?;
+        for lines in ALL {
+            let gate = Counting::new(1);
+            assert!(rt;
+                run_work(&rt, rt.alloc(), &gate, &work, lines, Waits::Awake).is_ok(),
+                "{kind:?} by {lines:?}"
+            );
+            assert_eq!(rt;
+                gate.begun.load(Ordering::SeqCst),
+                1,
+                "{kind:?} by {lines:?}"
+            );
+            assert_eq!(rt;
+                gate.jobs.load(Ordering::SeqCst),
+                3,
+                "{kind:?} by {lines:?}"
+            );
+            assert_eq!(rt;
+                gate.early.load(Ordering::SeqCst),
+                0,
+                "{kind:?} by {lines:?}"
+            );
+        }
+    }
+    Ok(())
+}
+
+#[test]
+fn work_that_is_reported_is_done_once(rt: HostRuntime) -> Result<(), Fail> {
+    let script = "board workers 2\n1 put 5\n2 put 6\n1 take\n";
+    for lines in ALL {
+        let gate = Counting::new(1);
+        let mut reader = Watched::new(script.as_bytes());
+        let mut writer = Watched::new(Vec::new(rt.alloc()));
+        let done = report_work(
+            &rt,
+            rt.alloc(),
+            &gate,
+            &mut reader,
+            &mut writer,
+            WorkKind::Board,
+            lines,
+            Waits::Asleep,
+        );
+        assert!(rt; done.is_ok(), "by {lines:?}");
+        for at in 0..3usize {
+            assert_eq!(rt; gate.asks_for(at), 1, "for {at} by {lines:?}");
+        }
+    }
+    Ok(())
+}
+
+#[test]
+fn a_worker_waits_for_the_millionth_ask(rt: HostRuntime) -> Result<(), Fail> {
+    let work = read_work(rt.alloc(), b"board workers 1\n1 put 5\n", WorkKind::Board)?;
+    let report = Report::Board {
+        stored: 1,
+        full: 0,
+        taken: 0,
+        empty: 0,
+        left: 1,
+    };
+    let gate = Counting::new(1_000_000);
+    let found = run_work(&rt, rt.alloc(), &gate, &work, Lines::Ring, Waits::Awake);
+    assert_eq!(rt; found, Ok(report));
+    assert_eq!(rt; gate.asks_for(0), 1_000_000);
+    assert_eq!(rt; gate.asks_for(1), 1);
+    Ok(())
+}
+
+#[test]
+fn a_worker_gives_up_at_the_millionth_refusal(rt: HostRuntime) -> Result<(), Fail> {
+    let work = read_work(rt.alloc(), b"board workers 1\n1 put 5\n", WorkKind::Board)?;
+    let gate = Counting::new(1_000_001);
+    let found = run_work(&rt, rt.alloc(), &gate, &work, Lines::Ring, Waits::Awake);
+    assert_eq!(rt; found, Err(RunError::Stalled(1)));
+    assert_eq!(rt; gate.asks_for(0), 1_000_000);
+    assert_eq!(rt; gate.asks_for(1), 0);
+    Ok(())
+}

@@ -1,0 +1,368 @@
+//! Replays of scripts by lines of each kind.
+use linked_list_allocator::LocalHeap;
+use locks::Lines;
+use qolb_run::{InputError, Kind, ReplayError, read_all, run_schedule};
+use qolb_script::{ScriptError, Watched};
+use std::alloc::Global;
+use std::io;
+use std::io::{Read, Write};
+use std::test::Fail;
+
+static KINDS: [Kind; 4] = [
+    Kind::Plain,
+    Kind::Shared(Lines::Ring),
+    Kind::Shared(Lines::Link),
+    Kind::Shared(Lines::Ticket),
+];
+
+/// What a replay of the script writes.
+fn reply_to(alloc: Global, script: &str, kind: Kind) -> Result<String, Fail> {
+    let mut reader = Watched::new(script.as_bytes());
+    let mut text: Vec<u8> = Vec::new(alloc);
+    run_schedule(alloc, &mut reader, &mut Watched::new(&mut text), kind)?;
+    Ok(String::from_utf8(text)?)
+}
+
+/// The error of a replay of the script, and how many bytes were written.
+fn refused(alloc: Global, script: &str, kind: Kind) -> (Option<ReplayError>, usize) {
+    let mut reader = Watched::new(script.as_bytes());
+    let mut text: Vec<u8> = Vec::new(alloc);
+    let done = run_schedule(alloc, &mut reader, &mut Watched::new(&mut text), kind);
+    (done.err(), text.len())
+}
+
+const HAND_OVER: &str =
+    "nodes 2 lines 1\nenq 1 0\nwrite 1 0 0 a1b2\nenq 2 0\npoll 2 0\ndeq 1 0\npoll 2 0\nshow 2 0\ndeq 2 0\n";
+
+/// Scripts and their replies.
+static REPLIES: [(&str, &str); 14] = [
+    // no command
+    (
+        "nodes 1 lines 1\n",
+        "line 0 served 0 withdrawn 0 told 0 left 0\n",
+    ),
+    // states that do not allow a command
+    (
+        "nodes 1 lines 1\npoll 1 0\ndeq 1 0\nenq 1 0\nenq 1 0\ndeq 1 0\n",
+        "misuse\nmisuse\ngranted\nmisuse\nreleased\nline 0 served 1 withdrawn 0 told 0 left 0\n",
+    ),
+    // the oldest request is served first, whatever its node
+    (
+        "nodes 4 lines 1\nenq 4 0\nenq 3 0\nenq 1 0\nenq 2 0\ndeq 4 0\npoll 1 0\npoll 3 0\ndeq 3 0\npoll 2 0\npoll 1 0\ndeq 1 0\npoll 2 0\n",
+        "granted\nqueued\nqueued\nqueued\nreleased\nwaiting\ngranted\nreleased\nwaiting\ngranted\nreleased\ngranted\nline 0 served 3 withdrawn 0 told 0 left 1\n",
+    ),
+    // a withdrawn node is busy until a release passes it
+    (
+        "nodes 3 lines 1\nenq 1 0\nenq 2 0\nenq 3 0\nout 2 0\nenq 2 0\ndeq 1 0\nenq 2 0\npoll 3 0\ndeq 3 0\npoll 2 0\n",
+        "granted\nqueued\nqueued\nwithdrawn\nbusy\nreleased\nqueued\ngranted\nreleased\ngranted\nline 0 served 2 withdrawn 1 told 0 left 1\n",
+    ),
+    // a release passes all that have withdrawn
+    (
+        "nodes 3 lines 1\nenq 1 0\nenq 2 0\nenq 3 0\nout 2 0\nout 3 0\ndeq 1 0\nenq 3 0\n",
+        "granted\nqueued\nqueued\nwithdrawn\nwithdrawn\nreleased\ngranted\nline 0 served 1 withdrawn 2 told 0 left 1\n",
+    ),
+    // whoever withdraws at its turn holds the line
+    (
+        "nodes 2 lines 1\nenq 1 0\nenq 2 0\ndeq 1 0\nout 2 0\ndeq 2 0\n",
+        "granted\nqueued\nreleased\ngranted\nreleased\nline 0 served 2 withdrawn 0 told 0 left 0\n",
+    ),
+    // a closed line is told of to each in turn
+    (
+        "nodes 3 lines 1\nenq 1 0\nenq 2 0\nenq 3 0\nshut 1 0\npoll 3 0\npoll 2 0\npoll 3 0\nenq 1 0\nenq 2 0\n",
+        "granted\nqueued\nqueued\nshut\nwaiting\nclosed\nclosed\nclosed\nclosed\nline 0 served 1 withdrawn 0 told 4 left 0\n",
+    ),
+    // and to whoever withdraws at its turn
+    (
+        "nodes 2 lines 1\nenq 1 0\nenq 2 0\nshut 1 0\nout 2 0\n",
+        "granted\nqueued\nshut\nclosed\nline 0 served 1 withdrawn 0 told 1 left 0\n",
+    ),
+    // lines are apart
+    (
+        "nodes 2 lines 2\nenq 1 0\nenq 2 1\nenq 1 1\ndeq 2 1\npoll 1 1\nshut 1 1\nenq 2 1\nenq 2 0\nout 2 0\n",
+        "granted\ngranted\nqueued\nreleased\ngranted\nshut\nclosed\nqueued\nwithdrawn\nline 0 served 0 withdrawn 1 told 0 left 1\nline 1 served 2 withdrawn 0 told 1 left 0\n",
+    ),
+    // a told node passes the withdrawn ones behind it, so that they may ask again
+    (
+        "nodes 4 lines 1\nenq 1 0\nenq 2 0\nenq 3 0\nenq 4 0\nout 3 0\nshut 1 0\nenq 3 0\npoll 2 0\nenq 3 0\npoll 4 0\n",
+        "granted\nqueued\nqueued\nqueued\nwithdrawn\nshut\nbusy\nclosed\nqueued\nclosed\nline 0 served 1 withdrawn 1 told 2 left 1\n",
+    ),
+    // the second of two turns closes the line
+    (
+        "nodes 2 lines 1 lease 2\nenq 1 0\nwrite 1 0 0 07\nenq 2 0\ndeq 1 0\npoll 2 0\nenq 1 0\ndeq 2 0\npoll 1 0\nenq 2 0\n",
+        "granted\nok\nqueued\nreleased\ngranted\nqueued\nreleased\nclosed\nclosed\nline 0 served 2 withdrawn 0 told 2 left 0\n",
+    ),
+    // each line has its own lease, of which a withdrawn request uses no turn
+    (
+        "nodes 3 lines 2 lease 1\nenq 1 0\nenq 2 1\nenq 1 1\nout 1 1\ndeq 2 1\nenq 1 1\ndeq 1 0\nenq 3 0\n",
+        "granted\ngranted\nqueued\nwithdrawn\nreleased\nclosed\nreleased\nclosed\nline 0 served 1 withdrawn 0 told 1 left 0\nline 1 served 1 withdrawn 1 told 1 left 0\n",
+    ),
+    // more nodes than 32
+    (
+        "nodes 33 lines 1",
+        "line 0 served 0 withdrawn 0 told 0 left 0\n",
+    ),
+    // the last newline may be missing, and blanks do not count as words
+    (
+        "\n  nodes  1 lines 1  \n\n enq 1 0",
+        "granted\nline 0 served 0 withdrawn 0 told 0 left 1\n",
+    ),
+];
+
+#[test]
+fn answers_scripts(rt: HostRuntime) -> Result<(), Fail> {
+    for (script, reply) in &REPLIES {
+        for kind in &KINDS {
+            assert_eq!(rt;
+                reply_to(rt.alloc(), script, *kind)?.as_str(),
+                *reply,
+                "of {script}"
+            );
+        }
+    }
+    Ok(())
+}
+
+/// A line for each node from the first to before the end, of a word, the node and the rest.
+fn push_each(
+    alloc: Global,
+    text: &mut String,
+    first: u64,
+    end: u64,
+    word: &str,
+    rest: &str,
+) -> Result<(), Fail> {
+    for node in first..end {
+        text.push_str(word)?;
+        text.push(' ')?;
+        text.push_str(node.to_string(alloc)?.as_str())?;
+        text.push_str(rest)?;
+    }
+    Ok(())
+}
+
+#[test]
+fn a_release_passes_199_withdrawn_nodes(rt: HostRuntime) -> Result<(), Fail> {
+    let alloc = rt.alloc();
+    let mut script = "nodes 200 lines 1\n".to_string(alloc)?;
+    push_each(alloc, &mut script, 1, 201, "enq", " 0\n")?;
+    push_each(alloc, &mut script, 2, 201, "out", " 0\n")?;
+    script.push_str("deq 1 0\n")?;
+    let mut reply = "granted\n".to_string(alloc)?;
+    for _ in 2..201 {
+        reply.push_str("queued\n")?;
+    }
+    for _ in 2..201 {
+        reply.push_str("withdrawn\n")?;
+    }
+    reply.push_str("released\nline 0 served 1 withdrawn 199 told 0 left 0\n")?;
+    for kind in &KINDS {
+        assert_eq!(rt; reply_to(alloc, script.as_str(), *kind)?, reply);
+    }
+    Ok(())
+}
+
+/// The hex digits of a line that has these from a place on, and zeros elsewhere.
+fn line_of(alloc: Global, place: usize, digits: &str) -> Result<String, Fail> {
+    let mut line = String::new(alloc);
+    for _ in 0..place {
+        line.push_str("00")?;
+    }
+    line.push_str(digits)?;
+    for _ in line.len()..128 {
+        line.push('0')?;
+    }
+    Ok(line)
+}
+
+/// Scripts with a `show`: the reply before what it shows, the place and the digits of its bytes that are not zero, and the reply behind it.
+static SHOWN: [(&str, &str, usize, &str, &str); 3] = [
+    (
+        HAND_OVER,
+        "granted\nok\nqueued\nwaiting\nreleased\ngranted\n",
+        0,
+        "a1b2",
+        "released\nline 0 served 2 withdrawn 0 told 0 left 0\n",
+    ),
+    // masked writes leave the other bytes, of this turn and of earlier ones, as they were
+    (
+        "nodes 2 lines 1\nenq 1 0\nwrite 1 0 0 a1b2c3d4\nwrite 1 0 2 FF\nenq 2 0\ndeq 1 0\npoll 2 0\nwrite 2 0 1 0e\nshow 2 0\n",
+        "granted\nok\nok\nqueued\nreleased\ngranted\nok\n",
+        0,
+        "a10effd4",
+        "line 0 served 1 withdrawn 0 told 0 left 1\n",
+    ),
+    // the last place of a line
+    (
+        "nodes 1 lines 1\nenq 1 0\nwrite 1 0 63 ff\nshow 1 0\n",
+        "granted\nok\n",
+        63,
+        "ff",
+        "line 0 served 0 withdrawn 0 told 0 left 1\n",
+    ),
+];
+
+#[test]
+fn shows_what_holders_wrote(rt: HostRuntime) -> Result<(), Fail> {
+    let alloc = rt.alloc();
+    for (script, before, place, digits, behind) in &SHOWN {
+        let line = line_of(alloc, *place, digits)?;
+        let reply = format!(in alloc; "{before}{line}\n{behind}")?;
+        for kind in &KINDS {
+            assert_eq!(rt; reply_to(alloc, script, *kind)?, reply, "of {script}");
+        }
+    }
+    Ok(())
+}
+
+/// Scripts that are refused.
+static FAULTS: [(&str, ScriptError); 8] = [
+    ("", ScriptError::BadLine(1)),
+    ("nodes 201 lines 1", ScriptError::Number(1)),
+    ("nodes 1 lines 1 lease 0", ScriptError::Number(1)),
+    ("nodes 1 lines 1 lease", ScriptError::BadLine(1)),
+    ("nodes 2 lines 1\nenq 3 0", ScriptError::Number(2)),
+    ("nodes 2 lines 1\nenq 1", ScriptError::BadLine(2)),
+    (
+        "nodes 1 lines 1\nenq 1 0\nwrite 1 0 63 ffff\nshow 1 0",
+        ScriptError::BadLine(3),
+    ),
+    ("nodes 2 lines 1\n\n\nenq 9 0\nenq", ScriptError::Number(4)),
+];
+
+#[test]
+fn names_the_first_fault(rt: HostRuntime) -> Result<(), Fail> {
+    for (script, error) in &FAULTS {
+        for kind in &KINDS {
+            assert_eq!(rt;
+                refused(rt.alloc(), script, *kind),
+                (Some(ReplayError::Script(*error)), 0),
+                "of {script}"
+            );
+        }
+    }
+    Ok(())
+}
+
+/// Gives so many newlines, `part` at a read, and then fails or ends.
+#[derive(Drop)]
+struct Newlines {
+    left: u64,
+    part: usize,
+    fails: bool,
+}
+
+impl Read for Newlines {
+    fn read(&mut self, buf: &mut [u8]) -> io::Result<usize> {
+        if self.left == 0 && self.fails {
+            return Err(io::Error::from(io::ErrorKind::Other));
+        }
+        let room = self.part.min(buf.len());
+        let given = self.left.min(room as u64) as usize;
+        buf[..given].fill(b'\n');
+        self.left -= given as u64;
+        Ok(given)
+    }
+}
+
+/// Takes so many writes, and then fails.
+#[derive(Drop)]
+struct Failing {
+    left: u64,
+}
+
+impl Write for Failing {
+    fn write(&mut self, buf: &[u8]) -> io::Result<usize> {
+        if self.left == 0 || buf.is_empty() {
+            return Err(io::Error::from(io::ErrorKind::Other));
+        }
+        self.left -= 1;
+        Ok(1)
+    }
+
+    fn flush(&mut self) -> io::Result<()> {
+        Ok(())
+    }
+}
+
+#[test]
+fn tells_faults_of_reader_and_writer(rt: HostRuntime) -> Result<(), Fail> {
+    for left in 0..5u64 {
+        let mut reader = Watched::new(Newlines {
+            left,
+            part: 1,
+            fails: true,
+        });
+        let mut text: Vec<u8> = Vec::new(rt.alloc());
+        let done = run_schedule(
+            rt.alloc(),
+            &mut reader,
+            &mut Watched::new(&mut text),
+            Kind::Plain,
+        );
+        assert_eq!(rt; done, Err(ReplayError::Read), "at {left}");
+        assert!(rt; reader.failed());
+        assert_eq!(rt; text.len(), 0);
+    }
+    for left in 0..5u64 {
+        let mut reader = Watched::new(HAND_OVER.as_bytes());
+        let mut writer = Watched::new(Failing { left });
+        let done = run_schedule(rt.alloc(), &mut reader, &mut writer, Kind::Plain);
+        assert_eq!(rt; done, Err(ReplayError::Write), "at {left}");
+        assert!(rt; writer.failed());
+    }
+    Ok(())
+}
+
+#[test]
+fn takes_inputs_up_to_the_limit(rt: HostRuntime) -> Result<(), Fail> {
+    for (left, error) in [
+        (16_777_216u64, ReplayError::Script(ScriptError::BadLine(1))),
+        (16_777_217, ReplayError::Long),
+    ] {
+        let mut reader = Watched::new(Newlines {
+            left,
+            part: 65_536,
+            fails: false,
+        });
+        let mut text: Vec<u8> = Vec::new(rt.alloc());
+        let done = run_schedule(
+            rt.alloc(),
+            &mut reader,
+            &mut Watched::new(&mut text),
+            Kind::Plain,
+        );
+        assert_eq!(rt; done, Err(error), "of {left} newlines");
+        assert_eq!(rt; text.len(), 0);
+    }
+    Ok(())
+}
+
+#[test]
+fn an_input_may_come_byte_by_byte(rt: HostRuntime) -> Result<(), Fail> {
+    let mut reader = Watched::new(Newlines {
+        left: 10_000,
+        part: 1,
+        fails: false,
+    });
+    let input = read_all(rt.alloc(), &mut reader).ok().ok_or("an input")?;
+    assert_eq!(rt; input.len(), 10_000);
+    Ok(())
+}
+
+#[test]
+fn each_growth_of_an_input_is_refused(rt: HostRuntime) -> Result<(), Fail> {
+    let mut refused = 0u32;
+    for step in 1..400usize {
+        let heap = LocalHeap::new(rt.alloc(), 32 * step)?;
+        let mut reader = Watched::new(HAND_OVER.as_bytes());
+        match read_all(&heap, &mut reader) {
+            Ok(input) => assert_eq!(rt; input.as_slice(), HAND_OVER.as_bytes(), "at {step}"),
+            Err(error) => {
+                assert_eq!(rt; error, InputError::Memory, "at {step}");
+                refused = refused.saturating_add(1);
+            }
+        }
+    }
+    assert!(rt; refused > 0);
+    Ok(())
+}

@@ -1,0 +1,104 @@
+//! Readers and writers that remember a fault.
+use crate::rows::expect;
+use qolb_script::{Fault, Watched};
+use std::io;
+use std::io::{Error, ErrorKind, Read, Write};
+use std::test::Fail;
+
+/// Gives a byte a read, after an interruption each time, and fails at one of them.
+#[derive(Drop)]
+struct FailingReader {
+    left: u64,
+    interrupted: bool,
+}
+
+impl Read for FailingReader {
+    fn read(&mut self, buf: &mut [u8]) -> io::Result<usize> {
+        self.interrupted = !self.interrupted;
+        if self.interrupted {
+            return Err(Error::from(ErrorKind::Interrupted));
+        }
+        if self.left == 0 {
+            self.left = 9;
+            return Err(Error::from(ErrorKind::Other));
+        }
+        self.left -= 1;
+        if buf.is_empty() {
+            return Ok(0);
+        }
+        buf[0] = b'x';
+        Ok(1)
+    }
+}
+
+/// Takes a byte a write, and then one write fails or takes none; later ones take bytes again.
+#[derive(Drop)]
+struct FailingWriter {
+    left: u64,
+    fails: bool,
+}
+
+impl Write for FailingWriter {
+    fn write(&mut self, buf: &[u8]) -> io::Result<usize> {
+        if self.left == 0 {
+            self.left = 9;
+            return if self.fails {
+                Err(Error::from(ErrorKind::Other))
+            } else {
+                Ok(0)
+            };
+        }
+        self.left -= 1;
+        Ok(buf.len().min(1))
+    }
+
+    fn flush(&mut self) -> io::Result<()> {
+        Ok(())
+    }
+}
+
+#[test]
+fn a_failed_read_is_remembered(rt: HostRuntime) {
+    for left in 0..4u64 {
+        let mut reader = Watched::new(FailingReader {
+            left,
+            interrupted: false,
+        });
+        let mut part = [0; 8];
+        for _ in 0..left {
+            assert!(rt; !reader.failed());
+            assert_eq!(rt; reader.read(&mut part), Ok(1), "at {left}");
+        }
+        for _ in 0..3 {
+            assert_eq!(rt; reader.read(&mut part), Err(Fault), "at {left}");
+            assert!(rt; reader.failed());
+        }
+    }
+}
+
+#[test]
+fn a_failed_write_is_remembered(rt: HostRuntime) {
+    for (left, fails) in [(0, true), (2, true), (0, false), (2, false)] {
+        let mut writer = Watched::new(FailingWriter { left, fails });
+        for _ in 0..3 {
+            assert_eq!(rt; writer.write_all(b"abc"), Err(Fault), "at {left}");
+            assert!(rt; writer.failed());
+        }
+    }
+}
+
+#[test]
+fn bytes_are_read_and_written(rt: HostRuntime) -> Result<(), Fail> {
+    let mut reader = Watched::new(b"enq 1 0".as_slice());
+    let mut part = [0; 4];
+    for read in [4, 3, 0] {
+        assert_eq!(rt; reader.read(&mut part), Ok(read));
+    }
+    expect(&rt, "the reader", reader.failed(), false);
+    let mut writer = Watched::new(Vec::new(rt.alloc()));
+    expect(&rt, "a write", writer.write_all(b"ok\n"), Ok(()));
+    expect(&rt, "the writer", writer.failed(), false);
+    let written = writer.into_inner();
+    assert_eq!(rt; written.as_slice(), b"ok\n".as_slice());
+    Ok(())
+}
