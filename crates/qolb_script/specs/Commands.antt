@@ -95,6 +95,11 @@ sizes_of nodes lines = and_then (number_within 1 MOST_NODES nodes) (λ n. and_th
 abbrev pub lease_within : List ℕ → Result ℕ LineFault
 lease_within word = number_within 1 (2 ^ 64 - 1) word
 
+-- the lease, if there is a word for it
+abbrev pub lease_of : Option (List ℕ) → Result (Option ℕ) LineFault
+lease_of None = Ok None
+lease_of (Some word) = and_then (lease_within word) (λ turns. Ok (Some turns))
+
 -- the header that some words write: `nodes N lines L`, and perhaps `lease C`
 abbrev pub header_of : List (List ℕ) → Result Header LineFault
 header_of (first ∷ nodes ∷ third ∷ lines ∷ []) =

@@ -16,6 +16,7 @@ pub mod Said
 pub mod Reply
 pub mod Watched
 pub mod Events
+pub mod Stepped
 pub mod StepScript
 pub mod StepReply
 pub mod Jobs

@@ -1,9 +1,18 @@
 -- The commands of a node and a line. (Of this project.)
-use Rattle.std.specs.Prelude.{ℕ}
+use Rattle.std.specs.Prelude.{ℕ, List, codes}
 use Rattle.qolb_script.specs.declared.command.Command.{Command}
 use Rattle.qolb_script.specs.declared.command.Command.TheVariants as command
 use Rattle.qolb_script.specs.declared.command.Verb.{Verb}
 use Rattle.qolb_script.specs.declared.command.Verb.TheVariants.{Enq, Poll, Show, Deq, Out, Shut}
+
+-- the first word of its commands
+abbrev pub word_of : Verb → List ℕ
+word_of Enq = codes "enq"
+word_of Poll = codes "poll"
+word_of Show = codes "show"
+word_of Deq = codes "deq"
+word_of Out = codes "out"
+word_of Shut = codes "shut"
 
 -- the command at a node and a line
 abbrev pub made : Verb → ℕ → ℕ → Command

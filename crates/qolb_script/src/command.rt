@@ -1,21 +1,9 @@
-ghost use Rattle.std.specs.Prelude.{◌≡◌, ℕ, MatchOption};
-ghost use Rattle.qolb_script.specs.Commands.{node_of, line_of, named_command};
-ghost use Rattle.qolb_script.specs.Made.{made};
+ghost use Rattle.std.specs.Prelude.{◌≡◌, ℕ, find};
+ghost use Rattle.std.specs.Str.{bytes_eq};
+ghost use Rattle.qolb_script.specs.Commands.{node_of, line_of};
+ghost use Rattle.qolb_script.specs.Made.{word_of, made};
 
 use line_lanes::{Line64, Mask};
-
-/// The first words of the commands that have a node and a line.
-const ENQ: &[u8] = b"enq";
-
-const POLL: &[u8] = b"poll";
-
-const SHOW: &[u8] = b"show";
-
-const DEQ: &[u8] = b"deq";
-
-const OUT: &[u8] = b"out";
-
-const SHUT: &[u8] = b"shut";
 
 /// One command of a schedule: a call of a node on a line. Nodes are numbered from 1, lines from 0.
 #[derive(Clone, Copy, Debug, PartialEq, Eq)]
@@ -95,25 +83,35 @@ pub enum Verb {
     Shut,
 }
 
+/// All of them.
+const VERBS: [Verb; 6] = [
+    Verb::Enq,
+    Verb::Poll,
+    Verb::Show,
+    Verb::Deq,
+    Verb::Out,
+    Verb::Shut,
+];
+
 impl Verb {
     /// The one that a first word names.
     pub fn named(word: &[u8]) -> Option<Verb>
-        ensures { MatchOption result (named_command word.now ≡ None) (λ verb. named_command word.now ≡ Some (made verb)) }
+        ensures { result ≡ find (λ verb. bytes_eq word.now (word_of verb)) VERBS }
     {
-        if word == ENQ {
-            Some(Verb::Enq)
-        } else if word == POLL {
-            Some(Verb::Poll)
-        } else if word == SHOW {
-            Some(Verb::Show)
-        } else if word == DEQ {
-            Some(Verb::Deq)
-        } else if word == OUT {
-            Some(Verb::Out)
-        } else if word == SHUT {
-            Some(Verb::Shut)
-        } else {
-            None
+        VERBS.iter().find(|verb| word == verb.word()).copied()
+    }
+
+    /// The first word of its commands.
+    fn word(self) -> &'static [u8]
+        ensures { result.now ≡ word_of self }
+    {
+        match self {
+            Verb::Enq => b"enq",
+            Verb::Poll => b"poll",
+            Verb::Show => b"show",
+            Verb::Deq => b"deq",
+            Verb::Out => b"out",
+            Verb::Shut => b"shut",
         }
     }
 

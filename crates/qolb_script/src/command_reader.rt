@@ -1,14 +1,16 @@
-ghost use Rattle.std.specs.Prelude.{◌≡◌, ◌≤◌, ◌<◌, IfOk};
+ghost use Rattle.std.specs.Prelude.{◌≡◌, ◌≤◌, ◌<◌, IfOk, MatchResult};
+ghost use Rattle.std.specs.Option.{option_copied};
 ghost use Rattle.qolb_model.specs.Opening.{AreNodes};
 ghost use Rattle.qolb_model.specs.Leases.{IsLease};
 ghost use Rattle.hex.specs.Hex.{decode_of};
 ghost use Rattle.qolb_script.specs.Commands as spec;
+ghost use Rattle.qolb_script.specs.Reading.{words_left, lease_words, IsNoLease};
 
 use crate::command::{Command, Verb};
 use crate::items::ReadItem;
 use crate::number::number_within;
 use crate::schedule::MOST_LINES;
-use crate::text::{LineFault, is_plain_line};
+use crate::text::LineFault;
 use crate::words::Words;
 use hex::decode_to_slice;
 use line_lanes::{Line64, Mask, placed};
@@ -30,7 +32,7 @@ pub const NODES: &[u8] = b"nodes";
 pub const LINES: &[u8] = b"lines";
 
 /// The word of a header before its lease.
-pub const LEASE: &[u8] = b"lease";
+const LEASE: &[u8] = b"lease";
 
 /// What the header of a schedule says.
 #[derive(Clone, Copy)]
@@ -67,39 +69,28 @@ pub fn read_header(line: &[u8]) -> Result<Header, LineFault>
     ensures lines { IfOk result (λ header. (1 ≤ header.lines) × (header.lines ≤ MOST_LINES)) }
     ensures lease { IfOk result (λ header. IsLease header.lease) }
 {
-    if !is_plain_line(line) {
-        return Err(LineFault::Bad);
-    }
-    let mut words = Words::new(line);
-    let (Some(first), Some(nodes), Some(third), Some(lines)) = (
-        words.next(),
-        words.next(),
-        words.next(),
-        words.next(),
-    ) else {
-        return Err(LineFault::Bad);
-    };
-    if first != NODES || third != LINES {
-        return Err(LineFault::Bad);
-    }
+    let mut words = Words::of_line(line)?;
+    let nodes = words.named(NODES)?;
+    let lines = words.named(LINES)?;
+    let lease = lease_word(words)?;
+    let (nodes, lines) = read_sizes(nodes, lines)?;
+    let lease = read_lease(lease)?;
+    Ok(Header {
+        nodes,
+        lines,
+        lease,
+    })
+}
+
+/// The word for the lease, if it is not left out: nothing else may stand at the end of a header.
+pub fn lease_word<'a>(mut words: Words<'a>) -> Result<Option<&'a [u8]>, LineFault>
+    ensures { MatchResult result
+        (λ lease. words_left words.entry ≡ lease_words (option_copied lease))
+        (λ fault. (fault ≡ LineFault.Bad) × IsNoLease (words_left words.entry)) }
+{
     match (words.next(), words.next(), words.next()) {
-        (None, _, _) => {
-            let (nodes, lines) = read_sizes(nodes, lines)?;
-            Ok(Header {
-                nodes,
-                lines,
-                lease: None,
-            })
-        }
-        (Some(fifth), Some(lease), None) if fifth == LEASE => {
-            let (nodes, lines) = read_sizes(nodes, lines)?;
-            let lease = Some(read_lease(lease)?);
-            Ok(Header {
-                nodes,
-                lines,
-                lease,
-            })
-        }
+        (None, _, _) => Ok(None),
+        (Some(name), Some(word), None) if name == LEASE => Ok(Some(word)),
         _ => Err(LineFault::Bad),
     }
 }
@@ -115,8 +106,19 @@ pub fn read_sizes(nodes: &[u8], lines: &[u8]) -> Result<(u64, u64), LineFault>
     Ok((nodes, lines))
 }
 
+/// The lease, if there is a word for it.
+pub fn read_lease(word: Option<&[u8]>) -> Result<Option<u64>, LineFault>
+    ensures lease { result ≡ spec.lease_of (option_copied word.entry) }
+    ensures range { IfOk result (λ lease. IsLease lease) }
+{
+    match word {
+        Some(word) => Ok(Some(lease_within(word)?)),
+        None => Ok(None),
+    }
+}
+
 /// The lease that a word writes, of at least one turn.
-pub fn read_lease(word: &[u8]) -> Result<u64, LineFault>
+fn lease_within(word: &[u8]) -> Result<u64, LineFault>
     ensures lease { result ≡ spec.lease_within word.now }
     ensures range { IfOk result (λ turns. 1 ≤ turns) }
 {
@@ -129,10 +131,7 @@ fn read_command(nodes: u64, lines: u64, text: &[u8]) -> Result<Command, LineFaul
     ensures command { result ≡ spec.read_line (spec.command_of nodes lines) text.now }
     ensures range { IfOk result (λ c. (1 ≤ spec.node_of c) × (spec.node_of c ≤ nodes) × (spec.line_of c < lines)) }
 {
-    if !is_plain_line(text) {
-        return Err(LineFault::Bad);
-    }
-    let mut words = Words::new(text);
+    let mut words = Words::of_line(text)?;
     let (Some(first), Some(node), Some(line)) = (words.next(), words.next(), words.next()) else {
         return Err(LineFault::Bad);
     };

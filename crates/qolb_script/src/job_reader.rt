@@ -10,7 +10,7 @@ use crate::items::ReadItem;
 use crate::job::{ACCOUNTS_A_LINE, Job, WorkKind};
 use crate::number::number_within;
 use crate::schedule::MOST_LINES;
-use crate::text::{LineFault, is_plain_line};
+use crate::text::LineFault;
 use crate::words::Words;
 use qolb_model::MOST_NODES;
 
@@ -83,18 +83,14 @@ fn read_board_header(text: &[u8]) -> Result<WorkHeader, LineFault>
     ensures workers { IfOk result (λ header. AreNodes header.workers) }
     ensures one { IfOk result (λ header. header.lines ≡ 1) }
 {
-    if !is_plain_line(text) {
-        return Err(LineFault::Bad);
-    }
-    let mut words = Words::new(text);
-    match (words.next(), words.next(), words.next(), words.next()) {
-        (Some(first), Some(second), Some(workers), None) if first == BOARD && second == WORKERS =>
-            Ok(WorkHeader {
-                workers: number_within(1, MOST_NODES, workers)?,
-                lines: 1,
-            }),
-        _ => Err(LineFault::Bad),
-    }
+    let mut words = Words::of_line(text)?;
+    words.pass(BOARD)?;
+    let workers = words.named(WORKERS)?;
+    words.end()?;
+    Ok(WorkHeader {
+        workers: number_within(1, MOST_NODES, workers)?,
+        lines: 1,
+    })
 }
 
 /// The header of a bank's work.
@@ -103,23 +99,11 @@ fn read_bank_header(text: &[u8]) -> Result<WorkHeader, LineFault>
     ensures workers { IfOk result (λ header. AreNodes header.workers) }
     ensures lines { IfOk result (λ header. (1 ≤ header.lines) × (header.lines ≤ MOST_LINES)) }
 {
-    if !is_plain_line(text) {
-        return Err(LineFault::Bad);
-    }
-    let mut words = Words::new(text);
-    let (Some(first), Some(second), Some(workers), Some(fourth), Some(lines), None) = (
-        words.next(),
-        words.next(),
-        words.next(),
-        words.next(),
-        words.next(),
-        words.next(),
-    ) else {
-        return Err(LineFault::Bad);
-    };
-    if first != BANK || second != WORKERS || fourth != LINES {
-        return Err(LineFault::Bad);
-    }
+    let mut words = Words::of_line(text)?;
+    words.pass(BANK)?;
+    let workers = words.named(WORKERS)?;
+    let lines = words.named(LINES)?;
+    words.end()?;
     let (workers, lines) = read_sizes(workers, lines)?;
     Ok(WorkHeader { workers, lines })
 }
@@ -129,10 +113,7 @@ fn read_board_job(workers: u64, text: &[u8]) -> Result<Job, LineFault>
     ensures job { result ≡ read_line (spec.board_job workers) text.now }
     ensures range { IfOk result (λ job. (1 ≤ spec.worker_of job) × (spec.worker_of job ≤ workers) × spec.IsOfKind WorkKind.Board 1 job) }
 {
-    if !is_plain_line(text) {
-        return Err(LineFault::Bad);
-    }
-    let mut words = Words::new(text);
+    let mut words = Words::of_line(text)?;
     let (Some(worker), Some(verb)) = (words.next(), words.next()) else {
         return Err(LineFault::Bad);
     };
@@ -155,10 +136,7 @@ fn read_bank_job(workers: u64, lines: u64, text: &[u8]) -> Result<Job, LineFault
     ensures job { result ≡ read_line (spec.bank_job workers lines) text.now }
     ensures range { IfOk result (λ job. (1 ≤ spec.worker_of job) × (spec.worker_of job ≤ workers) × spec.IsOfKind WorkKind.Bank lines job) }
 {
-    if !is_plain_line(text) {
-        return Err(LineFault::Bad);
-    }
-    let mut words = Words::new(text);
+    let mut words = Words::of_line(text)?;
     let (Some(worker), Some(verb), Some(third), Some(fourth)) = (
         words.next(),
         words.next(),

@@ -13,6 +13,7 @@ mod number;
 mod reply_text;
 mod report;
 mod schedule;
+mod step;
 mod steps;
 mod text;
 mod watched;

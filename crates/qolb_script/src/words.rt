@@ -1,4 +1,4 @@
-use crate::text::split_once;
+use crate::text::{LineFault, is_plain_line, split_once};
 
 /// The words of a line that are left.
 #[derive(Drop)]
@@ -7,15 +7,71 @@ pub struct Words<'a> {
 }
 
 impl<'a> Words<'a> {
-    ghost use Rattle.std.specs.Prelude.{◌≡◌};
-    ghost use Rattle.qolb_script.specs.Text.{words_of};
-    ghost use Rattle.qolb_script.specs.Reading.{words_left};
+    ghost use Rattle.std.specs.Prelude.{◌≡◌, [], ◌∷◌, true, false, MatchResult};
+    ghost use Rattle.qolb_script.specs.Text.{words_of, is_plain};
+    ghost use Rattle.qolb_script.specs.Reading.{words_left, Lacks, LacksNamed, AreSome};
 
     /// The words of a line.
     pub fn new(line: &'a [u8]) -> Words<'a>
         ensures { words_left result ≡ words_of line.now }
     {
         Words { rest: line }
+    }
+
+    /// The same, of a line that has no byte but a script's.
+    pub fn of_line(line: &'a [u8]) -> Result<Words<'a>, LineFault>
+        ensures { MatchResult result
+            (λ words. (is_plain line.now ≡ true) × (words_left words ≡ words_of line.now))
+            (λ fault. (fault ≡ LineFault.Bad) × (is_plain line.now ≡ false)) }
+    {
+        if is_plain_line(line) {
+            Ok(Words::new(line))
+        } else {
+            Err(LineFault::Bad)
+        }
+    }
+
+    /// The next word.
+    pub fn word(&mut self) -> Result<&'a [u8], LineFault>
+        ensures { MatchResult result
+            (λ word. words_left self.old ≡ word.now ∷ words_left self.new)
+            (λ fault. (fault ≡ LineFault.Bad) × (words_left self.old ≡ [])) }
+    {
+        self.next().ok_or(LineFault::Bad)
+    }
+
+    /// Goes past `name`, which has to come next.
+    pub fn pass(&mut self, name: &[u8]) -> Result<(), LineFault>
+        ensures { MatchResult result
+            (λ _. words_left self.old ≡ name.now ∷ words_left self.new)
+            (λ fault. (fault ≡ LineFault.Bad) × Lacks name.now (words_left self.old)) }
+    {
+        match self.next() {
+            Some(word) if word == name => Ok(()),
+            _ => Err(LineFault::Bad),
+        }
+    }
+
+    /// The word behind `name`, which has to come next.
+    pub fn named(&mut self, name: &[u8]) -> Result<&'a [u8], LineFault>
+        ensures { MatchResult result
+            (λ word. words_left self.old ≡ name.now ∷ word.now ∷ words_left self.new)
+            (λ fault. (fault ≡ LineFault.Bad) × LacksNamed name.now (words_left self.old)) }
+    {
+        self.pass(name)?;
+        self.word()
+    }
+
+    /// No word may be left.
+    pub fn end(mut self) -> Result<(), LineFault>
+        ensures { MatchResult result
+            (λ _. words_left self.entry ≡ [])
+            (λ fault. (fault ≡ LineFault.Bad) × AreSome (words_left self.entry)) }
+    {
+        match self.next() {
+            None => Ok(()),
+            Some(_) => Err(LineFault::Bad),
+        }
     }
 }
 

@@ -1,0 +1,80 @@
+//! The steps of a node that nothing but their first word tells apart.
+ghost use Rattle.std.specs.Prelude.{◌≡◌, find};
+ghost use Rattle.std.specs.Str.{bytes_eq};
+ghost use Rattle.qolb_script.specs.Stepped.{word_of, event_of};
+
+use link_core::Event;
+
+/// What an event of a node does, by its first word.
+#[derive(Clone, Copy)]
+pub enum Step {
+    Reset,
+    Prepend,
+    Link,
+    Load,
+    Home,
+    Done,
+    Grant,
+    Roll,
+    Freed,
+    Close,
+}
+
+/// All of them.
+const STEPS: [Step; 10] = [
+    Step::Reset,
+    Step::Prepend,
+    Step::Link,
+    Step::Load,
+    Step::Home,
+    Step::Done,
+    Step::Grant,
+    Step::Roll,
+    Step::Freed,
+    Step::Close,
+];
+
+impl Step {
+    /// The one that a first word names.
+    pub fn named(word: &[u8]) -> Option<Step>
+        ensures { result ≡ find (λ step. bytes_eq word.now (word_of step)) STEPS }
+    {
+        STEPS.iter().find(|step| word == step.word()).copied()
+    }
+
+    /// The first word of its events.
+    fn word(self) -> &'static [u8]
+        ensures { result.now ≡ word_of self }
+    {
+        match self {
+            Step::Reset => b"reset",
+            Step::Prepend => b"prepend",
+            Step::Link => b"link",
+            Step::Load => b"load",
+            Step::Home => b"home",
+            Step::Done => b"done",
+            Step::Grant => b"grant",
+            Step::Roll => b"roll",
+            Step::Freed => b"freed",
+            Step::Close => b"close",
+        }
+    }
+
+    /// The event of a node.
+    pub fn event(self, node: u64) -> Event
+        ensures { result ≡ event_of self node }
+    {
+        match self {
+            Step::Reset => Event::Reset(node),
+            Step::Prepend => Event::Prepend(node),
+            Step::Link => Event::Link(node),
+            Step::Load => Event::Load(node),
+            Step::Home => Event::Home(node),
+            Step::Done => Event::Done(node),
+            Step::Grant => Event::Grant(node),
+            Step::Roll => Event::Roll(node),
+            Step::Freed => Event::Freed(node),
+            Step::Close => Event::Close(node),
+        }
+    }
+}
