@@ -3,6 +3,7 @@ use Rattle.std.proofs.Common.{◌≡◌, ℕ, ◌+◌, ◌-◌, ◌*◌, ◌<◌
 use Rattle.std.specs.List.{filter, flat_map, list_any, range_with_len}
 use Rattle.std.proofs.lemmas.List.Elements.{filter-append, filter_more}
 use Rattle.std.proofs.lemmas.Bool.Decides.{nat_tests}
+use Rattle.std.proofs.lemmas.List.{flat_map_more, take_more}
 use Rattle.std.proofs.lemmas.List.FromFn.{map-range_with_len_more}
 use Rattle.std.proofs.lemmas.Nat.{rows}
 use Rattle.std.proofs.lemmas.Grind.{flat_map-append, common_steps}
@@ -77,6 +78,13 @@ pub piece_pushed : (f : ℕ → List ℕ) (before : List ℕ) (k : ℕ) (text af
 piece_pushed f before k text after piece was is pushed =
     pushed ∙ ap (λ t. t ++ piece) was ∙ ap (λ p. (before ++ flat_map f (range_with_len 0 k)) ++ p) is ∙ append_assoc before (flat_map f (range_with_len 0 k)) (f k)
     ∙ ap (λ t. before ++ t) (sym (ap (flat_map f) (range_more 0 k ∙ ap (λ m. range_with_len 0 k ++ m ∷ []) (zero-add k)) ∙ flat_map-append f (range_with_len 0 k) (k ∷ []) ∙ ap (λ t. flat_map f (range_with_len 0 k) ++ t) (append-nil (f k))))
+
+-- one element's text more
+pub element_pushed : {X : Type 0} (f : X → List ℕ) (before head : List ℕ) (xs : List X) (i : ℕ) (d : X) (text after : List ℕ) → i < length xs
+    → text ≡ before ++ (head ++ flat_map f (take i xs)) → after ≡ text ++ f (get_or xs i d) → after ≡ before ++ (head ++ flat_map f (take (i + 1) xs))
+element_pushed f before head xs i d text after lt was pushed =
+    pushed ∙ ap (λ t. t ++ f (get_or xs i d)) was ∙ append_assoc before (head ++ flat_map f (take i xs)) (f (get_or xs i d))
+    ∙ ap (λ t. before ++ t) (flat_map_more f head (take i xs) (get_or xs i d) ∙ ap (λ ys. head ++ flat_map f ys) (sym (take_more xs i d lt)))
 
 -- the place of a mark
 pub place_within : (k nodes n count : ℕ) → k < count → 1 ≤ n → n ≤ nodes → k * nodes + (n - 1) < count * nodes

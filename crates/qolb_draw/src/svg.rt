@@ -1,5 +1,5 @@
 //! The picture as an SVG: the lines of its text, with holders and hand-overs in colour.
-ghost use Rattle.std.specs.Prelude.{◌≡◌, ◌++◌, ◌<◌, ◌^◌, ◌==◌, length, count_by, flat_map, IfOk, OnOk};
+ghost use Rattle.std.specs.Prelude.{◌≡◌, [], ◌∷◌, ◌++◌, ◌<◌, ◌^◌, ◌==◌, length, count_by, flat_map, IfOk, OnOk, MatchOption};
 ghost use Rattle.qolb_draw.specs.Svg as spec;
 
 use itoa::Buffer;
@@ -60,14 +60,24 @@ fn push_body<A: Allocator>(svg: &mut Vec<u8, A>, text: &[u8]) -> Result<(), Allo
 fn push_byte<A: Allocator>(svg: &mut Vec<u8, A>, byte: u8) -> Result<(), AllocError>
     ensures { OnOk result (svg.new.items ≡ svg.old.items ++ spec.svg_byte byte) }
 {
-    match byte {
-        b'\n' => svg.extend_from_slice(NEXT_LINE),
-        b'H' => svg.extend_from_slice(HOLDS),
-        b'>' => svg.extend_from_slice(GIVES),
-        b'<' => svg.extend_from_slice(TAKES),
-        _ => {
+    match markup(byte) {
+        Some(text) => svg.extend_from_slice(text),
+        None => {
             svg.push(byte)?;
             Ok(())
         }
+    }
+}
+
+/// What stands in the place of a byte of the text, if it does not stay as it is.
+fn markup(byte: u8) -> Option<&'static [u8]>
+    ensures { MatchOption result (spec.svg_byte byte ≡ byte ∷ []) (λ text. spec.svg_byte byte ≡ text.now) }
+{
+    match byte {
+        b'\n' => Some(NEXT_LINE),
+        b'H' => Some(HOLDS),
+        b'>' => Some(GIVES),
+        b'<' => Some(TAKES),
+        _ => None,
     }
 }

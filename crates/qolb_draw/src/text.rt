@@ -85,10 +85,9 @@ fn push_heads<A: Allocator>(text: &mut Vec<u8, A>, numbers: &[u64]) -> Result<()
 fn push_label<A: Allocator>(text: &mut Vec<u8, A>, node: u64) -> Result<(), AllocError>
     ensures { OnOk result (text.new.items ≡ text.old.items ++ spec.label_of node) }
 {
+    let digits = [digit_at(100, node), digit_at(10, node), digit_at(1, node)];
     text.extend_from_slice(b"node ")?;
-    text.push(digit_at(100, node))?;
-    text.push(digit_at(10, node))?;
-    text.push(digit_at(1, node))?;
+    text.extend_from_slice(&digits)?;
     text.push(b' ')?;
     Ok(())
 }
@@ -188,8 +187,7 @@ pub fn push_line<A: Allocator + Copy>(
 {
     let nodes = shown(alloc, grid)?;
     text.extend_from_slice(b"line ")?;
-    text.push(b'0' + number as u8)?;
-    text.push(b'\n')?;
+    text.extend_from_slice(&[b'0' + number as u8, b'\n'])?;
     push_blocks(text, grid, &nodes)?;
     text.push(b'\n')?;
     Ok(())
