@@ -3,7 +3,7 @@ use Rattle.std.proofs.Common.{◌≡◌, ℕ, ◌+◌, ◌-◌, ◌*◌, ◌<◌
 use Rattle.std.specs.List.{filter, flat_map, list_any, range_with_len}
 use Rattle.std.proofs.lemmas.List.Elements.{filter-append, filter_more}
 use Rattle.std.proofs.lemmas.Bool.Decides.{nat_tests}
-use Rattle.std.proofs.lemmas.List.{flat_map_more, take_more}
+use Rattle.std.proofs.lemmas.List.{flat_map_more, map_more, take_more}
 use Rattle.std.proofs.lemmas.List.FromFn.{map-range_with_len_more}
 use Rattle.std.proofs.lemmas.Nat.{rows}
 use Rattle.std.proofs.lemmas.Grind.{flat_map-append, common_steps}
@@ -85,6 +85,13 @@ pub element_pushed : {X : Type 0} (f : X → List ℕ) (before head : List ℕ) 
 element_pushed f before head xs i d text after lt was pushed =
     pushed ∙ ap (λ t. t ++ f (get_or xs i d)) was ∙ append_assoc before (head ++ flat_map f (take i xs)) (f (get_or xs i d))
     ∙ ap (λ t. before ++ t) (flat_map_more f head (take i xs) (get_or xs i d) ∙ ap (λ ys. head ++ flat_map f ys) (sym (take_more xs i d lt)))
+
+-- the same, where each element becomes one number
+pub number_pushed : {X : Type 0} (f : X → ℕ) (before head : List ℕ) (xs : List X) (i : ℕ) (d : X) (x : ℕ) (text after : List ℕ) → i < length xs
+    → text ≡ before ++ (head ++ map f (take i xs)) → x ≡ f (get_or xs i d) → after ≡ text ++ x ∷ [] → after ≡ before ++ (head ++ map f (take (i + 1) xs))
+number_pushed f before head xs i d x text after lt was is pushed =
+    pushed ∙ ap (λ t. t ++ x ∷ []) was ∙ ap (λ y. (before ++ (head ++ map f (take i xs))) ++ y ∷ []) is ∙ append_assoc before (head ++ map f (take i xs)) (f (get_or xs i d) ∷ [])
+    ∙ ap (λ t. before ++ t) (append_assoc head (map f (take i xs)) (f (get_or xs i d) ∷ []) ∙ ap (λ t. head ++ t) (sym (map_more f xs i d lt)))
 
 -- the place of a mark
 pub place_within : (k nodes n count : ℕ) → k < count → 1 ≤ n → n ≤ nodes → k * nodes + (n - 1) < count * nodes
