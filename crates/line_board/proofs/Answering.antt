@@ -69,3 +69,10 @@ module _ (old mid new : View) (turn : Write) (acquired : AcquiresPatiently Chang
     busy = λ e. absurd (cc e);
     unserved = λ _ other. absurd (other refl);
   }
+
+-- what a granted turn answers isn't late
+pub task_not_late : (task : ℕ) → take.Task task ≡ take.Late → ⊥
+task_not_late task e = cc e
+
+pub empty_not_late : take.Empty ≡ take.Late → ⊥
+empty_not_late e = cc e

@@ -1,4 +1,5 @@
-use Rattle.line_board.proofs.Answering.{taken, empty}
+use Rattle.std.proofs.Common.{◌≤◌, ◌+◌, ℕ, sym, subst}
+use Rattle.line_board.proofs.Answering.{taken, empty, task_not_late, empty_not_late}
 use Rattle.line_board.proofs.taking.take.Goals as goal
 
 pub returns-in-Some-clause-takes : goal.returns-in-Some-clause-takes
@@ -12,3 +13,17 @@ returns-in-None-clause-takes g c =
     let s = c.in-None.ensures in
     empty (g.L.LineSync.view c.args.port.now) (g.L.LineSync.view c.acquire_patiently.new.port) (g.L.LineSync.view c.remove.new.port) (g.L.LineSync.turn c.acquire_patiently.new.port)
     c.in-Granted.ensures.acquires s.continues s.count s.state s.taken
+
+pub returns-in-Some-clause-patient : goal.returns-in-Some-clause-patient
+returns-in-Some-clause-patient g c =
+    subst (λ (n : ℕ). n ≤ g.L.LineSync.looks c.args.port.now + c.args.patience) (sym c.in-Some.ensures.looks) c.in-Granted.ensures.patient
+
+pub returns-in-Some-clause-late : goal.returns-in-Some-clause-late
+returns-in-Some-clause-late g c = λ e. absurd (task_not_late c.in-Some.task e)
+
+pub returns-in-None-clause-patient : goal.returns-in-None-clause-patient
+returns-in-None-clause-patient g c =
+    subst (λ (n : ℕ). n ≤ g.L.LineSync.looks c.args.port.now + c.args.patience) (sym c.in-None.ensures.looks) c.in-Granted.ensures.patient
+
+pub returns-in-None-clause-late : goal.returns-in-None-clause-late
+returns-in-None-clause-late g c = λ e. absurd (empty_not_late e)
