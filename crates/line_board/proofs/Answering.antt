@@ -1,5 +1,5 @@
--- What a board's call answers, once the line was granted.
-use Rattle.std.proofs.Common.{◌≡◌, ℕ, true, subst, refl}
+-- What a board's call answers, once the line was granted or was not.
+use Rattle.std.proofs.Common.{◌≡◌, ℕ, ◌+◌, true, length, ap, ◌∙◌, subst, refl}
 use Rattle.qolb_model.specs.declared.view.View.{View}
 use Rattle.qolb_model.specs.declared.write.Write.{Write}
 use Rattle.qolb_model.specs.PortStates.{may_ask}
@@ -11,7 +11,9 @@ use Rattle.line_board.specs.declared.answer.Take.TheVariants as take
 use Rattle.line_board.specs.declared.board.TheConstants.{MOST_TASKS}
 use Rattle.line_board.specs.Law.{Changes}
 use Rattle.line_board.specs.Calls.{HasPut, HasTaken, HasFound, Puts, Takes}
+use Rattle.qolb_model.specs.declared.answer.PortState.TheVariants.{Shut}
 use Rattle.qolb_model.proofs.Going.{continues_on, asks_goes, joined_goes}
+use Rattle.qolb_model.proofs.OwnTurns.{quiet_after}
 
 module _ (old mid new : View) (turn : Write) (acquired : AcquiresPatiently Changes old mid turn asked.Granted) (goes_on : Continues Changes mid new) (same : new.count ≡ mid.count) (quiet : may_ask new.state ≡ true) where
   pub stored : (task : ℕ) → HasPut task new → Puts task old new put.Stored
@@ -68,6 +70,97 @@ module _ (old mid new : View) (turn : Write) (acquired : AcquiresPatiently Chang
     told = λ e. absurd (cc e);
     busy = λ e. absurd (cc e);
     unserved = λ _ other. absurd (other refl);
+  }
+
+-- a port that was not granted the line
+module _ (old new : View) (turn : Write) (acquired : AcquiresPatiently Changes old new turn asked.Late) where
+  pub put_late : (task : ℕ) → Puts task old new put.Late
+  put_late task = record {
+    continues = acquired.continues;
+    may_ask = ap may_ask (acquired.late refl).state;
+    asks = λ _. acquired.asks (λ e. cc e);
+    joined = λ _. acquired.joined (λ e. cc e);
+    stored = λ e. absurd (cc e);
+    full = λ e. absurd (cc e);
+    late = λ _. acquired.late refl;
+    told = λ e. absurd (cc e);
+    busy = λ e. absurd (cc e);
+    unserved = λ _ _. acquired.unserved (λ e. cc e);
+  }
+
+  pub take_late : Takes old new take.Late
+  take_late = record {
+    continues = acquired.continues;
+    may_ask = ap may_ask (acquired.late refl).state;
+    asks = λ _. acquired.asks (λ e. cc e);
+    joined = λ _. acquired.joined (λ e. cc e);
+    task = λ task e. absurd (cc e);
+    empty = λ e. absurd (cc e);
+    late = λ _. acquired.late refl;
+    told = λ e. absurd (cc e);
+    busy = λ e. absurd (cc e);
+    unserved = λ _ _. acquired.unserved (λ e. cc e);
+  }
+
+module _ (old new : View) (turn : Write) (acquired : AcquiresPatiently Changes old new turn asked.Closed) where
+  quiet_told : may_ask new.state ≡ true
+  quiet_told = let told = acquired.told refl in quiet_after (length told.before + 1) Shut new refl told.lets_go
+
+  pub put_closed : (task : ℕ) → Puts task old new put.Closed
+  put_closed task = record {
+    continues = acquired.continues;
+    may_ask = quiet_told;
+    asks = λ _. acquired.asks (λ e. cc e);
+    joined = λ _. acquired.joined (λ e. cc e);
+    stored = λ e. absurd (cc e);
+    full = λ e. absurd (cc e);
+    late = λ e. absurd (cc e);
+    told = λ _. acquired.told refl;
+    busy = λ e. absurd (cc e);
+    unserved = λ _ _. acquired.unserved (λ e. cc e);
+  }
+
+  pub take_closed : Takes old new take.Closed
+  take_closed = record {
+    continues = acquired.continues;
+    may_ask = quiet_told;
+    asks = λ _. acquired.asks (λ e. cc e);
+    joined = λ _. acquired.joined (λ e. cc e);
+    task = λ task e. absurd (cc e);
+    empty = λ e. absurd (cc e);
+    late = λ e. absurd (cc e);
+    told = λ _. acquired.told refl;
+    busy = λ e. absurd (cc e);
+    unserved = λ _ _. acquired.unserved (λ e. cc e);
+  }
+
+module _ (old new : View) (turn : Write) (acquired : AcquiresPatiently Changes old new turn asked.Busy) (quiet : may_ask old.state ≡ true) where
+  pub put_busy : (task : ℕ) → Puts task old new put.Busy
+  put_busy task = record {
+    continues = acquired.continues;
+    may_ask = ap may_ask (acquired.busy refl).state ∙ quiet;
+    asks = λ other. absurd (other refl);
+    joined = λ other. absurd (other refl);
+    stored = λ e. absurd (cc e);
+    full = λ e. absurd (cc e);
+    late = λ e. absurd (cc e);
+    told = λ e. absurd (cc e);
+    busy = λ _. acquired.busy refl;
+    unserved = λ _ _. acquired.unserved (λ e. cc e);
+  }
+
+  pub take_busy : Takes old new take.Busy
+  take_busy = record {
+    continues = acquired.continues;
+    may_ask = ap may_ask (acquired.busy refl).state ∙ quiet;
+    asks = λ other. absurd (other refl);
+    joined = λ other. absurd (other refl);
+    task = λ task e. absurd (cc e);
+    empty = λ e. absurd (cc e);
+    late = λ e. absurd (cc e);
+    told = λ e. absurd (cc e);
+    busy = λ _. acquired.busy refl;
+    unserved = λ _ _. acquired.unserved (λ e. cc e);
   }
 
 -- what a granted turn answers isn't late

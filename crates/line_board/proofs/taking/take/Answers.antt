@@ -1,5 +1,5 @@
 use Rattle.std.proofs.Common.{◌≤◌, ◌+◌, ℕ, sym, subst}
-use Rattle.line_board.proofs.Answering.{taken, empty, task_not_late, empty_not_late}
+use Rattle.line_board.proofs.Answering.{taken, empty, take_late, take_closed, take_busy, task_not_late, empty_not_late}
 use Rattle.line_board.proofs.taking.take.Goals as goal
 
 pub returns-in-Some-clause-takes : goal.returns-in-Some-clause-takes
@@ -27,3 +27,12 @@ returns-in-None-clause-patient g c =
 
 pub returns-in-None-clause-late : goal.returns-in-None-clause-late
 returns-in-None-clause-late g c = λ e. absurd (empty_not_late e)
+
+pub returns-in-Late-clause-takes : goal.returns-in-Late-clause-takes
+returns-in-Late-clause-takes g c = take_late (g.L.LineSync.view c.args.port.now) (g.L.LineSync.view c.acquire_patiently.new.port) (g.L.LineSync.turn c.acquire_patiently.new.port) c.in-Late.ensures.acquires
+
+pub returns-in-Closed-clause-takes : goal.returns-in-Closed-clause-takes
+returns-in-Closed-clause-takes g c = take_closed (g.L.LineSync.view c.args.port.now) (g.L.LineSync.view c.acquire_patiently.new.port) (g.L.LineSync.turn c.acquire_patiently.new.port) c.in-Closed.ensures.acquires
+
+pub returns-in-Busy-clause-takes : goal.returns-in-Busy-clause-takes
+returns-in-Busy-clause-takes g c = take_busy (g.L.LineSync.view c.args.port.now) (g.L.LineSync.view c.acquire_patiently.new.port) (g.L.LineSync.turn c.acquire_patiently.new.port) c.in-Busy.ensures.acquires c.requires.state

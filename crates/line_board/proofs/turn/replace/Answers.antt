@@ -2,6 +2,7 @@ use Rattle.std.proofs.Common.{◌≡◌, ap, sym, ◌∙◌, subst, refl, length
 use Rattle.line_lanes.specs.Mask.{changed_mask}
 use Rattle.qolb_model.specs.declared.view.View.{View}
 use Rattle.qolb_model.specs.Sound.{Continues}
+use Rattle.qolb_model.proofs.OwnTurns.{quiet_after, may_ask-left_by}
 use Rattle.line_board.specs.Board.{Stand}
 use Rattle.line_board.specs.Law.{Changes}
 use Rattle.line_board.proofs.Turns.{had_turn, new_bytes, new_mask}
@@ -46,3 +47,6 @@ returns-clause-count g c = c.release.ensures.releases.ends_turn.count ∙ ap (λ
 
 pub returns-clause-looks : goal.returns-clause-looks
 returns-clause-looks g c = c.release.ensures.looks ∙ c.write.ensures.looks
+
+pub returns-clause-state : goal.returns-clause-state
+returns-clause-state g c = quiet_after _ _ (g.L.LineSync.view c.release.new.port) (may_ask-left_by _) c.release.ensures.releases.ends_turn.lets_go
