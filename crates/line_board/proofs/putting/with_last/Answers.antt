@@ -1,0 +1,19 @@
+use Rattle.std.proofs.Common.{◌≡◌, ◌++◌, ◌∷◌, [], ℕ, List, Some, None, sym, ap, ◌∙◌, subst}
+use Rattle.std.specs.Prelude.{OnOk}
+use Rattle.std.specs.Result.{result_ok}
+use Rattle.std.specs.declared.result.Result.{Result}
+use Rattle.std.specs.declared.result.Result.TheVariants.{Ok, Err}
+use Rattle.qolb_model.proofs.Lists.{same_some}
+use Rattle.line_board.specs.Board.{Stand}
+use Rattle.line_board.proofs.putting.with_last.Goals as goal
+
+-- what holds where it went well
+done_with : {T E P : Type 0} (r : Result T E) (x : T) → result_ok r ≡ Some x → OnOk r P → P
+done_with (Ok y) x e h = h
+done_with (Err y) x e h = absurd (let f : None ≡ Some x = e in cc f)
+
+pub returns : goal.returns
+returns c = λ tasks stood.
+    let same : tasks ≡ c.in_ok-tasks.tasks.items = same_some (sym stood ∙ c.in_ok-tasks.ensures) in
+    let pushed : c.try_push.new.self.items ≡ c.in_ok-tasks.tasks.items ++ c.args.task ∷ [] = done_with c.try_push.result c.in_ok-ok.field-0 (sym c.ok.ensures.value ∙ c.in_ok-ok.was) c.try_push.ensures.ok in
+    subst (λ (left : List ℕ). Stand c.encode.result.bytes left) (pushed ∙ ap (λ (l : List ℕ). l ++ c.args.task ∷ []) (sym same)) c.encode.ensures.tasks
