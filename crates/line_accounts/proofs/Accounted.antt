@@ -1,5 +1,5 @@
 -- Desks before and after a call.
-use Rattle.std.proofs.Common.{◌≡◌, ◌≢◌, ◌+◌, ◌<◌, inl, inr, true, ℕ, zero, suc, List, [], ◌∷◌, length, get_or, ◌*◌, Some, None, slice_get, refl, sym, ap, subst, ◌∙◌, arith}
+use Rattle.std.proofs.Common.{◌≡◌, ◌≢◌, ◌+◌, ◌<◌, ◌≤◌, inl, inr, true, ℕ, zero, suc, List, [], ◌∷◌, length, get_or, ◌*◌, Some, None, slice_get, refl, sym, ap, subst, ◌∙◌, arith}
 use Rattle.std.specs.List.{sum_by}
 use Rattle.std.proofs.Math.ListN.{set}
 use Rattle.std.proofs.lemmas.List.{length-set}
@@ -189,6 +189,16 @@ module _ {Port : Type 0} (view : Port → View) (lines account amount : ℕ) (d 
     };
     paid_in = refl;
   }
+
+-- there is no such account
+pub deposits_none : {Port : Type 0} (view : Port → View) (lines account amount : ℕ) (d : DeskOf Port) → 8 * lines ≤ account → Deposits view lines account amount d d NoAccount
+deposits_none view lines account amount d above = record { unknown = λ _. (above, refl); known = λ other. absurd (other refl); pays = λ other. absurd (other refl); paid_out = refl }
+
+pub takes_out_none : {Port : Type 0} (view : Port → View) (lines account amount : ℕ) (d : DeskOf Port) → 8 * lines ≤ account → TakesOut view lines account amount d d NoAccount
+takes_out_none view lines account amount d above = record { unknown = λ _. (above, refl); known = λ other. absurd (other refl); pays = λ other. absurd (other refl); paid_in = refl }
+
+pub no_account_not_late : NoAccount ≡ Late → ⊥
+no_account_not_late e = cc e
 
 -- two lines, and a port of each
 pub over_pair : {Line Port : Type 0} (belongs : Line → Port → Type 0) (a b : Line) (p q : Port) → belongs a p → belongs b q → AreOver belongs (a ∷ b ∷ []) (p ∷ q ∷ [])

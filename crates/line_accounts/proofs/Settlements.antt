@@ -11,7 +11,7 @@ use Rattle.line_lanes.specs.Lane.{lane_of, lanes_total}
 use Rattle.qolb_model.specs.declared.terms.Terms.{Terms}
 use Rattle.qolb_model.specs.declared.view.View.{View}
 use Rattle.qolb_model.specs.Finishing.{IsFinished}
-use Rattle.std.specs.Prelude.{IfOk}
+use Rattle.std.specs.Prelude.{IfOk, IfSome, Option, is_ok, if◌then◌else◌}
 use Rattle.std.specs.Result.{result_ok}
 use Rattle.std.specs.declared.result.Result.{Result}
 use Rattle.std.specs.declared.result.Result.TheVariants.{Ok, Err}
@@ -40,6 +40,9 @@ pub record IsTaking {Port : Type 0} (old new : List (DeskOf Port)) (ports : List
 
 pub taking_none : {Port : Type 0} (old : List (DeskOf Port)) → IsTaking old old [] 0
 taking_none old = record { many = refl; taken = refl; done = λ k desk lt. absurd (omega arith); left = λ k le. refl }
+
+pub taking_first : {Port : Type 0} (old new : List (DeskOf Port)) (ports : List Port) → new ≡ old → ports ≡ [] → IsTaking old new ports 0
+taking_first {Port} old new ports same none = subst (λ (ds : List (DeskOf Port)). IsTaking old ds ports 0) (sym same) (subst (λ (ps : List Port). IsTaking old old ps 0) (sym none) (taking_none old))
 
 pub taking_more : {Port : Type 0} (old new : List (DeskOf Port)) (ports : List Port) (index : ℕ) (desk rest : DeskOf Port) (port : Port) → IsTaking old new ports index → index < length new → slice_get new index ≡ Some desk
     → desk ≡ record rest { ports = rest.ports ++ port ∷ [] } → IsTaking old (set new index rest) (ports ++ port ∷ []) (index + 1)
@@ -268,6 +271,16 @@ bounded_first n = (omega arith, omega arith)
 pub finished_with : {T E : Type 0} (P : T → Type 0) (r : Result T E) (x : T) → result_ok r ≡ Some x → IfOk r P → P x
 finished_with P (Ok y) x e h = subst P (same_some e) h
 finished_with P (Err y) x e h = absurd (let f : None ≡ Some x = e in cc f)
+
+-- a push that went well
+pub pushed_well : {T E X : Type 0} (r : Result T E) (x : T) (new more same : List X) → result_ok r ≡ Some x → new ≡ (if is_ok r then more else same) → new ≡ more
+pushed_well (Ok y) x new more same e is = is
+pushed_well (Err y) x new more same e is = absurd (let f : None ≡ Some x = e in cc f)
+
+-- what has to hold of a value holds where there is none
+pub none_has : {T : Type 0} (P : T → Type 0) (o : Option T) → o ≡ None → IfSome o P
+none_has P None e = tt
+none_has P (Some x) e = absurd (let f : Some x ≡ None = e in cc f)
 
 -- a total is of eight balances
 total_bounded : (line : List ℕ) → AreBalances line → lanes_total line ≤ 8 * MOST_BALANCE

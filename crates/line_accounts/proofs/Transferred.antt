@@ -1,5 +1,5 @@
 -- Transfers of a desk.
-use Rattle.std.proofs.Common.{◌≡◌, ◌≢◌, ◌+◌, ◌<◌, inl, inr, ℕ, List, Some, slice_get, refl, sym, ap, subst, ◌∙◌, arith}
+use Rattle.std.proofs.Common.{◌≡◌, ◌≢◌, ◌⊎◌, ◌+◌, ◌*◌, ◌<◌, ◌≤◌, inl, inr, ℕ, List, Some, slice_get, refl, sym, ap, subst, ◌∙◌, arith}
 use Rattle.std.proofs.Math.ListN.{set}
 use Rattle.qolb_model.specs.declared.view.View.{View}
 use Rattle.line_accounts.specs.declared.answer.Reply.{Reply}
@@ -126,3 +126,42 @@ module _ {Port : Type 0} (view : Port → View) (lines source target amount : �
     paid_in = refl;
     paid_out = refl;
   }
+
+-- nothing is moved where there is no such account
+pub transfers_none : {Port : Type 0} (view : Port → View) (lines source target amount : ℕ) (d : DeskOf Port) → (8 * lines ≤ source) ⊎ (8 * lines ≤ target) → Transfers view lines source target amount d d NoAccount
+transfers_none view lines source target amount d why = record {
+  unknown = λ _. (why, refl);
+  same = λ e. absurd (other e);
+  two = λ known _. absurd (known refl);
+  within = λ two _. absurd (beyond why two);
+  up = λ two _. absurd (beyond why two);
+  down = λ two _. absurd (beyond why two);
+  paid_in = refl;
+  paid_out = refl;
+}
+  where
+    other : NoAccount ≡ SameAccount → ⊥
+    other e = cc e
+
+    beyond : (8 * lines ≤ source) ⊎ (8 * lines ≤ target) → AreTwo lines source target → ⊥
+    beyond (inl h) two = omega (arith, h, two.source_known)
+    beyond (inr h) two = omega (arith, h, two.target_known)
+
+-- nor where both are one
+pub transfers_same : {Port : Type 0} (view : Port → View) (lines source target amount : ℕ) (d : DeskOf Port) → source < 8 * lines → source ≡ target → Transfers view lines source target amount d d SameAccount
+transfers_same view lines source target amount d known one = record {
+  unknown = λ e. absurd (other e);
+  same = λ _. (known, one, refl);
+  two = λ _ apart. absurd (apart refl);
+  within = λ two _. absurd (two.apart one);
+  up = λ two _. absurd (two.apart one);
+  down = λ two _. absurd (two.apart one);
+  paid_in = refl;
+  paid_out = refl;
+}
+  where
+    other : SameAccount ≡ NoAccount → ⊥
+    other e = cc e
+
+pub same_account_not_late : SameAccount ≡ Late → ⊥
+same_account_not_late e = cc e

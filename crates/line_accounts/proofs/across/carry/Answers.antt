@@ -1,6 +1,9 @@
-use Rattle.std.proofs.Common.{◌≡◌, List, ℕ, length, sym, subst, ap, ◌∙◌}
+use Rattle.std.proofs.Common.{◌≡◌, ◌≤◌, ◌<◌, List, ℕ, length, sym, subst, ap, ◌∙◌}
+use Rattle.line_lanes.specs.Lane.{lane_of}
 use Rattle.qolb_model.specs.Views.{bytes_of}
 use Rattle.line_accounts.specs.Accounts.{StayBalances, HasRoom, raised, lowered}
+use Rattle.line_accounts.specs.Moves.{Leaves}
+use Rattle.line_accounts.proofs.Crossing.{done_not_late, short_not_late, over_not_late}
 use Rattle.line_accounts.proofs.Visits.{balances_known}
 use Rattle.line_accounts.proofs.Totals.{raised_stays, lowered_stays}
 use Rattle.line_accounts.proofs.across.carry.Goals as goal
@@ -22,3 +25,58 @@ leave_with-requires-2-clause-allowed g c =
     let next : c.in-Some-raised.more.bytes ≡ raised (bytes_of v) c.args.to c.args.amount = c.in-Some-raised.ensures.1 ∙ ap (λ (b : List ℕ). raised b c.args.to c.args.amount) held in
     subst (λ (b : List ℕ). StayBalances (bytes_of v) b) (sym next)
     (raised_stays (bytes_of v) c.args.to c.args.amount (ap length (sym held) ∙ c.held-paid.ensures.long) c.requires.to_lane good (subst (λ (b : List ℕ). HasRoom b c.args.to c.args.amount) held c.in-Some-raised.ensures.0))
+
+pub returns-clause-carries : goal.returns-clause-carries
+returns-clause-carries g c =
+    let source = g.L.LineSync.view c.args.source_port.now in
+    let target = g.L.LineSync.view c.args.target_port.now in
+    let paying : c.held-paying.result.bytes ≡ bytes_of (g.L.LineSync.view c.args.source_port.now) = c.held-paying.ensures.bytes ∙ c.requires.granted_source.bytes in
+    let paid : c.held-paid.result.bytes ≡ bytes_of (g.L.LineSync.view c.args.target_port.now) = c.held-paid.ensures.bytes ∙ c.requires.granted_target.bytes in
+    let less : c.in-Some.less.bytes ≡ lowered (bytes_of source) c.args.from c.args.amount = c.in-Some.ensures.1 ∙ ap (λ (b : List ℕ). lowered b c.args.from c.args.amount) paying in
+    let more : c.in-Some-raised.more.bytes ≡ raised (bytes_of target) c.args.to c.args.amount = c.in-Some-raised.ensures.1 ∙ ap (λ (b : List ℕ). raised b c.args.to c.args.amount) paid in (
+      subst (λ (b : List ℕ). Leaves source (g.L.LineSync.view c.leave_with.new.port) b) less c.leave_with.ensures.leaves,
+      subst (λ (b : List ℕ). Leaves target (g.L.LineSync.view c.leave_with-2.new.port) b) more c.leave_with-2.ensures.leaves,
+      subst (λ (b : List ℕ). c.args.amount ≤ lane_of b c.args.from) paying c.in-Some.ensures.0,
+      subst (λ (b : List ℕ). HasRoom b c.args.to c.args.amount) paid c.in-Some-raised.ensures.0,
+    )
+
+pub returns-in_default-raised-clause-carries : goal.returns-in_default-raised-clause-carries
+returns-in_default-raised-clause-carries g c =
+    let paying : c.held-paying.result.bytes ≡ bytes_of (g.L.LineSync.view c.args.source_port.now) = c.held-paying.ensures.bytes ∙ c.requires.granted_source.bytes in
+    let paid : c.held-paid.result.bytes ≡ bytes_of (g.L.LineSync.view c.args.target_port.now) = c.held-paid.ensures.bytes ∙ c.requires.granted_target.bytes in (
+      c.leave-in_default-raised.ensures.leaves,
+      c.leave-in_default-raised-2.ensures.leaves,
+      subst (λ (b : List ℕ). c.args.amount ≤ lane_of b c.args.from) paying c.in-Some.ensures.0,
+      subst (λ (b : List ℕ). HasRoom b c.args.to c.args.amount → ⊥) paid c.in_default-raised.ensures,
+    )
+
+pub returns-in_default-clause-carries : goal.returns-in_default-clause-carries
+returns-in_default-clause-carries g c =
+    let paying : c.held-paying.result.bytes ≡ bytes_of (g.L.LineSync.view c.args.source_port.now) = c.held-paying.ensures.bytes ∙ c.requires.granted_source.bytes in (c.leave.ensures.leaves, c.leave-in_default.ensures.leaves, subst (λ (b : List ℕ). lane_of b c.args.from < c.args.amount) paying c.in_default.ensures)
+
+pub returns-clause-long_source : goal.returns-clause-long_source
+returns-clause-long_source g c = ap length (sym (c.held-paying.ensures.bytes ∙ c.requires.granted_source.bytes)) ∙ c.held-paying.ensures.long
+
+pub returns-clause-long_target : goal.returns-clause-long_target
+returns-clause-long_target g c = ap length (sym (c.held-paid.ensures.bytes ∙ c.requires.granted_target.bytes)) ∙ c.held-paid.ensures.long
+
+pub returns-clause-not_late : goal.returns-clause-not_late
+returns-clause-not_late g c = done_not_late
+
+pub returns-in_default-raised-clause-long_source : goal.returns-in_default-raised-clause-long_source
+returns-in_default-raised-clause-long_source g c = ap length (sym (c.held-paying.ensures.bytes ∙ c.requires.granted_source.bytes)) ∙ c.held-paying.ensures.long
+
+pub returns-in_default-raised-clause-long_target : goal.returns-in_default-raised-clause-long_target
+returns-in_default-raised-clause-long_target g c = ap length (sym (c.held-paid.ensures.bytes ∙ c.requires.granted_target.bytes)) ∙ c.held-paid.ensures.long
+
+pub returns-in_default-raised-clause-not_late : goal.returns-in_default-raised-clause-not_late
+returns-in_default-raised-clause-not_late g c = over_not_late
+
+pub returns-in_default-clause-long_source : goal.returns-in_default-clause-long_source
+returns-in_default-clause-long_source g c = ap length (sym (c.held-paying.ensures.bytes ∙ c.requires.granted_source.bytes)) ∙ c.held-paying.ensures.long
+
+pub returns-in_default-clause-long_target : goal.returns-in_default-clause-long_target
+returns-in_default-clause-long_target g c = ap length (sym (c.held-paid.ensures.bytes ∙ c.requires.granted_target.bytes)) ∙ c.held-paid.ensures.long
+
+pub returns-in_default-clause-not_late : goal.returns-in_default-clause-not_late
+returns-in_default-clause-not_late g c = short_not_late

@@ -1,8 +1,9 @@
 use Rattle.std.proofs.Common.{◌<◌, length, sym, subst, arith}
 use Rattle.std.proofs.Math.ListN.{set}
-use Rattle.line_accounts.specs.Desks.{DeskOf, IsDeskOver}
+use Rattle.line_accounts.specs.Desks.{DeskOf, IsDeskOver, ArePatient, HasOneWaited}
 use Rattle.line_accounts.specs.Calls.{Deposits}
-use Rattle.line_accounts.proofs.Accounted.{paid_in_port, desk_after, at_place, deposits}
+use Rattle.line_accounts.proofs.Accounted.{paid_in_port, desk_after, at_place, deposits, deposits_none, no_account_not_late}
+use Rattle.line_accounts.proofs.Patient.{patient_one, waited_one}
 use Rattle.line_accounts.proofs.desk.deposit.Goals as goal
 
 pub pay_in-requires-clause-at_rest : goal.pay_in-requires-clause-at_rest
@@ -34,3 +35,25 @@ returns-clause-deposits g c =
     let at = at_place g.L.LineSync.belongs g.L.LineSync.view c.args.lines.now _ c.in-Some.i c.index-lines-i.result c.index_mut.result.now over there c.index-lines-i.is c.index_mut.ensures.value in
     subst (λ (d : DeskOf g.row.L-Port.Denot). Deposits g.L.LineSync.view (length c.args.lines.now) c.args.account c.args.amount d (record { ports = set c.desk.inside.ports.items c.in-Some.i c.pay_in.new.port; paid_in = c.pay_in.new.paid_in; paid_out = c.desk.inside.paid_out }) c.pay_in.result) c.desk.view_is
     (deposits g.L.LineSync.view (length c.args.lines.now) c.args.account c.args.amount _ c.in-Some.i c.in-Some.lane c.index_mut.result.now c.pay_in.new.port c.in-Some.ensures.0 c.in-Some.ensures.1 c.in-Some.ensures.2 at.1 c.pay_in.new.paid_in c.pay_in.result c.pay_in.ensures.pays)
+
+pub returns-clause-patient : goal.returns-clause-patient
+returns-clause-patient g c =
+    let over = subst (λ (d : DeskOf g.row.L-Port.Denot). IsDeskOver g.L.LineSync.belongs g.L.LineSync.view c.args.lines.now d) (sym c.desk.view_is) c.requires.over in
+    let there : c.in-Some.i < length c.args.lines.now = omega (arith, c.in-Some.ensures.0, c.in-Some.ensures.1) in
+    let at = at_place g.L.LineSync.belongs g.L.LineSync.view c.args.lines.now _ c.in-Some.i c.index-lines-i.result c.index_mut.result.now over there c.index-lines-i.is c.index_mut.ensures.value in
+    subst (λ (d : DeskOf g.row.L-Port.Denot). ArePatient g.L.LineSync.looks c.args.patience d.ports (set c.desk.inside.ports.items c.in-Some.i c.pay_in.new.port)) c.desk.view_is
+    (patient_one g.L.LineSync.looks c.args.patience c.desk.inside.ports.items c.in-Some.i c.index_mut.result.now c.pay_in.new.port at.1 c.pay_in.ensures.patient)
+
+pub returns-clause-late : goal.returns-clause-late
+returns-clause-late g c late =
+    let over = subst (λ (d : DeskOf g.row.L-Port.Denot). IsDeskOver g.L.LineSync.belongs g.L.LineSync.view c.args.lines.now d) (sym c.desk.view_is) c.requires.over in
+    let there : c.in-Some.i < length c.args.lines.now = omega (arith, c.in-Some.ensures.0, c.in-Some.ensures.1) in
+    let at = at_place g.L.LineSync.belongs g.L.LineSync.view c.args.lines.now _ c.in-Some.i c.index-lines-i.result c.index_mut.result.now over there c.index-lines-i.is c.index_mut.ensures.value in
+    subst (λ (d : DeskOf g.row.L-Port.Denot). HasOneWaited g.L.LineSync.looks c.args.patience d.ports (set c.desk.inside.ports.items c.in-Some.i c.pay_in.new.port)) c.desk.view_is
+    (waited_one g.L.LineSync.looks c.args.patience c.desk.inside.ports.items c.in-Some.i c.index_mut.result.now c.pay_in.new.port at.1 (c.pay_in.ensures.late late))
+
+pub returns-in_default-clause-deposits : goal.returns-in_default-clause-deposits
+returns-in_default-clause-deposits g c = deposits_none g.L.LineSync.view (length c.args.lines.now) c.args.account c.args.amount _ c.in_default.ensures
+
+pub returns-in_default-clause-late : goal.returns-in_default-clause-late
+returns-in_default-clause-late g c late = absurd (no_account_not_late late)

@@ -1,4 +1,4 @@
-use Rattle.std.proofs.Common.{◌<◌, List, length, slice_get, slice_set, sym, ap, ◌∙◌, subst, arith, refl}
+use Rattle.std.proofs.Common.{◌<◌, List, length, inl, inr, slice_get, slice_set, sym, ap, ◌∙◌, subst, arith, refl}
 use Rattle.std.specs.Vec.{with_items}
 use Rattle.std.proofs.Math.ListN.{set}
 use Rattle.std.proofs.lemmas.Option.{slice_get_read}
@@ -6,10 +6,10 @@ use Rattle.line_accounts.specs.declared.answer.Reply.{Reply}
 use Rattle.line_accounts.specs.Desks.{DeskOf, IsDeskOver, ArePatient, HasOneWaited}
 use Rattle.line_accounts.specs.Moves.{IsRefusedEither}
 use Rattle.line_accounts.specs.Calls.{AreTwo, Transfers}
-use Rattle.line_accounts.proofs.Accounted.{at_place, moved_within_port, desk_after}
+use Rattle.line_accounts.proofs.Accounted.{at_place, moved_within_port, desk_after, no_account_not_late}
 use Rattle.line_accounts.proofs.Pairs.{both_set}
-use Rattle.line_accounts.proofs.Patient.{patient_two, waited_two}
-use Rattle.line_accounts.proofs.Transferred.{either_rests, across_ports, crossed_desk, transfers_within, transfers_up, transfers_down}
+use Rattle.line_accounts.proofs.Patient.{patient_one, waited_one, patient_two, waited_two}
+use Rattle.line_accounts.proofs.Transferred.{either_rests, across_ports, crossed_desk, transfers_within, transfers_up, transfers_down, transfers_none, transfers_same, same_account_not_late}
 use Rattle.line_accounts.proofs.desk.transfer.Goals as goal
 
 pub move_within-requires-clause-at_rest : goal.move_within-requires-clause-at_rest
@@ -149,3 +149,68 @@ returns-clause-late g c late =
     subst (λ (d : DeskOf g.row.L-Port.Denot). HasOneWaited g.L.LineSync.looks c.args.patience d.ports ports.items) c.desk.view_is
     (subst (λ (l : List g.row.L-Port.Denot). HasOneWaited g.L.LineSync.looks c.args.patience c.desk.inside.ports.items l) (sym whole)
     (waited_two g.L.LineSync.looks c.args.patience c.desk.inside.ports.items c.in-Some.i c.pair_of-paying.result.0.now c.move_down.new.source_port at_i c.in-Some-place_of.j c.pair_of-paying.result.1.now c.move_down.new.target_port c.if-i-j.false at_j (c.move_down.ensures.late late)))
+
+pub returns-then-i-j-2-clause-patient : goal.returns-then-i-j-2-clause-patient
+returns-then-i-j-2-clause-patient g c =
+    let at_i = sym (ap (λ l. slice_get l c.in-Some.i) c.deref_mut.ensures.value) ∙ c.pair_of-paying.ensures.first in
+    let at_j = sym (ap (λ l. slice_get l c.in-Some-place_of.j) c.deref_mut.ensures.value) ∙ c.pair_of-paying.ensures.second in
+    let ports = with_items c.desk.inside.ports (slice_set (slice_set c.deref_mut.result.now c.in-Some.i c.move_up.new.source_port) c.in-Some-place_of.j c.move_up.new.target_port) in
+    let whole = both_set c.desk.inside.ports c.deref_mut.result.now c.in-Some.i c.in-Some-place_of.j c.move_up.new.source_port c.move_up.new.target_port c.deref_mut.ensures.value in
+    subst (λ (d : DeskOf g.row.L-Port.Denot). ArePatient g.L.LineSync.looks c.args.patience d.ports ports.items) c.desk.view_is
+    (subst (λ (l : List g.row.L-Port.Denot). ArePatient g.L.LineSync.looks c.args.patience c.desk.inside.ports.items l) (sym whole)
+    (patient_two g.L.LineSync.looks c.args.patience c.desk.inside.ports.items c.in-Some.i c.pair_of-paying.result.0.now c.move_up.new.source_port at_i c.in-Some-place_of.j c.pair_of-paying.result.1.now c.move_up.new.target_port c.if-i-j.false at_j c.move_up.ensures.patient_source c.move_up.ensures.patient_target))
+
+pub move_up-requires-clause-belongs_source : goal.move_up-requires-clause-belongs_source
+move_up-requires-clause-belongs_source g c =
+    let over = subst (λ (d : DeskOf g.row.L-Port.Denot). IsDeskOver g.L.LineSync.belongs g.L.LineSync.view c.args.lines.now d) (sym c.desk.view_is) c.requires.over in
+    let there : c.in-Some.i < length c.args.lines.now = omega (arith, c.in-Some.ensures.0, c.in-Some.ensures.1) in
+    over.over.belong c.in-Some.i c.index-lines-i-then-i-j-2.result c.pair_of-paying.result.0.now (slice_get_read c.args.lines.now (length c.args.lines.now) c.in-Some.i c.index-lines-i-then-i-j-2.result refl there c.index-lines-i-then-i-j-2.is)
+    (sym (ap (λ l. slice_get l c.in-Some.i) c.deref_mut.ensures.value) ∙ c.pair_of-paying.ensures.first)
+
+pub move_up-requires-clause-belongs_target : goal.move_up-requires-clause-belongs_target
+move_up-requires-clause-belongs_target g c =
+    let over = subst (λ (d : DeskOf g.row.L-Port.Denot). IsDeskOver g.L.LineSync.belongs g.L.LineSync.view c.args.lines.now d) (sym c.desk.view_is) c.requires.over in
+    let there : c.in-Some-place_of.j < length c.args.lines.now = omega (arith, c.in-Some-place_of.ensures.0, c.in-Some-place_of.ensures.1) in
+    over.over.belong c.in-Some-place_of.j c.index-lines-j.result c.pair_of-paying.result.1.now (slice_get_read c.args.lines.now (length c.args.lines.now) c.in-Some-place_of.j c.index-lines-j.result refl there c.index-lines-j.is)
+    (sym (ap (λ l. slice_get l c.in-Some-place_of.j) c.deref_mut.ensures.value) ∙ c.pair_of-paying.ensures.second)
+
+pub move_within-requires-clause-belongs : goal.move_within-requires-clause-belongs
+move_within-requires-clause-belongs g c =
+    let over = subst (λ (d : DeskOf g.row.L-Port.Denot). IsDeskOver g.L.LineSync.belongs g.L.LineSync.view c.args.lines.now d) (sym c.desk.view_is) c.requires.over in
+    let there_i : c.in-Some.i < length c.args.lines.now = omega (arith, c.in-Some.ensures.0, c.in-Some.ensures.1) in
+    let at = at_place g.L.LineSync.belongs g.L.LineSync.view c.args.lines.now _ c.in-Some.i c.index-lines-i.result c.index_mut.result.now over there_i c.index-lines-i.is c.index_mut.ensures.value in
+    over.over.belong c.in-Some.i c.index-lines-i.result c.index_mut.result.now at.0 at.1
+
+pub returns-then-i-j-clause-patient : goal.returns-then-i-j-clause-patient
+returns-then-i-j-clause-patient g c =
+    let over = subst (λ (d : DeskOf g.row.L-Port.Denot). IsDeskOver g.L.LineSync.belongs g.L.LineSync.view c.args.lines.now d) (sym c.desk.view_is) c.requires.over in
+    let there_i : c.in-Some.i < length c.args.lines.now = omega (arith, c.in-Some.ensures.0, c.in-Some.ensures.1) in
+    let at = at_place g.L.LineSync.belongs g.L.LineSync.view c.args.lines.now _ c.in-Some.i c.index-lines-i.result c.index_mut.result.now over there_i c.index-lines-i.is c.index_mut.ensures.value in
+    subst (λ (d : DeskOf g.row.L-Port.Denot). ArePatient g.L.LineSync.looks c.args.patience d.ports (set c.desk.inside.ports.items c.in-Some.i c.move_within.new.port)) c.desk.view_is
+    (patient_one g.L.LineSync.looks c.args.patience c.desk.inside.ports.items c.in-Some.i c.index_mut.result.now c.move_within.new.port at.1 c.move_within.ensures.patient)
+
+pub returns-then-i-j-clause-late : goal.returns-then-i-j-clause-late
+returns-then-i-j-clause-late g c late =
+    let over = subst (λ (d : DeskOf g.row.L-Port.Denot). IsDeskOver g.L.LineSync.belongs g.L.LineSync.view c.args.lines.now d) (sym c.desk.view_is) c.requires.over in
+    let there_i : c.in-Some.i < length c.args.lines.now = omega (arith, c.in-Some.ensures.0, c.in-Some.ensures.1) in
+    let at = at_place g.L.LineSync.belongs g.L.LineSync.view c.args.lines.now _ c.in-Some.i c.index-lines-i.result c.index_mut.result.now over there_i c.index-lines-i.is c.index_mut.ensures.value in
+    subst (λ (d : DeskOf g.row.L-Port.Denot). HasOneWaited g.L.LineSync.looks c.args.patience d.ports (set c.desk.inside.ports.items c.in-Some.i c.move_within.new.port)) c.desk.view_is
+    (waited_one g.L.LineSync.looks c.args.patience c.desk.inside.ports.items c.in-Some.i c.index_mut.result.now c.move_within.new.port at.1 (c.move_within.ensures.late late))
+
+pub returns-in_default-clause-transfers : goal.returns-in_default-clause-transfers
+returns-in_default-clause-transfers g c = transfers_none g.L.LineSync.view (length c.args.lines.now) c.args.from c.args.to c.args.amount _ (inl c.in_default.ensures)
+
+pub returns-in_default-clause-late : goal.returns-in_default-clause-late
+returns-in_default-clause-late g c late = absurd (no_account_not_late late)
+
+pub returns-in_default-place_of-clause-transfers : goal.returns-in_default-place_of-clause-transfers
+returns-in_default-place_of-clause-transfers g c = transfers_none g.L.LineSync.view (length c.args.lines.now) c.args.from c.args.to c.args.amount _ (inr c.in_default-place_of.ensures)
+
+pub returns-in_default-place_of-clause-late : goal.returns-in_default-place_of-clause-late
+returns-in_default-place_of-clause-late g c late = absurd (no_account_not_late late)
+
+pub returns-then-from-to-clause-transfers : goal.returns-then-from-to-clause-transfers
+returns-then-from-to-clause-transfers g c = transfers_same g.L.LineSync.view (length c.args.lines.now) c.args.from c.args.to c.args.amount _ c.in-Some.ensures.0 c.if-from-to.true
+
+pub returns-then-from-to-clause-late : goal.returns-then-from-to-clause-late
+returns-then-from-to-clause-late g c late = absurd (same_account_not_late late)

@@ -1,4 +1,4 @@
-use Rattle.std.proofs.Common.{rules, ◌≡◌, ◌≤◌, ◌+◌, ◌++◌, ◌∷◌, [], List, All, Vec, Global, length, map, drop, vec_len, ap, sym, ◌∙◌, subst, arith, length-append, append_assoc}
+use Rattle.std.proofs.Common.{◌≡◌, ◌≤◌, ◌+◌, ◌++◌, ◌∷◌, [], List, All, Vec, Global, length, map, drop, vec_len, ap, sym, ◌∙◌, subst, arith, length-append, append_assoc}
 use Rattle.std.specs.Vec.Iter.{into_iter_items}
 use Rattle.std.proofs.lemmas.List.Elements.{All-nil, All-same, All-rest, All-push}
 use Rattle.line_accounts.specs.Desks.{DeskOf, IsDeskOver}
@@ -84,9 +84,25 @@ loop-ports-preserved g c =
 
 pub returns-clause-dealt : goal.returns-clause-dealt
 returns-clause-dealt g c =
-    let end : length (into_iter_items c.loop-ports.ports-iterator) ≡ 0 = search rules in
-    let done : length (into_iter_items c.loop-line.line-iterator) ≡ 0 = search rules in
+    let end : length (into_iter_items c.loop-ports.ports-iterator) ≡ 0 = sym c.loop-ports.ports-iterator.rest.ok.0 ∙ c.in-None-ports.ensures.steps.0 in
+    let done : length (into_iter_items c.loop-line.line-iterator) ≡ 0 = sym c.loop-line.line-iterator.rest.ok.0 ∙ c.in-None.ensures.steps.0 in
     desks_dealt c.args.opened.items (length c.loop-line.lines.items) c.loop-line.columns.items c.loop-ports.desks.items
     (all_given (λ (line : g.row.L.Denot × Vec g.row.L-Port.Denot Global). line.0) c.loop-line.lines.items (into_iter_items c.loop-line.line-iterator) c.args.opened.items done c.loop-line.invariant.given) c.loop-line.invariant.dealt
     (all_moved (map (λ (desk : DeskOf g.row.L-Port.Denot). desk.ports) c.loop-ports.desks.items) (λ (column : Vec g.row.L-Port.Denot Global). column.items) (into_iter_items c.loop-ports.ports-iterator) _ end c.loop-ports.invariant.dealt
     ∙ ap (λ (cs : List (Vec g.row.L-Port.Denot Global)). map (λ (column : Vec g.row.L-Port.Denot Global). column.items) cs) c.into_iter-ports-iterator.ensures.into_iter_gives.0)
+
+pub returns-clause-lines : goal.returns-clause-lines
+returns-clause-lines g c =
+    let done : length (into_iter_items c.loop-line.line-iterator) ≡ 0 = sym c.loop-line.line-iterator.rest.ok.0 ∙ c.in-None.ensures.steps.0 in
+    all_moved c.loop-line.lines.items (λ (line : g.row.L.Denot × Vec g.row.L-Port.Denot Global). line.0) (into_iter_items c.loop-line.line-iterator) _ done c.loop-line.invariant.given
+
+pub returns-clause-as_many : goal.returns-clause-as_many
+returns-clause-as_many g c =
+    let end : length (into_iter_items c.loop-ports.ports-iterator) ≡ 0 = sym c.loop-ports.ports-iterator.rest.ok.0 ∙ c.in-None-ports.ensures.steps.0 in
+    omega (arith, end, c.loop-ports.invariant.many, c.loop-ports.desks.ok.0)
+
+pub returns-clause-unpaid : goal.returns-clause-unpaid
+returns-clause-unpaid g c = c.loop-ports.invariant.unpaid
+
+pub returns-clause-over : goal.returns-clause-over
+returns-clause-over g c = c.loop-ports.invariant.over

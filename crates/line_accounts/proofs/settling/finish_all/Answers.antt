@@ -4,7 +4,7 @@ use Rattle.line_lanes.specs.declared.line.Line64.{Line64}
 use Rattle.qolb_model.specs.Finishing.{IsFinished}
 use Rattle.line_accounts.specs.Accounts.{AreBalances, StayBalances}
 use Rattle.line_accounts.specs.Desks.{DeskOf, IsDeskOver}
-use Rattle.line_accounts.proofs.Settlements.{IsLeft, IsRest, AddsUp, IsBounded, left_first, rest_first, rest_then, rest_last, adds_first, bounded_first, left_then, taken_belongs, finished_with, adds_then, bounded_then, fits_total, adds_last, some_left, nothing_left}
+use Rattle.line_accounts.proofs.Settlements.{IsLeft, IsRest, AddsUp, IsBounded, left_first, rest_first, rest_then, rest_last, adds_first, bounded_first, left_then, taken_belongs, finished_with, adds_then, bounded_then, fits_total, adds_last, some_left, nothing_left, none_has}
 use Rattle.line_accounts.proofs.settling.finish_all.Goals as goal
 
 pub loop-line-init : goal.loop-line-init
@@ -61,3 +61,14 @@ returns g c = record {
       (λ k desk at. subst (λ (d : DeskOf g.row.L-Port.Denot). IsDeskOver g.L.LineSync.belongs g.L.LineSync.view c.args.lines.items d) (get_or_from_slice_get c.args.desks.items k desk desk at) (c.requires.over k desk (slice_get_within c.args.desks.items k desk at)));
   settled = rest_last g.L.LineSync.belongs g.L.LineSync.view g.L.LineSync.label_of g.L.LineSync.terms_of c.args.lines.items c.args.desks.items c.loop-line.lines.items c.loop-line.desks.items (nothing_left c.loop-line.lines.items (sym c.loop-line.lines.ok.0 ∙ c.in_default.ensures.cases.0)) c.loop-line.invariant.rest;
 }
+
+pub returns-in_err-ports-clause-total : goal.returns-in_err-ports-clause-total
+returns-in_err-ports-clause-total g c = none_has _ c.from_residual.result c.from_residual.ensures
+
+pub returns-in_err-last-clause-total : goal.returns-in_err-last-clause-total
+returns-in_err-last-clause-total g c = none_has _ c.from_residual-in_err-last.result c.from_residual-in_err-last.ensures
+
+pub loop-line-smaller : goal.loop-line-smaller
+loop-line-smaller g c =
+    let more : length c.loop-line.lines.items ≡ length c.pop.new.self.items + 1 = ap length c.in-Some.ensures.items ∙ length-append c.pop.new.self.items (c.in-Some.line ∷ []) in
+    omega (arith, more)

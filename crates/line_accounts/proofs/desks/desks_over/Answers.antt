@@ -1,0 +1,9 @@
+use Rattle.std.proofs.Common.{◌≤◌, Vec, Global, vec_len, sym}
+use Rattle.std.proofs.lemmas.List.Elements.{All-same}
+use Rattle.line_accounts.proofs.desks.desks_over.Goals as goal
+
+pub deal-requires-clause-enough : goal.deal-requires-clause-enough
+deal-requires-clause-enough g c = All-same (λ (line : g.row.L.Denot × Vec g.row.L-Port.Denot Global). c.args.count ≤ vec_len line.1) _ _ (sym c.deref.ensures.value) c.in_default.ensures
+
+pub returns-in-Err-clause-why : goal.returns-in-Err-clause-why
+returns-in-Err-clause-why g c = All-same (λ (line : g.row.L.Denot × Vec g.row.L-Port.Denot Global). c.args.count ≤ vec_len line.1) _ _ (sym c.deref.ensures.value) c.in_default.ensures
