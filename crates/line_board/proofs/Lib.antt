@@ -5,3 +5,4 @@ pub mod Turns
 pub mod Boards
 pub mod Encoding
 pub mod Answering
+pub mod Refusing

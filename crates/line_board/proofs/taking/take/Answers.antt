@@ -19,7 +19,7 @@ returns-in-Some-clause-patient g c =
     subst (λ (n : ℕ). n ≤ g.L.LineSync.looks c.args.port.now + c.args.patience) (sym c.in-Some.ensures.looks) c.in-Granted.ensures.patient
 
 pub returns-in-Some-clause-late : goal.returns-in-Some-clause-late
-returns-in-Some-clause-late g c = λ e. absurd (task_not_late c.in-Some.task e)
+returns-in-Some-clause-late g c = λ e. absurd (task_not_late _ e)
 
 pub returns-in-None-clause-patient : goal.returns-in-None-clause-patient
 returns-in-None-clause-patient g c =
