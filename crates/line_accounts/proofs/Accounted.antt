@@ -197,9 +197,6 @@ deposits_none view lines account amount d above = record { unknown = λ _. (abov
 pub takes_out_none : {Port : Type 0} (view : Port → View) (lines account amount : ℕ) (d : DeskOf Port) → 8 * lines ≤ account → TakesOut view lines account amount d d NoAccount
 takes_out_none view lines account amount d above = record { unknown = λ _. (above, refl); known = λ other. absurd (other refl); pays = λ other. absurd (other refl); paid_in = refl }
 
-pub no_account_not_late : NoAccount ≡ Late → ⊥
-no_account_not_late e = cc e
-
 -- two lines, and a port of each
 pub over_pair : {Line Port : Type 0} (belongs : Line → Port → Type 0) (a b : Line) (p q : Port) → belongs a p → belongs b q → AreOver belongs (a ∷ b ∷ []) (p ∷ q ∷ [])
 over_pair {Line} {Port} belongs a b p q first second = record { count = refl; belong = at }

@@ -43,13 +43,3 @@ module _ (s s_then t t_then : View) where
   refused_across source source_then target target_then from to amount Over h = absurd (neither Over (λ r. r) (λ r. r) h)
   refused_across source source_then target target_then from to amount NoAccount h = absurd (neither NoAccount (λ r. r) (λ r. r) h)
   refused_across source source_then target target_then from to amount SameAccount h = absurd (neither SameAccount (λ r. r) (λ r. r) h)
-
--- what two granted turns answer isn't late
-pub done_not_late : Done ≡ Late → ⊥
-done_not_late e = cc e
-
-pub short_not_late : Short ≡ Late → ⊥
-short_not_late e = cc e
-
-pub over_not_late : Over ≡ Late → ⊥
-over_not_late e = cc e

@@ -8,3 +8,4 @@ pub mod Transferred
 pub mod Settlements
 pub mod Pairs
 pub mod Patient
+pub mod Replies

@@ -162,6 +162,3 @@ transfers_same view lines source target amount d known one = record {
   where
     other : SameAccount ≡ NoAccount → ⊥
     other e = cc e
-
-pub same_account_not_late : SameAccount ≡ Late → ⊥
-same_account_not_late e = cc e

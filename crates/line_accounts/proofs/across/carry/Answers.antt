@@ -3,7 +3,7 @@ use Rattle.line_lanes.specs.Lane.{lane_of}
 use Rattle.qolb_model.specs.Views.{bytes_of}
 use Rattle.line_accounts.specs.Accounts.{StayBalances, HasRoom, raised, lowered}
 use Rattle.line_accounts.specs.Moves.{Leaves}
-use Rattle.line_accounts.proofs.Crossing.{done_not_late, short_not_late, over_not_late}
+use Rattle.line_accounts.proofs.Replies.{done_not_late, short_not_late, over_not_late}
 use Rattle.line_accounts.proofs.Visits.{balances_known}
 use Rattle.line_accounts.proofs.Totals.{raised_stays, lowered_stays}
 use Rattle.line_accounts.proofs.across.carry.Goals as goal

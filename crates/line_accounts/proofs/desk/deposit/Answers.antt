@@ -2,7 +2,8 @@ use Rattle.std.proofs.Common.{◌<◌, length, sym, subst, arith}
 use Rattle.std.proofs.Math.ListN.{set}
 use Rattle.line_accounts.specs.Desks.{DeskOf, IsDeskOver, ArePatient, HasOneWaited}
 use Rattle.line_accounts.specs.Calls.{Deposits}
-use Rattle.line_accounts.proofs.Accounted.{paid_in_port, desk_after, at_place, deposits, deposits_none, no_account_not_late}
+use Rattle.line_accounts.proofs.Accounted.{paid_in_port, desk_after, at_place, deposits, deposits_none}
+use Rattle.line_accounts.proofs.Replies.{no_account_not_late}
 use Rattle.line_accounts.proofs.Patient.{patient_one, waited_one}
 use Rattle.line_accounts.proofs.desk.deposit.Goals as goal
 

@@ -1,4 +1,4 @@
-use Rattle.std.proofs.Common.{◌<◌, List, length, inl, inr, slice_get, slice_set, sym, ap, ◌∙◌, subst, arith, refl}
+use Rattle.std.proofs.Common.{◌<◌, ℕ, List, length, inl, inr, slice_get, slice_set, sym, ap, ◌∙◌, subst, arith, refl}
 use Rattle.std.specs.Vec.{with_items}
 use Rattle.std.proofs.Math.ListN.{set}
 use Rattle.std.proofs.lemmas.Option.{slice_get_read}
@@ -6,10 +6,11 @@ use Rattle.line_accounts.specs.declared.answer.Reply.{Reply}
 use Rattle.line_accounts.specs.Desks.{DeskOf, IsDeskOver, ArePatient, HasOneWaited}
 use Rattle.line_accounts.specs.Moves.{IsRefusedEither}
 use Rattle.line_accounts.specs.Calls.{AreTwo, Transfers}
-use Rattle.line_accounts.proofs.Accounted.{at_place, moved_within_port, desk_after, no_account_not_late}
+use Rattle.line_accounts.proofs.Accounted.{at_place, moved_within_port, desk_after}
 use Rattle.line_accounts.proofs.Pairs.{both_set}
 use Rattle.line_accounts.proofs.Patient.{patient_one, waited_one, patient_two, waited_two}
-use Rattle.line_accounts.proofs.Transferred.{either_rests, across_ports, crossed_desk, transfers_within, transfers_up, transfers_down, transfers_none, transfers_same, same_account_not_late}
+use Rattle.line_accounts.proofs.Transferred.{either_rests, across_ports, crossed_desk, transfers_within, transfers_up, transfers_down, transfers_none, transfers_same}
+use Rattle.line_accounts.proofs.Replies.{no_account_not_late, same_account_not_late, lane_small}
 use Rattle.line_accounts.proofs.desk.transfer.Goals as goal
 
 pub move_within-requires-clause-at_rest : goal.move_within-requires-clause-at_rest
@@ -214,3 +215,21 @@ returns-then-from-to-clause-transfers g c = transfers_same g.L.LineSync.view (le
 
 pub returns-then-from-to-clause-late : goal.returns-then-from-to-clause-late
 returns-then-from-to-clause-late g c late = absurd (same_account_not_late late)
+
+pub move_within-requires-clause-source : goal.move_within-requires-clause-source
+move_within-requires-clause-source g c = subst (λ (n : ℕ). n < 8) (sym c.in-Some.ensures.2) (lane_small c.args.from)
+
+pub move_within-requires-clause-target : goal.move_within-requires-clause-target
+move_within-requires-clause-target g c = subst (λ (n : ℕ). n < 8) (sym c.in-Some-place_of.ensures.2) (lane_small c.args.to)
+
+pub move_up-requires-clause-from_lane : goal.move_up-requires-clause-from_lane
+move_up-requires-clause-from_lane g c = subst (λ (n : ℕ). n < 8) (sym c.in-Some.ensures.2) (lane_small c.args.from)
+
+pub move_up-requires-clause-to_lane : goal.move_up-requires-clause-to_lane
+move_up-requires-clause-to_lane g c = subst (λ (n : ℕ). n < 8) (sym c.in-Some-place_of.ensures.2) (lane_small c.args.to)
+
+pub move_down-requires-clause-from_lane : goal.move_down-requires-clause-from_lane
+move_down-requires-clause-from_lane g c = subst (λ (n : ℕ). n < 8) (sym c.in-Some.ensures.2) (lane_small c.args.from)
+
+pub move_down-requires-clause-to_lane : goal.move_down-requires-clause-to_lane
+move_down-requires-clause-to_lane g c = subst (λ (n : ℕ). n < 8) (sym c.in-Some-place_of.ensures.2) (lane_small c.args.to)

@@ -7,3 +7,6 @@ deal-requires-clause-enough g c = All-same (λ (line : g.row.L.Denot × Vec g.ro
 
 pub returns-in-Err-clause-why : goal.returns-in-Err-clause-why
 returns-in-Err-clause-why g c = All-same (λ (line : g.row.L.Denot × Vec g.row.L-Port.Denot Global). c.args.count ≤ vec_len line.1) _ _ (sym c.deref.ensures.value) c.in_default.ensures
+
+pub returns-in-Ok-clause-unpaid : goal.returns-in-Ok-clause-unpaid
+returns-in-Ok-clause-unpaid g c = c.in-Ok.ensures.unpaid

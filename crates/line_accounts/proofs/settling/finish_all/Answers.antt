@@ -72,3 +72,9 @@ pub loop-line-smaller : goal.loop-line-smaller
 loop-line-smaller g c =
     let more : length c.loop-line.lines.items ≡ length c.pop.new.self.items + 1 = ap length c.in-Some.ensures.items ∙ length-append c.pop.new.self.items (c.in-Some.line ∷ []) in
     omega (arith, more)
+
+pub returns-in_err-ports-clause-settled : goal.returns-in_err-ports-clause-settled
+returns-in_err-ports-clause-settled g c = none_has _ c.from_residual.result c.from_residual.ensures
+
+pub returns-in_err-last-clause-settled : goal.returns-in_err-last-clause-settled
+returns-in_err-last-clause-settled g c = none_has _ c.from_residual-in_err-last.result c.from_residual-in_err-last.ensures

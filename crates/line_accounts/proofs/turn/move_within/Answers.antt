@@ -5,6 +5,7 @@ use Rattle.line_accounts.specs.Accounts.{StayBalances, HasRoom, raised, lowered}
 use Rattle.line_accounts.specs.Moves.{TakesTurn}
 use Rattle.line_accounts.proofs.Visits.{took, balances_known}
 use Rattle.line_accounts.proofs.Totals.{long-lowered, long-raised, moved_stays, no_room, has_room, moved}
+use Rattle.line_accounts.proofs.Replies.{done_not_late, short_not_late, over_not_late}
 use Rattle.line_accounts.proofs.turn.move_within.Goals as goal
 
 pub returns-in_default-lowered-clause-moves : goal.returns-in_default-lowered-clause-moves
@@ -62,3 +63,12 @@ returns-clause-moves g c =
       room,
       moved (bytes_of v) c.args.from c.args.to c.args.amount (ap length (sym held) ∙ c.held-found.ensures.long) c.requires.source c.requires.target (λ e. c.requires.apart (sym e)) good enough room turn.pays,
     )
+
+pub returns-clause-late : goal.returns-clause-late
+returns-clause-late g c late = absurd (done_not_late late)
+
+pub returns-in_default-lowered-clause-late : goal.returns-in_default-lowered-clause-late
+returns-in_default-lowered-clause-late g c late = absurd (short_not_late late)
+
+pub returns-in_default-raised-clause-late : goal.returns-in_default-raised-clause-late
+returns-in_default-raised-clause-late g c late = absurd (over_not_late late)

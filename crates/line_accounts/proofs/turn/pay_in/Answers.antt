@@ -5,6 +5,7 @@ use Rattle.line_accounts.specs.Accounts.{StayBalances, HasRoom, raised}
 use Rattle.line_accounts.specs.Moves.{TakesTurn}
 use Rattle.line_accounts.proofs.Visits.{took, balances_known}
 use Rattle.line_accounts.proofs.Totals.{raised_stays, long-raised, paid_in}
+use Rattle.line_accounts.proofs.Replies.{done_not_late, over_not_late}
 use Rattle.line_accounts.proofs.turn.pay_in.Goals as goal
 
 pub returns-in_default-raised-clause-pays : goal.returns-in_default-raised-clause-pays
@@ -51,3 +52,12 @@ returns-clause-pays g c =
       paid_in (bytes_of v) c.args.k c.args.amount (ap length (sym held) ∙ c.held-found.ensures.long) c.requires.lane good room turn.pays,
       sum,
     )
+
+pub returns-clause-late : goal.returns-clause-late
+returns-clause-late g c late = absurd (done_not_late late)
+
+pub returns-in_default-raised-clause-late : goal.returns-in_default-raised-clause-late
+returns-in_default-raised-clause-late g c late = absurd (over_not_late late)
+
+pub returns-in_default-checked_add-clause-late : goal.returns-in_default-checked_add-clause-late
+returns-in_default-checked_add-clause-late g c late = absurd (over_not_late late)

@@ -6,6 +6,7 @@ use Rattle.line_accounts.specs.Accounts.{StayBalances, lowered}
 use Rattle.line_accounts.specs.Moves.{TakesTurn}
 use Rattle.line_accounts.proofs.Visits.{took, balances_known}
 use Rattle.line_accounts.proofs.Totals.{lowered_stays, long-lowered, paid_out}
+use Rattle.line_accounts.proofs.Replies.{done_not_late, short_not_late, over_not_late}
 use Rattle.line_accounts.proofs.turn.pay_out.Goals as goal
 
 pub returns-in_default-lowered-clause-pays : goal.returns-in_default-lowered-clause-pays
@@ -53,3 +54,12 @@ returns-clause-pays g c =
       paid_out (bytes_of v) c.args.k c.args.amount (ap length (sym held) ∙ c.held-found.ensures.long) c.requires.lane good enough turn.pays,
       sum,
     )
+
+pub returns-clause-late : goal.returns-clause-late
+returns-clause-late g c late = absurd (done_not_late late)
+
+pub returns-in_default-lowered-clause-late : goal.returns-in_default-lowered-clause-late
+returns-in_default-lowered-clause-late g c late = absurd (short_not_late late)
+
+pub returns-in_default-checked_add-clause-late : goal.returns-in_default-checked_add-clause-late
+returns-in_default-checked_add-clause-late g c late = absurd (over_not_late late)
