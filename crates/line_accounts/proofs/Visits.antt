@@ -1,43 +1,28 @@
 -- A port that asks, and is refused or has a turn: what it has paid.
-use Rattle.std.proofs.Common.{◌≡◌, ℕ, zero, suc, ◌+◌, ◌-◌, ◌<◌, ◌≤◌, ◌⊎◌, inl, inr, Bool, true, false, if◌then◌else◌, List, [], ◌∷◌, ◌++◌, length, take, drop, replicate, Some, slice_get, refl, ap, sym, ◌∙◌, subst, arith}
-use Rattle.std.proofs.lemmas.Bool.{eq-eqb, cases_lt}
-use Rattle.std.proofs.lemmas.List.{length-take-le, take-append-drop}
-use Rattle.std.proofs.lemmas.Option.{slice_get_within}
+use Rattle.std.proofs.Common.{◌≡◌, ℕ, ◌+◌, ◌⊎◌, inl, inr, Bool, true, false, List, [], ◌∷◌, ◌++◌, length, take, replicate, Some, slice_get, refl, ap, sym, ◌∙◌, subst, arith}
 use Rattle.std.proofs.Math.Seq.{take-append_seam, take-append-add}
-use mathlib.Core.List.{IsPrefix}
 use Rattle.qolb_model.specs.declared.answer.PortState.{PortState}
 use Rattle.qolb_model.specs.declared.answer.PortState.TheVariants.{Left, Rolled, Shut}
-use Rattle.qolb_model.specs.declared.request.Request.{Request}
 use Rattle.qolb_model.specs.declared.end.End.{End}
-use Rattle.qolb_model.specs.declared.end.End.TheVariants.{Served, Gone, Told}
+use Rattle.qolb_model.specs.declared.end.End.TheVariants.{Served, Gone}
 use Rattle.qolb_model.specs.declared.terms.Terms.{Terms}
 use Rattle.qolb_model.specs.declared.view.View.{View}
 use Rattle.qolb_model.specs.declared.write.Write.{Write}
-use Rattle.qolb_model.specs.Requests.{Has, count_of}
 use Rattle.qolb_model.specs.Ends.{written, bytes_after}
-use Rattle.qolb_model.specs.EndKinds.{is_served, is_gone}
 use Rattle.qolb_model.specs.Leases.{is_last_turn, closes}
 use Rattle.qolb_model.specs.PortStates.{may_ask, left_by}
-use Rattle.qolb_model.specs.Views.{own, bytes_of, Extends}
-use Rattle.qolb_model.specs.OneHistory.{Knows, OneHistory}
+use Rattle.qolb_model.specs.Views.{own, bytes_of}
 use Rattle.qolb_model.specs.Sound.{KnowsOwnPast, Continues, IsSound}
 use Rattle.qolb_model.specs.Asking.{IsBusy, Asks}
 use Rattle.qolb_model.specs.Turns.{IsGranted, IsWithdrawn}
-use Rattle.qolb_model.specs.LettingGo.{IsShort, LetsGo, IsTold}
+use Rattle.qolb_model.specs.LettingGo.{IsTold}
 use Rattle.qolb_model.specs.Calls.{Releases}
-use Rattle.qolb_model.proofs.Lists.{never, same_some, element_at, drop_with, slice_get-middle}
-use Rattle.qolb_model.proofs.Prefixes.{prefix_get, prefix_self, prefix_trans, prefix_shorter}
-use Rattle.qolb_model.proofs.Histories.{same_place_legal, bytes_after-append}
-use Rattle.qolb_model.proofs.Requests.{same_request, has_at, has_prefix, count_of-append, number_le_count_all}
+use Rattle.qolb_model.proofs.Lists.{slice_get-middle}
+use Rattle.qolb_model.proofs.Histories.{bytes_after-append}
 use Rattle.qolb_model.proofs.Writes.{good_after}
-use Rattle.qolb_model.proofs.Agreeing.{among_first, extends_trans}
-use Rattle.std.specs.Prelude.{IfOk, IfErr}
-use Rattle.std.specs.declared.result.Result.{Result}
-use Rattle.std.specs.declared.result.Result.TheVariants.{Ok, Err}
-use Rattle.line_accounts.specs.declared.answer.Reply.{Reply}
-use Rattle.line_accounts.specs.declared.answer.Reply.TheVariants as answer
+use Rattle.qolb_model.proofs.Agreeing.{extends_trans}
 use Rattle.line_accounts.specs.Accounts.{AreBalances, StayBalances, balances_after}
-use Rattle.qolb_model.specs.Sums.{sum_of_turns, KnowsOwnPlaces, HasNotShut}
+use Rattle.qolb_model.specs.Sums.{HasNotShut}
 use Rattle.line_accounts.specs.Paid.{rise, fall, paid_by, drawn_by}
 use Rattle.line_accounts.specs.Desks.{IsAtRest}
 use Rattle.line_accounts.specs.Moves.{Pays, IsServed, Holds, Leaves, TakesTurn, AsksInVain}
