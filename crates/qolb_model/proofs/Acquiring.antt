@@ -1,5 +1,5 @@
 -- Asking, and waiting.
-use Rattle.std.proofs.Common.{◌≡◌, ◌≢◌, ℕ, List}
+use Rattle.std.proofs.Common.{◌≡◌, ◌≢◌, ℕ, ◌+◌, ◌<◌, ◌≤◌, List, refl, ◌∙◌, arith}
 use Rattle.qolb_model.specs.declared.answer.Enq.{Enq}
 use Rattle.qolb_model.specs.declared.answer.Enq.TheVariants as enq
 use Rattle.qolb_model.proofs.Unserved.{unserved}
@@ -7,14 +7,16 @@ use Rattle.qolb_model.specs.declared.answer.Out.{Out}
 use Rattle.qolb_model.specs.declared.answer.Out.TheVariants as out
 use Rattle.qolb_model.specs.declared.view.View.{View}
 use Rattle.qolb_model.specs.declared.write.Write.{Write}
-use Rattle.qolb_model.specs.Calls.{Enqueues, Withdraws}
+use Rattle.qolb_model.specs.declared.answer.Poll.TheVariants as poll
+use Rattle.qolb_model.specs.Views.{Extends}
+use Rattle.qolb_model.specs.Calls.{Enqueues, Polls, Withdraws}
 use Rattle.qolb_model.specs.declared.patience.Asked.{Asked}
 use Rattle.qolb_model.specs.declared.patience.Asked.TheVariants as asked
 use Rattle.qolb_model.specs.Patience.{AcquiresPatiently}
 use Rattle.qolb_model.proofs.Going.{continues_on, asks_goes, joined_goes}
 
 -- what came of asking, where the request was granted at once, or told, or the port was busy
-pub asked_once :
+asked_once :
     (allows : List ℕ → List ℕ → Type 0) (old new : View) (turn : Write) (answer : Asked) (now : Enq)
     → Enqueues allows old new turn now
     → (answer ≡ asked.Busy → now ≡ enq.Busy) → (answer ≢ asked.Busy → now ≢ enq.Busy) → (answer ≡ asked.Granted → now ≡ enq.Granted) → answer ≢ asked.Late → (answer ≡ asked.Closed → now ≡ enq.Closed)
@@ -31,7 +33,7 @@ asked_once allows old new turn answer now e busy some granted late told = record
 }
 
 -- what came of asking, where the request waited and then was withdrawn, or granted, or told
-pub acquired :
+acquired :
     (allows : List ℕ → List ℕ → Type 0) (old mid new : View) (first turn : Write) (answer : Asked) (ended : Out)
     → Enqueues allows old mid first enq.Queued → Withdraws allows mid new turn ended
     → answer ≢ asked.Busy → (answer ≡ asked.Granted → ended ≡ out.Granted) → (answer ≡ asked.Late → ended ≡ out.Withdrawn) → (answer ≡ asked.Closed → ended ≡ out.Closed)
@@ -48,3 +50,71 @@ acquired allows old mid new first turn answer ended e w some granted late told =
       unserved old new w.continues.history answer (λ is. absurd (some is)) (λ _. asks_goes old mid new (e.asks (λ is. cc is)) w.continues.extends w.count)
       (λ is. w.withdrawn (late is)) (λ is. w.told (told is));
 }
+
+-- what came of asking: an answer at once
+module _ (allows : List ℕ → List ℕ → Type 0) (old new : View) (turn : Write) where
+  pub granted_at_once : Enqueues allows old new turn enq.Granted → AcquiresPatiently allows old new turn asked.Granted
+  granted_at_once e = asked_once allows old new turn asked.Granted enq.Granted e (λ is. cc is) (λ _ is. cc is) (λ _. refl) (λ is. cc is) (λ is. cc is)
+
+  pub told_at_once : Enqueues allows old new turn enq.Closed → AcquiresPatiently allows old new turn asked.Closed
+  told_at_once e = asked_once allows old new turn asked.Closed enq.Closed e (λ is. cc is) (λ _ is. cc is) (λ is. cc is) (λ is. cc is) (λ _. refl)
+
+  pub found_busy : Enqueues allows old new turn enq.Busy → AcquiresPatiently allows old new turn asked.Busy
+  found_busy e = asked_once allows old new turn asked.Busy enq.Busy e (λ _. refl) (λ other _. other refl) (λ is. cc is) (λ is. cc is) (λ is. cc is)
+
+-- what came of asking: an answer after a wait
+module _ (allows : List ℕ → List ℕ → Type 0) (old mid new : View) (first turn : Write) (e : Enqueues allows old mid first enq.Queued) where
+  pub granted_later : Withdraws allows mid new turn out.Granted → AcquiresPatiently allows old new turn asked.Granted
+  granted_later w = acquired allows old mid new first turn asked.Granted out.Granted e w (λ is. cc is) (λ _. refl) (λ is. cc is) (λ is. cc is)
+
+  pub told_later : Withdraws allows mid new turn out.Closed → AcquiresPatiently allows old new turn asked.Closed
+  told_later w = acquired allows old mid new first turn asked.Closed out.Closed e w (λ is. cc is) (λ is. cc is) (λ is. cc is) (λ _. refl)
+
+  pub withdrawn_later : Withdraws allows mid new turn out.Withdrawn → AcquiresPatiently allows old new turn asked.Late
+  withdrawn_later w = acquired allows old mid new first turn asked.Late out.Withdrawn e w (λ is. cc is) (λ is. cc is) (λ _. refl) (λ is. cc is)
+
+-- what came of a wait: its looks changed nothing before the last call, which was a look or withdrew
+module _ (allows : List ℕ → List ℕ → Type 0) (old mid new : View) (turn : Write) (e : Extends old mid) (same : mid.count ≡ old.count) where
+  pub granted_by_look : Polls allows mid new turn poll.Granted → Withdraws allows old new turn out.Granted
+  granted_by_look p = record {
+    continues = continues_on allows old mid new e p.continues;
+    count = p.count ∙ same;
+    withdrawn = λ is. cc is;
+    granted = λ _. p.granted refl;
+    told = λ is. cc is;
+  }
+
+  pub told_by_look : Polls allows mid new turn poll.Closed → Withdraws allows old new turn out.Closed
+  told_by_look p = record {
+    continues = continues_on allows old mid new e p.continues;
+    count = p.count ∙ same;
+    withdrawn = λ is. cc is;
+    granted = λ is. cc is;
+    told = λ _. p.told refl;
+  }
+
+  pub withdraws_later : (ended : Out) → Withdraws allows mid new turn ended → Withdraws allows old new turn ended
+  withdraws_later ended w = record {
+    continues = continues_on allows old mid new e w.continues;
+    count = w.count ∙ same;
+    withdrawn = w.withdrawn;
+    granted = w.granted;
+    told = w.told;
+  }
+
+pub granted_in_time : out.Granted ≢ out.Withdrawn
+granted_in_time is = cc is
+
+pub told_in_time : out.Closed ≢ out.Withdrawn
+told_in_time is = cc is
+
+-- how often a port has looked: one time more, as is still allowed; or as often as is allowed
+module _ (first now looked : ℕ) (before : now ≡ first + looked) where
+  pub one_look_more : (last : ℕ) → last ≡ now + 1 → last ≡ first + (looked + 1)
+  one_look_more last more = omega arith
+
+  pub looks_allowed : (patience last : ℕ) → last ≡ now + 1 → looked < patience → last ≤ first + patience
+  looks_allowed patience last more left = omega arith
+
+  pub all_looks : (patience : ℕ) → patience ≤ looked → looked ≤ patience → now ≡ first + patience
+  all_looks patience low high = omega arith
