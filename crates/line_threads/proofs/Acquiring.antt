@@ -1,5 +1,5 @@
 -- Waiting for a line: one request after tries that were busy.
-use Rattle.std.proofs.Common.{◌≡◌, ◌≢◌, ◌⊎◌, inl, inr, ℕ, ◌+◌, ◌<◌, ◌≤◌, true, List, length, ap, ◌∙◌, arith}
+use Rattle.std.proofs.Common.{◌≡◌, ◌≢◌, ◌⊎◌, inl, inr, ℕ, ◌+◌, ◌<◌, ◌≤◌, true, List, length, refl, ap, ◌∙◌, arith}
 use Rattle.qolb_model.specs.declared.answer.Enq.{Enq}
 use Rattle.qolb_model.specs.declared.answer.Enq.TheVariants as enq
 use Rattle.qolb_model.specs.declared.answer.PortState.TheVariants.{Left, Rolled}
@@ -8,20 +8,21 @@ use Rattle.qolb_model.specs.declared.write.Write.{Write}
 use Rattle.qolb_model.specs.declared.view.View.{View}
 use Rattle.qolb_model.specs.PortStates.{may_ask}
 use Rattle.qolb_model.specs.Views.{Extends}
-use Rattle.qolb_model.specs.Sound.{Continues}
+use Rattle.qolb_model.specs.Sound.{Continues, IsSound}
 use Rattle.qolb_model.specs.Asking.{IsBusy}
 use Rattle.qolb_model.specs.Turns.{IsGranted, IsWithdrawn}
 use Rattle.qolb_model.specs.LettingGo.{IsTold}
 use Rattle.qolb_model.specs.Calls.{Enqueues}
-use Rattle.qolb_model.proofs.Going.{continues_on, asks_goes, asks_from, joined_goes}
+use Rattle.qolb_model.proofs.Going.{continues_on, extends_self, asks_goes, asks_from, joined_goes}
+use Rattle.qolb_model.proofs.Nearness.{few_turns}
 use Rattle.line_threads.specs.declared.asleep.Within.{Within}
 use Rattle.line_threads.specs.declared.asleep.Within.TheVariants as within
 use Rattle.line_threads.specs.declared.waiting.Got.{Got}
 use Rattle.line_threads.specs.declared.waiting.Got.TheVariants.{Granted, Closed}
-use Rattle.line_threads.specs.Acquiring.{Acquires, AcquiresWithin}
+use Rattle.line_threads.specs.Acquiring.{Acquires, AcquiresWithin, ComesSoon}
 
 -- a line has a node
-pub some_node : (v : View) (terms : Terms) → v.terms ≡ terms → 1 ≤ v.node → v.node ≤ terms.nodes → length v.ends < length v.ends + v.terms.nodes
+some_node : (v : View) (terms : Terms) → v.terms ≡ terms → 1 ≤ v.node → v.node ≤ terms.nodes → length v.ends < length v.ends + v.terms.nodes
 some_node v terms is low high = let e = ap (λ (t : Terms). t.nodes) is in omega arith
 
 -- a port that was busy may ask again
@@ -33,7 +34,7 @@ quiet_busy old new b = by b.was
     by (inr was) = ap may_ask (b.state ∙ was)
 
 -- granted or told at once
-pub acquired_once : (allows : List ℕ → List ℕ → Type 0) (old mid new : View) (turn : Write) (answer : Enq) (got : Got)
+acquired_once : (allows : List ℕ → List ℕ → Type 0) (old mid new : View) (turn : Write) (answer : Enq) (got : Got)
     → Extends old mid → mid.count ≡ old.count → Enqueues allows mid new turn answer → answer ≢ enq.Busy
     → (got ≡ Granted → answer ≡ enq.Granted) → (got ≡ Closed → answer ≡ enq.Closed) → Acquires allows old new turn got
 acquired_once allows old mid new turn answer got e same q asked granted closed = record {
@@ -58,7 +59,7 @@ acquired_waiting allows old mid now new first turn got e same q c count granted 
     }
 
 -- granted or told at once, within a time
-pub acquired_at_once : (allows : List ℕ → List ℕ → Type 0) (old mid new : View) (turn : Write) (answer : Enq) (got : Within)
+acquired_at_once : (allows : List ℕ → List ℕ → Type 0) (old mid new : View) (turn : Write) (answer : Enq) (got : Within)
     → Extends old mid → mid.count ≡ old.count → Enqueues allows mid new turn answer → answer ≢ enq.Busy
     → (got ≡ within.Granted → answer ≡ enq.Granted) → (got ≡ within.Closed → answer ≡ enq.Closed) → got ≢ within.Late → AcquiresWithin allows old new turn got
 acquired_at_once allows old mid new turn answer got e same q asked granted closed some = record {
@@ -86,3 +87,72 @@ acquired_within allows old mid now new first turn got e same q c count granted t
       told = told;
       late = λ is. inl (asks, joined, late is);
     }
+
+-- an answer at once
+module _ (allows : List ℕ → List ℕ → Type 0) (old mid new : View) (turn : Write) (e : Extends old mid) (same : mid.count ≡ old.count) where
+  pub granted_at_once : Enqueues allows mid new turn enq.Granted → Acquires allows old new turn Granted
+  granted_at_once q = acquired_once allows old mid new turn enq.Granted Granted e same q (λ is. cc is) (λ _. refl) (λ is. cc is)
+
+  pub told_at_once : Enqueues allows mid new turn enq.Closed → Acquires allows old new turn Closed
+  told_at_once q = acquired_once allows old mid new turn enq.Closed Closed e same q (λ is. cc is) (λ is. cc is) (λ _. refl)
+
+  pub granted_within : Enqueues allows mid new turn enq.Granted → AcquiresWithin allows old new turn within.Granted
+  granted_within q = acquired_at_once allows old mid new turn enq.Granted within.Granted e same q (λ is. cc is) (λ _. refl) (λ is. cc is) (λ is. cc is)
+
+  pub told_within : Enqueues allows mid new turn enq.Closed → AcquiresWithin allows old new turn within.Closed
+  told_within q = acquired_at_once allows old mid new turn enq.Closed within.Closed e same q (λ is. cc is) (λ is. cc is) (λ _. refl) (λ is. cc is)
+
+-- the turn came soon
+module _ {Port : Type 0} (view : Port → View) (looks : Port → ℕ) (old mid asked : Port) (first : Write) (allows : List ℕ → List ℕ → Type 0)
+    (e : Extends (view old) (view mid)) (same : (view mid).count ≡ (view old).count) (unlooked : looks mid ≡ looks old) (still : looks asked ≡ looks mid) where
+  -- granted at once: nothing ended in between
+  pub soon_at_once : (good : List ℕ → Type 0) (label : ℕ) (terms : Terms) → Enqueues allows (view mid) (view asked) first enq.Granted
+      → IsSound good allows label terms (view asked) → ComesSoon view looks old asked
+  soon_at_once good label terms q sound = record {
+    asked = asked;
+    unlooked = still ∙ unlooked;
+    asks = asks_from (view old) (view mid) (view asked) e same (q.asks (λ is. cc is));
+    goes_on = extends_self (view asked);
+    few = some_node (view asked) terms sound.terms_are sound.first_node sound.last_node;
+  }
+
+  -- granted after a wait
+  pub soon_waiting : (new : Port) (turn : Write) → Enqueues allows (view mid) (view asked) first enq.Queued
+      → Continues allows (view asked) (view new) → (view new).count ≡ (view asked).count → IsGranted (view new) turn → ComesSoon view looks old new
+  soon_waiting new turn q c count granted = record {
+    asked = asked;
+    unlooked = still ∙ unlooked;
+    asks = asks_from (view old) (view mid) (view asked) e same (q.asks (λ is. cc is));
+    goes_on = c.extends;
+    few = few_turns (view asked) (view new) turn (q.queued refl) c.extends count c.history granted;
+  }
+
+-- the answers differ
+pub closed_ungranted : Closed ≢ Granted
+closed_ungranted is = cc is
+
+pub granted_untold : Granted ≢ Closed
+granted_untold is = cc is
+
+pub closed_within : within.Closed ≢ within.Granted
+closed_within is = cc is
+
+pub told_in_time : within.Granted ≢ within.Closed
+told_in_time is = cc is
+
+pub late_ungranted : within.Late ≢ within.Granted
+late_ungranted is = cc is
+
+pub granted_in_time : within.Granted ≢ within.Late
+granted_in_time is = cc is
+
+pub closed_in_time : within.Closed ≢ within.Late
+closed_in_time is = cc is
+
+-- a port that looks once more has looked
+module _ (first now last : ℕ) (before : first ≤ now) (more : last ≡ now + 1) where
+  pub looks_on : first ≤ last
+  looks_on = omega arith
+
+  pub looked_first : first + 1 ≤ last
+  looked_first = omega arith

@@ -1,38 +1,38 @@
 use Rattle.std.proofs.Common.{refl, ◌∙◌}
-use Rattle.qolb_model.proofs.Going.{asks_from, extends_self}
-use Rattle.qolb_model.proofs.Nearness.{few_turns}
-use Rattle.line_threads.proofs.Acquiring.{some_node, acquired_once, acquired_waiting}
+use Rattle.qolb_model.proofs.Agreeing.{extends_trans}
+use Rattle.line_threads.proofs.Acquiring.{quiet_busy, granted_at_once, told_at_once, acquired_waiting, soon_at_once, soon_waiting, closed_ungranted}
 use Rattle.line_threads.proofs.waiting.acquire.Goals as goal
 
+pub returns-in-Granted-clause-acquires : goal.returns-in-Granted-clause-acquires
+returns-in-Granted-clause-acquires g c = granted_at_once _ _ _ _ _ c.loop.invariant.extends c.loop.invariant.count c.in-Granted.ensures.enqueues
+
 pub returns-in-Closed-clause-acquires : goal.returns-in-Closed-clause-acquires
-returns-in-Closed-clause-acquires g c =
-    acquired_once _ _ _ _ _ _ _ c.loop.invariant.extends c.loop.invariant.count c.in-Closed.ensures.enqueues (λ e. cc e) (λ e. cc e) (λ e. refl)
+returns-in-Closed-clause-acquires g c = told_at_once _ _ _ _ _ c.loop.invariant.extends c.loop.invariant.count c.in-Closed.ensures.enqueues
 
 pub returns-in-Queued-clause-acquires : goal.returns-in-Queued-clause-acquires
 returns-in-Queued-clause-acquires g c =
     acquired_waiting _ _ _ _ _ _ _ _ c.loop.invariant.extends c.loop.invariant.count c.in-Queued.ensures.enqueues c.wait.ensures.continues c.wait.ensures.count c.wait.ensures.granted c.wait.ensures.told
 
--- granted at once: nothing ended in between
 pub returns-in-Granted-clause-soon : goal.returns-in-Granted-clause-soon
 returns-in-Granted-clause-soon g c _ =
-    let sound = g.met.L.LineSync.sound c.args.line.now c.enqolb.new.port c.in-Granted.ensures.belongs in
-    let asks = c.in-Granted.ensures.enqueues.asks (λ e. cc e) in
-    record {
-      asked = c.enqolb.new.port;
-      unlooked = c.in-Granted.ensures.looks ∙ c.loop.invariant.looks;
-      asks = asks_from _ _ _ c.loop.invariant.extends c.loop.invariant.count asks;
-      goes_on = extends_self _;
-      few = some_node (g.L.LineSync.view c.enqolb.new.port) _ sound.terms_are sound.first_node sound.last_node;
-    }
+    soon_at_once g.L.LineSync.view g.L.LineSync.looks c.args.port.now c.loop.port c.enqolb.new.port _ _ c.loop.invariant.extends c.loop.invariant.count c.loop.invariant.looks c.in-Granted.ensures.looks _ _ _
+    c.in-Granted.ensures.enqueues (g.met.L.LineSync.sound c.args.line.now c.enqolb.new.port c.in-Granted.ensures.belongs)
 
--- granted after a wait
+pub returns-in-Closed-clause-soon : goal.returns-in-Closed-clause-soon
+returns-in-Closed-clause-soon g c granted = absurd (closed_ungranted granted)
+
 pub returns-in-Queued-clause-soon : goal.returns-in-Queued-clause-soon
-returns-in-Queued-clause-soon g c got =
-    let waits = c.in-Queued.ensures.enqueues in
+returns-in-Queued-clause-soon g c granted =
+    soon_waiting g.L.LineSync.view g.L.LineSync.looks c.args.port.now c.loop.port c.enqolb.new.port _ _ c.loop.invariant.extends c.loop.invariant.count c.loop.invariant.looks c.in-Queued.ensures.looks _ _
+    c.in-Queued.ensures.enqueues c.wait.ensures.continues c.wait.ensures.count (c.wait.ensures.granted granted)
+
+pub loop-preserved : goal.loop-preserved
+loop-preserved g c =
+    let busy = c.in-Busy.ensures.enqueues.busy refl in
     record {
-      asked = c.enqolb.new.port;
-      unlooked = c.in-Queued.ensures.looks ∙ c.loop.invariant.looks;
-      asks = asks_from _ _ _ c.loop.invariant.extends c.loop.invariant.count (waits.asks (λ e. cc e));
-      goes_on = c.wait.ensures.continues.extends;
-      few = few_turns _ _ _ (waits.queued refl) c.wait.ensures.continues.extends c.wait.ensures.count c.wait.ensures.continues.history (c.wait.ensures.granted got);
+      belongs = c.in-Busy.ensures.belongs;
+      state = quiet_busy _ _ busy;
+      extends = extends_trans _ _ _ c.loop.invariant.extends c.in-Busy.ensures.enqueues.continues.extends;
+      count = busy.count ∙ c.loop.invariant.count;
+      looks = c.in-Busy.ensures.looks ∙ c.loop.invariant.looks;
     }
