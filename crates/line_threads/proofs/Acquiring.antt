@@ -1,5 +1,5 @@
 -- Waiting for a line: one request after tries that were busy.
-use Rattle.std.proofs.Common.{◌≡◌, ◌≢◌, ◌⊎◌, inl, inr, ℕ, ◌+◌, ◌<◌, ◌≤◌, true, List, length, refl, ap, ◌∙◌, arith}
+use Rattle.std.proofs.Common.{◌≡◌, ◌≢◌, ◌⊎◌, inl, inr, ℕ, ◌+◌, ◌<◌, ◌≤◌, true, List, length, refl, ap, ◌∙◌, subst, arith}
 use Rattle.qolb_model.specs.declared.answer.Enq.{Enq}
 use Rattle.qolb_model.specs.declared.answer.Enq.TheVariants as enq
 use Rattle.qolb_model.specs.declared.answer.PortState.TheVariants.{Left, Rolled}
@@ -102,6 +102,30 @@ module _ (allows : List ℕ → List ℕ → Type 0) (old mid new : View) (turn 
   pub told_within : Enqueues allows mid new turn enq.Closed → AcquiresWithin allows old new turn within.Closed
   told_within q = acquired_at_once allows old mid new turn enq.Closed within.Closed e same q (λ is. cc is) (λ is. cc is) (λ _. refl) (λ is. cc is)
 
+-- a port that was busy all the while, as it was before
+busy_from : (old mid new : View) → mid.state ≡ old.state → mid.count ≡ old.count → IsBusy mid new → IsBusy old new
+busy_from old mid new state count b = record {
+  was = subst (λ s. (s ≡ Left) ⊎ (s ≡ Rolled)) state b.was;
+  unclear = b.unclear;
+  state = b.state ∙ state;
+  count = b.count ∙ count;
+}
+
+-- late, where nothing was asked
+module _ (allows : List ℕ → List ℕ → Type 0) (old mid new : View) (turn : Write) (e : Extends old mid) (count : mid.count ≡ old.count) (state : mid.state ≡ old.state) (q : Enqueues allows mid new turn enq.Busy) where
+  pub late_busy : IsBusy old new
+  late_busy = busy_from old mid new state count (q.busy refl)
+
+  pub late_unasked : AcquiresWithin allows old new turn within.Late
+  late_unasked = record {
+    continues = continues_on allows old mid new e q.continues;
+    asks = λ some. absurd (some refl);
+    joined = λ some. absurd (some refl);
+    granted = λ is. cc is;
+    told = λ is. cc is;
+    late = λ _. inr late_busy;
+  }
+
 -- the turn came soon
 module _ {Port : Type 0} (view : Port → View) (looks : Port → ℕ) (old mid asked : Port) (first : Write) (allows : List ℕ → List ℕ → Type 0)
     (e : Extends (view old) (view mid)) (same : (view mid).count ≡ (view old).count) (unlooked : looks mid ≡ looks old) (still : looks asked ≡ looks mid) where
@@ -150,9 +174,5 @@ pub closed_in_time : within.Closed ≢ within.Late
 closed_in_time is = cc is
 
 -- a port that looks once more has looked
-module _ (first now last : ℕ) (before : first ≤ now) (more : last ≡ now + 1) where
-  pub looks_on : first ≤ last
-  looks_on = omega arith
-
-  pub looked_first : first + 1 ≤ last
-  looked_first = omega arith
+pub looked_first : (first now last : ℕ) → first ≤ now → last ≡ now + 1 → first + 1 ≤ last
+looked_first first now last before more = omega arith

@@ -1,6 +1,5 @@
-use Rattle.std.proofs.Common.{refl, ◌∙◌}
-use Rattle.qolb_model.proofs.Agreeing.{extends_trans}
-use Rattle.line_threads.proofs.Acquiring.{quiet_busy, granted_within, told_within, acquired_within, soon_at_once, soon_waiting, closed_within}
+use Rattle.std.proofs.Common.{inl}
+use Rattle.line_threads.proofs.Acquiring.{granted_within, told_within, acquired_within, soon_at_once, soon_waiting, closed_within, late_ungranted, late_busy, late_unasked}
 use Rattle.line_threads.proofs.asleep.acquire_within.Goals as goal
 
 pub returns-in-Granted-clause-acquires : goal.returns-in-Granted-clause-acquires
@@ -26,26 +25,11 @@ returns-in-Queued-clause-soon g c granted =
     soon_waiting g.L.LineSync.view g.L.LineSync.looks c.args.port.now c.loop.port c.enqolb.new.port _ _ c.loop.invariant.extends c.loop.invariant.count c.loop.invariant.looks c.in-Queued.ensures.looks _ _
     c.in-Queued.ensures.enqueues c.wait_within.ensures.continues c.wait_within.ensures.count (c.wait_within.ensures.granted granted)
 
-pub loop-preserved : goal.loop-preserved
-loop-preserved g c =
-    let busy = c.in-Busy.ensures.enqueues.busy refl in
-    record {
-      belongs = c.in-Busy.ensures.belongs;
-      state = quiet_busy _ _ busy;
-      extends = extends_trans _ _ _ c.loop.invariant.extends c.in-Busy.ensures.enqueues.continues.extends;
-      count = busy.count ∙ c.loop.invariant.count;
-      looks = c.in-Busy.ensures.looks ∙ c.loop.invariant.looks;
-      same_state = busy.state ∙ c.loop.invariant.same_state;
-    }
+pub returns-then-eq-clause-acquires : goal.returns-then-eq-clause-acquires
+returns-then-eq-clause-acquires g c = late_unasked _ _ _ _ _ c.loop.invariant.extends c.loop.invariant.count c.loop.invariant.same_state c.in-Busy.ensures.enqueues
 
-pub loop-preserved-then-not-pause : goal.loop-preserved-then-not-pause
-loop-preserved-then-not-pause g c =
-    let busy = c.in-Busy.ensures.enqueues.busy refl in
-    record {
-      belongs = c.in-Busy.ensures.belongs;
-      state = quiet_busy _ _ busy;
-      extends = extends_trans _ _ _ c.loop.invariant.extends c.in-Busy.ensures.enqueues.continues.extends;
-      count = busy.count ∙ c.loop.invariant.count;
-      looks = c.in-Busy.ensures.looks ∙ c.loop.invariant.looks;
-      same_state = busy.state ∙ c.loop.invariant.same_state;
-    }
+pub returns-then-eq-clause-soon : goal.returns-then-eq-clause-soon
+returns-then-eq-clause-soon g c granted = absurd (late_ungranted granted)
+
+pub returns-then-eq-clause-looked : goal.returns-then-eq-clause-looked
+returns-then-eq-clause-looked g c _ = inl (late_busy _ _ _ _ _ c.loop.invariant.extends c.loop.invariant.count c.loop.invariant.same_state c.in-Busy.ensures.enqueues)

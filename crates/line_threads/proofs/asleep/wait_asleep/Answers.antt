@@ -1,5 +1,4 @@
 use Rattle.std.proofs.Common.{refl, ◌∙◌}
-use Rattle.qolb_model.proofs.Agreeing.{extends_trans}
 use Rattle.qolb_model.proofs.Going.{continues_on}
 use Rattle.line_threads.proofs.Acquiring.{granted_untold, closed_ungranted}
 use Rattle.line_threads.proofs.asleep.wait_asleep.Goals as goal
@@ -27,23 +26,3 @@ returns-in-Closed-clause-granted g c granted = absurd (closed_ungranted granted)
 
 pub returns-in-Closed-clause-told : goal.returns-in-Closed-clause-told
 returns-in-Closed-clause-told g c _ = c.in-Closed.ensures.polls.told refl
-
-pub loop-preserved : goal.loop-preserved
-loop-preserved g c =
-    let polls = c.in-Waiting.ensures.polls in
-    record {
-      belongs = c.in-Waiting.ensures.belongs;
-      state = (polls.waiting refl).state;
-      extends = extends_trans _ _ _ c.loop.invariant.extends polls.continues.extends;
-      count = polls.count ∙ c.loop.invariant.count;
-    }
-
-pub loop-preserved-then-not-pause : goal.loop-preserved-then-not-pause
-loop-preserved-then-not-pause g c =
-    let polls = c.in-Waiting.ensures.polls in
-    record {
-      belongs = c.in-Waiting.ensures.belongs;
-      state = (polls.waiting refl).state;
-      extends = extends_trans _ _ _ c.loop.invariant.extends polls.continues.extends;
-      count = polls.count ∙ c.loop.invariant.count;
-    }

@@ -1,7 +1,6 @@
 use Rattle.std.proofs.Common.{refl, ◌∙◌}
-use Rattle.qolb_model.proofs.Agreeing.{extends_trans}
 use Rattle.qolb_model.proofs.Going.{continues_on}
-use Rattle.line_threads.proofs.Acquiring.{told_in_time, closed_within, granted_in_time, closed_in_time, looks_on, looked_first}
+use Rattle.line_threads.proofs.Acquiring.{told_in_time, closed_within, granted_in_time, closed_in_time, looked_first}
 use Rattle.line_threads.proofs.asleep.wait_within.Goals as goal
 
 pub returns-in-Granted-clause-continues : goal.returns-in-Granted-clause-continues
@@ -39,25 +38,3 @@ returns-in-Closed-clause-late g c late = absurd (closed_in_time late)
 
 pub returns-in-Closed-clause-looked : goal.returns-in-Closed-clause-looked
 returns-in-Closed-clause-looked g c = looked_first _ _ _ c.loop.invariant.looks c.in-Closed.ensures.looks
-
-pub loop-preserved : goal.loop-preserved
-loop-preserved g c =
-    let polls = c.in-Waiting.ensures.polls in
-    record {
-      belongs = c.in-Waiting.ensures.belongs;
-      state = (polls.waiting refl).state;
-      looks = looks_on _ _ _ c.loop.invariant.looks c.in-Waiting.ensures.looks;
-      extends = extends_trans _ _ _ c.loop.invariant.extends polls.continues.extends;
-      count = polls.count ∙ c.loop.invariant.count;
-    }
-
-pub loop-preserved-then-not-pause : goal.loop-preserved-then-not-pause
-loop-preserved-then-not-pause g c =
-    let polls = c.in-Waiting.ensures.polls in
-    record {
-      belongs = c.in-Waiting.ensures.belongs;
-      state = (polls.waiting refl).state;
-      looks = looks_on _ _ _ c.loop.invariant.looks c.in-Waiting.ensures.looks;
-      extends = extends_trans _ _ _ c.loop.invariant.extends polls.continues.extends;
-      count = polls.count ∙ c.loop.invariant.count;
-    }
