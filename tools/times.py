@@ -1,0 +1,53 @@
+#!/usr/bin/env python3
+"""Says which functions of a crate the prover takes long for, from what a check kept.
+
+The check writes a file for each module that it makes of a function, one after another where it runs as one process (`rt check --jobs 1`, with
+`--test` for the tests). So the time between two files is what the second one took. Of a function F these are mostly
+
+  F.Lts       the shape of its code: grows faster than its branches, `?`, patterns and assert macros do; split it, or make a table of it
+  F.Tie       its calls: a call at a named lock takes some seconds; name each lock once
+  F.Proof     what the tactics search: write an answer for the goal that they find last, or not at all
+  F.Answers   the answers: a tactic reads all that is known; move the reasoning into a lemma over plain variables
+
+  tools/times.py CRATE [--most N] [--since EPOCH]
+
+It reads crates/CRATE/out/incremental alone: check the crate first, over an out/ that has nothing of it, or give the time in seconds at which
+the last check began.
+"""
+
+import argparse
+import collections
+import pathlib
+import re
+
+ROOT = pathlib.Path(__file__).resolve().parent.parent
+
+
+def module_of(path):
+    """The module that a kept file is of, without the crate's name."""
+    name = path.name.removesuffix(".oantt").removesuffix(".decls")
+    return re.sub(r"^Rattle-[a-z0-9_]+-(proofs|specs)\.", r"\1 ", name)
+
+
+def main():
+    parser = argparse.ArgumentParser(description=__doc__, formatter_class=argparse.RawDescriptionHelpFormatter)
+    parser.add_argument("crate")
+    parser.add_argument("--most", type=int, default=30, help="how many modules are told of")
+    parser.add_argument("--since", type=float, default=0, help="only what was written since then")
+    args = parser.parse_args()
+    kept = ROOT / "crates" / args.crate / "out" / "incremental"
+    files = sorted((path.stat().st_mtime, module_of(path)) for path in kept.rglob("*") if path.is_file())
+    files = [it for it in files if it[0] >= args.since]
+    if not files:
+        raise SystemExit(f"{kept} has nothing: run rt check --jobs 1 in the crate first")
+    took, before = collections.Counter(), args.since or files[0][0]
+    for time, module in files:
+        took[module] += time - before
+        before = time
+    print(f"{sum(took.values()):8.1f}  in all")
+    for module, seconds in took.most_common(args.most):
+        print(f"{seconds:8.1f}  {module}")
+
+
+if __name__ == "__main__":
+    main()
