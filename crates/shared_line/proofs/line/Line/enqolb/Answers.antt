@@ -4,9 +4,23 @@ use Rattle.qolb_model.proofs.Answering.{enqueues_busy, enqueues_queued, enqueues
 use Rattle.shared_line.specs.declared.queue.Asked.TheVariants as asked
 use Rattle.shared_line.specs.Steps.{entry_of}
 use Rattle.shared_line.proofs.Turning.{Went, then}
-use Rattle.shared_line.proofs.Calling.{call_continues, call_belongs, call_nodes, call_busy, call_asks, call_asks_on}
+use Rattle.shared_line.proofs.Calling.{call_continues, call_belongs, call_nodes, call_many, call_own, call_busy, call_asks, call_asks_on}
 use Rattle.shared_line.proofs.Arrived.{passed_port}
 use Rattle.shared_line.proofs.line.Line.enqolb.Goals as goal
+
+pub arrive-came-requires-clause-alone : goal.arrive-came-requires-clause-alone
+arrive-came-requires-clause-alone g c = c.ask-made.ensures.goes_on.alone
+
+pub arrive-came-requires-clause-own : goal.arrive-came-requires-clause-own
+arrive-came-requires-clause-own g c = let q = c.port.inside in let l = c.args.self.now in
+    call_own q.seat q.parcel q.steps q.looks.count c.requires.belongs c.port.view_is (record { same = c.ask-made.ensures.same; goes = c.ask-made.ensures.goes_on }) l.nodes l.counted l.few_nodes q.node c.port.invariant.node_is
+
+pub arrive-came-requires-clause-nodes : goal.arrive-came-requires-clause-nodes
+arrive-came-requires-clause-nodes g c = let q = c.port.inside in let l = c.args.self.now in
+    call_many q.seat q.parcel q.steps q.looks.count c.requires.belongs c.port.view_is (record { same = c.ask-made.ensures.same; goes = c.ask-made.ensures.goes_on }) l.nodes l.counted l.few_nodes l.some_nodes
+
+pub arrive-came-requires-clause-comes : goal.arrive-came-requires-clause-comes
+arrive-came-requires-clause-comes g c = c.ask-made.ensures.came c.in-Came.is
 
 pub invariant_of-port-in-PassedOn : goal.invariant_of-port-in-PassedOn
 invariant_of-port-in-PassedOn g c = let q = c.port.inside in

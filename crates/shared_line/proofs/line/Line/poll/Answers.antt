@@ -2,9 +2,20 @@ use Rattle.std.proofs.Common.{arith, subst, ◌+◌, ◌≤◌, ◌∙◌}
 use Rattle.qolb_model.proofs.Answering.{polls_waiting, polls_granted, polls_told}
 use Rattle.shared_line.specs.Steps.{entry_of}
 use Rattle.shared_line.proofs.Turning.{Went, then}
-use Rattle.shared_line.proofs.Calling.{call_continues, call_belongs, call_nodes, same_count}
+use Rattle.shared_line.proofs.Calling.{call_continues, call_belongs, call_nodes, call_many, call_own, same_count}
 use Rattle.shared_line.proofs.Arrived.{passed_port}
 use Rattle.shared_line.proofs.line.Line.poll.Goals as goal
+
+pub arrive-came-requires-clause-alone : goal.arrive-came-requires-clause-alone
+arrive-came-requires-clause-alone g c = c.look.ensures.goes_on.alone
+
+pub arrive-came-requires-clause-own : goal.arrive-came-requires-clause-own
+arrive-came-requires-clause-own g c = let q = c.port.inside in let l = c.args.self.now in
+    call_own q.seat q.parcel q.steps q.looks.count c.requires.belongs c.port.view_is (record { same = c.look.ensures.same; goes = c.look.ensures.goes_on }) l.nodes l.counted l.few_nodes q.node c.port.invariant.node_is
+
+pub arrive-came-requires-clause-nodes : goal.arrive-came-requires-clause-nodes
+arrive-came-requires-clause-nodes g c = let q = c.port.inside in let l = c.args.self.now in
+    call_many q.seat q.parcel q.steps q.looks.count c.requires.belongs c.port.view_is (record { same = c.look.ensures.same; goes = c.look.ensures.goes_on }) l.nodes l.counted l.few_nodes l.some_nodes
 
 pub returns-then-not-look-clause-belongs : goal.returns-then-not-look-clause-belongs
 returns-then-not-look-clause-belongs g c = let q = c.port.inside in
