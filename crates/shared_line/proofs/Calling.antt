@@ -1,5 +1,5 @@
 -- What a port's fields, and what its contract shows of them, are after a call.
-use Rattle.std.proofs.Common.{◌≡◌, ℕ, ◌≤◌, Option, List, true, false, sym, ap, ◌∙◌, subst, Bool, ◌||◌, bit_or, arith}
+use Rattle.std.proofs.Common.{◌≡◌, ◌≢◌, ℕ, ◌+◌, ◌≤◌, Option, List, true, false, sym, ap, ◌∙◌, subst, Bool, ◌||◌, bit_or, arith}
 use Rattle.line_lanes.specs.Line.{merged}
 use Rattle.atomic_table.specs.Seated.{TableId}
 use Rattle.qolb_model.specs.declared.answer.PortState.{PortState}
@@ -22,6 +22,8 @@ use Rattle.qolb_model.specs.Calls.{Releases}
 use Rattle.qolb_model.proofs.Leases.{last-is_one}
 use Rattle.qolb_model.proofs.Writes.{bytes_after-release}
 use Rattle.qolb_model.proofs.Going.{continues_sound, sound_goes, asks_goes, joined_goes}
+use Rattle.shared_line.specs.declared.queue.Asked.{Asked}
+use Rattle.shared_line.specs.declared.queue.Asked.TheVariants as asked
 use Rattle.shared_line.specs.declared.rule.Parcel.{Parcel}
 use Rattle.shared_line.specs.declared.rule.Setup.{Setup}
 use Rattle.shared_line.specs.Entries.{LineSeat}
@@ -30,6 +32,17 @@ use Rattle.shared_line.specs.Steps.{SameSeat, IsOwnNode, entry_of, sole, HasLine
 use Rattle.shared_line.specs.Ports.{Standing, standing, Holds, IsPort, BelongsTo, IsPutBack}
 use Rattle.shared_line.proofs.Turning.{Went}
 use Rattle.shared_line.proofs.Letting.{carries_served, holds_written}
+
+-- one that came, or stands behind another, was not busy
+pub came_asked : {answer : Asked} → answer ≡ asked.Came → answer ≢ asked.Busy
+came_asked is busy = cc (is, busy)
+
+pub behind_asked : {answer : Asked} → answer ≡ asked.Behind → answer ≢ asked.Busy
+behind_asked is busy = cc (is, busy)
+
+-- some steps more than one are within as many more than the most of a call
+pub few_steps : (more steps most : ℕ) → steps ≤ more + 1 → 1 ≤ most → steps ≤ most + more
+few_steps more steps most few some = omega arith
 
 -- after n steps of a port of the line
 module _ {O : Type 0} {fresh : O} {good : List ℕ → Type 0} {allows : List ℕ → List ℕ → Type 0} {key : Setup} {table_id : TableId} {p : Standing} (s : LineSeat O) (y : Parcel) (steps looks : ℕ) (b : BelongsTo good allows key table_id p) (is : standing fresh s y steps looks ≡ p) {t : LineSeat O} {n : ℕ} (w : Went allows fresh s t n) where

@@ -1,10 +1,9 @@
-use Rattle.std.proofs.Common.{arith, sym, subst, ◌≡◌, ◌+◌, ◌≤◌, ◌∙◌}
+use Rattle.std.proofs.Common.{arith, subst, ◌+◌, ◌≤◌, ◌∙◌}
 use Rattle.qolb_model.proofs.Going.{joined_goes}
 use Rattle.qolb_model.proofs.Answering.{prepends_busy, prepends_linking, prepends_granted, prepends_told}
-use Rattle.shared_line.specs.declared.queue.Asked.TheVariants as asked
 use Rattle.shared_line.specs.Steps.{entry_of}
 use Rattle.shared_line.proofs.Turning.{Went, then}
-use Rattle.shared_line.proofs.Calling.{call_continues, call_belongs, call_nodes, call_many, call_own, call_busy, call_asks, call_asks_on}
+use Rattle.shared_line.proofs.Calling.{came_asked, behind_asked, few_steps, call_continues, call_belongs, call_nodes, call_many, call_own, call_busy, call_asks, call_asks_on}
 use Rattle.shared_line.proofs.Arrived.{passed_port}
 use Rattle.shared_line.proofs.line.Line.prepend.Goals as goal
 
@@ -42,10 +41,10 @@ returns-in-Busy-clause-prepends g c = let q = c.port.inside in
 pub returns-in-Behind-clause-prepends : goal.returns-in-Behind-clause-prepends
 returns-in-Behind-clause-prepends g c = let q = c.port.inside in
     prepends_linking (call_continues q.seat q.parcel q.steps q.looks.count c.requires.belongs c.port.view_is (record { same = c.prepend-made.ensures.same; goes = c.prepend-made.ensures.goes_on }))
-    (call_asks g.Q.Shape.fresh q.seat q.parcel q.steps q.looks.count c.port.view_is (c.prepend-made.ensures.asks (λ e. let f : asked.Behind ≡ asked.Busy = sym c.in-Behind.is ∙ e in cc f))) (c.prepend-made.ensures.behind c.in-Behind.is).1.linking
+    (call_asks g.Q.Shape.fresh q.seat q.parcel q.steps q.looks.count c.port.view_is (c.prepend-made.ensures.asks (behind_asked c.in-Behind.is))) (c.prepend-made.ensures.behind c.in-Behind.is).1.linking
 
 pub returns-in-Behind-clause-bound : goal.returns-in-Behind-clause-bound
-returns-in-Behind-clause-bound g c = omega (arith, c.prepend-made.ensures.bound, g.Q.Shape.most_some _ (subst (λ n. 1 ≤ n) c.args.self.now.counted c.args.self.now.some_nodes))
+returns-in-Behind-clause-bound g c = few_steps 2 _ _ c.prepend-made.ensures.bound (g.Q.Shape.most_some _ (subst (λ n. 1 ≤ n) c.args.self.now.counted c.args.self.now.some_nodes))
 
 pub returns-in-Held-clause-belongs : goal.returns-in-Held-clause-belongs
 returns-in-Held-clause-belongs g c = let q = c.port.inside in
@@ -55,11 +54,11 @@ pub returns-in-Held-clause-prepends : goal.returns-in-Held-clause-prepends
 returns-in-Held-clause-prepends g c = let q = c.port.inside in
     let more = c.in-Held.ensures.goes_on.extends in
     prepends_granted (call_continues q.seat q.parcel q.steps q.looks.count c.requires.belongs c.port.view_is {t = c.arrive-came.new.seat} (then (record { same = c.prepend-made.ensures.same; goes = c.prepend-made.ensures.goes_on }) (record { same = c.in-Held.ensures.same; goes = c.in-Held.ensures.goes_on })))
-    (call_asks_on g.Q.Shape.fresh q.seat q.parcel q.steps q.looks.count c.port.view_is (c.prepend-made.ensures.asks (λ e. let f : asked.Came ≡ asked.Busy = sym c.in-Came.is ∙ e in cc f)) more c.in-Held.ensures.count)
+    (call_asks_on g.Q.Shape.fresh q.seat q.parcel q.steps q.looks.count c.port.view_is (c.prepend-made.ensures.asks (came_asked c.in-Came.is)) more c.in-Held.ensures.count)
     (joined_goes (entry_of g.Q.Shape.fresh c.prepend-made.new.seat).view (entry_of g.Q.Shape.fresh c.arrive-came.new.seat).view (c.prepend-made.ensures.joined c.in-Came.is) more c.in-Held.ensures.count) c.in-Held.ensures.arrived.2
 
 pub returns-in-Held-clause-bound : goal.returns-in-Held-clause-bound
-returns-in-Held-clause-bound g c = omega (arith, c.prepend-made.ensures.bound, g.Q.Shape.most_some _ (subst (λ n. 1 ≤ n) c.args.self.now.counted c.args.self.now.some_nodes))
+returns-in-Held-clause-bound g c = few_steps 2 _ _ c.prepend-made.ensures.bound (g.Q.Shape.most_some _ (subst (λ n. 1 ≤ n) c.args.self.now.counted c.args.self.now.some_nodes))
 
 pub returns-in-PassedOn-clause-belongs : goal.returns-in-PassedOn-clause-belongs
 returns-in-PassedOn-clause-belongs g c = let q = c.port.inside in
@@ -69,7 +68,7 @@ pub returns-in-PassedOn-clause-prepends : goal.returns-in-PassedOn-clause-prepen
 returns-in-PassedOn-clause-prepends g c = let q = c.port.inside in
     let more = c.in-PassedOn.ensures.goes_on.extends in
     prepends_told (call_continues q.seat q.parcel q.steps q.looks.count c.requires.belongs c.port.view_is {t = c.arrive-came.new.seat} (then (record { same = c.prepend-made.ensures.same; goes = c.prepend-made.ensures.goes_on }) (record { same = c.in-PassedOn.ensures.same; goes = c.in-PassedOn.ensures.goes_on })))
-    (call_asks_on g.Q.Shape.fresh q.seat q.parcel q.steps q.looks.count c.port.view_is (c.prepend-made.ensures.asks (λ e. let f : asked.Came ≡ asked.Busy = sym c.in-Came.is ∙ e in cc f)) more c.in-PassedOn.ensures.count)
+    (call_asks_on g.Q.Shape.fresh q.seat q.parcel q.steps q.looks.count c.port.view_is (c.prepend-made.ensures.asks (came_asked c.in-Came.is)) more c.in-PassedOn.ensures.count)
     (joined_goes (entry_of g.Q.Shape.fresh c.prepend-made.new.seat).view (entry_of g.Q.Shape.fresh c.arrive-came.new.seat).view (c.prepend-made.ensures.joined c.in-Came.is) more c.in-PassedOn.ensures.count) c.in-PassedOn.ensures.arrived.0.1
 
 pub returns-in-PassedOn-clause-bound : goal.returns-in-PassedOn-clause-bound
