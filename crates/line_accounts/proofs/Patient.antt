@@ -3,7 +3,8 @@ use Rattle.std.proofs.Common.{◌≡◌, ◌≢◌, ◌⊎◌, ℕ, ◌+◌, ◌
 use mathlib.Core.Logic.{dite}
 use native.Mathlib.Decide.{ℕ_discrete}
 use Rattle.std.proofs.lemmas.Option.{slice_get_within}
-use Rattle.line_accounts.specs.Desks.{ArePatient, HasOneWaited}
+use Rattle.qolb_model.specs.declared.view.View.{View}
+use Rattle.line_accounts.specs.Desks.{ArePatient, HasWaited, HasOneWaited}
 use Rattle.line_accounts.proofs.Accounted.{slice_get-set_same, slice_get-set_other}
 
 module _ {Port : Type 0} (looks : Port → ℕ) (patience : ℕ) where
@@ -27,8 +28,8 @@ module _ {Port : Type 0} (looks : Port → ℕ) (patience : ℕ) where
           (λ ne. still old before after (sym was ∙ sym (slice_get-set_other ports i k new ne) ∙ is));
     }
 
-    pub waited_one : looks new ≡ looks old + patience → HasOneWaited looks patience ports (set ports i new)
-    waited_one looked = record { place = i; before = old; after = new; was = at; is = there; looked = looked }
+    pub waited_one : (view : Port → View) → HasWaited looks view patience old new → HasOneWaited looks view patience ports (set ports i new)
+    waited_one view waited = record { place = i; before = old; after = new; was = at; is = there; waited = waited }
 
     module _ (j : ℕ) (u w : Port) (apart : i ≢ j) (at_j : slice_get ports j ≡ Some u) where
       kept : slice_get (set ports i new) j ≡ Some u
@@ -49,5 +50,5 @@ module _ {Port : Type 0} (looks : Port → ℕ) (patience : ℕ) where
             (λ ne. (patient_one few).each k before after was (sym (slice_get-set_other (set ports i new) j k w ne) ∙ is));
       }
 
-      pub waited_two : (looks new ≡ looks old + patience) ⊎ (looks w ≡ looks u + patience) → HasOneWaited looks patience ports (set (set ports i new) j w)
-      waited_two one = ⊎_elim (λ e. record { place = i; before = old; after = new; was = at; is = first; looked = e }) (λ e. record { place = j; before = u; after = w; was = at_j; is = second; looked = e }) one
+      pub waited_two : (view : Port → View) → HasWaited looks view patience old new ⊎ HasWaited looks view patience u w → HasOneWaited looks view patience ports (set (set ports i new) j w)
+      waited_two view one = ⊎_elim (λ e. record { place = i; before = old; after = new; was = at; is = first; waited = e }) (λ e. record { place = j; before = u; after = w; was = at_j; is = second; waited = e }) one

@@ -1,6 +1,7 @@
 -- Desks: one node's ports of several lines, and what was paid in and out through them. (Of this project.)
 use Rattle.std.specs.Prelude.{◌≡◌, ◌≤◌, ℕ, ◌+◌, true, List, length, Some, slice_get}
 use Rattle.std.specs.List.{sum_by}
+use Rattle.qolb_model.specs.declared.answer.PortState.TheVariants.{Rolled}
 use Rattle.qolb_model.specs.declared.view.View.{View}
 use Rattle.qolb_model.specs.PortStates.{may_ask}
 use Rattle.qolb_model.specs.Sums.{KnowsOwnPlaces}
@@ -33,11 +34,16 @@ pub record IsDeskOver {Line Port : Type 0} (belongs : Line → Port → Type 0) 
 pub record ArePatient {Port : Type 0} (looks : Port → ℕ) (patience : ℕ) (old new : List Port) : Type 0 where
   pub each : (i : ℕ) (before after : Port) → slice_get old i ≡ Some before → slice_get new i ≡ Some after → looks after ≤ looks before + patience
 
--- a port has polled just so often
-pub record HasOneWaited {Port : Type 0} (looks : Port → ℕ) (patience : ℕ) (old new : List Port) : Type 0 where
+-- the port has polled just so often, and then its request was taken back
+pub record HasWaited {Port : Type 0} (looks : Port → ℕ) (view : Port → View) (patience : ℕ) (old new : Port) : Type 0 where
+  pub looked : looks new ≡ looks old + patience
+  pub withdrawn : (view new).state ≡ Rolled
+
+-- one of the ports has
+pub record HasOneWaited {Port : Type 0} (looks : Port → ℕ) (view : Port → View) (patience : ℕ) (old new : List Port) : Type 0 where
   pub place : ℕ
   pub before : Port
   pub after : Port
   pub was : slice_get old place ≡ Some before
   pub is : slice_get new place ≡ Some after
-  pub looked : looks after ≡ looks before + patience
+  pub waited : HasWaited looks view patience before after

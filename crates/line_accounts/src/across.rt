@@ -2,7 +2,7 @@
 ghost use Rattle.std.specs.Prelude.{◌≡◌, ◌≢◌, ◌⊎◌, ◌<◌, ◌≤◌, ◌+◌, Err, IfOk, IfErr, length};
 ghost use Rattle.qolb_model.specs.Turns.{IsGranted};
 ghost use Rattle.qolb_model.specs.Views.{bytes_of};
-ghost use Rattle.line_accounts.specs.Desks.{IsAtRest};
+ghost use Rattle.line_accounts.specs.Desks.{IsAtRest, HasWaited};
 ghost use Rattle.line_accounts.specs.Moves.{Holds, Carries, IsRefusedEither, MovesAcross};
 
 use crate::answer::Reply;
@@ -31,7 +31,7 @@ fn ask_both<L: LineSync<AccountLaw>>(
     ensures refused { IfErr result (IsRefusedEither (L.view first_port.old) (L.view first_port.new) (L.view second_port.old) (L.view second_port.new)) }
     ensures patient_first { L.looks first_port.new ≤ L.looks first_port.old + patience }
     ensures patient_second { L.looks second_port.new ≤ L.looks second_port.old + patience }
-    ensures late { result ≡ Err Reply.Late → (L.looks first_port.new ≡ L.looks first_port.old + patience) ⊎ (L.looks second_port.new ≡ L.looks second_port.old + patience) }
+    ensures late { result ≡ Err Reply.Late → HasWaited L.looks L.view patience first_port.old first_port.new ⊎ HasWaited L.looks L.view patience second_port.old second_port.new }
 {
     ask(first, first_port, patience)?;
     if let Err(reply) = ask(second, second_port, patience) {
@@ -106,7 +106,7 @@ pub fn move_up<L: LineSync<AccountLaw>>(
         (L.view source_port.old) (L.view source_port.new) (L.view target_port.old) (L.view target_port.new) from to amount result }
     ensures patient_source { L.looks source_port.new ≤ L.looks source_port.old + patience }
     ensures patient_target { L.looks target_port.new ≤ L.looks target_port.old + patience }
-    ensures late { result ≡ Reply.Late → (L.looks source_port.new ≡ L.looks source_port.old + patience) ⊎ (L.looks target_port.new ≡ L.looks target_port.old + patience) }
+    ensures late { result ≡ Reply.Late → HasWaited L.looks L.view patience source_port.old source_port.new ⊎ HasWaited L.looks L.view patience target_port.old target_port.new }
 {
     if let Err(reply) = ask_both(source, source_port, target, target_port, patience) {
         return reply;
@@ -137,7 +137,7 @@ pub fn move_down<L: LineSync<AccountLaw>>(
         (L.view source_port.old) (L.view source_port.new) (L.view target_port.old) (L.view target_port.new) from to amount result }
     ensures patient_source { L.looks source_port.new ≤ L.looks source_port.old + patience }
     ensures patient_target { L.looks target_port.new ≤ L.looks target_port.old + patience }
-    ensures late { result ≡ Reply.Late → (L.looks source_port.new ≡ L.looks source_port.old + patience) ⊎ (L.looks target_port.new ≡ L.looks target_port.old + patience) }
+    ensures late { result ≡ Reply.Late → HasWaited L.looks L.view patience source_port.old source_port.new ⊎ HasWaited L.looks L.view patience target_port.old target_port.new }
 {
     if let Err(reply) = ask_both(target, target_port, source, source_port, patience) {
         return reply;

@@ -1,6 +1,6 @@
 //! A port that asks for its line, waits a while, and has a turn or gives it up.
 ghost use Rattle.std.specs.Prelude.{◌≡◌, ◌≤◌, ◌+◌, Err, IfOk, IfErr, IsTrue};
-ghost use Rattle.line_accounts.specs.Desks.{IsAtRest};
+ghost use Rattle.line_accounts.specs.Desks.{IsAtRest, HasWaited};
 ghost use Rattle.line_accounts.specs.Moves.{Holds, IsRefused};
 
 use crate::answer::Reply;
@@ -19,7 +19,7 @@ pub fn ask<L: LineSync<AccountLaw>>(
     ensures holds { IfOk result (λ _. Holds (L.view port.old) (L.view port.new) (L.turn port.new)) }
     ensures refused { IfErr result (IsRefused (L.view port.old) (L.view port.new)) }
     ensures patient { L.looks port.new ≤ L.looks port.old + patience }
-    ensures late { result ≡ Err Reply.Late → L.looks port.new ≡ L.looks port.old + patience }
+    ensures late { result ≡ Err Reply.Late → HasWaited L.looks L.view patience port.old port.new }
 {
     match acquire_patiently(line, port, patience) {
         Asked::Granted => Ok(()),

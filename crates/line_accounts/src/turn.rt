@@ -3,7 +3,7 @@ ghost use Rattle.std.specs.Prelude.{◌≡◌, ◌≢◌, ◌<◌, ◌≤◌, �
 ghost use Rattle.qolb_model.specs.Turns.{IsGranted};
 ghost use Rattle.qolb_model.specs.Views.{bytes_of};
 ghost use Rattle.line_accounts.specs.Accounts.{StayBalances};
-ghost use Rattle.line_accounts.specs.Desks.{IsAtRest};
+ghost use Rattle.line_accounts.specs.Desks.{IsAtRest, HasWaited};
 ghost use Rattle.line_accounts.specs.Moves.{Leaves, PaysIn, PaysOut, MovesWithin};
 
 use crate::answer::Reply;
@@ -62,7 +62,7 @@ pub fn pay_in<L: LineSync<AccountLaw>>(
     ensures belongs { L.belongs line.now port.new }
     ensures pays { PaysIn (L.view port.old) (L.view port.new) k amount paid_in.old paid_in.new result }
     ensures patient { L.looks port.new ≤ L.looks port.old + patience }
-    ensures late { result ≡ Reply.Late → L.looks port.new ≡ L.looks port.old + patience }
+    ensures late { result ≡ Reply.Late → HasWaited L.looks L.view patience port.old port.new }
 {
     if let Err(reply) = ask(line, port, patience) {
         return reply;
@@ -96,7 +96,7 @@ pub fn pay_out<L: LineSync<AccountLaw>>(
     ensures belongs { L.belongs line.now port.new }
     ensures pays { PaysOut (L.view port.old) (L.view port.new) k amount paid_out.old paid_out.new result }
     ensures patient { L.looks port.new ≤ L.looks port.old + patience }
-    ensures late { result ≡ Reply.Late → L.looks port.new ≡ L.looks port.old + patience }
+    ensures late { result ≡ Reply.Late → HasWaited L.looks L.view patience port.old port.new }
 {
     if let Err(reply) = ask(line, port, patience) {
         return reply;
@@ -132,7 +132,7 @@ pub fn move_within<L: LineSync<AccountLaw>>(
     ensures belongs { L.belongs line.now port.new }
     ensures moves { MovesWithin (L.view port.old) (L.view port.new) from to amount result }
     ensures patient { L.looks port.new ≤ L.looks port.old + patience }
-    ensures late { result ≡ Reply.Late → L.looks port.new ≡ L.looks port.old + patience }
+    ensures late { result ≡ Reply.Late → HasWaited L.looks L.view patience port.old port.new }
 {
     if let Err(reply) = ask(line, port, patience) {
         return reply;

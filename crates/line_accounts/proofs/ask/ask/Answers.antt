@@ -21,6 +21,12 @@ returns-in-Late-clause-refused g c =
     let asks = a.asks (not_busy _ Late c.in-Late.is (λ e. cc e)) in
     (late _ _ c.requires.at_rest past a.continues asks (a.late c.in-Late.is), asks, a.late c.in-Late.is)
 
+pub returns-in-Late-clause-late : goal.returns-in-Late-clause-late
+returns-in-Late-clause-late g c _ = record {
+  looked = c.acquire_patiently.ensures.late c.in-Late.is;
+  withdrawn = (c.acquire_patiently.ensures.acquires.late c.in-Late.is).state;
+}
+
 pub returns-in-Closed-clause-refused : goal.returns-in-Closed-clause-refused
 returns-in-Closed-clause-refused g c =
     let a = c.acquire_patiently.ensures.acquires in
