@@ -1,9 +1,11 @@
 //! What is said of the progress of work, and when.
+use line_threads::together::{Work, together};
 use qolb_run::{Gate, Progress};
 use std::alloc::Global;
 use std::fmt::Display;
 use std::io;
 use std::rt::Clock;
+use std::sync::Wait;
 use std::sync::atomic::{AtomicU64, Ordering};
 use std::test::Fail;
 use std::time::Duration;
@@ -51,16 +53,61 @@ impl Eprint for Console<'_> {
     }
 }
 
+/// A console at second 0 that expects these lines.
+fn expecting<'a>(alloc: Global, expected: &'a [&'a str]) -> Console<'a> {
+    Console {
+        alloc,
+        second: AtomicU64::new(0),
+        expected,
+        came: AtomicU64::new(0),
+        others: AtomicU64::new(0),
+    }
+}
+
+/// How many jobs each of four workers does.
+const JOBS: u64 = 20_000;
+
+/// Asks before each job but the first.
+struct Asking;
+
+impl<R: Wait, G: Gate> Work<R, G, u64> for Asking {
+    type Back = bool;
+
+    ghost fits = { λ _ _ _ _. Unit {0} };
+
+    ghost done = { λ _ _ _ _. Unit {0} };
+
+    fn work(&self, _rt: &R, gate: &G, _place: usize, worker: u64) -> bool {
+        let mut may = true;
+        for at in 0..JOBS {
+            may = may && gate.may(worker, at + 1);
+        }
+        may
+    }
+}
+
+#[test]
+fn no_job_of_four_workers_is_forgotten(rt: HostRuntime) -> Result<(), Fail> {
+    let expected = ["80001 of 100000 jobs done"];
+    let console = expecting(rt.alloc(), expected.as_slice());
+    let gate = Progress::new(&console)?;
+    gate.begins(100_000);
+    let workers = vec![in rt.alloc(); 1, 2, 3, 4]?;
+    let Some(asked) = together(&rt, rt.alloc(), &Asking, &gate, workers) else {
+        return Err(Fail::from("refused"));
+    };
+    assert!(rt; asked.iter().all(|may| *may));
+    console.second.store(1, Ordering::SeqCst);
+    assert!(rt; gate.may(1, 1));
+    assert_eq!(rt; console.came.load(Ordering::SeqCst), 1);
+    assert_eq!(rt; console.others.load(Ordering::SeqCst), 0);
+    Ok(())
+}
+
 #[test]
 fn progress_is_said_once_a_second(rt: HostRuntime) -> Result<(), Fail> {
     let expected = ["2 of 5 jobs done", "4 of 5 jobs done"];
-    let console = Console {
-        alloc: rt.alloc(),
-        second: AtomicU64::new(0),
-        expected: expected.as_slice(),
-        came: AtomicU64::new(0),
-        others: AtomicU64::new(0),
-    };
+    let console = expecting(rt.alloc(), expected.as_slice());
     let gate = Progress::new(&console)?;
     gate.begins(5);
     // In which second which worker asks for the job at which place of its own, and how many lines have been said after it.
