@@ -256,7 +256,10 @@ fn a_value_lies_in_its_lane(rt: HostRuntime) -> Result<(), Fail> {
 
 #[test]
 fn no_more_seats_are_sold_than_there_are(rt: HostRuntime) -> Result<(), Fail> {
-    the_house_is_sold_out::<_, RingLine<House>>(&rt, rt.alloc());
+    let alloc = rt.alloc();
+    the_house_is_sold_out::<_, RingLine<House>>(&rt, alloc);
+    the_house_is_sold_out::<_, LinkLine<House>>(&rt, alloc);
+    the_house_is_sold_out::<_, TicketLine<House>>(&rt, alloc);
     Ok(())
 }
 

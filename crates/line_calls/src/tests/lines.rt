@@ -3,7 +3,7 @@
 use crate::row::{Counted, Row};
 use crate::tests::did::{Did, expect};
 use hoard::{GRAIN, Siege};
-use line_lanes::{Line64, Mask, changed, lane, with_lane};
+use line_lanes::{Line64, Mask, changed, lane, placed, with_lane};
 use line_rows::handing::hand_over;
 use line_rows::opened::{open_zeros, with_two};
 use linked_list_allocator::LocalHeap;
@@ -366,16 +366,12 @@ where
     Ok(())
 }
 
-/// Node 1 writes, and node 2 sees it.
-static HAND_OVER: [(u64, Did); 8] = [
-    (1, Did::Ask(Enq::Granted)),
-    (1, Did::Write(0xa1)),
+/// Node 2 waits for the line, and is handed it by node 1.
+static HAND_OVER: [(u64, Did); 4] = [
     (2, Did::Ask(Enq::Queued)),
     (2, Did::Poll(Poll::Waiting)),
     (1, Did::Release),
     (2, Did::Poll(Poll::Granted)),
-    (2, Did::Sees(0xa1)),
-    (2, Did::Release),
 ];
 
 pub(super) fn a_line_is_handed_over_with_its_bytes<R: Abort, L: Counted + Drop>(
@@ -386,11 +382,15 @@ where
     L::Port: Drop,
 {
     let mut row = Row::<L>::of_zeros(alloc, 2)?;
+    expect(rt, &mut row, [(1, Did::Ask(Enq::Granted))].as_slice());
+    let (mask, bytes) = placed(0, &[0xa1, 0xb2]).ok_or("placed")?;
+    assert_eq!(rt; row.write(1, mask, &bytes), Some(true));
     expect(rt, &mut row, &HAND_OVER);
-    let line = row.finish(alloc).ok().ok_or("no end")?;
     let mut want = [0; 64];
     want[0] = 0xa1;
-    assert_eq!(rt; line.to_bytes(), want);
+    want[1] = 0xb2;
+    assert_eq!(rt; row.bytes(2), Some(want));
+    expect(rt, &mut row, [(2, Did::Release)].as_slice());
     Ok(())
 }
 
