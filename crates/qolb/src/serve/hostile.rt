@@ -1,4 +1,5 @@
 //! Readers and writers that fail at one of their calls, or move few bytes at a time.
+use super::tests::{KINDS, expect, run};
 use super::*;
 use std::test::Fail;
 
@@ -23,7 +24,7 @@ const BANK: &str = "bank workers 1 lines 2\n1 in 0 10\n1 move 0 9 4\n1 out 9 9\n
 const BANK_REPORT: &str = "in 10\nout 1\ntotal 9\n";
 
 /// The words of each subcommand, a script, and what is written.
-pub(super) const RUNS: [(&[&str], &str, &str); 11] = [
+pub(super) static RUNS: [(&[&str], &str, &str); 11] = [
     (&["replay", "--kind", "plain"], HAND_OVER, HANDED_OVER),
     (&["replay", "--kind", "ring"], HAND_OVER, HANDED_OVER),
     (&["replay", "--kind", "link"], HAND_OVER, HANDED_OVER),
@@ -38,7 +39,7 @@ pub(super) const RUNS: [(&[&str], &str, &str); 11] = [
 ];
 
 /// How many bytes a read or a write moves at most.
-const PARTS: [usize; 3] = [1, 7, 4096];
+static PARTS: [usize; 3] = [1, 7, 4096];
 
 /// Gives what is left in parts, but fails once, after so many reads.
 #[derive(Drop)]
@@ -92,51 +93,28 @@ impl Write for FailingWriter {
     }
 }
 
-/// The status of a run and its standard error.
-fn run<T: Threads + Wait + Clock + Eprint + Sync, R: Read, W: Write>(
-    rt: &T,
-    alloc: Global,
-    words: &[&str],
-    reader: &mut R,
-    out: &mut W,
-) -> Result<(u8, String), Fail> {
-    let mut all = vec![in alloc; "qolb".to_string(alloc)?]?;
-    for word in words {
-        all.push(word.to_string(alloc)?)?;
-    }
-    let mut err: Vec<u8> = Vec::new(alloc);
-    let status = serve(rt, alloc, all.as_slice(), reader, out, &mut err);
-    Ok((status, String::from_utf8(err)?))
-}
-
 #[test]
 fn each_read_fails(rt: HostRuntime) -> Result<(), Fail> {
-    for (words, script, reply) in RUNS {
-        for part in PARTS {
+    for (words, script, reply) in &RUNS {
+        for part in &PARTS {
             // The last read tells that nothing is left.
-            let reads = script.len().div_ceil(part).saturating_add(1);
+            let reads = script.len().div_ceil(*part).saturating_add(1);
             for good in 0..reads.saturating_add(1) {
                 let mut reader = FailingReader {
                     rest: script.as_bytes(),
-                    part,
+                    part: *part,
                     good,
                 };
                 let mut out: Vec<u8> = Vec::new(rt.alloc());
-                let (status, err) = run(&rt, rt.alloc(), words, &mut reader, &mut out)?;
-                let (want, text, fault) = if good < reads {
-                    (4, "", "read fault\n")
+                let (status, err) = run(&rt, rt.alloc(), *words, &mut reader, &mut out)?;
+                let want = if good < reads {
+                    (4, b"".as_slice(), "read fault\n")
                 } else {
-                    (0, reply, "")
+                    (0, reply.as_bytes(), "")
                 };
-                assert_eq!(rt; status, want, "{words:?} after {good} reads of {part}");
                 assert_eq!(rt;
-                    out.as_slice(),
-                    text.as_bytes(),
-                    "{words:?} after {good} reads of {part}"
-                );
-                assert_eq!(rt;
-                    err.as_str(),
-                    fault,
+                    (status, out.as_slice(), err.as_str()),
+                    want,
                     "{words:?} after {good} reads of {part}"
                 );
             }
@@ -145,39 +123,44 @@ fn each_read_fails(rt: HostRuntime) -> Result<(), Fail> {
     Ok(())
 }
 
+/// How many bytes a write takes at most, and whether it fails at last; else it takes none.
+static WRITES: [(usize, bool); 4] = [(1, true), (1, false), (7, true), (4096, false)];
+
 #[test]
 fn each_write_fails(rt: HostRuntime) -> Result<(), Fail> {
-    for (words, script, reply) in RUNS {
-        for (part, fails) in [(1, true), (1, false), (7, true), (4096, false)] {
+    for (words, script, reply) in &RUNS {
+        for (part, fails) in &WRITES {
             let mut served = false;
             for good in 0..reply.len().saturating_add(1) {
                 let mut writer = FailingWriter {
                     taken: Vec::new(rt.alloc()),
-                    part,
+                    part: *part,
                     good,
-                    fails,
+                    fails: *fails,
                 };
                 let mut reader = script.as_bytes();
-                let (status, err) = run(&rt, rt.alloc(), words, &mut reader, &mut writer)?;
-                let taken = writer.taken.as_slice();
-                if status == 0 {
-                    served = true;
-                    assert_eq!(rt;
-                        taken,
-                        reply.as_bytes(),
-                        "{words:?} after {good} writes of {part}"
-                    );
-                    assert_eq!(rt; err.as_str(), "", "{words:?} after {good} writes of {part}");
+                let (status, err) = run(&rt, rt.alloc(), *words, &mut reader, &mut writer)?;
+                let reply = reply.as_bytes();
+                let is_served = writer.taken.len() == reply.len();
+                let want = if is_served {
+                    (0, "")
                 } else {
-                    assert_eq!(rt; status, 4, "{words:?} after {good} writes of {part}");
-                    assert_eq!(rt;
-                        err.as_str(),
-                        "write fault\n",
-                        "{words:?} after {good} writes of {part}"
-                    );
-                    assert!(rt; reply.as_bytes().starts_with(taken) && taken.len() < reply.len());
-                    assert!(rt; !served && (part > 1 || taken.len() == good));
-                }
+                    (4, "write fault\n")
+                };
+                assert_eq!(rt;
+                    (status, err.as_str()),
+                    want,
+                    "{words:?} after {good} writes of {part}"
+                );
+                assert!(rt;
+                    reply.starts_with(writer.taken.as_slice()),
+                    "{words:?} after {good} writes of {part}"
+                );
+                assert!(rt;
+                    is_served || !served && (*part > 1 || writer.taken.len() == good),
+                    "{words:?} after {good} writes of {part}"
+                );
+                served = is_served;
             }
             assert!(rt; served, "{words:?} by writes of {part}");
         }
@@ -185,50 +168,47 @@ fn each_write_fails(rt: HostRuntime) -> Result<(), Fail> {
     Ok(())
 }
 
-#[test]
-fn a_script_that_was_cut_off(rt: HostRuntime) -> Result<(), Fail> {
-    let rows = [
-        ("nodes 2 lines", 1, "", "bad line 1\n"),
+/// The first part of the hand-over, and how a replay of it ends.
+static CUT_OFF: [(&str, (u8, &str, &str)); 5] = [
+    ("nodes 2 lines", (1, "", "bad line 1\n")),
+    (
+        "nodes 2 lines 1\nenq 1 0",
         (
-            "nodes 2 lines 1\nenq 1 0",
             0,
             "granted\nline 0 served 0 withdrawn 0 told 0 left 1\n",
             "",
         ),
+    ),
+    (
+        "nodes 2 lines 1\nenq 1 0\nwrite 1 0 0 a1b",
+        (1, "", "bad line 3\n"),
+    ),
+    (
+        "nodes 2 lines 1\nenq 1 0\nwrite 1 0 0 a1",
         (
-            "nodes 2 lines 1\nenq 1 0\nwrite 1 0 0 a1b",
-            1,
-            "",
-            "bad line 3\n",
-        ),
-        (
-            "nodes 2 lines 1\nenq 1 0\nwrite 1 0 0 a1",
             0,
             "granted\nok\nline 0 served 0 withdrawn 0 told 0 left 1\n",
             "",
         ),
-        (
-            "nodes 2 lines 1\nenq 1 0\nwrite 1 0 0 a1b2\nenq 2 0\npoll 2 0\ndeq 1 0\npoll 2 0\nshow 2",
-            1,
-            "",
-            "bad line 8\n",
-        ),
-    ];
-    for (script, want, text, fault) in rows {
-        assert!(rt; HAND_OVER.starts_with(script));
-        for kind in ["plain", "ring", "link", "ticket"] {
-            let mut reader = script.as_bytes();
-            let mut out: Vec<u8> = Vec::new(rt.alloc());
-            let (status, err) = run(
+    ),
+    (
+        "nodes 2 lines 1\nenq 1 0\nwrite 1 0 0 a1b2\nenq 2 0\npoll 2 0\ndeq 1 0\npoll 2 0\nshow 2",
+        (1, "", "bad line 8\n"),
+    ),
+];
+
+#[test]
+fn a_script_that_was_cut_off(rt: HostRuntime) -> Result<(), Fail> {
+    for (script, want) in &CUT_OFF {
+        assert!(rt; HAND_OVER.starts_with(*script), "{script}");
+        for kind in &KINDS {
+            expect(
                 &rt,
                 rt.alloc(),
-                &["replay", "--kind", kind],
-                &mut reader,
-                &mut out,
+                &["replay", "--kind", *kind],
+                *script,
+                *want,
             )?;
-            assert_eq!(rt; status, want, "of {script}");
-            assert_eq!(rt; out.as_slice(), text.as_bytes(), "of {script}");
-            assert_eq!(rt; err.as_str(), fault, "of {script}");
         }
     }
     Ok(())

@@ -7,7 +7,7 @@ use std::test::Fail;
 
 /// Rooms, in bytes: the first, the one that none comes up to, and how much a room is larger than the one before. In the last of them threads
 /// find a place for their stacks.
-const ROOMS: [(usize, usize, usize); 3] = [
+static ROOMS: [(usize, usize, usize); 3] = [
     (1 << 6, 1 << 16, 1 << 6),
     (1 << 16, 1 << 18, 1 << 10),
     (1 << 20, 1 << 26, 1 << 20),
@@ -30,20 +30,14 @@ fn is_answered<T: Threads + Wait + Clock + Eprint + Sync + Abort>(
     let status = serve(rt, alloc, words, &mut reader, &mut out, &mut err);
     drop(rest);
     let answered = status == 0;
-    let (want, text, complaint) = if answered {
-        (0, reply, "")
+    let want = if answered {
+        (0, reply.as_bytes(), b"".as_slice())
     } else {
-        (3, "", "out of memory\n")
+        (3, b"".as_slice(), b"out of memory\n".as_slice())
     };
-    assert_eq!(rt; status, want, "{words:?} in {bytes} bytes");
     assert_eq!(rt;
-        out.as_slice(),
-        text.as_bytes(),
-        "{words:?} in {bytes} bytes"
-    );
-    assert_eq!(rt;
-        err.as_slice(),
-        complaint.as_bytes(),
+        (status, out.as_slice(), err.as_slice()),
+        want,
         "{words:?} in {bytes} bytes"
     );
     Ok(answered)
@@ -53,15 +47,15 @@ fn is_answered<T: Threads + Wait + Clock + Eprint + Sync + Abort>(
 fn each_allocation_is_refused(rt: HostRuntime) -> Result<(), Fail> {
     let alloc = rt.alloc();
     let siege = Siege::begin(alloc, 1 << 28)?;
-    for (words, script, reply) in RUNS {
+    for (words, script, reply) in &RUNS {
         let mut all = vec![in alloc; "qolb".to_string(alloc)?]?;
-        for word in words {
+        for word in *words {
             all.push(word.to_string(alloc)?)?;
         }
         let mut refused = 0u32;
         let mut answered = false;
-        for (first, end, step) in ROOMS {
-            for bytes in (first..end).step_by(step) {
+        for (first, end, step) in &ROOMS {
+            for bytes in (*first..*end).step_by(*step) {
                 if !answered {
                     answered = is_answered(
                         &rt,
@@ -69,8 +63,8 @@ fn each_allocation_is_refused(rt: HostRuntime) -> Result<(), Fail> {
                         &siege,
                         bytes,
                         all.as_slice(),
-                        script,
-                        reply,
+                        *script,
+                        *reply,
                     )?;
                     refused = refused.saturating_add(1);
                 }
