@@ -96,6 +96,7 @@ impl Write for FailingWriter {
 #[test]
 fn each_read_fails(rt: HostRuntime) -> Result<(), Fail> {
     for (words, script, reply) in &RUNS {
+        let reply = *reply;
         for part in &PARTS {
             // The last read tells that nothing is left.
             let reads = script.len().div_ceil(*part).saturating_add(1);
@@ -107,14 +108,20 @@ fn each_read_fails(rt: HostRuntime) -> Result<(), Fail> {
                 };
                 let mut out: Vec<u8> = Vec::new(rt.alloc());
                 let (status, err) = run(&rt, rt.alloc(), *words, &mut reader, &mut out)?;
-                let want = if good < reads {
-                    (4, b"".as_slice(), "read fault\n")
+                let (want, text, fault) = if good < reads {
+                    (4, "", "read fault\n")
                 } else {
-                    (0, reply.as_bytes(), "")
+                    (0, reply, "")
                 };
+                assert_eq!(rt; status, want, "{words:?} after {good} reads of {part}");
                 assert_eq!(rt;
-                    (status, out.as_slice(), err.as_str()),
-                    want,
+                    out.as_slice(),
+                    text.as_bytes(),
+                    "{words:?} after {good} reads of {part}"
+                );
+                assert_eq!(rt;
+                    err.as_str(),
+                    fault,
                     "{words:?} after {good} reads of {part}"
                 );
             }

@@ -30,14 +30,20 @@ fn is_answered<T: Threads + Wait + Clock + Eprint + Sync + Abort>(
     let status = serve(rt, alloc, words, &mut reader, &mut out, &mut err);
     drop(rest);
     let answered = status == 0;
-    let want = if answered {
-        (0, reply.as_bytes(), b"".as_slice())
+    let (want, text, complaint) = if answered {
+        (0, reply, "")
     } else {
-        (3, b"".as_slice(), b"out of memory\n".as_slice())
+        (3, "", "out of memory\n")
     };
+    assert_eq!(rt; status, want, "{words:?} in {bytes} bytes");
     assert_eq!(rt;
-        (status, out.as_slice(), err.as_slice()),
-        want,
+        out.as_slice(),
+        text.as_bytes(),
+        "{words:?} in {bytes} bytes"
+    );
+    assert_eq!(rt;
+        err.as_slice(),
+        complaint.as_bytes(),
         "{words:?} in {bytes} bytes"
     );
     Ok(answered)
