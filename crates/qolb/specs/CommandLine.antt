@@ -1,5 +1,5 @@
 -- What the words of a command line ask for. (What a command makes of words is defined by the library that reads them, clap.)
-use Rattle.std.specs.Prelude.{◌≡◌, true, false, if◌then◌else◌, List, [], ◌∷◌, map, Option, Some, None, option_map, codes}
+use Rattle.std.specs.Prelude.{Bool, ◌≡◌, true, false, if◌then◌else◌, List, [], ◌∷◌, map, Option, Some, None, option_map, codes}
 use Rattle.std.specs.Borrow.{Bor}
 use Rattle.std.specs.Str.{bytes_eq}
 use Rattle.clap.specs.Words.{App, Row, Rule, Text, first_of, new_app, new_rule, subcommand_of, takes, with_rule, with_subcommand}
@@ -102,6 +102,14 @@ abbrev pub waits_of : Option Text → Waits
 waits_of None = waits.Awake
 waits_of (Some value) = if bytes_eq value (codes "true") then waits.Asleep else waits.Awake
 
+-- whether standard error is to say how far it is, by what `--progress` is set to
+abbrev pub progress_of : Option Text → Bool
+progress_of None = false
+progress_of (Some value) = bytes_eq value (codes "true")
+
+abbrev pub progress_at : List Row → Bool
+progress_at rows = progress_of (first_of (codes "progress") rows)
+
 -- the task of a subcommand with these arguments
 abbrev pub task_by : Text → Option Text → Detail → Waits → Task
 task_by name kind detail waits =
@@ -129,6 +137,11 @@ wish_at entered = if bytes_eq entered.0 (codes "draw") then Draw (form_at entere
 pub record NamesWish (words : List Text) (wanted : Wish) : Type 0 where
   pub names : KindNames
   pub named : option_map wish_at (subcommand_of (the_command names) words) ≡ Some wanted
+
+-- the words ask to be told how far it is, or not
+pub record NamesProgress (words : List Text) (wanted : Bool) : Type 0 where
+  pub names : KindNames
+  pub named : option_map (λ (entered : Text × List Row). progress_at entered.1) (subcommand_of (the_command names) words) ≡ Some wanted
 
 -- the command does not take the words
 pub record IsNotTaken (words : List Text) : Type 0 where

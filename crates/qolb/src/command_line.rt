@@ -2,7 +2,7 @@
 ghost use Rattle.std.specs.Prelude.{◌≡◌, ◌≢◌, false, map, option_map, string_bytes, codes, IfOk, IfErr};
 ghost use Rattle.clap.specs.Words.{app_of, found_of, kind_of, new_app, rows_of, rule_of};
 ghost use Rattle.qolb.specs.CommandLine as spec;
-ghost use Rattle.qolb.specs.CommandLine.{KindNames, NamesWish, IsNotTaken, draw_command, kind_rule, needs_subcommand, replay_command, steps_command, work_command, the_command};
+ghost use Rattle.qolb.specs.CommandLine.{KindNames, NamesProgress, NamesWish, IsNotTaken, draw_command, kind_rule, needs_subcommand, replay_command, steps_command, work_command, the_command};
 
 use clap::error::ErrorKind;
 use clap::{Arg, ArgAction, ArgMatches, Command, Error};
@@ -129,13 +129,14 @@ pub struct Request {
 /// What the words ask for, with the program's name first.
 pub fn parse_args(alloc: Global, words: &[String]) -> Result<Request, Error>
     ensures wish { IfOk result (λ request. NamesWish (map string_bytes words.now) request.wish) }
+    ensures progress { IfOk result (λ request. NamesProgress (map string_bytes words.now) request.progress) }
     ensures usage { IfErr result (λ error. kind_of error ≢ ErrorKind.OutOfMemory → IsNotTaken (map string_bytes words.now)) }
 {
     let matches = command(alloc)?.try_get_matches_from(words)?;
     match matches.subcommand() {
         Some((name, arguments)) => Ok(Request {
             wish: wish_at(name, arguments),
-            progress: arguments.get_str("progress") == Some("true"),
+            progress: progress_at(arguments),
         }),
         None => unreachable!(),
     }
@@ -149,6 +150,23 @@ fn wish_at(name: &str, arguments: &ArgMatches<'_>) -> Wish
         Wish::Draw(form_at(arguments))
     } else {
         Wish::Answer(task_at(name, arguments))
+    }
+}
+
+/// Whether standard error is to say how far it is, by these arguments.
+fn progress_at(arguments: &ArgMatches<'_>) -> bool
+    ensures { result ≡ spec.progress_at (rows_of (found_of arguments.now)) }
+{
+    progress_of(arguments.get_str("progress"))
+}
+
+/// The same by the value of `--progress`.
+fn progress_of(progress: Option<&str>) -> bool
+    ensures { result ≡ spec.progress_of (option_map (λ n. n.now) progress.entry) }
+{
+    match progress {
+        Some("true") => true,
+        _ => false,
     }
 }
 

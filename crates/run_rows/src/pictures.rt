@@ -102,6 +102,26 @@ node   1 H
 }
 
 #[test]
+fn draws_the_longest_script(rt: HostRuntime) -> Result<(), Fail> {
+    let mut script = String::from_str(rt.alloc(), "nodes 1 lines 1\nenq 1 0\n")?;
+    for _ in 1..100_000 {
+        script.push_str("show 1 0\n")?;
+    }
+    let picture = drawn(rt.alloc(), script.as_str(), Form::Text)?;
+    let mut rows = 0u32;
+    let mut letters = 0usize;
+    for line in picture.lines() {
+        if let Some(held) = line.strip_prefix("node   1 ") {
+            rows = rows.saturating_add(1);
+            letters = letters.saturating_add(held.len());
+        }
+    }
+    // A row has 70 commands.
+    assert_eq!(rt; (rows, letters), (1_429, 100_000));
+    Ok(())
+}
+
+#[test]
 fn refuses_what_a_replay_refuses(rt: HostRuntime) {
     for (script, error) in [
         ("", ScriptError::BadLine(1)),

@@ -5,19 +5,21 @@ use std::io;
 use std::io::{Error, ErrorKind, Read, Write};
 use std::test::Fail;
 
-/// Gives a byte a read, after an interruption each time, and fails at one of them.
+/// Gives a byte a read, after so many interruptions each time, and fails at one of them.
 #[derive(Drop)]
 struct FailingReader {
     left: u64,
-    interrupted: bool,
+    interruptions: u64,
+    met: u64,
 }
 
 impl Read for FailingReader {
     fn read(&mut self, buf: &mut [u8]) -> io::Result<usize> {
-        self.interrupted = !self.interrupted;
-        if self.interrupted {
+        if self.met < self.interruptions {
+            self.met += 1;
             return Err(Error::from(ErrorKind::Interrupted));
         }
+        self.met = 0;
         if self.left == 0 {
             self.left = 9;
             return Err(Error::from(ErrorKind::Other));
@@ -57,21 +59,27 @@ impl Write for FailingWriter {
     }
 }
 
+/// How often each read is interrupted.
+static INTERRUPTIONS: [u64; 4] = [0, 1, 2, 1_000];
+
 #[test]
 fn a_failed_read_is_remembered(rt: HostRuntime) {
-    for left in 0..4u64 {
-        let mut reader = Watched::new(FailingReader {
-            left,
-            interrupted: false,
-        });
-        let mut part = [0; 8];
-        for _ in 0..left {
-            assert!(rt; !reader.failed());
-            assert_eq!(rt; reader.read(&mut part), Ok(1), "at {left}");
-        }
-        for _ in 0..3 {
-            assert_eq!(rt; reader.read(&mut part), Err(Fault), "at {left}");
-            assert!(rt; reader.failed());
+    for interruptions in &INTERRUPTIONS {
+        for left in 0..4u64 {
+            let mut reader = Watched::new(FailingReader {
+                left,
+                interruptions: *interruptions,
+                met: 0,
+            });
+            let mut part = [0; 8];
+            for _ in 0..left {
+                assert!(rt; !reader.failed());
+                assert_eq!(rt; reader.read(&mut part), Ok(1), "at {left}");
+            }
+            for _ in 0..3 {
+                assert_eq!(rt; reader.read(&mut part), Err(Fault), "at {left}");
+                assert!(rt; reader.failed());
+            }
         }
     }
 }

@@ -26,17 +26,20 @@ impl<Q: Discipline<Free>> Counting for Line<Free, Q> {
     }
 }
 
-/// Waits until one sleeper is counted.
-fn wait_for_a_sleeper<R: Wait, L: Counting>(rt: &R, line: &L) {
+/// How many nodes a line has.
+const NODES: u64 = 4;
+
+/// Waits until all nodes but the holder are counted as sleepers.
+fn wait_for_the_others<R: Wait, L: Counting>(rt: &R, line: &L) {
     for _ in rt.forever() {
-        if line.sleepers() == 1 {
+        if line.sleepers() == NODES - 1 {
             return;
         }
         yield_now();
     }
 }
 
-/// Node 1 has the line until node 2, which waits for it, is counted as a sleeper.
+/// One node has the line until all others, which wait for it, are counted as sleepers. Then each has it.
 #[derive(Drop)]
 struct Counted {
     held: AtomicU64,
@@ -59,26 +62,30 @@ where
                 return false;
             };
             self.held.store(1, Ordering::SeqCst);
-            wait_for_a_sleeper(rt, line);
+            wait_for_the_others(rt, line);
             line.deqolb(&mut port);
             true
         } else {
             wait_until_some(rt, &self.held);
-            acquire_asleep(rt, line, &mut port) == Got::Granted
+            let got = acquire_asleep(rt, line, &mut port);
+            if got == Got::Granted {
+                line.deqolb(&mut port);
+            }
+            got == Got::Granted
         }
     }
 }
 
-/// Whether each of two nodes of a new line had it, the first until the second was counted; and how many are counted when both are done.
-fn count_a_sleeper<R: Threads + Wait + Sync, L: Counting + Sync + Drop>(
+/// How many nodes of a new line had it, one of them until the others were counted; and how many are counted when all are done.
+fn count_sleepers<R: Threads + Wait + Sync, L: Counting + Sync + Drop>(
     rt: &R,
     alloc: Global,
-) -> Option<([bool; 2], u64)>
+) -> Option<(usize, u64)>
 where
     L::Port: Send + Drop,
 {
     let terms = Terms {
-        nodes: 2,
+        nodes: NODES,
         opening: Line64::zero(),
         lease: None,
     };
@@ -87,19 +94,17 @@ where
     };
     let (line, ports) = L::open_with(alloc, 1, terms).ok()?;
     let had = together(rt, alloc, &counted, &line, ports)?;
-    match *had.as_slice() {
-        [one, two] => Some(([one, two], line.sleepers())),
-        _ => None,
-    }
+    let had = had.iter().filter(|had| **had).count();
+    Some((had, line.sleepers()))
 }
 
-/// A sleeper is counted while it sleeps, and then no more.
-pub(super) fn a_sleeper_is_counted<R: Threads + Wait + Abort + Sync, L: Counting + Sync + Drop>(
+/// Sleepers are counted while they sleep, and then no more.
+pub(super) fn sleepers_are_counted<R: Threads + Wait + Abort + Sync, L: Counting + Sync + Drop>(
     rt: &R,
     alloc: Global,
 )
 where
     L::Port: Send + Drop,
 {
-    assert_eq!(rt; count_a_sleeper::<R, L>(rt, alloc), Some(([true, true], 0)));
+    assert_eq!(rt; count_sleepers::<R, L>(rt, alloc), Some((4, 0)));
 }

@@ -13,7 +13,7 @@ use std::process::Abort;
 use std::rt::Clock;
 use std::sync::Wait;
 use std::sync::atomic::{AtomicU64, Ordering};
-use std::thread::Threads;
+use std::thread::{Threads, yield_now};
 use std::time::Duration;
 
 /// What is noted at a line: how many sleeps there were, how many nanoseconds the last and the longest were to take at most, and how often a
@@ -115,6 +115,26 @@ impl<R> Clock for Ticking<'_, R> {
     }
 }
 
+/// A clock of which it is noted how often it is read.
+#[derive(Drop)]
+struct NotedClock<'r, R> {
+    clock: &'r R,
+    readings: AtomicU64,
+}
+
+impl<R: Wait> Wait for NotedClock<'_, R> {}
+
+impl<R: Clock> Clock for NotedClock<'_, R> {
+    fn monotonic(&self) -> io::Result<Duration> {
+        self.readings.fetch_add(1, Ordering::SeqCst);
+        self.clock.monotonic()
+    }
+
+    fn since_1970(&self) -> io::Result<Duration> {
+        self.clock.since_1970()
+    }
+}
+
 /// The terms of a line of two nodes.
 fn two_nodes() -> Terms {
     Terms {
@@ -198,6 +218,64 @@ where
     assert_eq!(rt; notes.sleeps(), 0);
 }
 
+/// What node 2 is answered that waits so many milliseconds by this clock, while node 1 has the line and its own last request, which it gave up,
+/// is not passed.
+fn ask_in_vain<R: Wait, C: Wait + Clock, L: OpenLine<Free> + Sleeping<Free> + Drop>(
+    rt: &R,
+    clock: &C,
+    alloc: Global,
+    notes: &Notes,
+    millis: u64,
+) -> Option<Within>
+where
+    L::Port: Drop,
+{
+    let (line, mut one, mut two) = open_noted::<L>(alloc, notes)?;
+    let Enq::Granted = line.enqolb(&mut one) else {
+        return None;
+    };
+    let no_time = Ticking::new(rt, true);
+    let Within::Late = acquire_within(&no_time, &line, &mut two, Duration::ZERO) else {
+        return None;
+    };
+    let at_most = Duration::from_millis(millis);
+    Some(acquire_within(clock, &line, &mut two, at_most))
+}
+
+/// A node that may not ask again yet reads the clock between its tries, and is late where it reads the limit.
+fn a_busy_node_keeps_to_its_time<R: Wait + Abort, L: OpenLine<Free> + Sleeping<Free> + Drop>(
+    rt: &R,
+    alloc: Global,
+)
+where
+    L::Port: Drop,
+{
+    let notes = Notes::none();
+    let clock = Ticking::new(rt, true);
+    let got = ask_in_vain::<_, _, L>(rt, &clock, alloc, &notes, 200);
+    let readings = clock.readings.load(Ordering::SeqCst);
+    assert_eq!(rt; (got, readings), (Some(Within::Late), 201));
+}
+
+/// It naps between its tries: in 50 milliseconds it reads the clock some hundred times, and without a nap some hundred thousand times.
+fn a_busy_node_naps<R: Wait + Clock + Abort, L: OpenLine<Free> + Sleeping<Free> + Drop>(
+    rt: &R,
+    alloc: Global,
+)
+where
+    L::Port: Drop,
+{
+    let notes = Notes::none();
+    let clock = NotedClock {
+        clock: rt,
+        readings: AtomicU64::new(0),
+    };
+    let got = ask_in_vain::<_, _, L>(rt, &clock, alloc, &notes, 50);
+    assert_eq!(rt; got, Some(Within::Late));
+    let readings = clock.readings.load(Ordering::SeqCst);
+    assert!(rt; readings < 1_000, "{readings} readings");
+}
+
 /// Node 2 looks twice in vain at a line whose waiters sleep, and once more when node 1 has let go. Whether each answer was as it has to be.
 fn look_asleep<R: Wait, L: OpenLine<Free> + Sleeping<Free> + Drop>(
     rt: &R,
@@ -270,6 +348,114 @@ where
 {
     let notes = Notes::none();
     assert_eq!(rt; let_go_and_shut::<L>(alloc, &notes), Some((1, 2)));
+}
+
+/// A holder that lets go does so after its hooks, which wait until another has looked.
+#[derive(Drop)]
+struct LooksBefore {
+    letting_go: AtomicU64,
+    looked: AtomicU64,
+}
+
+impl Hooks for &LooksBefore {
+    fn lets_go(&self) {
+        self.letting_go.store(1, Ordering::SeqCst);
+        for _ in 0..u64::MAX {
+            if self.looked.load(Ordering::SeqCst) > 0 {
+                return;
+            }
+            yield_now();
+        }
+    }
+}
+
+/// Node 1 lets the line go, or shuts it; when its hooks were told, node 2 looks, which waits behind it.
+#[derive(Drop)]
+struct Looking<'n> {
+    hooks: &'n LooksBefore,
+    shuts: bool,
+    held: AtomicU64,
+    waits: AtomicU64,
+}
+
+impl<R: Wait, L: LineSync<Free>> Work<R, L, L::Port> for Looking<'_>
+where
+    L::Port: Drop,
+{
+    /// Node 1: whether it had the line. Node 2: whether it still waited.
+    type Back = bool;
+
+    ghost fits = { λ _ line _ port. L.belongs line port × IsTrue (may_ask (L.view port).state) };
+
+    ghost done = { λ _ _ _ _. Unit {0} };
+
+    fn work(&self, rt: &R, line: &L, place: usize, port: L::Port) -> bool {
+        let mut port = port;
+        if place == 0 {
+            let Enq::Granted = line.enqolb(&mut port) else {
+                return false;
+            };
+            self.held.store(1, Ordering::SeqCst);
+            wait_until_some(rt, &self.waits);
+            if self.shuts {
+                line.shut(&mut port);
+            } else {
+                line.deqolb(&mut port);
+            }
+            return true;
+        }
+        wait_until_some(rt, &self.held);
+        let Enq::Queued = line.enqolb(&mut port) else {
+            return false;
+        };
+        self.waits.store(1, Ordering::SeqCst);
+        wait_until_some(rt, &self.hooks.letting_go);
+        let found = line.poll(&mut port);
+        self.hooks.looked.store(1, Ordering::SeqCst);
+        found == Poll::Waiting
+    }
+}
+
+/// Whether node 1 of a new line had it, and node 2 still waited when the hooks were told that node 1 lets go.
+fn look_before<R: Threads + Wait + Sync, L: OpenLine<Free> + Sleeping<Free> + Sync + Drop>(
+    rt: &R,
+    alloc: Global,
+    shuts: bool,
+) -> Option<[bool; 2]>
+where
+    L::Port: Send + Drop,
+{
+    let hooks = LooksBefore {
+        letting_go: AtomicU64::new(0),
+        looked: AtomicU64::new(0),
+    };
+    let looking = Looking {
+        hooks: &hooks,
+        shuts,
+        held: AtomicU64::new(0),
+        waits: AtomicU64::new(0),
+    };
+    let (line, ports) = L::open_with(alloc, 1, two_nodes()).ok()?;
+    let line = HookedLine::with(&hooks, line);
+    let had = together(rt, alloc, &looking, &line, ports)?;
+    match *had.as_slice() {
+        [one, two] => Some([one, two]),
+        _ => None,
+    }
+}
+
+/// Hooks are told before the line is let go, or shut.
+fn hooks_are_told_before<
+    R: Threads + Wait + Abort + Sync,
+    L: OpenLine<Free> + Sleeping<Free> + Sync + Drop,
+>(rt: &R, alloc: Global)
+where
+    L::Port: Send + Drop,
+{
+    for shuts in [false, true] {
+        let found = look_before::<R, L>(rt, alloc, shuts);
+        assert_eq!(rt; found, Some([true, true]), "shuts: {shuts}");
+    }
 }
 
 /// Node 1 has the line until node 2, which waits for it, was to sleep.
@@ -346,7 +532,7 @@ where
 
 /// Each of these over lines of this type.
 pub(super) fn each_sleep<
-    R: Threads + Wait + Abort + Sync,
+    R: Threads + Wait + Clock + Abort + Sync,
     L: OpenLine<Free> + Sleeping<Free> + Sync + Drop,
 >(rt: &R, alloc: Global)
 where
@@ -354,7 +540,10 @@ where
 {
     a_wait_keeps_to_its_time::<R, L>(rt, alloc);
     no_time_is_over_at_once::<R, L>(rt, alloc);
+    a_busy_node_keeps_to_its_time::<R, L>(rt, alloc);
+    a_busy_node_naps::<R, L>(rt, alloc);
     each_look_in_vain_sleeps_once::<R, L>(rt, alloc);
     a_long_wait_sleeps::<R, L>(rt, alloc);
     each_holder_that_lets_go_is_noted::<R, L>(rt, alloc);
+    hooks_are_told_before::<R, L>(rt, alloc);
 }

@@ -27,7 +27,7 @@ impl Default for NoHooks {
 
 impl Hooks for NoHooks {}
 
-/// How long sleeps took: the shortest and the longest of ten while the turn did not come, and one when it had come.
+/// How long sleeps took: the shortest and the longest of some while the turn did not come, and one when it had come.
 #[derive(Clone, Copy, Debug)]
 struct Took {
     shortest: Duration,
@@ -71,11 +71,12 @@ where
     Some((line, one, two, three))
 }
 
-/// Node 2 sleeps ten times for so long while node 1 has the line and node 3 waits behind it, and once for a thousand times as long when
-/// node 1 has let go.
+/// Node 2 sleeps so often for so long while node 1 has the line and node 3 waits behind it, and once for a thousand times as long when node 1
+/// has let go.
 fn sleep_behind_another<R: Wait + Clock, L: OpenLine<Free> + Sleeping<Free> + Drop>(
     rt: &R,
     alloc: Global,
+    times: u32,
     at_most: Duration,
 ) -> Option<Took>
 where
@@ -94,7 +95,7 @@ where
     };
     let mut shortest = Duration::MAX;
     let mut longest = Duration::ZERO;
-    for _ in 0..10 {
+    for _ in 0..times {
         let took = sleep_for(rt, &line, &two, at_most)?;
         shortest = shortest.min(took);
         longest = longest.max(took);
@@ -108,7 +109,10 @@ where
     })
 }
 
-/// Of ten sleeps one takes as long as it may, and one not twice as long. Once the turn has come none is left.
+/// How often node 2 sleeps, and for how many milliseconds.
+static SLEEPS: [(u32, u64); 3] = [(10, 4), (10, 20), (1, 1_100)];
+
+/// Of some sleeps one takes as long as it may, and one not twice as long. Once the turn has come none is left.
 pub(super) fn a_sleep_lasts_as_long_as_it_may<
     R: Wait + Clock + Abort,
     L: OpenLine<Free> + Sleeping<Free> + Drop,
@@ -116,14 +120,14 @@ pub(super) fn a_sleep_lasts_as_long_as_it_may<
 where
     L::Port: Drop,
 {
-    for millis in [4, 20] {
-        let at_most = Duration::from_millis(millis);
-        let took = sleep_behind_another::<R, L>(rt, alloc, at_most);
+    for (times, millis) in &SLEEPS {
+        let at_most = Duration::from_millis(*millis);
+        let took = sleep_behind_another::<R, L>(rt, alloc, *times, at_most);
         let held = took.is_some_and(|took| {
             took.longest >= at_most
                 && took.shortest < at_most.saturating_mul(2)
                 && took.after < at_most.saturating_mul(500)
         });
-        assert!(rt; held, "{millis} ms: {took:?}");
+        assert!(rt; held, "{times} times {millis} ms: {took:?}");
     }
 }

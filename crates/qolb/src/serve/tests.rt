@@ -91,31 +91,31 @@ fn replays_and_refuses_scripts(rt: HostRuntime) -> Result<(), Fail> {
     Ok(())
 }
 
-/// Words that are not taken.
-static NOT_TAKEN: [&[&str]; 23] = [
-    &[],
-    &["replay"],
-    &["replay", "--kind"],
-    &["replay", "--kind", "rings"],
-    &["replay", "--kind", "lists"],
-    &["steps", "--kind", "plain"],
-    &["board", "--kind", "plain"],
-    &["board", "--progress", "yes"],
-    &["board", "--sleep", "yes"],
-    &["bank", "--sleep=1"],
-    &["replay", "--kind", "ring", "--sleep"],
-    &["draw", "--sleep"],
-    &["steps", "--sleep"],
-    &["steps", "--progress"],
-    &["steps", "--rank", "yes"],
-    &["board", "--rank"],
-    &["board", "--kind"],
-    &["bank", "--kind", "plain"],
-    &["bank", "ring"],
-    &["work"],
-    &["--help"],
-    &["replay", "--help"],
-    &["--version"],
+/// Words that are not taken, and what the complaint names.
+static NOT_TAKEN: [(&[&str], &str); 23] = [
+    (&[], "subcommand"),
+    (&["replay"], "--kind"),
+    (&["replay", "--kind"], "--kind"),
+    (&["replay", "--kind", "rings"], "rings"),
+    (&["replay", "--kind", "lists"], "lists"),
+    (&["steps", "--kind", "plain"], "--kind"),
+    (&["board", "--kind", "plain"], "plain"),
+    (&["board", "--progress", "yes"], "yes"),
+    (&["board", "--sleep", "yes"], "yes"),
+    (&["bank", "--sleep=1"], "--sleep"),
+    (&["replay", "--kind", "ring", "--sleep"], "--sleep"),
+    (&["draw", "--sleep"], "--sleep"),
+    (&["steps", "--sleep"], "--sleep"),
+    (&["steps", "--progress"], "--progress"),
+    (&["steps", "--rank", "yes"], "yes"),
+    (&["board", "--rank"], "--rank"),
+    (&["board", "--kind"], "--kind"),
+    (&["bank", "--kind", "plain"], "plain"),
+    (&["bank", "ring"], "ring"),
+    (&["work"], "work"),
+    (&["--help"], "draw"),
+    (&["replay", "--help"], "--kind"),
+    (&["--version"], "--version"),
 ];
 
 /// What the help of each subcommand tells of, among else.
@@ -132,16 +132,49 @@ static HELPS: [(&str, &[&str]); 5] = [
 
 #[test]
 fn refuses_command_lines(rt: HostRuntime) -> Result<(), Fail> {
-    for words in &NOT_TAKEN {
+    for (words, named) in &NOT_TAKEN {
         let (status, out, err) = told(&rt, rt.alloc(), *words, "nodes 1 lines 1\n")?;
         assert_eq!(rt; (status, out.as_str()), (2, ""), "of {words:?}");
-        assert!(rt; err.len() > 20, "of {words:?}");
+        assert!(rt; err.contains(*named), "of {words:?}: {err}");
     }
     for (name, texts) in &HELPS {
         let (_, _, help) = told(&rt, rt.alloc(), &[*name, "--help"], "")?;
         for text in *texts {
             assert!(rt; help.contains(*text), "{text} in the help of {name}");
         }
+    }
+    Ok(())
+}
+
+#[test]
+fn refuses_a_script_of_more_than_100_000_commands(rt: HostRuntime) -> Result<(), Fail> {
+    let mut script = String::from_str(rt.alloc(), "nodes 1 lines 1\nenq 1 0\n")?;
+    for _ in 0..100_000 {
+        script.push_str("show 1 0\n")?;
+    }
+    let refused = (1, "", "bad line 100002\n");
+    let words = ["replay", "--kind", "plain"];
+    expect(&rt, rt.alloc(), words.as_slice(), script.as_str(), refused)
+}
+
+/// Words, and whether they ask to be told how far work is.
+static TOLD_OF_PROGRESS: [(&[&str], bool); 4] = [
+    (&["qolb", "board"], false),
+    (&["qolb", "board", "--progress"], true),
+    (&["qolb", "bank", "--sleep"], false),
+    (&["qolb", "bank", "--sleep", "--progress"], true),
+];
+
+#[test]
+fn progress_is_told_where_it_is_asked_for(rt: HostRuntime) -> Result<(), Fail> {
+    let alloc = rt.alloc();
+    for (words, want) in &TOLD_OF_PROGRESS {
+        let mut all = Vec::new(alloc);
+        for word in *words {
+            all.push(word.to_string(alloc)?)?;
+        }
+        let request = parse_args(alloc, all.as_slice()).ok().ok_or("a request")?;
+        assert_eq!(rt; request.progress, *want, "of {words:?}");
     }
     Ok(())
 }

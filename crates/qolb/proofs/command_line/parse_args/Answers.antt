@@ -1,6 +1,6 @@
-use Rattle.std.proofs.Common.{◌≡◌, map, option_map, string_bytes, true, sym, ap, rules, ◌∙◌}
-use Rattle.clap.specs.Words.{App, app_of, is_simple, subcommand_of, subcommand_rows_of}
-use Rattle.qolb.specs.CommandLine.{wish_at, the_command}
+use Rattle.std.proofs.Common.{◌≡◌, List, map, option_map, string_bytes, true, sym, ap, rules, ◌∙◌}
+use Rattle.clap.specs.Words.{App, Row, Text, app_of, is_simple, subcommand_of, subcommand_rows_of}
+use Rattle.qolb.specs.CommandLine.{progress_at, wish_at, the_command}
 use Rattle.qolb.proofs.CommandLines.{refused_words}
 use Rattle.qolb.proofs.command_line.parse_args.Goals as goal
 
@@ -17,3 +17,12 @@ returns-clause-wish c =
     let rows : subcommand_rows_of c.in_ok-matches.matches ≡ subcommand_of (the_command names) (map string_bytes c.args.words.now) =
     (c.in_ok-matches.ensures.matches simple).1 ∙ ap (λ (a : App). subcommand_of a (map string_bytes c.args.words.now)) is in
     record { names = names; named = ap (option_map wish_at) (sym rows) ∙ search rules }
+
+pub returns-clause-progress : goal.returns-clause-progress
+returns-clause-progress c =
+    let names = c.in_ok-command.ensures.0 in
+    let is : app_of c.in_ok-command.field-0 ≡ the_command names = c.in_ok-command.ensures.1 in
+    let simple : is_simple (app_of c.in_ok-command.field-0) ≡ true = ap is_simple is in
+    let rows : subcommand_rows_of c.in_ok-matches.matches ≡ subcommand_of (the_command names) (map string_bytes c.args.words.now) =
+    (c.in_ok-matches.ensures.matches simple).1 ∙ ap (λ (a : App). subcommand_of a (map string_bytes c.args.words.now)) is in
+    record { names = names; named = ap (option_map (λ (entered : Text × List Row). progress_at entered.1)) (sym rows) ∙ search rules }
