@@ -420,23 +420,20 @@ where
 fn look_before<R: Threads + Wait + Sync, L: OpenLine<Free> + Sleeping<Free> + Sync + Drop>(
     rt: &R,
     alloc: Global,
+    hooks: &LooksBefore,
     shuts: bool,
 ) -> Option<[bool; 2]>
 where
     L::Port: Send + Drop,
 {
-    let hooks = LooksBefore {
-        letting_go: AtomicU64::new(0),
-        looked: AtomicU64::new(0),
-    };
     let looking = Looking {
-        hooks: &hooks,
+        hooks,
         shuts,
         held: AtomicU64::new(0),
         waits: AtomicU64::new(0),
     };
     let (line, ports) = L::open_with(alloc, 1, two_nodes()).ok()?;
-    let line = HookedLine::with(&hooks, line);
+    let line = HookedLine::with(hooks, line);
     let had = together(rt, alloc, &looking, &line, ports)?;
     match *had.as_slice() {
         [one, two] => Some([one, two]),
@@ -453,7 +450,11 @@ where
     L::Port: Send + Drop,
 {
     for shuts in [false, true] {
-        let found = look_before::<R, L>(rt, alloc, shuts);
+        let hooks = LooksBefore {
+            letting_go: AtomicU64::new(0),
+            looked: AtomicU64::new(0),
+        };
+        let found = look_before::<R, L>(rt, alloc, &hooks, shuts);
         assert_eq!(rt; found, Some([true, true]), "shuts: {shuts}");
     }
 }
