@@ -1,4 +1,5 @@
-/* Each allocation of an opening is refused in turn: the opening is then refused, the handles stay empty, and what it took is given back.
+/* Each allocation of an opening is refused in turn: the opening is then refused, the handles stay empty, and what it took is given back. No call
+ * but opening and closing takes memory or gives any back.
  * Linked with --wrap for malloc, realloc and free. Prints nothing but what went wrong. */
 #include <qolb.h>
 #include <stdio.h>
@@ -56,4 +57,29 @@ static int refused_in_turn(uint32_t kind) {
     }
 }
 
-int main(void) { return refused_in_turn(QOLB_RING) || refused_in_turn(QOLB_LIST) || refused_in_turn(QOLB_TICKET); }
+static int calls_take_none(uint32_t kind) {
+    qolb_bytes bytes = {{0}};
+    qolb_node nodes[2] = {{0}}, *one = &nodes[0], *two = &nodes[1];
+    uint64_t number = 0;
+    if (qolb_open(kind, 1, 2, 9, &bytes, nodes, 2) != QOLB_DONE) return puts("not opened"), 1;
+    taken = given_back = 0;
+    if (qolb_enqolb(one) != QOLB_GRANTED || qolb_turns_left(one) != 9) return puts("not granted"), 1;
+    if (qolb_write(one, 1, &bytes) != QOLB_DONE || qolb_write_lane(one, 1, 7) != QOLB_DONE) return puts("not written"), 1;
+    if (qolb_read(one, &bytes) != QOLB_DONE || qolb_read_lane(one, 1, &number) != QOLB_DONE || number != 7) return puts("not read"), 1;
+    if (qolb_enqolb(two) != QOLB_QUEUED || qolb_poll(two) != QOLB_WAITING || qolb_wait(two, 3) != QOLB_WAITING) return puts("does not wait"), 1;
+    if (qolb_number(two) != 2 || qolb_label(two) != 1 || qolb_state(two) != QOLB_STATE_QUEUED) return puts("not node 2"), 1;
+    if (qolb_withdraw(two) != QOLB_WITHDRAWN || qolb_enqolb(two) != QOLB_BUSY || qolb_deqolb(one) != QOLB_DONE) return puts("not passed"), 1;
+    if (kind == QOLB_LIST) {
+        if (qolb_prepend(two) != QOLB_GRANTED || qolb_prepend(one) != QOLB_LINKING || qolb_link(one) != QOLB_QUEUED) return puts("not linked"), 1;
+    } else {
+        if (qolb_enqolb(two) != QOLB_GRANTED || qolb_enqolb(one) != QOLB_QUEUED) return puts("not queued"), 1;
+    }
+    if (qolb_shut(two) != QOLB_DONE || qolb_poll(one) != QOLB_CLOSED || qolb_poll(one) != QOLB_MISUSE) return puts("not closed"), 1;
+    if (taken || given_back) return printf("calls took %lu and gave back %lu\n", taken, given_back), 1;
+    if (qolb_close(one) != QOLB_DONE || qolb_close(two) != QOLB_DONE || !given_back) return puts("not given back"), 1;
+    return 0;
+}
+
+static int tried(uint32_t kind) { return refused_in_turn(kind) || calls_take_none(kind); }
+
+int main(void) { return tried(QOLB_RING) || tried(QOLB_LIST) || tried(QOLB_TICKET); }
