@@ -4,10 +4,13 @@
     tools/at_work.py [PROGRAM]
 
 A failed read must end with status 4, `read fault` and nothing on standard output; a failed write with 4 and `write fault`; a refused script
-or command line with its own status whatever becomes of standard output and error; no run by a signal. Needs Linux.
+or command line with its own status whatever becomes of standard output and error; no run by a signal. Words that are no text are refused.
+Workers sleep while they wait where that is asked for, and else not: by how often they give their processor up of their own. Work says how far
+it is where that is asked for. Needs Linux.
 """
 
 import os
+import re
 import resource
 import signal
 import socket
@@ -147,6 +150,65 @@ def refusals_that_cannot_be_told(program, words):
     return 6
 
 
+def words_that_are_no_text(program):
+    """A command line that is no UTF-8."""
+    pipe = subprocess.PIPE
+    complaint = "error: the arguments are no UTF-8 text\n"
+    expect("words that are no text", (2, "", complaint), ended(spawned(program, [b"replay", b"\xff"], pipe, pipe, pipe), b""))
+
+
+# Jobs of so many workers at one line, a turn of the line each. Whoever waits awake gives the processor up a hundred times at most, other than to
+# who wants it; whoever sleeps, for each wait that is long.
+CROWD = 8
+TURNS = 12_000
+FEW_SLEEPS = 1_000
+
+
+def crowded_script(task):
+    lines = [f"{task} workers {CROWD}" + (" lines 1" if task == "bank" else "")]
+    for turn in range(TURNS):
+        for worker in range(1, CROWD + 1):
+            job = "in 0 1" if task == "bank" else "take" if (worker + turn) % 2 else f"put {worker}"
+            lines.append(f"{worker} {job}")
+    return "\n".join(lines).encode()
+
+
+def sleepers(program):
+    """Workers sleep where `--sleep` is given, over each kind of lines, and else not."""
+    for task in ("board", "bank"):
+        script = crowded_script(task)
+        for kind in LOCKS:
+            for words in ([], ["--sleep"]):
+                before = resource.getrusage(resource.RUSAGE_CHILDREN).ru_nvcsw
+                found = run(program, [task, "--kind", kind, *words], script)
+                slept = resource.getrusage(resource.RUSAGE_CHILDREN).ru_nvcsw - before
+                if not is_right(answer_to(task, script), found):
+                    raise Wrong(f"{task} of {kind} {words}: {found}")
+                if (slept > FEW_SLEEPS) != bool(words):
+                    raise Wrong(f"{task} of {kind} {words}: {slept} times")
+        print(f"{task}: {CROWD} workers sleep, and do not, as it is asked for", flush=True)
+
+
+def progress_is_told(program):
+    """Work that takes more than a second says how far it is where `--progress` is given, and else not."""
+    pipe = subprocess.PIPE
+    for words, said in (([], ""), (["--progress"], rf"(\d+ of {CROWD * TURNS} jobs done\n)+")):
+        with tempfile.TemporaryFile() as script:
+            script.write(crowded_script("bank"))
+            script.seek(0)
+            running = spawned(program, ["bank", "--sleep", *words], script, pipe, pipe)
+            # Its workers are at it, and then rest for a while.
+            while running.poll() is None and len(os.listdir(f"/proc/{running.pid}/task")) < CROWD:
+                time.sleep(0.001)
+            running.send_signal(signal.SIGSTOP)
+            time.sleep(1.2)
+            running.send_signal(signal.SIGCONT)
+            status, _, err = ended(running)
+        if status or not re.fullmatch(said, err):
+            raise Wrong(f"work that lasts a second, {words}: {status}, {err!r}")
+    print("work says how far it is, and does not, as it is asked for", flush=True)
+
+
 def work_script(task, round):
     """A script for all workers, whose totals the definitions give."""
     lines = [f"{task} workers {WORKERS}" + (" lines 2" if task == "bank" else "")]
@@ -188,6 +250,9 @@ def main():
             sys.exit(f"wrong: {' '.join(words)}, {wrong}")
         print(f"{' '.join(words):20}  {inputs:16}  {outputs:17}  {refusals:28}", flush=True)
     try:
+        words_that_are_no_text(program)
+        sleepers(program)
+        progress_is_told(program)
         many_workers(program)
     except Wrong as wrong:
         sys.exit(f"wrong: {wrong}")

@@ -1,11 +1,13 @@
 /* A library to preload, which makes one call of a program fail. REFUSE names what and which, as memory:3, thread:1, read:2 or write:5;
    with SHORT set each read and write of several bytes moves one, and with INTERRUPT set each read and write is interrupted once before it
-   is done. A call that was made to fail is told by a byte to the file descriptor REFUSE_TELL. For Linux with glibc. */
+   is done. A call that was made to fail is told by a byte to the file descriptor REFUSE_TELL. To TAKEN_TELL is told, at the program's end,
+   how many bytes of memory it asked for in all. For Linux with glibc. */
 #define _GNU_SOURCE
 #include <dlfcn.h>
 #include <errno.h>
 #include <pthread.h>
 #include <stdatomic.h>
+#include <stdio.h>
 #include <stdlib.h>
 #include <string.h>
 #include <sys/syscall.h>
@@ -24,6 +26,7 @@ static atomic_long calls = 0;
 static int tell = -1;
 static int is_short = 0;
 static int interrupts = 0;
+static atomic_ulong taken = 0;
 
 __attribute__((constructor)) static void set_up(void) {
   static const char *const names[] = {"", "memory:", "thread:", "read:", "write:"};
@@ -49,21 +52,37 @@ static int is_refused(enum kind of) {
   return 1;
 }
 
+/* By which the program ends. */
+void _exit(int status) {
+  const char *told = getenv("TAKEN_TELL");
+  if (told) {
+    dprintf(atoi(told), "%lu", atomic_load(&taken));
+  }
+  for (;;) {
+    syscall(SYS_exit_group, status);
+  }
+}
+
 static void *no_memory(void) {
   errno = ENOMEM;
   return NULL;
 }
 
-void *malloc(size_t size) { return is_refused(MEMORY) ? no_memory() : __libc_malloc(size); }
+static int is_taken(size_t size) {
+  atomic_fetch_add(&taken, size);
+  return !is_refused(MEMORY);
+}
 
-void *calloc(size_t count, size_t size) { return is_refused(MEMORY) ? no_memory() : __libc_calloc(count, size); }
+void *malloc(size_t size) { return is_taken(size) ? __libc_malloc(size) : no_memory(); }
 
-void *realloc(void *block, size_t size) { return is_refused(MEMORY) ? no_memory() : __libc_realloc(block, size); }
+void *calloc(size_t count, size_t size) { return is_taken(count * size) ? __libc_calloc(count, size) : no_memory(); }
 
-void *aligned_alloc(size_t align, size_t size) { return is_refused(MEMORY) ? no_memory() : __libc_memalign(align, size); }
+void *realloc(void *block, size_t size) { return is_taken(size) ? __libc_realloc(block, size) : no_memory(); }
+
+void *aligned_alloc(size_t align, size_t size) { return is_taken(size) ? __libc_memalign(align, size) : no_memory(); }
 
 int posix_memalign(void **block, size_t align, size_t size) {
-  *block = is_refused(MEMORY) ? NULL : __libc_memalign(align, size);
+  *block = is_taken(size) ? __libc_memalign(align, size) : NULL;
   return *block ? 0 : ENOMEM;
 }
 

@@ -6,7 +6,8 @@
 A refused allocation or thread must end with status 3, `out of memory` and nothing on standard output; a failed read with 4, `read fault`
 and nothing on standard output; a failed write with 4, `write fault` and a beginning of the answer. With reads and writes of one byte, and
 with each of them interrupted once, the answer must be whole. With little address space a run must say that memory is wanting or answer
-whole, from the least with which the system can start it. What a run must answer is from definitions.py. Needs Linux with glibc and cc.
+whole, from the least with which the system can start it. What a run must answer is from definitions.py. And the lines of work are of the kind
+that is named: by how much memory it asks for, as each kind's lines take another. Needs Linux with glibc and cc.
 """
 
 import itertools
@@ -124,6 +125,32 @@ def in_little_memory(program, words, script):
             return short, served[0]
 
 
+def taken(program, library, words, script):
+    """How many bytes of memory a run asks for."""
+    told, tells = os.pipe()
+    run(program, words, script, env={"LD_PRELOAD": library, "TAKEN_TELL": str(tells)}, pass_fds=[tells])
+    os.close(tells)
+    with os.fdopen(told, "rb") as pipe:
+        return int(pipe.read())
+
+
+# With 200 nodes a list takes 26 KB of words, a ring 42 KB, a ticket line as many as a ring and 49 KB of slots.
+BY_SIZE = ["link", "ring", "ticket"]
+APART = 10_000
+IDLE = {"board": b"board workers 200\n", "bank": b"bank workers 200 lines 1\n"}
+
+
+def kinds_by_memory(program, library):
+    """Work over each kind of lines asks for another amount of memory."""
+    for task, script in IDLE.items():
+        took = [taken(program, library, [task, "--kind", kind], script) for kind in BY_SIZE]
+        if not all(more - less > APART for less, more in zip(took, took[1:])):
+            sys.exit(f"wrong: {task} over {BY_SIZE}: {took} bytes")
+        if abs(taken(program, library, [task], script) - took[0]) > APART:
+            sys.exit(f"wrong: {task} is not over lists where no kind is named")
+        print(f"{task}: " + ", ".join(f"{kind} {bytes:,} bytes" for kind, bytes in zip(BY_SIZE, took)), flush=True)
+
+
 def main():
     program = the_program()
     began = time.monotonic()
@@ -146,6 +173,7 @@ def main():
             row = "{:11}  {:7}  {:5}  {:6}  {:11} and {:12}".format(*counts)
             short, enough = in_little_memory(program, words, grown(script))
             print(f"{' '.join(words):20}  {row}  {short} runs, up to {enough} KB", flush=True)
+        kinds_by_memory(program, library)
     print(f"all as they must be, in {time.monotonic() - began:.0f} seconds")
 
 
