@@ -1,5 +1,5 @@
 -- A waiting node reads its cell: the line has come, or it waits on.
-use Rattle.std.proofs.Common.{◌≡◌, ◌≢◌, ℕ, List, [], ◌∷◌, length, set, slice_index, sym, refl, ap, subst, arith}
+use Rattle.std.proofs.Common.{◌≡◌, ◌≢◌, ℕ, Bool, true, false, List, [], ◌∷◌, length, set, slice_index, sym, refl, ap, subst, arith}
 use mathlib.Core.Logic.{dite}
 use mathlib.Core.Option.{none, some}
 use native.Mathlib.Decide.{ℕ_discrete}
@@ -10,10 +10,14 @@ use Rattle.qolb_model.specs.declared.answer.PortState.TheVariants as shows
 use Rattle.qolb_model.specs.Sound.{Continues}
 use Rattle.array_line.specs.declared.own.Point.TheVariants.{Queued}
 use Rattle.shared_line.specs.declared.rule.Setup.{Setup}
+use Rattle.shared_line.specs.declared.rule.Parcel.{Parcel}
+use Rattle.shared_line.specs.Slots.{Slots}
+use Rattle.shared_line.specs.Steps.{Looked}
+use Rattle.array_line.specs.Stances.{fresh, rests, holding, refused}
 use Rattle.array_line.specs.Words.{cell_at, cells_in, cell_of}
 use Rattle.array_line.specs.Berths.{Berths}
 use Rattle.array_line.specs.Array.{ArrayEntry, ArrayState, Cells, NodeOk, ArrayRule, has_line, lets_go, is_kept}
-use Rattle.array_line.specs.Steps.{Contents, IsEarly, loaded}
+use Rattle.array_line.specs.Steps.{Contents, IsEarly, Comes, sole, loaded}
 use Rattle.array_line.proofs.Nodes.{learned, learned_ok}
 use Rattle.array_line.proofs.Histories.{not_withdrawn, continues}
 use Rattle.array_line.proofs.Keeping.{rule_step, mine_ok, few_open}
@@ -81,3 +85,19 @@ module _ (cells : Cells) (berths : Berths) (good : List ℕ → Type 0) (allows 
                 (subst (comes_to v.own.place) (found_is cells berths good allows about v queued s r me i at word) c))),
           ),
         )))
+
+    -- what a look finds that is told by a mark
+    pub looks_next : (brings : ℕ → Parcel → Slots → Type 0) (may_come : ℕ → ℕ → Bool) (mark : ℕ) → mark ≡ mark_of v.own.place
+        → ((found : ℕ) → may_come mark found ≡ false → waits v.own.place found) → ((found : ℕ) → may_come mark found ≡ true → comes_to v.own.place found)
+        → ((y : Parcel) (k : Slots) → berths.brings v.own.place y k → brings mark y k)
+        → (me slots i : ℕ) → i ≡ cell_at (cell_of v.own.place) → Allows Rule slots me (v ∷ [], []) i (λ n. n) (Looked fresh (rests mark_of) (holding mark_of) (refused mark_of) brings may_come mark)
+    looks_next brings may_come mark is not_yet now brought_so me slots i word s r deep at small = let a = loads_next me slots i (v ∷ [], []) refl word s r deep at small in (
+      a.0,
+      a.1,
+      a.2,
+      a.3,
+      record {
+        waits = λ n. let w = a.4.2 (not_yet (slice_index s.words i) n) in (w.0, subst (λ k. IsEarly mark_of k (sole a.0)) (sym is) w.1);
+        comes = λ c. let w = a.4.3 (now (slice_index s.words i) c) in (w.0, brought_so w.0 (carried_after [] a.1) w.1, subst (λ k. Comes mark_of k (sole a.0) w.0) (sym is) w.2);
+      },
+    )

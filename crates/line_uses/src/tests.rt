@@ -76,7 +76,10 @@ where
             parked::a_sleep_lasts_as_long_as_it_may::<R, L>(rt, alloc);
             parked::a_sleep_lasts_as_long_as_it_may::<R, HookedLine<NoHooks, L>>(rt, alloc);
         }
-        Row::Sleepers => counted::sleepers_are_counted::<R, L>(rt, alloc),
+        Row::Sleepers => {
+            counted::sleepers_are_counted::<R, L>(rt, alloc);
+            parked::two_sleep_at_the_same_time::<R, L>(rt, alloc);
+        }
         Row::Busy => again::each_manner::<R, L>(rt, alloc),
     }
     Ok(())

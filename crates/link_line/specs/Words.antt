@@ -25,6 +25,10 @@ pack e = GRANTED * one_if e.granted + ROLLED * one_if e.rolled + DONE * one_if e
 abbrev pub is_granted : ℕ → Bool
 is_granted w = (w % 2) == 1
 
+-- whether the turn has come of whoever waits at its entry with this word, whatever its port's mark: a link to the entry is no grant
+abbrev pub may_come : ℕ → ℕ → Bool
+may_come mark w = is_granted w
+
 abbrev pub is_rolled : ℕ → Bool
 is_rolled w = (w / 2 % 2) == 1
 

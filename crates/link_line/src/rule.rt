@@ -2,6 +2,7 @@
 ghost use Rattle.link_line.specs.Laws.Standing as standing;
 ghost use Rattle.shared_line.specs.Slots.{lies_alone, kept_alone};
 ghost use Rattle.link_line.specs.Stances as stances;
+ghost use Rattle.link_line.specs.Words as layout;
 
 use crate::own::LinkOwn;
 use qolb_model::Keep;
@@ -37,6 +38,8 @@ impl Shape for Links {
     ghost waits_at = { stances.waits_at };
 
     ghost turn_word = { stances.turn_word };
+
+    ghost may_come = { layout.may_come };
 
     ghost may_show = { stances.may_show };
 

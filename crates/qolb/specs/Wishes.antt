@@ -1,5 +1,8 @@
 -- What a wish asks for of the bytes on standard input.
 use Rattle.std.specs.Prelude.{ℕ, List}
+use Rattle.locks.specs.declared.Lines.{Lines}
+use Rattle.qolb_script.specs.declared.report.Report.{Report}
+use Rattle.qolb_script.specs.WorkScript.{WorkScript}
 use Rattle.qolb_run.specs.declared.replay.Kind.TheVariants.{Plain}
 use Rattle.qolb_run.specs.declared.task.Task.TheVariants.{Replay}
 use Rattle.qolb_run.specs.declared.report.TaskError.{TaskError}
@@ -8,10 +11,10 @@ use Rattle.qolb_draw.specs.Pictures.{IsPicture}
 use Rattle.qolb.specs.declared.command_line.Wish.{Wish}
 use Rattle.qolb.specs.declared.command_line.Wish.TheVariants.{Answer, Draw}
 
--- the text is the answer to the bytes, or their picture
-abbrev pub Grants : Wish → List ℕ → List ℕ → Type 0
-Grants (Answer task) input text = Answers task input text
-Grants (Draw form) input text = IsPicture form input text
+-- the text is the answer to the bytes, where what is said of work over lines of each name is this, or it is their picture
+abbrev pub Grants : (Lines → WorkScript → Report → Type 0) → Wish → List ℕ → List ℕ → Type 0
+Grants DoneOver (Answer task) input text = Answers DoneOver task input text
+Grants DoneOver (Draw form) input text = IsPicture form input text
 
 -- the bytes are too many, or have a first fault; a schedule that is to be drawn has those that a replay finds
 abbrev pub IsDenied : Wish → List ℕ → Type 0

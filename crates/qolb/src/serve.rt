@@ -3,7 +3,7 @@ ghost use Rattle.std.specs.Prelude.{◌≡◌, ◌≢◌, ◌≤◌, ◌↔◌, 
 ghost use Rattle.std.specs.Io.KnownBytes.{Appends};
 ghost use Rattle.qolb_script.specs.Watched.{inner_of, has_failed};
 ghost use Rattle.qolb.specs.CommandLine.{NamesWish, IsNotTaken};
-ghost use Rattle.qolb_run.specs.Outcome.{Answers, IsWorkReply, MayEnd};
+ghost use Rattle.qolb_run.specs.Outcome.{Answers, IsReplyOver, MayEnd};
 ghost use Rattle.qolb_draw.specs.Pictures.{IsPicture};
 ghost use Rattle.qolb_run.specs.declared.task.Task.TheVariants as task;
 ghost use Rattle.qolb_run.specs.declared.replay.Kind.TheVariants as kind;
@@ -15,8 +15,8 @@ use crate::command_line::{Request, Wish, parse_args};
 use clap::error::ErrorKind;
 use qolb_draw::{Form, draw_schedule};
 use qolb_run::{
-    AlwaysOpen, Lines, Progress, ReplayError, Task, TaskError, Waits, report_work, run_schedule,
-    run_steps,
+    AlwaysOpen, DoneOver, Lines, Locks, Progress, ReplayError, Task, TaskError, Waits, report_work,
+    run_schedule, run_steps,
 };
 use qolb_script::{ScriptError, Watched, WorkKind};
 use std::alloc::Global;
@@ -36,7 +36,7 @@ pub fn serve<T: Threads + Wait + Clock + Eprint + Sync, R: Read, W: Write, E: Wr
     err: &mut E,
 ) -> u8
     ensures statuses { result ≤ 4 }
-    ensures done { result ≡ 0 → (wish : Wish) × NamesWish (map string_bytes words.now) wish × IfSome (R.remaining reader.old) (λ script. (text : List ℕ) × Grants wish script text × Appends (W.contents out.old) (W.contents out.new) text) }
+    ensures done { result ≡ 0 → (wish : Wish) × NamesWish (map string_bytes words.now) wish × IfSome (R.remaining reader.old) (λ script. (text : List ℕ) × Grants ⟦<Locks as DoneOver>⟧.done_over wish script text × Appends (W.contents out.old) (W.contents out.new) text) }
     ensures refused { result ≡ 1 → (wish : Wish) × NamesWish (map string_bytes words.now) wish × IfSome (R.remaining reader.old) (IsDenied wish) }
     ensures usage { result ≡ 2 → IsNotTaken (map string_bytes words.now) }
     ensures fault { result ≡ 4 → (wish : Wish) × NamesWish (map string_bytes words.now) wish }
@@ -71,7 +71,7 @@ fn answer<T: Threads + Wait + Clock + Eprint + Sync, R: Read>(
     request: Request,
     reader: &mut R,
 ) -> Result<Vec<u8>, TaskError>
-    ensures granted { IfOk result (λ text. IfSome (R.remaining reader.old) (λ script. Grants request.wish script text.items)) }
+    ensures granted { IfOk result (λ text. IfSome (R.remaining reader.old) (λ script. Grants ⟦<Locks as DoneOver>⟧.done_over request.wish script text.items)) }
     ensures denied { IfErr result (λ error. IfSome (R.remaining reader.old) (λ script. MayDeny request.wish script error)) }
     ensures no_writer { result ≢ Err (TaskError.Replay ReplayError.Write) }
 {
@@ -93,7 +93,7 @@ fn grant<T: Threads + Wait + Clock + Eprint + Sync, R: Read, W: Write>(
     input: &mut Watched<R>,
     output: &mut Watched<W>,
 ) -> Result<(), TaskError>
-    ensures granted { OnOk result (IfSome (R.remaining (inner_of input.old)) (λ script. (text : List ℕ) × Grants request.wish script text × Appends (W.contents (inner_of output.old)) (W.contents (inner_of output.new)) text)) }
+    ensures granted { OnOk result (IfSome (R.remaining (inner_of input.old)) (λ script. (text : List ℕ) × Grants ⟦<Locks as DoneOver>⟧.done_over request.wish script text × Appends (W.contents (inner_of output.old)) (W.contents (inner_of output.new)) text)) }
     ensures denied { IfErr result (λ error. IfSome (R.remaining (inner_of input.old)) (λ script. MayDeny request.wish script error)) }
     ensures unwritten { IfErr result (λ error. error ≢ TaskError.Replay ReplayError.Write → output.new ≡ output.old) }
     ensures read_fault { (result ≡ Err (TaskError.Replay ReplayError.Read)) ↔ (has_failed input.new ≡ true) }
@@ -132,7 +132,7 @@ fn run<T: Threads + Wait + Clock + Eprint + Sync, R: Read, W: Write>(
     input: &mut Watched<R>,
     output: &mut Watched<W>,
 ) -> Result<(), TaskError>
-    ensures answered { OnOk result (IfSome (R.remaining (inner_of input.old)) (λ script. (text : List ℕ) × Answers task script text × Appends (W.contents (inner_of output.old)) (W.contents (inner_of output.new)) text)) }
+    ensures answered { OnOk result (IfSome (R.remaining (inner_of input.old)) (λ script. (text : List ℕ) × Answers ⟦<Locks as DoneOver>⟧.done_over task script text × Appends (W.contents (inner_of output.old)) (W.contents (inner_of output.new)) text)) }
     ensures refused { IfErr result (λ error. IfSome (R.remaining (inner_of input.old)) (λ script. MayEnd task script error)) }
     ensures unwritten { IfErr result (λ error. error ≢ TaskError.Replay ReplayError.Write → output.new ≡ output.old) }
     ensures read_fault { (result ≡ Err (TaskError.Replay ReplayError.Read)) ↔ (has_failed input.new ≡ true) }
@@ -159,7 +159,7 @@ fn work<T: Threads + Wait + Clock + Eprint + Sync, R: Read, W: Write>(
     input: &mut Watched<R>,
     output: &mut Watched<W>,
 ) -> Result<(), TaskError>
-    ensures ok { OnOk result (IfSome (R.remaining (inner_of input.old)) (λ script. (text : List ℕ) × IsWorkReply kind script text × Appends (W.contents (inner_of output.old)) (W.contents (inner_of output.new)) text)) }
+    ensures ok { OnOk result (IfSome (R.remaining (inner_of input.old)) (λ script. (text : List ℕ) × IsReplyOver (⟦<Locks as DoneOver>⟧.done_over lines) kind script text × Appends (W.contents (inner_of output.old)) (W.contents (inner_of output.new)) text)) }
     ensures refused { IfErr result (λ error. IfSome (R.remaining (inner_of input.old)) (λ script. MayEnd (task.Work kind lines waits) script error)) }
     ensures unwritten { IfErr result (λ error. error ≢ TaskError.Replay ReplayError.Write → output.new ≡ output.old) }
     ensures read_fault { (result ≡ Err (TaskError.Replay ReplayError.Read)) ↔ (has_failed input.new ≡ true) }

@@ -29,7 +29,7 @@ refused kind lines waits why (Some input) may (Err e) is = subst (λ e. MayEnd (
 -- a report of the work is an answer
 pub answered : (kind : WorkKind) (lines : Lines) (waits : Waits) (known : Option (List ℕ)) (work : WorkScript) (found : Report) → IfSome known (λ input. IsWork kind input work) → IsReportOf work found → IfSome known (λ input. IsAnswered (Work kind lines waits) input)
 answered kind lines waits None work found is of_work = tt
-answered kind lines waits (Some input) work found is of_work = (report_text found, record { work = work; is = is; report = found; of_work = of_work; text_is = refl })
+answered kind lines waits (Some input) work found is of_work = (report_text found, record { work = work; is = is; report = found; of_work = of_work; over = tt; text_is = refl })
 
 -- a report of a board says nothing of desks
 pub board_banked : {Line Port E : Type 0} (belongs : Line → Port → Type 0) (view : Port → View) (terms_of : Line → Terms) (work : WorkScript) (r : Result Report E) → work.kind ≡ Board → IfOk r (IsReportOf work) → IfOk r (IsBankedOver belongs view terms_of work)

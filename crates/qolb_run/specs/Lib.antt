@@ -14,3 +14,4 @@ pub mod BoardWork
 pub mod Reports
 pub mod BankRuns
 pub mod BankWork
+pub mod ByName

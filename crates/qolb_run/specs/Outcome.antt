@@ -10,6 +10,7 @@ use Rattle.qolb_script.specs.declared.error.ScriptError.TheVariants as script
 use Rattle.qolb_script.specs.Reply.{reply_to}
 use Rattle.qolb_script.specs.StepScript.{steps_of}
 use Rattle.qolb_run.specs.StepRuns.{IsStepReplyTo}
+use Rattle.locks.specs.declared.Lines.{Lines}
 use Rattle.qolb_run.specs.declared.task.Task.{Task}
 use Rattle.qolb_run.specs.declared.task.Task.TheVariants.{Replay, Steps, Work}
 use Rattle.qolb_run.specs.declared.report.TaskError.{TaskError}
@@ -28,19 +29,12 @@ pub record IsReply (input text : List ℕ) : Type 0 where
   pub fits : length input ≤ MOST_BYTES
   pub reply : reply_to input ≡ Ok text
 
--- the bytes are this work script; and the text is a report of its work
+-- the bytes are this work script
 pub record IsWork (kind : WorkKind) (input : List ℕ) (work : WorkScript) : Type 0 where
   pub fits : length input ≤ MOST_BYTES
   pub read : work_of kind input ≡ Ok work
 
-pub record IsWorkReply (kind : WorkKind) (input text : List ℕ) : Type 0 where
-  pub work : WorkScript
-  pub is : IsWork kind input work
-  pub report : Report
-  pub of_work : IsReportOf work report
-  pub text_is : text ≡ report_text report
-
--- the same, and the work was done so
+-- the bytes are a work script, the text is a report of its work, and the work was done so
 pub record IsReplyOver (IsOver : WorkScript → Report → Type 0) (kind : WorkKind) (input text : List ℕ) : Type 0 where
   pub work : WorkScript
   pub is : IsWork kind input work
@@ -50,10 +44,10 @@ pub record IsReplyOver (IsOver : WorkScript → Report → Type 0) (kind : WorkK
   pub text_is : text ≡ report_text report
 
 -- the text is the reply to the bytes, and the first fault in them is this one, as what the task takes
-abbrev pub Answers : Task → List ℕ → List ℕ → Type 0
-Answers (Replay kind) input text = IsReply input text
-Answers (Steps detail) input text = IsStepReplyTo detail input text
-Answers (Work kind lines waits) input text = IsWorkReply kind input text
+abbrev pub Answers : (Lines → WorkScript → Report → Type 0) → Task → List ℕ → List ℕ → Type 0
+Answers DoneOver (Replay kind) input text = IsReply input text
+Answers DoneOver (Steps detail) input text = IsStepReplyTo detail input text
+Answers DoneOver (Work kind lines waits) input text = IsReplyOver (DoneOver lines) kind input text
 
 abbrev pub HasFault : Task → List ℕ → ScriptError → Type 0
 HasFault (Replay kind) input fault = reply_to input ≡ Err fault
@@ -62,7 +56,7 @@ HasFault (Work kind lines waits) input fault = work_of kind input ≡ Err fault
 
 -- the bytes have a reply; and they are too many, or have a first fault
 abbrev pub IsAnswered : Task → List ℕ → Type 0
-IsAnswered task input = (text : List ℕ) × Answers task input text
+IsAnswered task input = (text : List ℕ) × Answers (λ lines work report. Unit {0}) task input text
 
 abbrev pub IsRefused : Task → List ℕ → Type 0
 IsRefused task input = (MOST_BYTES < length input) ⊎ ((fault : ScriptError) × HasFault task input fault)

@@ -30,4 +30,4 @@ pub use replay::{Kind, ReplayError, run_schedule, run_schedule_over};
 pub use report::{TaskError, report_work};
 pub use steps::run_steps;
 pub use task::{Detail, Task, Waits};
-pub use work::{RunError, run_work, run_work_over};
+pub use work::{DoneOver, Locks, RunError, run_work, run_work_over};

@@ -6,19 +6,14 @@ ghost use Rattle.qolb_run.specs.declared.task.Task.TheVariants as task;
 ghost use Rattle.locks.specs.declared.Lines.{Lines};
 ghost use Rattle.qolb_run.specs.declared.task.Waits.{Waits};
 ghost use Rattle.qolb_run.specs.declared.report.TaskError.TheVariants.{Replay};
-ghost use Rattle.qolb_run.specs.Outcome.{IsWork, IsWorkReply, IsReplyOver, MayFail, MayEnd, task_error};
-ghost use Rattle.qolb_run.specs.BankWork.{IsBankedOver};
-ghost use Rattle.qolb_run.specs.BoardWork.{IsBoardedOver};
+ghost use Rattle.qolb_run.specs.Outcome.{IsWork, IsReplyOver, MayFail, MayEnd, task_error};
 
 use crate::gate::Gate;
 use crate::input::read_all;
 use crate::replay::ReplayError;
 use crate::task::Waits;
-use crate::work::{RunError, run_work};
-use line_accounts::AccountLaw;
-use line_board::BoardLaw;
-use locks::{Lines, LinkLine, RingLine, TicketLine};
-use qolb_model::LineSync;
+use crate::work::{DoneOver, Locks, RunError, run_work};
+use locks::Lines;
 use qolb_script::{ScriptError, Watched, Work, WorkKind, read_work, write_report};
 use std::alloc::Global;
 use std::io::{Read, Write};
@@ -70,13 +65,7 @@ pub fn report_work<T: Threads + Wait + Sync, G: Gate + Sync, R: Read, W: Write>(
     lines: Lines,
     waits: Waits,
 ) -> Result<(), TaskError>
-    ensures ok { OnOk result (IfSome (R.remaining (inner_of reader.old)) (λ input. (text : List ℕ) × IsWorkReply kind input text × Appends (W.contents (inner_of writer.old)) (W.contents (inner_of writer.new)) text)) }
-    ensures board_of_rings { let by = ⟦<RingLine<BoardLaw> as LineSync<BoardLaw>>⟧ in lines ≡ Lines.Ring → OnOk result (IfSome (R.remaining (inner_of reader.old)) (λ input. (text : List ℕ) × IsReplyOver (IsBoardedOver by.belongs by.view by.terms_of) kind input text × Appends (W.contents (inner_of writer.old)) (W.contents (inner_of writer.new)) text)) }
-    ensures board_of_lists { let by = ⟦<LinkLine<BoardLaw> as LineSync<BoardLaw>>⟧ in lines ≡ Lines.Link → OnOk result (IfSome (R.remaining (inner_of reader.old)) (λ input. (text : List ℕ) × IsReplyOver (IsBoardedOver by.belongs by.view by.terms_of) kind input text × Appends (W.contents (inner_of writer.old)) (W.contents (inner_of writer.new)) text)) }
-    ensures board_of_tickets { let by = ⟦<TicketLine<BoardLaw> as LineSync<BoardLaw>>⟧ in lines ≡ Lines.Ticket → OnOk result (IfSome (R.remaining (inner_of reader.old)) (λ input. (text : List ℕ) × IsReplyOver (IsBoardedOver by.belongs by.view by.terms_of) kind input text × Appends (W.contents (inner_of writer.old)) (W.contents (inner_of writer.new)) text)) }
-    ensures bank_of_rings { let by = ⟦<RingLine<AccountLaw> as LineSync<AccountLaw>>⟧ in lines ≡ Lines.Ring → OnOk result (IfSome (R.remaining (inner_of reader.old)) (λ input. (text : List ℕ) × IsReplyOver (IsBankedOver by.belongs by.view by.terms_of) kind input text × Appends (W.contents (inner_of writer.old)) (W.contents (inner_of writer.new)) text)) }
-    ensures bank_of_lists { let by = ⟦<LinkLine<AccountLaw> as LineSync<AccountLaw>>⟧ in lines ≡ Lines.Link → OnOk result (IfSome (R.remaining (inner_of reader.old)) (λ input. (text : List ℕ) × IsReplyOver (IsBankedOver by.belongs by.view by.terms_of) kind input text × Appends (W.contents (inner_of writer.old)) (W.contents (inner_of writer.new)) text)) }
-    ensures bank_of_tickets { let by = ⟦<TicketLine<AccountLaw> as LineSync<AccountLaw>>⟧ in lines ≡ Lines.Ticket → OnOk result (IfSome (R.remaining (inner_of reader.old)) (λ input. (text : List ℕ) × IsReplyOver (IsBankedOver by.belongs by.view by.terms_of) kind input text × Appends (W.contents (inner_of writer.old)) (W.contents (inner_of writer.new)) text)) }
+    ensures ok { OnOk result (IfSome (R.remaining (inner_of reader.old)) (λ input. (text : List ℕ) × IsReplyOver (⟦<Locks as DoneOver>⟧.done_over lines) kind input text × Appends (W.contents (inner_of writer.old)) (W.contents (inner_of writer.new)) text)) }
     ensures refused { IfErr result (λ error. IfSome (R.remaining (inner_of reader.old)) (λ input. MayEnd (task.Work kind lines waits) input error)) }
     ensures by_gate { (worker : ℕ) → result ≡ Err (TaskError.Stalled worker) → G.may_refuse gate.now worker }
     ensures unwritten { IfErr result (λ error. error ≢ TaskError.Replay ReplayError.Write → writer.new ≡ writer.old) }

@@ -3,6 +3,10 @@ ghost use Rattle.std.specs.Prelude.{◌≡◌, ℕ, Err, IfOk, IfErr};
 ghost use Rattle.qolb_run.specs.declared.work.RunError.TheVariants.{Memory};
 ghost use Rattle.qolb_run.specs.Workers.{MayStop};
 ghost use Rattle.qolb_run.specs.Reports.{IsReportOf};
+ghost use Rattle.qolb_script.specs.declared.report.Report.{Report};
+ghost use Rattle.qolb_script.specs.WorkScript.{WorkScript};
+ghost use Rattle.locks.specs.declared.Lines.{Lines};
+ghost use Rattle.qolb_run.specs.ByName.{by_name};
 ghost use Rattle.qolb_run.specs.BankWork.{IsBankedOver};
 ghost use Rattle.qolb_run.specs.BoardWork.{IsBoardedOver};
 
@@ -39,6 +43,30 @@ impl From<AllocError> for RunError {
     }
 }
 
+/// What holds of a report over lines of each name.
+///
+/// It has no functions: it is what the contracts of work say of the lock, said once for the three types.
+pub trait DoneOver {
+    /// The report is one of this work over lines of this name.
+    ghost done_over: { Lines → WorkScript → Report → Type 0 };
+}
+
+/// The locks that there are, each by its name.
+pub struct Locks;
+
+impl DoneOver for Locks {
+    ghost done_over = { let ring_board = ⟦<RingLine<BoardLaw> as LineSync<BoardLaw>>⟧ in
+        let ring_bank = ⟦<RingLine<AccountLaw> as LineSync<AccountLaw>>⟧ in
+        let link_board = ⟦<LinkLine<BoardLaw> as LineSync<BoardLaw>>⟧ in
+        let link_bank = ⟦<LinkLine<AccountLaw> as LineSync<AccountLaw>>⟧ in
+        let ticket_board = ⟦<TicketLine<BoardLaw> as LineSync<BoardLaw>>⟧ in
+        let ticket_bank = ⟦<TicketLine<AccountLaw> as LineSync<AccountLaw>>⟧ in
+        by_name
+        (λ work report. IsBoardedOver ring_board.belongs ring_board.view ring_board.terms_of work report × IsBankedOver ring_bank.belongs ring_bank.view ring_bank.terms_of work report)
+        (λ work report. IsBoardedOver link_board.belongs link_board.view link_board.terms_of work report × IsBankedOver link_bank.belongs link_bank.view link_bank.terms_of work report)
+        (λ work report. IsBoardedOver ticket_board.belongs ticket_board.view ticket_board.terms_of work report × IsBankedOver ticket_bank.belongs ticket_bank.view ticket_bank.terms_of work report) };
+}
+
 /// A worker for each node does its jobs, all at once, each in a thread of its own, and waits so for its turns. Every line is opened with zeros, and taken apart when all
 /// workers are done.
 pub fn run_work<R: Threads + Wait + Sync, G: Gate + Sync>(
@@ -50,12 +78,7 @@ pub fn run_work<R: Threads + Wait + Sync, G: Gate + Sync>(
     waits: Waits,
 ) -> Result<Report, RunError>
     ensures report { IfOk result (IsReportOf work.now) }
-    ensures board_of_rings { let by = ⟦<RingLine<BoardLaw> as LineSync<BoardLaw>>⟧ in lines ≡ Lines.Ring → IfOk result (IsBoardedOver by.belongs by.view by.terms_of work.now) }
-    ensures board_of_lists { let by = ⟦<LinkLine<BoardLaw> as LineSync<BoardLaw>>⟧ in lines ≡ Lines.Link → IfOk result (IsBoardedOver by.belongs by.view by.terms_of work.now) }
-    ensures board_of_tickets { let by = ⟦<TicketLine<BoardLaw> as LineSync<BoardLaw>>⟧ in lines ≡ Lines.Ticket → IfOk result (IsBoardedOver by.belongs by.view by.terms_of work.now) }
-    ensures bank_of_rings { let by = ⟦<RingLine<AccountLaw> as LineSync<AccountLaw>>⟧ in lines ≡ Lines.Ring → IfOk result (IsBankedOver by.belongs by.view by.terms_of work.now) }
-    ensures bank_of_lists { let by = ⟦<LinkLine<AccountLaw> as LineSync<AccountLaw>>⟧ in lines ≡ Lines.Link → IfOk result (IsBankedOver by.belongs by.view by.terms_of work.now) }
-    ensures bank_of_tickets { let by = ⟦<TicketLine<AccountLaw> as LineSync<AccountLaw>>⟧ in lines ≡ Lines.Ticket → IfOk result (IsBankedOver by.belongs by.view by.terms_of work.now) }
+    ensures over { IfOk result (⟦<Locks as DoneOver>⟧.done_over lines work.now) }
     ensures stalled { IfErr result (MayStop work.now) }
     ensures by_gate { (worker : ℕ) → result ≡ Err (RunError.Stalled worker) → G.may_refuse gate.now worker }
 {

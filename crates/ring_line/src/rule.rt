@@ -4,6 +4,7 @@ ghost use Rattle.array_line.specs.Words.{cell_of};
 ghost use Rattle.array_line.specs.Stances as stances;
 ghost use Rattle.array_line.proofs.Standing as standing;
 ghost use Rattle.ring_line.specs.Laws as laws;
+ghost use Rattle.ring_line.specs.Words as layout;
 
 use array_line::Own;
 use qolb_model::Keep;
@@ -37,6 +38,8 @@ impl Shape for Ring {
     ghost waits_at = { stances.waits_at };
 
     ghost turn_word = { stances.turn_word cell_of };
+
+    ghost may_come = { layout.may_come };
 
     ghost may_show = { stances.may_show };
 

@@ -20,7 +20,7 @@ impl Gate for Closed {
 
 #[test]
 fn a_worker_gives_up_before_a_closed_gate(rt: HostRuntime) -> Result<(), Fail> {
-    let script = "board workers 2\n2 put 5\n";
+    let script = "board workers 3\n2 put 5\n3 put 6\n";
     expect(
         &rt,
         rt.alloc(),
@@ -33,7 +33,7 @@ fn a_worker_gives_up_before_a_closed_gate(rt: HostRuntime) -> Result<(), Fail> {
 
 #[test]
 fn a_worker_of_a_bank_gives_up_before_a_closed_gate(rt: HostRuntime) -> Result<(), Fail> {
-    let script = "bank workers 2 lines 1\n2 in 0 1\n";
+    let script = "bank workers 3 lines 1\n2 in 0 1\n3 in 1 1\n";
     expect(
         &rt,
         rt.alloc(),
@@ -90,6 +90,55 @@ fn workers_stand_before_a_gate_at_the_same_time(rt: HostRuntime) -> Result<(), F
             first: AtomicU64::new(0),
             second: AtomicU64::new(0),
             met: AtomicU64::new(0),
+        };
+        let found = run_work(&rt, rt.alloc(), &gate, &work, lines, Waits::Awake);
+        assert_eq!(rt; found, Ok(report), "by {lines:?}");
+    }
+    Ok(())
+}
+
+/// A gate that the second worker passes once the first has come to it, and the first once the second has done its two jobs.
+#[derive(Drop)]
+struct InTurn {
+    came: AtomicU64,
+    done: AtomicU64,
+}
+
+impl Gate for InTurn {
+    ghost may_refuse = { λ gate worker. Unit {0} };
+
+    fn may(&self, worker: u64, at: u64) -> bool {
+        if worker == 1 {
+            self.came.store(1, Ordering::SeqCst);
+        } else if at == 2 {
+            self.done.store(1, Ordering::SeqCst);
+        }
+        let awaited = if worker == 1 { &self.done } else { &self.came };
+        for _ in 0..100 {
+            if awaited.load(Ordering::SeqCst) == 1 {
+                return true;
+            }
+            yield_now();
+        }
+        false
+    }
+}
+
+#[test]
+fn no_job_is_done_before_its_gate_is_passed(rt: HostRuntime) -> Result<(), Fail> {
+    let report = Report::Board {
+        stored: 1,
+        full: 0,
+        taken: 0,
+        empty: 2,
+        left: 1,
+    };
+    let script = "board workers 2\n1 put 5\n2 take\n2 take\n";
+    let work = read_work(rt.alloc(), script.as_bytes(), WorkKind::Board)?;
+    for lines in ALL {
+        let gate = InTurn {
+            came: AtomicU64::new(0),
+            done: AtomicU64::new(0),
         };
         let found = run_work(&rt, rt.alloc(), &gate, &work, lines, Waits::Awake);
         assert_eq!(rt; found, Ok(report), "by {lines:?}");
@@ -159,19 +208,36 @@ impl Gate for Counting {
     }
 }
 
+/// Scripts of three jobs, two of them by the first of two workers.
+static OF_THREE: [(WorkKind, &str); 2] = [
+    (
+        WorkKind::Board,
+        "board workers 2\n1 put 5\n2 put 6\n1 take\n",
+    ),
+    (
+        WorkKind::Bank,
+        "bank workers 2 lines 1\n1 in 0 1\n2 in 1 1\n1 out 0 1\n",
+    ),
+];
+
 #[test]
 fn a_worker_asks_before_each_job_and_once_after_the_last(rt: HostRuntime) -> Result<(), Fail> {
-    let script = "board workers 2\n1 put 5\n2 put 6\n1 take\n";
-    let work = read_work(rt.alloc(), script.as_bytes(), WorkKind::Board)?;
-    for lines in ALL {
-        let gate = Counting::new(1);
-        assert!(rt;
-            run_work(&rt, rt.alloc(), &gate, &work, lines, Waits::Asleep).is_ok(),
-            "by {lines:?}"
-        );
-        assert_eq!(rt; gate.numbers.load(Ordering::SeqCst), 123, "by {lines:?}");
-        for at in 0..3usize {
-            assert_eq!(rt; gate.asks_for(at), 1, "for {at} by {lines:?}");
+    for (kind, script) in &OF_THREE {
+        let work = read_work(rt.alloc(), script.as_bytes(), *kind)?;
+        for lines in ALL {
+            let gate = Counting::new(1);
+            assert!(rt;
+                run_work(&rt, rt.alloc(), &gate, &work, lines, Waits::Asleep).is_ok(),
+                "{kind:?} by {lines:?}"
+            );
+            assert_eq!(rt;
+                gate.numbers.load(Ordering::SeqCst),
+                123,
+                "{kind:?} by {lines:?}"
+            );
+            for at in 0..3usize {
+                assert_eq!(rt; gate.asks_for(at), 1, "for {at}, {kind:?} by {lines:?}");
+            }
         }
     }
     Ok(())
@@ -179,10 +245,8 @@ fn a_worker_asks_before_each_job_and_once_after_the_last(rt: HostRuntime) -> Res
 
 #[test]
 fn a_gate_is_told_once_of_all_jobs_before_any_worker_asks(rt: HostRuntime) -> Result<(), Fail> {
-    let board = "board workers 2\n1 put 5\n2 put 6\n1 take\n";
-    let bank = "bank workers 2 lines 1\n1 in 0 1\n2 in 1 1\n1 out 0 1\n";
-    for (script, kind) in [(board, WorkKind::Board), (bank, WorkKind::Bank)] {
-        let work = read_work(rt.alloc(), script.as_bytes(), kind)?;
+    for (kind, script) in &OF_THREE {
+        let work = read_work(rt.alloc(), script.as_bytes(), *kind)?;
         for lines in ALL {
             let gate = Counting::new(1);
             assert!(rt;
@@ -211,24 +275,25 @@ fn a_gate_is_told_once_of_all_jobs_before_any_worker_asks(rt: HostRuntime) -> Re
 
 #[test]
 fn work_that_is_reported_is_done_once(rt: HostRuntime) -> Result<(), Fail> {
-    let script = "board workers 2\n1 put 5\n2 put 6\n1 take\n";
-    for lines in ALL {
-        let gate = Counting::new(1);
-        let mut reader = Watched::new(script.as_bytes());
-        let mut writer = Watched::new(Vec::new(rt.alloc()));
-        let done = report_work(
-            &rt,
-            rt.alloc(),
-            &gate,
-            &mut reader,
-            &mut writer,
-            WorkKind::Board,
-            lines,
-            Waits::Asleep,
-        );
-        assert!(rt; done.is_ok(), "by {lines:?}");
-        for at in 0..3usize {
-            assert_eq!(rt; gate.asks_for(at), 1, "for {at} by {lines:?}");
+    for (kind, script) in &OF_THREE {
+        for lines in ALL {
+            let gate = Counting::new(1);
+            let mut reader = Watched::new(script.as_bytes());
+            let mut writer = Watched::new(Vec::new(rt.alloc()));
+            let done = report_work(
+                &rt,
+                rt.alloc(),
+                &gate,
+                &mut reader,
+                &mut writer,
+                *kind,
+                lines,
+                Waits::Asleep,
+            );
+            assert!(rt; done.is_ok(), "{kind:?} by {lines:?}");
+            for at in 0..3usize {
+                assert_eq!(rt; gate.asks_for(at), 1, "for {at}, {kind:?} by {lines:?}");
+            }
         }
     }
     Ok(())

@@ -118,6 +118,7 @@ fn progress_is_said_once_a_second(rt: HostRuntime) -> Result<(), Fail> {
         (1, 2, 1, 1),
         (1, 1, 2, 1),
         (3, 1, 3, 2),
+        (3, 2, 2, 2),
     ];
     for (second, worker, at, lines) in rows {
         console.second.store(second, Ordering::SeqCst);

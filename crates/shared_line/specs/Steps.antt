@@ -23,6 +23,7 @@ use Rattle.qolb_model.specs.declared.terms.TheConstants.{MOST_NODES}
 use Rattle.shared_line.specs.declared.rule.Entry.{Entry}
 use Rattle.shared_line.specs.declared.rule.Parcel.{Parcel}
 use Rattle.shared_line.specs.Entries.{no_view, Contents, LineSeat}
+use Rattle.shared_line.specs.Slots.{Slots}
 
 abbrev pub sole : {O : Type 0} → O → List (Entry O) → Entry O
 sole fresh [] = record { view = no_view; own = fresh; steps = 0 }
@@ -132,3 +133,9 @@ met allows fresh st m n m' = let v = sole fresh m.0 in let u = sole fresh (behin
 -- all slots in hand go home, for a moment
 abbrev pub parked : {O : Type 0} → Step Parcel → Contents O → ℕ → Contents O → Type 0
 parked st m n m' = (m'.0 ≡ m.0) × (m'.1 ≡ [])
+
+-- What a look gives a node that waits with this mark, by the word that it finds: where that says that the turn may have come it has, with
+-- the line; and else the node waits on.
+pub record Looked {O : Type 0} (fresh : O) (rests : PortState → ℕ → O → Type 0) (holding : ℕ → ℕ → O → Type 0) (refused : ℕ → View → O → Parcel → Type 0) (brings : ℕ → Parcel → Slots → Type 0) (may_come : ℕ → ℕ → Bool) (mark found : ℕ) (new : Contents O) : Type 0 where
+  pub waits : may_come mark found ≡ false → (new.1 ≡ []) × IsEarly rests mark (sole fresh new.0)
+  pub comes : may_come mark found ≡ true → (y : Parcel) × brings mark y new.1 × Comes holding refused mark (sole fresh new.0) y

@@ -1,5 +1,5 @@
 //! What a queue is: how its nodes stand, its rule, and the few calls that are its own.
-ghost use Rattle.std.specs.Prelude.{◌≡◌, ◌≢◌, ℕ, List, ◌∷◌, ◌++◌, [], Option, Some, replicate, ◌<◌, ◌≤◌, ◌+◌, ◌^◌, length, true, false, IsTrue, IfOk};
+ghost use Rattle.std.specs.Prelude.{◌≡◌, ◌≢◌, ℕ, List, ◌∷◌, ◌++◌, [], Option, Some, replicate, ◌<◌, ◌≤◌, ◌+◌, ◌^◌, length, Bool, true, false, IsTrue, IfOk};
 ghost use mathlib.Core.Option.{some, none};
 ghost use lib.ListN.{get_elem?};
 ghost use Rattle.std.specs.Slots.{slots_items, slots_len, IsFull};
@@ -25,7 +25,7 @@ ghost use Rattle.shared_line.specs.Slots.{Slots, IsCopy};
 ghost use Rattle.shared_line.specs.Ports.{IsPutBack};
 ghost use Rattle.shared_line.specs.Turns.{SeesTurn};
 ghost use Rattle.shared_line.specs.Entries.{Contents, newcomers, AllRest, views_of};
-ghost use Rattle.shared_line.specs.Steps.{Alone, entry_of, SameSeat, IsSeatOf, IsOwnNode, HasNoSlot, HasLine, Rests, GoesOn, IsEarly, IsUnlinked, IsGivenUp, Comes, Carries, own_end, met, parked};
+ghost use Rattle.shared_line.specs.Steps.{Alone, entry_of, SameSeat, IsSeatOf, IsOwnNode, HasNoSlot, HasLine, Rests, GoesOn, IsEarly, IsUnlinked, IsGivenUp, Comes, Carries, own_end, met, parked, Looked};
 
 use crate::rule::{Ground, LineSeat, Parcel};
 use crate::sleeping::ToWake;
@@ -92,6 +92,9 @@ pub trait Shape {
 
     /// The word at which that node waits whose request is at its turn, by what a port knows of the line. Where nobody waits for the turn, any word.
     ghost turn_word: { View → ℕ };
+
+    /// Whether the turn may have come of a node with this mark that waits at a word with this value.
+    ghost may_come: { ℕ → ℕ → Bool };
 
     /// A port may show this state.
     ghost may_show: { PortState → Type 0 };
@@ -267,8 +270,11 @@ pub trait Discipline<K: Keep>: Ruled<K> {
         ensures bound { result < word_count }
         ensures waits_at { result ≡ Self.waits_at node mark };
 
-    /// Whether the turn may have come of a node that waits, and finds this in its word.
-    fn may_have_come(mark: u64, word: u64) -> bool;
+    /// Whether the turn may have come of a node that waits, and finds this in its word. A look that finds so finds the turn, and one that
+    /// finds otherwise does not.
+    fn may_have_come(mark: u64, word: u64) -> bool
+        ensures result { result ≡ Self.may_come mark word }
+        ensures looks { (about : Setup) (id slots : ℕ) (v : Entry Self.Own) → Self.rests shows.Queued mark v.own → Allows (Self.holds about) slots id (v ∷ [], []) (Self.waits_at v.view.node mark) (λ n. n) (Looked Self.fresh Self.rests Self.holding Self.refused Self.brings Self.may_come mark) };
 
     /// A seat is cut behind its first entry; a new one has none; and one takes in those of another.
     ghost cuts: { (about : Setup) (id : ℕ) (es : List (Entry Self.Own)) → Splits (Self.holds about) id es (front es) (behind es) };

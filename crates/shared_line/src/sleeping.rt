@@ -1,11 +1,12 @@
 //! Waiters that sleep, and whoever wakes them. None of it is a step of the queue: the table stays as it is.
-ghost use Rattle.std.specs.Prelude.{◌≡◌, ◌<◌};
+ghost use Rattle.std.specs.Prelude.{◌≡◌, ℕ, ◌<◌, ◌%◌, ◌^◌, false};
 ghost use Rattle.shared_line.specs.Ports.{BelongsTo};
+ghost use Rattle.shared_line.specs.Steps.{IsSeatOf, IsOwnNode, Rests};
 
 use crate::line::Line;
 use crate::port::Port;
 use crate::queue::Discipline;
-use crate::rule::Ground;
+use crate::rule::{Ground, LineSeat};
 use crossbeam_utils::CachePadded;
 use qolb_model::{Keep, PortState};
 use std::sync::Wait;
@@ -106,9 +107,28 @@ impl<K: Keep, Q: Discipline<K>> Line<K, Q> {
         let seen = self.table.shared.peek(word);
         if !Q::may_have_come(port.mark, seen) {
             let low = (seen % (1 << 32)) as u32;
-            self.table.shared.park_timeout(rt, word, low, at_most);
+            self.park(rt, &port.seat, port.node, port.mark, low, at_most);
         }
         self.sleepers.count.fetch_sub(1, Ordering::SeqCst);
+    }
+
+    /// Sleeps at the word where the node waits, so long as its lower half is that of a word in which the node's turn has not come.
+    fn park<R: Wait>(
+        &self,
+        rt: &R,
+        seat: &LineSeat<Q::Own>,
+        node: u64,
+        mark: u64,
+        low: u32,
+        at_most: Duration,
+    )
+        requires table { IsSeatOf Q.word_count self.now.table.shared.table_id seat.now }
+        requires rests { Rests Q.fresh Q.rests PortState.Queued mark seat.now }
+        requires own { IsOwnNode Q.fresh node seat.now }
+        requires not_come { (seen : ℕ) × (Q.may_come mark seen ≡ false) × (low ≡ seen % 2 ^ 32) }
+    {
+        let word = Q::awaited(node, mark);
+        self.table.shared.park_timeout(rt, word, low, at_most);
     }
 }
 

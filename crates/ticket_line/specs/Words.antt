@@ -1,5 +1,5 @@
 -- What the words of a ticket line say.
-use Rattle.std.specs.Prelude.{ℕ, ◌+◌, ◌-◌, ◌*◌, ◌/◌, ◌%◌, List, ◌==◌, if◌then◌else◌}
+use Rattle.std.specs.Prelude.{ℕ, ◌+◌, ◌-◌, ◌*◌, ◌/◌, ◌%◌, List, Bool, ◌==◌, if◌then◌else◌}
 use Rattle.array_line.specs.declared.words.TheConstants.{CELLS}
 use Rattle.array_line.specs.Words as array
 use Rattle.array_line.specs.Words.{ticket_of}
@@ -23,6 +23,10 @@ withdrawn ticket node = UNIT * number ticket + node
 -- the node that had withdrawn a ticket at its cell, or 0
 abbrev pub withdrawn_by : ℕ → ℕ → ℕ
 withdrawn_by ticket word = if word / UNIT == number ticket then word % UNIT else 0
+
+-- whether the turn has come of whoever waits with this ticket at a cell with this word
+abbrev pub may_come : ℕ → ℕ → Bool
+may_come ticket word = word == granted ticket
 
 -- the number of the place before that has the same cell, or 0 where there is none
 abbrev pub number_before : ℕ → ℕ

@@ -3,13 +3,17 @@ ghost use Rattle.std.specs.Prelude.{◌≡◌, IfSome, IsTrue};
 ghost use Rattle.qolb_model.specs.PortStates.{may_ask};
 
 use crate::counter::add;
+use crate::tests::again::wait_until_some;
 use line_lanes::Line64;
+use line_threads::together::{Work, together};
 use line_threads::{HookedLine, Hooks};
 use qolb_model::{Enq, Free, OpenLine, PortState, Sleeping, Terms};
 use std::alloc::Global;
 use std::process::Abort;
 use std::rt::Clock;
 use std::sync::Wait;
+use std::sync::atomic::{AtomicU64, Ordering};
+use std::thread::{Threads, yield_now};
 use std::time::{Duration, Instant};
 
 /// How many turns there were at the line before anybody sleeps at it.
@@ -130,4 +134,104 @@ where
         });
         assert!(rt; held, "{times} times {millis} ms: {took:?}");
     }
+}
+
+/// One node has the line until the two others have slept behind it, ten times each for so long, and tell whether one of these sleeps was as long.
+#[derive(Drop)]
+struct Dozing {
+    at_most: Duration,
+    held: AtomicU64,
+    slept: AtomicU64,
+}
+
+impl Dozing {
+    /// Waits until the two others have slept.
+    fn wait_for_both<R: Wait>(&self, rt: &R) {
+        for _ in rt.forever() {
+            if self.slept.load(Ordering::SeqCst) == 2 {
+                return;
+            }
+            yield_now();
+        }
+    }
+
+    /// Sleeps ten times: whether a sleep was as long as it may be.
+    fn doze<R: Wait + Clock, L: Sleeping<Free>>(&self, rt: &R, line: &L, port: &L::Port) -> bool
+        requires belongs { L.belongs line.now port.now }
+        requires state { (L.view port.now).state ≡ PortState.Queued }
+    {
+        let mut was_long = false;
+        for _ in 0..10 {
+            let took = sleep_for(rt, line, port, self.at_most);
+            was_long = was_long || took.is_some_and(|took| took >= self.at_most);
+        }
+        was_long
+    }
+}
+
+impl<R: Wait + Clock, L: Sleeping<Free>> Work<R, L, L::Port> for Dozing
+where
+    L::Port: Drop,
+{
+    type Back = bool;
+
+    ghost fits = { λ _ line _ port. L.belongs line port × IsTrue (may_ask (L.view port).state) };
+
+    ghost done = { λ _ _ _ _. Unit {0} };
+
+    fn work(&self, rt: &R, line: &L, place: usize, port: L::Port) -> bool {
+        let mut port = port;
+        if place == 0 {
+            let Enq::Granted = line.enqolb(&mut port) else {
+                return false;
+            };
+            self.held.store(1, Ordering::SeqCst);
+            self.wait_for_both(rt);
+            line.deqolb(&mut port);
+            true
+        } else {
+            wait_until_some(rt, &self.held);
+            let was_long = match line.enqolb(&mut port) {
+                Enq::Queued => self.doze(rt, line, &port),
+                _ => false,
+            };
+            self.slept.fetch_add(1, Ordering::SeqCst);
+            was_long
+        }
+    }
+}
+
+/// What each of three nodes of a new line tells, two of which sleep at the same time.
+fn doze_together<
+    R: Threads + Wait + Clock + Sync,
+    L: OpenLine<Free> + Sleeping<Free> + Sync + Drop,
+>(rt: &R, alloc: Global) -> Option<Vec<bool>>
+where
+    L::Port: Send + Drop,
+{
+    let terms = Terms {
+        nodes: 3,
+        opening: Line64::zero(),
+        lease: None,
+    };
+    let dozing = Dozing {
+        at_most: Duration::from_millis(20),
+        held: AtomicU64::new(0),
+        slept: AtomicU64::new(0),
+    };
+    let (line, ports) = L::open_with(alloc, 1, terms).ok()?;
+    together(rt, alloc, &dozing, &line, ports)
+}
+
+/// Two sleep at the same time: neither only looks while the other sleeps.
+pub(super) fn two_sleep_at_the_same_time<
+    R: Threads + Wait + Clock + Abort + Sync,
+    L: OpenLine<Free> + Sleeping<Free> + Sync + Drop,
+>(rt: &R, alloc: Global)
+where
+    L::Port: Send + Drop,
+{
+    let told = doze_together::<R, L>(rt, alloc);
+    let all = told.is_some_and(|told| told.len() == 3 && told.iter().all(|slept| *slept));
+    assert!(rt; all);
 }

@@ -133,8 +133,15 @@ static HELPS: [(&str, &[&str]); 5] = [
 #[test]
 fn refuses_command_lines(rt: HostRuntime) -> Result<(), Fail> {
     for (words, named) in &NOT_TAKEN {
-        let (status, out, err) = told(&rt, rt.alloc(), *words, "nodes 1 lines 1\n")?;
-        assert_eq!(rt; (status, out.as_str()), (2, ""), "of {words:?}");
+        let mut reader = "nodes 1 lines 1\n".as_bytes();
+        let mut out: Vec<u8> = Vec::new(rt.alloc());
+        let (status, err) = run(&rt, rt.alloc(), *words, &mut reader, &mut out)?;
+        // nothing was read, nor written
+        assert_eq!(rt;
+            (status, reader.len(), out.len()),
+            (2, 16, 0),
+            "of {words:?}"
+        );
         assert!(rt; err.contains(*named), "of {words:?}: {err}");
     }
     for (name, texts) in &HELPS {
@@ -142,6 +149,32 @@ fn refuses_command_lines(rt: HostRuntime) -> Result<(), Fail> {
         for text in *texts {
             assert!(rt; help.contains(*text), "{text} in the help of {name}");
         }
+    }
+    Ok(())
+}
+
+/// The words of a task of each name.
+static TASKS: [&[&str]; 5] = [
+    &["replay", "--kind", "link"],
+    &["steps"],
+    &["board"],
+    &["bank"],
+    &["draw"],
+];
+
+#[test]
+fn refuses_a_script_of_more_than_16_mebibytes(rt: HostRuntime) -> Result<(), Fail> {
+    let alloc = rt.alloc();
+    let script = vec![in alloc; b'\n'; 16_777_217]?;
+    for words in &TASKS {
+        let mut reader = script.as_slice();
+        let mut out: Vec<u8> = Vec::new(alloc);
+        let (status, err) = run(&rt, alloc, *words, &mut reader, &mut out)?;
+        assert_eq!(rt;
+            (status, out.len(), err.as_str()),
+            (1, 0, "script too long\n"),
+            "of {words:?}"
+        );
     }
     Ok(())
 }
