@@ -19,8 +19,8 @@ const FEW_BLOCKS: usize = 1 << 11;
 /// The bytes of a part of the stack.
 const PAGE: usize = 1 << 10;
 
-/// How many such parts a thread is sure of in whose process all memory is taken.
-const PAGES: usize = 1 << 10;
+/// How many such parts a thread is sure of in whose process all memory is taken: 4 megabytes, of the 8 that Linux lets a stack have.
+const PAGES: usize = 1 << 12;
 
 /// Has the stack of this thread grow to what it is sure of. It grows page by page where it is touched, into addresses that nothing has; once
 /// all are taken it grows no more, and the process ends.
@@ -47,7 +47,7 @@ impl Hoard {
     /// All memory that the process could still have, in at most so many blocks: the largest that the system gives, and then what is
     /// left between them.
     ///
-    /// The stack of this thread has grown by a megabyte before. No other thread's stack should have to grow meanwhile.
+    /// The stack of this thread has grown by 4 megabytes before. It is not sure of more while the hoard stands.
     ///
     /// # Errors
     ///
@@ -58,6 +58,13 @@ impl Hoard {
         if !grow_stack() {
             return Err(AllocError);
         }
+        Hoard::of_rest(alloc, most)
+    }
+
+    /// The same, of a thread whose stack has grown.
+    fn of_rest(alloc: Global, most: usize) -> Result<Hoard, AllocError>
+        ensures { IfOk result (λ hoard. length hoard.blocks.items ≤ most) }
+    {
         let mut hoard = Hoard {
             blocks: Vec::with_capacity(alloc, most)?,
         };
@@ -112,7 +119,7 @@ impl Siege {
     /// `AllocError` where the room has no such block.
     pub fn leave(&self, alloc: Global, bytes: usize) -> Result<Hoard, AllocError> {
         let left = Vec::<u8>::with_capacity(alloc, bytes)?;
-        let rest = Hoard::of_all(alloc, FEW_BLOCKS)?;
+        let rest = Hoard::of_rest(alloc, FEW_BLOCKS)?;
         drop(left);
         Ok(rest)
     }

@@ -33,3 +33,20 @@ fn nothing_is_left(rt: HostRuntime) -> Result<(), Fail> {
     assert!(rt; !some);
     Ok(())
 }
+
+/// Whether so much of the stack that is not all of what a thread is sure of could be touched: else the process has ended.
+#[inline(never)]
+fn has_stack() -> bool {
+    let touched = [[0u8; PAGE]; PAGES - 100];
+    touched.iter().all(|page| is_text(page))
+}
+
+#[test]
+fn the_stack_has_grown_before(rt: HostRuntime) -> Result<(), Fail> {
+    let alloc = rt.alloc();
+    let hoard = Hoard::of_all(alloc, MOST_BLOCKS)?;
+    let touched = has_stack();
+    drop(hoard);
+    assert!(rt; touched);
+    Ok(())
+}

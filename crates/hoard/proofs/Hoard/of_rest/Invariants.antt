@@ -1,5 +1,5 @@
 use Rattle.std.proofs.Common.{◌≤◌, length}
-use Rattle.hoard.proofs.Hoard.of_all.Given as goal
+use Rattle.hoard.proofs.Hoard.of_rest.Given as goal
 
 abbrev pub invariant-loop-power : goal.invariant-loop-power
 invariant-loop-power l = length l.hoard.blocks.items ≤ l.most
