@@ -3,6 +3,7 @@
 mod again;
 mod asleep;
 mod counted;
+mod held;
 mod kept;
 mod noted;
 mod parked;
@@ -12,11 +13,11 @@ mod together;
 use crate::mailbox::Asked;
 use crate::{counter, fair, mailbox, seats};
 use counted::Counting;
-use line_lanes::Line64;
+use held::for_nodes;
 use line_threads::{Got, HookedLine, acquire};
 use link_line::LinkLine;
 use parked::NoHooks;
-use qolb_model::{Free, OpenLine, PortState, Terms};
+use qolb_model::{Free, OpenLine, PortState};
 use ring_line::RingLine;
 use seats::House;
 use std::alloc::Global;
@@ -168,12 +169,7 @@ fn granted_and_then_told<R: Wait + Abort, L: OpenLine<Free> + Drop>(
 where
     L::Port: Drop,
 {
-    let terms = Terms {
-        nodes: 1,
-        opening: Line64::zero(),
-        lease: None,
-    };
-    let (line, mut ports) = L::open_with(alloc, 0, terms)?;
+    let (line, mut ports) = L::open_with(alloc, 0, for_nodes(1))?;
     let Some(mut port) = ports.pop() else {
         return Err(Fail::from("no port"));
     };
@@ -190,12 +186,7 @@ fn one_after_the_other<R: Wait, L: OpenLine<Free> + Drop>(rt: &R, alloc: Global)
 where
     L::Port: Drop,
 {
-    let terms = Terms {
-        nodes: 2,
-        opening: Line64::zero(),
-        lease: None,
-    };
-    let (line, ports) = L::open_with(alloc, 1, terms).ok()?;
+    let (line, ports) = L::open_with(alloc, 1, for_nodes(2)).ok()?;
     let mut ports = ports;
     let mut two = ports.pop()?;
     let mut one = ports.pop()?;
@@ -212,12 +203,7 @@ fn late<L: OpenLine<Free> + Drop>(alloc: Global) -> Option<[Asked; 3]>
 where
     L::Port: Drop,
 {
-    let terms = Terms {
-        nodes: 2,
-        opening: Line64::zero(),
-        lease: None,
-    };
-    let (line, ports) = L::open_with(alloc, 1, terms).ok()?;
+    let (line, ports) = L::open_with(alloc, 1, for_nodes(2)).ok()?;
     let mut ports = ports;
     let mut two = ports.pop()?;
     let mut one = ports.pop()?;

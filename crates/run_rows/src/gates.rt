@@ -3,9 +3,12 @@ use crate::work::expect;
 use locks::{ALL, Lines};
 use qolb_run::{Gate, RunError, Waits, report_work, run_work};
 use qolb_script::{Report, Watched, WorkKind, read_work};
+use std::alloc::Global;
+use std::process::Abort;
+use std::sync::Wait;
 use std::sync::atomic::{AtomicU64, Ordering};
 use std::test::Fail;
-use std::thread::yield_now;
+use std::thread::{Threads, yield_now};
 
 /// A gate that never opens.
 struct Closed;
@@ -44,12 +47,38 @@ fn a_worker_of_a_bank_gives_up_before_a_closed_gate(rt: HostRuntime) -> Result<(
     )
 }
 
+/// The work is done with this report behind a new gate, by each lock.
+fn expect_behind<R: Threads + Wait + Abort + Sync, G: Gate + Default + Sync + Drop>(
+    rt: &R,
+    alloc: Global,
+    script: &str,
+    kind: WorkKind,
+    report: Report,
+) -> Result<(), Fail> {
+    let work = read_work(alloc, script.as_bytes(), kind)?;
+    for lines in ALL {
+        let found = run_work(rt, alloc, &G::default(), &work, lines, Waits::Awake);
+        assert_eq!(rt; found, Ok(report), "by {lines:?}");
+    }
+    Ok(())
+}
+
 /// A gate that opens once two workers stand before it at the same time.
 #[derive(Drop)]
 struct Meeting {
     first: AtomicU64,
     second: AtomicU64,
     met: AtomicU64,
+}
+
+impl Default for Meeting {
+    fn default() -> Meeting {
+        Meeting {
+            first: AtomicU64::new(0),
+            second: AtomicU64::new(0),
+            met: AtomicU64::new(0),
+        }
+    }
 }
 
 impl Gate for Meeting {
@@ -84,17 +113,7 @@ fn workers_stand_before_a_gate_at_the_same_time(rt: HostRuntime) -> Result<(), F
         total: 2,
     };
     let script = "bank workers 2 lines 1\n1 in 0 1\n2 in 0 1\n";
-    let work = read_work(rt.alloc(), script.as_bytes(), WorkKind::Bank)?;
-    for lines in ALL {
-        let gate = Meeting {
-            first: AtomicU64::new(0),
-            second: AtomicU64::new(0),
-            met: AtomicU64::new(0),
-        };
-        let found = run_work(&rt, rt.alloc(), &gate, &work, lines, Waits::Awake);
-        assert_eq!(rt; found, Ok(report), "by {lines:?}");
-    }
-    Ok(())
+    expect_behind::<_, Meeting>(&rt, rt.alloc(), script, WorkKind::Bank, report)
 }
 
 /// A gate that the second worker passes once the first has come to it, and the first once the second has done its two jobs.
@@ -102,6 +121,15 @@ fn workers_stand_before_a_gate_at_the_same_time(rt: HostRuntime) -> Result<(), F
 struct InTurn {
     came: AtomicU64,
     done: AtomicU64,
+}
+
+impl Default for InTurn {
+    fn default() -> InTurn {
+        InTurn {
+            came: AtomicU64::new(0),
+            done: AtomicU64::new(0),
+        }
+    }
 }
 
 impl Gate for InTurn {
@@ -134,16 +162,7 @@ fn no_job_is_done_before_its_gate_is_passed(rt: HostRuntime) -> Result<(), Fail>
         left: 1,
     };
     let script = "board workers 2\n1 put 5\n2 take\n2 take\n";
-    let work = read_work(rt.alloc(), script.as_bytes(), WorkKind::Board)?;
-    for lines in ALL {
-        let gate = InTurn {
-            came: AtomicU64::new(0),
-            done: AtomicU64::new(0),
-        };
-        let found = run_work(&rt, rt.alloc(), &gate, &work, lines, Waits::Awake);
-        assert_eq!(rt; found, Ok(report), "by {lines:?}");
-    }
-    Ok(())
+    expect_behind::<_, InTurn>(&rt, rt.alloc(), script, WorkKind::Board, report)
 }
 
 /// A gate that opens at so many asks for a job, each time, and counts the asks for each number.

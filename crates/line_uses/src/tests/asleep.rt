@@ -4,6 +4,7 @@ ghost use Rattle.qolb_model.specs.PortStates.{may_ask};
 ghost use Rattle.qolb_model.specs.Turns.{IsGranted};
 
 use crate::counter::add_one;
+use crate::tests::held::for_nodes;
 use crate::tests::passing::whoever_passes_a_closed_line_on_wakes;
 use crate::timed::add_within;
 use line_lanes::{Line64, lane};
@@ -303,12 +304,7 @@ fn late_at_a_new_line<R: Wait + Clock, L: OpenLine<Free> + Sleeping<Free> + Drop
 where
     L::Port: Drop,
 {
-    let terms = Terms {
-        nodes: 2,
-        opening: Line64::zero(),
-        lease: None,
-    };
-    let (line, ports) = L::open_with(alloc, 1, terms).ok()?;
+    let (line, ports) = L::open_with(alloc, 1, for_nodes(2)).ok()?;
     let mut ports = ports;
     let mut two = ports.pop()?;
     let mut one = ports.pop()?;

@@ -2,11 +2,9 @@
 ghost use Rattle.std.specs.Prelude.{IfSome, IsTrue};
 ghost use Rattle.qolb_model.specs.PortStates.{may_ask};
 
-use crate::tests::again::wait_until_some;
-use line_lanes::Line64;
-use line_threads::together::{Work, together};
+use crate::tests::held::{Scene, all_see, for_nodes, wait_until};
 use line_threads::{Got, HookedLine, Hooks, SleepingLine, Within, acquire_asleep, acquire_within};
-use qolb_model::{Enq, Free, Keep, LineSync, OpenLine, Poll, Sleeping, Terms};
+use qolb_model::{Enq, Free, Keep, LineSync, OpenError, OpenLine, Poll, Sleeping};
 use std::alloc::Global;
 use std::io;
 use std::process::Abort;
@@ -135,15 +133,6 @@ impl<R: Clock> Clock for NotedClock<'_, R> {
     }
 }
 
-/// The terms of a line of two nodes.
-fn two_nodes() -> Terms {
-    Terms {
-        nodes: 2,
-        opening: Line64::zero(),
-        lease: None,
-    }
-}
-
 /// A new line of two nodes, whose sleeps are noted, and its ports.
 fn open_noted<'n, L: OpenLine<Free> + Sleeping<Free>>(
     alloc: Global,
@@ -155,7 +144,7 @@ where
     ensures one { IfSome result (λ r. L.belongs r.0.line r.1 × IsTrue (may_ask (L.view r.1).state)) }
     ensures two { IfSome result (λ r. L.belongs r.0.line r.2 × IsTrue (may_ask (L.view r.2).state)) }
 {
-    let (line, ports) = L::open_with(alloc, 1, two_nodes()).ok()?;
+    let (line, ports) = L::open_with(alloc, 1, for_nodes(2)).ok()?;
     let mut ports = ports;
     let two = ports.pop()?;
     let one = ports.pop()?;
@@ -374,43 +363,25 @@ impl Hooks for &LooksBefore {
 struct Looking<'n> {
     hooks: &'n LooksBefore,
     shuts: bool,
-    held: AtomicU64,
     waits: AtomicU64,
 }
 
-impl<R: Wait, L: LineSync<Free>> Work<R, L, L::Port> for Looking<'_>
-where
-    L::Port: Drop,
-{
-    /// Node 1: whether it had the line. Node 2: whether it still waited.
-    type Back = bool;
+impl<R: Wait, L: Sleeping<Free>> Scene<R, L> for Looking<'_> {
+    fn keep(&self, rt: &R, _line: &L) {
+        wait_until(rt, &self.waits, 1);
+    }
 
-    ghost fits = { λ _ line _ port. L.belongs line port × IsTrue (may_ask (L.view port).state) };
+    fn shuts(&self) -> bool {
+        self.shuts
+    }
 
-    ghost done = { λ _ _ _ _. Unit {0} };
-
-    fn work(&self, rt: &R, line: &L, place: usize, port: L::Port) -> bool {
-        let mut port = port;
-        if place == 0 {
-            let Enq::Granted = line.enqolb(&mut port) else {
-                return false;
-            };
-            self.held.store(1, Ordering::SeqCst);
-            wait_until_some(rt, &self.waits);
-            if self.shuts {
-                line.shut(&mut port);
-            } else {
-                line.deqolb(&mut port);
-            }
-            return true;
-        }
-        wait_until_some(rt, &self.held);
-        let Enq::Queued = line.enqolb(&mut port) else {
+    fn behind(&self, rt: &R, line: &L, port: &mut L::Port) -> bool {
+        let Enq::Queued = line.enqolb(port) else {
             return false;
         };
         self.waits.store(1, Ordering::SeqCst);
-        wait_until_some(rt, &self.hooks.letting_go);
-        let found = line.poll(&mut port);
+        wait_until(rt, &self.hooks.letting_go, 1);
+        let found = line.poll(port);
         self.hooks.looked.store(1, Ordering::SeqCst);
         found == Poll::Waiting
     }
@@ -422,23 +393,18 @@ fn look_before<R: Threads + Wait + Sync, L: OpenLine<Free> + Sleeping<Free> + Sy
     alloc: Global,
     hooks: &LooksBefore,
     shuts: bool,
-) -> Option<[bool; 2]>
+) -> Result<bool, OpenError>
 where
     L::Port: Send + Drop,
 {
     let looking = Looking {
         hooks,
         shuts,
-        held: AtomicU64::new(0),
         waits: AtomicU64::new(0),
     };
-    let (line, ports) = L::open_with(alloc, 1, two_nodes()).ok()?;
+    let (line, ports) = L::open_with(alloc, 1, for_nodes(2))?;
     let line = HookedLine::with(hooks, line);
-    let had = together(rt, alloc, &looking, &line, ports)?;
-    match *had.as_slice() {
-        [one, two] => Some([one, two]),
-        _ => None,
-    }
+    Ok(all_see(rt, alloc, &line, ports, &looking))
 }
 
 /// Hooks are told before the line is let go, or shut.
@@ -455,7 +421,7 @@ where
             looked: AtomicU64::new(0),
         };
         let found = look_before::<R, L>(rt, alloc, &hooks, shuts);
-        assert_eq!(rt; found, Some([true, true]), "shuts: {shuts}");
+        assert_eq!(rt; found, Ok(true), "shuts: {shuts}");
     }
 }
 
@@ -463,33 +429,15 @@ where
 #[derive(Drop)]
 struct Handing<'n> {
     notes: &'n Notes,
-    held: AtomicU64,
 }
 
-impl<R: Wait, L: Sleeping<Free>> Work<R, L, L::Port> for Handing<'_>
-where
-    L::Port: Drop,
-{
-    type Back = bool;
+impl<R: Wait, L: Sleeping<Free>> Scene<R, L> for Handing<'_> {
+    fn keep(&self, rt: &R, _line: &L) {
+        wait_until(rt, &self.notes.sleeps, 1);
+    }
 
-    ghost fits = { λ _ line _ port. L.belongs line port × IsTrue (may_ask (L.view port).state) };
-
-    ghost done = { λ _ _ _ _. Unit {0} };
-
-    fn work(&self, rt: &R, line: &L, place: usize, port: L::Port) -> bool {
-        let mut port = port;
-        if place == 0 {
-            let Enq::Granted = line.enqolb(&mut port) else {
-                return false;
-            };
-            self.held.store(1, Ordering::SeqCst);
-            wait_until_some(rt, &self.notes.sleeps);
-            line.deqolb(&mut port);
-            true
-        } else {
-            wait_until_some(rt, &self.held);
-            acquire_asleep(rt, line, &mut port) == Got::Granted
-        }
+    fn behind(&self, rt: &R, line: &L, port: &mut L::Port) -> bool {
+        acquire_asleep(rt, line, port) == Got::Granted
     }
 }
 
@@ -498,21 +446,13 @@ fn hand_to_a_sleeper<R: Threads + Wait + Sync, L: OpenLine<Free> + Sleeping<Free
     rt: &R,
     alloc: Global,
     notes: &Notes,
-) -> Option<[bool; 2]>
+) -> Result<bool, OpenError>
 where
     L::Port: Send + Drop,
 {
-    let handing = Handing {
-        notes,
-        held: AtomicU64::new(0),
-    };
-    let (line, ports) = L::open_with(alloc, 1, two_nodes()).ok()?;
+    let (line, ports) = L::open_with(alloc, 1, for_nodes(2))?;
     let line = NotedLine::with(notes, line);
-    let had = together(rt, alloc, &handing, &line, ports)?;
-    match *had.as_slice() {
-        [one, two] => Some([one, two]),
-        _ => None,
-    }
+    Ok(all_see(rt, alloc, &line, ports, &Handing { notes }))
 }
 
 /// A waiter that sleeps does sleep where its turn does not come, and for as long as it may.
@@ -524,10 +464,7 @@ where
     L::Port: Send + Drop,
 {
     let notes = Notes::none();
-    assert_eq!(rt;
-        hand_to_a_sleeper::<R, L>(rt, alloc, &notes),
-        Some([true, true])
-    );
+    assert_eq!(rt; hand_to_a_sleeper::<R, L>(rt, alloc, &notes), Ok(true));
     assert_eq!(rt; notes.last(), u64::MAX);
 }
 

@@ -3,17 +3,15 @@ ghost use Rattle.std.specs.Prelude.{◌≡◌, IfSome, IsTrue};
 ghost use Rattle.qolb_model.specs.PortStates.{may_ask};
 
 use crate::counter::add;
-use crate::tests::again::wait_until_some;
-use line_lanes::Line64;
-use line_threads::together::{Work, together};
+use crate::tests::held::{Scene, all_see, for_nodes, wait_until};
 use line_threads::{HookedLine, Hooks};
-use qolb_model::{Enq, Free, OpenLine, PortState, Sleeping, Terms};
+use qolb_model::{Enq, Free, OpenError, OpenLine, PortState, Sleeping};
 use std::alloc::Global;
 use std::process::Abort;
 use std::rt::Clock;
 use std::sync::Wait;
 use std::sync::atomic::{AtomicU64, Ordering};
-use std::thread::{Threads, yield_now};
+use std::thread::Threads;
 use std::time::{Duration, Instant};
 
 /// How many turns there were at the line before anybody sleeps at it.
@@ -62,12 +60,7 @@ where
     ensures two { IfSome result (λ r. L.belongs r.0 r.2 × IsTrue (may_ask (L.view r.2).state)) }
     ensures three { IfSome result (λ r. L.belongs r.0 r.3 × IsTrue (may_ask (L.view r.3).state)) }
 {
-    let terms = Terms {
-        nodes: 3,
-        opening: Line64::zero(),
-        lease: None,
-    };
-    let (line, ports) = L::open_with(alloc, 1, terms).ok()?;
+    let (line, ports) = L::open_with(alloc, 1, for_nodes(3)).ok()?;
     let mut ports = ports;
     let three = ports.pop()?;
     let two = ports.pop()?;
@@ -140,21 +133,10 @@ where
 #[derive(Drop)]
 struct Dozing {
     at_most: Duration,
-    held: AtomicU64,
     slept: AtomicU64,
 }
 
 impl Dozing {
-    /// Waits until the two others have slept.
-    fn wait_for_both<R: Wait>(&self, rt: &R) {
-        for _ in rt.forever() {
-            if self.slept.load(Ordering::SeqCst) == 2 {
-                return;
-            }
-            yield_now();
-        }
-    }
-
     /// Sleeps ten times: whether a sleep was as long as it may be.
     fn doze<R: Wait + Clock, L: Sleeping<Free>>(&self, rt: &R, line: &L, port: &L::Port) -> bool
         requires belongs { L.belongs line.now port.now }
@@ -169,58 +151,35 @@ impl Dozing {
     }
 }
 
-impl<R: Wait + Clock, L: Sleeping<Free>> Work<R, L, L::Port> for Dozing
-where
-    L::Port: Drop,
-{
-    type Back = bool;
+impl<R: Wait + Clock, L: Sleeping<Free>> Scene<R, L> for Dozing {
+    fn keep(&self, rt: &R, _line: &L) {
+        wait_until(rt, &self.slept, 2);
+    }
 
-    ghost fits = { λ _ line _ port. L.belongs line port × IsTrue (may_ask (L.view port).state) };
-
-    ghost done = { λ _ _ _ _. Unit {0} };
-
-    fn work(&self, rt: &R, line: &L, place: usize, port: L::Port) -> bool {
-        let mut port = port;
-        if place == 0 {
-            let Enq::Granted = line.enqolb(&mut port) else {
-                return false;
-            };
-            self.held.store(1, Ordering::SeqCst);
-            self.wait_for_both(rt);
-            line.deqolb(&mut port);
-            true
-        } else {
-            wait_until_some(rt, &self.held);
-            let was_long = match line.enqolb(&mut port) {
-                Enq::Queued => self.doze(rt, line, &port),
-                _ => false,
-            };
-            self.slept.fetch_add(1, Ordering::SeqCst);
-            was_long
-        }
+    fn behind(&self, rt: &R, line: &L, port: &mut L::Port) -> bool {
+        let was_long = match line.enqolb(port) {
+            Enq::Queued => self.doze(rt, line, port),
+            _ => false,
+        };
+        self.slept.fetch_add(1, Ordering::SeqCst);
+        was_long
     }
 }
 
-/// What each of three nodes of a new line tells, two of which sleep at the same time.
+/// Whether both of two nodes of a new line have slept long that sleep at the same time behind a third.
 fn doze_together<
     R: Threads + Wait + Clock + Sync,
     L: OpenLine<Free> + Sleeping<Free> + Sync + Drop,
->(rt: &R, alloc: Global) -> Option<Vec<bool>>
+>(rt: &R, alloc: Global) -> Result<bool, OpenError>
 where
     L::Port: Send + Drop,
 {
-    let terms = Terms {
-        nodes: 3,
-        opening: Line64::zero(),
-        lease: None,
-    };
     let dozing = Dozing {
         at_most: Duration::from_millis(20),
-        held: AtomicU64::new(0),
         slept: AtomicU64::new(0),
     };
-    let (line, ports) = L::open_with(alloc, 1, terms).ok()?;
-    together(rt, alloc, &dozing, &line, ports)
+    let (line, ports) = L::open_with(alloc, 1, for_nodes(3))?;
+    Ok(all_see(rt, alloc, &line, ports, &dozing))
 }
 
 /// Two sleep at the same time: neither only looks while the other sleeps.
@@ -231,7 +190,5 @@ pub(super) fn two_sleep_at_the_same_time<
 where
     L::Port: Send + Drop,
 {
-    let told = doze_together::<R, L>(rt, alloc);
-    let all = told.is_some_and(|told| told.len() == 3 && told.iter().all(|slept| *slept));
-    assert!(rt; all);
+    assert_eq!(rt; doze_together::<R, L>(rt, alloc), Ok(true));
 }

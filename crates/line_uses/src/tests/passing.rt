@@ -2,10 +2,10 @@
 ghost use Rattle.std.specs.Prelude.{IsTrue};
 ghost use Rattle.qolb_model.specs.PortStates.{may_ask};
 
-use line_lanes::Line64;
+use crate::tests::held::for_nodes;
 use line_threads::together::{Work, together};
 use line_threads::{Got, acquire_asleep};
-use qolb_model::{Enq, Free, OpenLine, Out, Sleeping, Terms};
+use qolb_model::{Enq, Free, OpenLine, Out, Sleeping};
 use std::alloc::Global;
 use std::process::Abort;
 use std::rt::Clock;
@@ -122,12 +122,7 @@ fn pass<R: Threads + Wait + Clock + Sync, L: OpenLine<Free> + Sleeping<Free> + S
 where
     L::Port: Send + Drop,
 {
-    let terms = Terms {
-        nodes: 3,
-        opening: Line64::zero(),
-        lease: None,
-    };
-    let (line, ports) = L::open_with(alloc, 1, terms).ok()?;
+    let (line, ports) = L::open_with(alloc, 1, for_nodes(3)).ok()?;
     let saw = together(rt, alloc, &Passing::new(), &line, ports)?;
     match *saw.as_slice() {
         [first, second, third] => Some([first, second, third]),
