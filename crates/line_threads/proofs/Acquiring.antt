@@ -102,30 +102,6 @@ module _ (allows : List ℕ → List ℕ → Type 0) (old mid new : View) (turn 
   pub told_within : Enqueues allows mid new turn enq.Closed → AcquiresWithin allows old new turn within.Closed
   told_within q = acquired_at_once allows old mid new turn enq.Closed within.Closed e same q (λ is. cc is) (λ is. cc is) (λ _. refl) (λ is. cc is)
 
--- a port that was busy all the while, as it was before
-busy_from : (old mid new : View) → mid.state ≡ old.state → mid.count ≡ old.count → IsBusy mid new → IsBusy old new
-busy_from old mid new state count b = record {
-  was = subst (λ s. (s ≡ Left) ⊎ (s ≡ Rolled)) state b.was;
-  unclear = b.unclear;
-  state = b.state ∙ state;
-  count = b.count ∙ count;
-}
-
--- late, where nothing was asked
-module _ (allows : List ℕ → List ℕ → Type 0) (old mid new : View) (turn : Write) (e : Extends old mid) (count : mid.count ≡ old.count) (state : mid.state ≡ old.state) (q : Enqueues allows mid new turn enq.Busy) where
-  pub late_busy : IsBusy old new
-  late_busy = busy_from old mid new state count (q.busy refl)
-
-  pub late_unasked : AcquiresWithin allows old new turn within.Late
-  late_unasked = record {
-    continues = continues_on allows old mid new e q.continues;
-    asks = λ some. absurd (some refl);
-    joined = λ some. absurd (some refl);
-    granted = λ is. cc is;
-    told = λ is. cc is;
-    late = λ _. inr late_busy;
-  }
-
 -- the turn came soon
 module _ {Port : Type 0} (view : Port → View) (looks : Port → ℕ) (old mid asked : Port) (first : Write) (allows : List ℕ → List ℕ → Type 0)
     (e : Extends (view old) (view mid)) (same : (view mid).count ≡ (view old).count) (unlooked : looks mid ≡ looks old) (still : looks asked ≡ looks mid) where
@@ -163,9 +139,6 @@ closed_within is = cc is
 
 pub told_in_time : within.Granted ≢ within.Closed
 told_in_time is = cc is
-
-pub late_ungranted : within.Late ≢ within.Granted
-late_ungranted is = cc is
 
 pub granted_in_time : within.Granted ≢ within.Late
 granted_in_time is = cc is

@@ -1,5 +1,5 @@
 //! Waiting for a line by waiters that sleep, with no time limit and with one.
-ghost use Rattle.std.specs.Prelude.{◌≡◌, ◌⊎◌, ◌+◌, ◌≤◌, IsTrue, Option};
+ghost use Rattle.std.specs.Prelude.{◌≡◌, ◌⊎◌, ◌+◌, ◌*◌, ◌≤◌, IsTrue, Option};
 ghost use Rattle.std.specs.Duration.{as_nanos};
 ghost use Rattle.std.specs.declared.time.Instant.{Instant};
 ghost use Rattle.qolb_model.specs.PortStates.{may_ask};
@@ -8,7 +8,7 @@ ghost use Rattle.qolb_model.specs.Asking.{IsBusy};
 ghost use Rattle.qolb_model.specs.Turns.{IsGranted, IsWithdrawn};
 ghost use Rattle.qolb_model.specs.LettingGo.{IsTold};
 ghost use Rattle.line_threads.specs.Acquiring.{Acquires, AcquiresWithin, ComesSoon};
-ghost use Rattle.line_threads.specs.Spans.{nanos_left};
+ghost use Rattle.line_threads.specs.Spans.{nanos_left, IsLeft};
 
 use crate::waiting::{Got, LOOKS, short_pause};
 use qolb_model::{Enq, Keep, LineSync, Out, Poll, PortState, Sleeping};
@@ -67,11 +67,22 @@ impl Patience {
     }
 }
 
+/// How long a nap is that may take so much time.
+fn nap_within(at_most: Duration) -> Duration
+    ensures short { as_nanos result ≤ NAP_MICROS * 1_000 }
+    ensures in_time { as_nanos result ≤ as_nanos at_most }
+{
+    let short = Duration::from_micros(NAP_MICROS);
+    if at_most.as_nanos() < short.as_nanos() {
+        at_most
+    } else {
+        short
+    }
+}
+
 /// Sleeps for a moment, and no longer than so much time.
 fn nap<R: Wait>(rt: &R, at_most: Duration) {
-    let short = Duration::from_micros(NAP_MICROS);
-    let time = if at_most < short { at_most } else { short };
-    AtomicU64::new(0).park_timeout(rt, 0, time);
+    AtomicU64::new(0).park_timeout(rt, 0, nap_within(at_most));
 }
 
 /// A span of time that has begun.
@@ -91,20 +102,25 @@ impl Span {
         }
     }
 
-    /// What is left of it.
-    fn left<R: Clock>(&self, rt: &R) -> Duration
-        ensures { (now : Option Instant) × (as_nanos result ≡ nanos_left self.now.since self.now.at_most now) }
+    /// What is left of it, and `None` where it is over.
+    fn left<R: Clock>(&self, rt: &R) -> Option<Duration>
+        ensures { (now : Option Instant) × IsLeft result (nanos_left self.now.since self.now.at_most now) }
     {
         self.left_at(Instant::now(rt).ok())
     }
 
     /// What is left of it at this reading of the clock. Where the clock can't be read, or could not when it began, it counts as over.
-    fn left_at(&self, now: Option<Instant>) -> Duration
-        ensures { as_nanos result ≡ nanos_left self.now.since self.now.at_most now }
+    fn left_at(&self, now: Option<Instant>) -> Option<Duration>
+        ensures { IsLeft result (nanos_left self.now.since self.now.at_most now) }
     {
-        match (self.since, now) {
-            (Some(since), Some(now)) => self.at_most.saturating_sub(now.duration_since(since)),
-            _ => Duration::ZERO,
+        let (Some(since), Some(now)) = (self.since, now) else {
+            return None;
+        };
+        let left = self.at_most.saturating_sub(now.duration_since(since));
+        if left.as_nanos() > 0 {
+            Some(left)
+        } else {
+            None
         }
     }
 }
@@ -185,10 +201,9 @@ pub fn acquire_within<R: Wait + Clock, K: Keep, L: Sleeping<K>>(
             Enq::Closed => return Within::Closed,
             Enq::Queued => return wait_within(rt, line, port, &span),
             Enq::Busy => {
-                let left = span.left(rt);
-                if left == Duration::ZERO {
+                let Some(left) = span.left(rt) else {
                     return Within::Late;
-                }
+                };
                 if !patience.pause() {
                     nap(rt, left);
                 }
@@ -221,10 +236,9 @@ fn wait_within<R: Wait + Clock, K: Keep, L: Sleeping<K>>(
             Poll::Granted => return Within::Granted,
             Poll::Closed => return Within::Closed,
             Poll::Waiting => {
-                let left = span.left(rt);
-                if left == Duration::ZERO {
+                let Some(left) = span.left(rt) else {
                     return give_up(line, port);
-                }
+                };
                 if !patience.pause() {
                     line.sleep(rt, port, left);
                 }

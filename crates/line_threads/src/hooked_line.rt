@@ -1,5 +1,7 @@
 //! A line round a line: the same line, with something done beside its calls.
-ghost use Rattle.std.specs.Prelude.{◌≡◌, map, All, IfOk, IfErr};
+ghost use Rattle.std.specs.Prelude.{◌≡◌, ◌≤◌, map, All, IfOk, IfErr};
+ghost use Rattle.qolb_model.specs.Requests.{Lacks};
+ghost use Rattle.qolb_model.specs.Views.{own};
 ghost use Rattle.qolb_model.specs.Finishing.{MayRefuse, IsFinished};
 
 use line_lanes::{Line64, Mask};
@@ -12,17 +14,33 @@ use std::time::Duration;
 
 /// What is done beside the calls of a line. It reads the line and the port, and changes neither.
 pub trait Hooks {
+    /// A node was to ask, and was busy: its last request is not clear. Nothing, unless it is said what.
+    fn asked_in_vain<K: Keep, L: Sleeping<K>>(&self, line: &L, port: &L::Port)
+        requires belongs { L.belongs line.now port.now }
+        requires unclear { Lacks (L.view port.now).clear (own (L.view port.now)) }
+    {
+        let _ = line;
+        let _ = port;
+    }
+
     /// A look has found that the request waits. Nothing, unless it is said what.
     fn looked_in_vain<K: Keep, L: Sleeping<K>>(&self, line: &L, port: &L::Port)
         requires belongs { L.belongs line.now port.now }
         requires state { (L.view port.now).state ≡ PortState.Queued }
+        requires looked { 1 ≤ L.looks port.now }
     {
         let _ = line;
         let _ = port;
     }
 
     /// The holder is about to let the line go. Nothing, unless it is said what.
-    fn lets_go(&self) {}
+    fn lets_go<K: Keep, L: Sleeping<K>>(&self, line: &L, port: &L::Port)
+        requires belongs { L.belongs line.now port.now }
+        requires state { (L.view port.now).state ≡ PortState.Holding }
+    {
+        let _ = line;
+        let _ = port;
+    }
 
     /// A waiter is to sleep. It sleeps at the line, unless it is said what it does.
     fn sleep<R: Wait, K: Keep, L: Sleeping<K>>(
@@ -107,7 +125,11 @@ impl<H: Hooks + Drop, K: Keep, L: Sleeping<K>> LineSync<K> for HookedLine<H, L> 
     }
 
     fn enqolb(&self, port: &mut L::Port) -> Enq {
-        self.line.enqolb(port)
+        let found = self.line.enqolb(port);
+        if found == Enq::Busy {
+            self.hooks.asked_in_vain(&self.line, port);
+        }
+        found
     }
 
     fn poll(&self, port: &mut L::Port) -> Poll {
@@ -123,12 +145,12 @@ impl<H: Hooks + Drop, K: Keep, L: Sleeping<K>> LineSync<K> for HookedLine<H, L> 
     }
 
     fn deqolb(&self, port: &mut L::Port) {
-        self.hooks.lets_go();
+        self.hooks.lets_go(&self.line, port);
         self.line.deqolb(port)
     }
 
     fn shut(&self, port: &mut L::Port) {
-        self.hooks.lets_go();
+        self.hooks.lets_go(&self.line, port);
         self.line.shut(port)
     }
 

@@ -39,7 +39,7 @@ impl Default for UntilSlept {
 }
 
 impl Hooks for UntilSlept {
-    fn lets_go(&self) {
+    fn lets_go<K: Keep, L: Sleeping<K>>(&self, _line: &L, _port: &L::Port) {
         wait_until_some(&self.sleeps);
     }
 
@@ -75,7 +75,7 @@ impl Hooks for UntilLooked {
         self.looks.fetch_add(1, Ordering::SeqCst);
     }
 
-    fn lets_go(&self) {
+    fn lets_go<K: Keep, L: Sleeping<K>>(&self, _line: &L, _port: &L::Port) {
         wait_until_some(&self.looks);
     }
 

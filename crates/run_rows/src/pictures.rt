@@ -102,22 +102,27 @@ node   1 H
 }
 
 #[test]
-fn draws_the_longest_script(rt: HostRuntime) -> Result<(), Fail> {
-    let mut script = String::from_str(rt.alloc(), "nodes 1 lines 1\nenq 1 0\n")?;
-    for _ in 1..100_000 {
-        script.push_str("show 1 0\n")?;
+fn draws_the_largest_script(rt: HostRuntime) -> Result<(), Fail> {
+    let mut script = String::from_str(rt.alloc(), "nodes 200 lines 8\nenq 200 7\n")?;
+    for _ in 2..100_000 {
+        script.push_str("show 200 7\n")?;
     }
+    script.push_str("poll 1 7\n")?;
     let picture = drawn(rt.alloc(), script.as_str(), Form::Text)?;
     let mut rows = 0u32;
     let mut letters = 0usize;
     for line in picture.lines() {
-        if let Some(held) = line.strip_prefix("node   1 ") {
+        if let Some(held) = line.strip_prefix("node 200 ") {
             rows = rows.saturating_add(1);
             letters = letters.saturating_add(held.len());
         }
     }
     // A row has 70 commands.
     assert_eq!(rt; (rows, letters), (1_429, 100_000));
+    let svg = drawn(rt.alloc(), script.as_str(), Form::Svg)?;
+    // 1,429 blocks of two rows and an empty line, in which 6,989 rows of digits; 16 rows for the names of lines, two of the legend, and two.
+    assert!(rt; svg.contains("height='11296em'"));
+    assert!(rt; svg.ends_with("</svg>\n"));
     Ok(())
 }
 

@@ -31,6 +31,26 @@ fn refused(alloc: Global, script: &str, kind: Kind) -> (Option<ReplayError>, usi
     (done.err(), text.len())
 }
 
+/// How long a line of 64 bytes in hexadecimal digits is, with its end.
+const SHOWN: usize = 129;
+
+#[test]
+fn the_longest_reply_is_whole(rt: HostRuntime) -> Result<(), Fail> {
+    let mut script = String::from_str(rt.alloc(), "nodes 1 lines 1\nenq 1 0\n")?;
+    for _ in 1..100_000 {
+        script.push_str("show 1 0\n")?;
+    }
+    let reply = reply_to(rt.alloc(), script.as_str(), Kind::Plain)?;
+    let ends = "line 0 served 0 withdrawn 0 told 0 left 1\n";
+    assert!(rt; reply.starts_with("granted\n0000"));
+    assert!(rt; reply.ends_with(ends));
+    assert_eq!(rt;
+        reply.len(),
+        "granted\n".len() + 99_999 * SHOWN + ends.len()
+    );
+    Ok(())
+}
+
 const HAND_OVER: &str =
     "nodes 2 lines 1\nenq 1 0\nwrite 1 0 0 a1b2\nenq 2 0\npoll 2 0\ndeq 1 0\npoll 2 0\nshow 2 0\ndeq 2 0\n";
 

@@ -1,6 +1,7 @@
 //! Scripts of calls.
 use crate::rows::{expect, expect_refusals};
 use line_lanes::{Line64, Mask};
+use linked_list_allocator::LocalHeap;
 use qolb_script::{Command, ScriptError, read_schedule};
 use std::alloc::{AllocError, Global};
 use std::test::Fail;
@@ -212,6 +213,18 @@ fn large_texts_are_read_in_one_go(rt: HostRuntime) -> Result<(), Fail> {
     }
     let error = read_schedule(rt.alloc(), &words).err();
     assert_eq!(rt; error, Some(ScriptError::BadLine(2)));
+    Ok(())
+}
+
+#[test]
+fn lines_without_words_take_no_memory(rt: HostRuntime) -> Result<(), Fail> {
+    let mut text = Vec::from_slice(rt.alloc(), b"nodes 2 lines 1\nenq 1 0\n")?;
+    for _ in 0..10_000 {
+        text.push(b'\n')?;
+    }
+    let heap = LocalHeap::new(rt.alloc(), 4_096)?;
+    let schedule = read_schedule(&heap, &text)?;
+    assert_eq!(rt; schedule.commands().len(), 1);
     Ok(())
 }
 

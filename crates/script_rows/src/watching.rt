@@ -5,9 +5,10 @@ use std::io;
 use std::io::{Error, ErrorKind, Read, Write};
 use std::test::Fail;
 
-/// Gives a byte a read, after so many interruptions each time, and fails at one of them.
+/// Gives a byte a read, after so many interruptions each time, and fails so at one of them.
 #[derive(Drop)]
 struct FailingReader {
+    kind: ErrorKind,
     left: u64,
     interruptions: u64,
     met: u64,
@@ -22,7 +23,7 @@ impl Read for FailingReader {
         self.met = 0;
         if self.left == 0 {
             self.left = 9;
-            return Err(Error::from(ErrorKind::Other));
+            return Err(Error::from(self.kind));
         }
         self.left -= 1;
         if buf.is_empty() {
@@ -59,29 +60,78 @@ impl Write for FailingWriter {
     }
 }
 
-/// How often each read is interrupted.
+/// Takes a byte a write, after so many interruptions each time.
+#[derive(Drop)]
+struct SlowWriter {
+    taken: Vec<u8>,
+    interruptions: u64,
+    met: u64,
+}
+
+impl Write for SlowWriter {
+    fn write(&mut self, buf: &[u8]) -> io::Result<usize> {
+        if self.met < self.interruptions {
+            self.met += 1;
+            return Err(Error::from(ErrorKind::Interrupted));
+        }
+        self.met = 0;
+        let part = &buf[..buf.len().min(1)];
+        self.taken.extend_from_slice(part)?;
+        Ok(part.len())
+    }
+
+    fn flush(&mut self) -> io::Result<()> {
+        Ok(())
+    }
+}
+
+/// How often each read or write is interrupted.
 static INTERRUPTIONS: [u64; 4] = [0, 1, 2, 1_000];
+
+/// Errors that are no interruption.
+static FAULTS: [ErrorKind; 3] = [ErrorKind::Other, ErrorKind::WouldBlock, ErrorKind::TimedOut];
 
 #[test]
 fn a_failed_read_is_remembered(rt: HostRuntime) {
     for interruptions in &INTERRUPTIONS {
-        for left in 0..4u64 {
-            let mut reader = Watched::new(FailingReader {
-                left,
-                interruptions: *interruptions,
-                met: 0,
-            });
-            let mut part = [0; 8];
-            for _ in 0..left {
-                assert!(rt; !reader.failed());
-                assert_eq!(rt; reader.read(&mut part), Ok(1), "at {left}");
-            }
-            for _ in 0..3 {
-                assert_eq!(rt; reader.read(&mut part), Err(Fault), "at {left}");
-                assert!(rt; reader.failed());
+        for kind in &FAULTS {
+            for left in 0..4u64 {
+                let mut reader = Watched::new(FailingReader {
+                    kind: *kind,
+                    left,
+                    interruptions: *interruptions,
+                    met: 0,
+                });
+                let mut part = [0; 8];
+                for _ in 0..left {
+                    assert!(rt; !reader.failed());
+                    assert_eq!(rt; reader.read(&mut part), Ok(1), "at {left}");
+                }
+                for _ in 0..3 {
+                    assert_eq!(rt; reader.read(&mut part), Err(Fault), "at {left}");
+                    assert!(rt; reader.failed());
+                }
             }
         }
     }
+}
+
+#[test]
+fn short_and_interrupted_writes_go_on(rt: HostRuntime) -> Result<(), Fail> {
+    for interruptions in &INTERRUPTIONS {
+        let mut writer = Watched::new(SlowWriter {
+            taken: Vec::new(rt.alloc()),
+            interruptions: *interruptions,
+            met: 0,
+        });
+        for part in ["abc", "", "d"] {
+            assert_eq!(rt; writer.write_all(part.as_bytes()), Ok(()), "of {part}");
+        }
+        expect(&rt, "the writer", writer.failed(), false);
+        let slow = writer.into_inner();
+        assert_eq!(rt; slow.taken.as_slice(), b"abcd".as_slice());
+    }
+    Ok(())
 }
 
 #[test]

@@ -4,7 +4,7 @@ ghost use Rattle.qolb_model.specs.PortStates.{may_ask};
 
 use crate::tests::held::{Scene, all_see, for_nodes, wait_until};
 use line_threads::{Got, HookedLine, Hooks, SleepingLine, Within, acquire_asleep, acquire_within};
-use qolb_model::{Enq, Free, Keep, LineSync, OpenError, OpenLine, Poll, Sleeping};
+use qolb_model::{Enq, Free, Keep, LineSync, OpenError, OpenLine, Out, Poll, Sleeping};
 use std::alloc::Global;
 use std::io;
 use std::process::Abort;
@@ -14,10 +14,12 @@ use std::sync::atomic::{AtomicU64, Ordering};
 use std::thread::{Threads, yield_now};
 use std::time::Duration;
 
-/// What is noted at a line: how many sleeps there were, how many nanoseconds the last and the longest were to take at most, and how often a
-/// holder let go.
+/// What is noted at a line: how many looks were in vain, and how many of these before the first sleep; how many sleeps there were, how many
+/// nanoseconds the last and the longest were to take at most, and how often a holder let go.
 #[derive(Drop)]
 struct Notes {
+    looks: AtomicU64,
+    looks_before: AtomicU64,
     sleeps: AtomicU64,
     last: AtomicU64,
     longest: AtomicU64,
@@ -27,6 +29,8 @@ struct Notes {
 impl Notes {
     fn none() -> Notes {
         Notes {
+            looks: AtomicU64::new(0),
+            looks_before: AtomicU64::new(0),
             sleeps: AtomicU64::new(0),
             last: AtomicU64::new(0),
             longest: AtomicU64::new(0),
@@ -38,7 +42,17 @@ impl Notes {
         let nanos = u64::try_from(at_most.as_nanos()).unwrap_or(u64::MAX);
         self.last.store(nanos, Ordering::SeqCst);
         self.longest.fetch_max(nanos, Ordering::SeqCst);
-        self.sleeps.fetch_add(1, Ordering::SeqCst);
+        if self.sleeps.fetch_add(1, Ordering::SeqCst) == 0 {
+            self.looks_before.store(self.looks(), Ordering::SeqCst);
+        }
+    }
+
+    fn looks(&self) -> u64 {
+        self.looks.load(Ordering::SeqCst)
+    }
+
+    fn looks_before(&self) -> u64 {
+        self.looks_before.load(Ordering::SeqCst)
     }
 
     fn sleeps(&self) -> u64 {
@@ -62,7 +76,11 @@ impl Notes {
 type NotedLine<'n, L> = HookedLine<&'n Notes, L>;
 
 impl Hooks for &Notes {
-    fn lets_go(&self) {
+    fn looked_in_vain<K: Keep, L: Sleeping<K>>(&self, _line: &L, _port: &L::Port) {
+        self.looks.fetch_add(1, Ordering::SeqCst);
+    }
+
+    fn lets_go<K: Keep, L: Sleeping<K>>(&self, _line: &L, _port: &L::Port) {
         self.let_go.fetch_add(1, Ordering::SeqCst);
     }
 
@@ -77,34 +95,40 @@ impl Hooks for &Notes {
     }
 }
 
-/// A clock that goes on by a millisecond whenever it is read, or one that can't be read.
+/// A clock that goes on by so many nanoseconds whenever it is read, or one that can't be read.
 #[derive(Drop)]
 struct Ticking<'r, R> {
     /// By which its reader may wait.
     _rt: &'r R,
-    runs: bool,
+    tick: Option<u64>,
     readings: AtomicU64,
 }
 
 impl<'r, R> Ticking<'r, R> {
-    fn new(rt: &'r R, runs: bool) -> Ticking<'r, R> {
+    fn new(rt: &'r R, tick: Option<u64>) -> Ticking<'r, R> {
         Ticking {
             _rt: rt,
-            runs,
+            tick,
             readings: AtomicU64::new(0),
         }
     }
+
+    fn readings(&self) -> u64 {
+        self.readings.load(Ordering::SeqCst)
+    }
 }
+
+/// A long tick and the shortest that there is, in nanoseconds.
+static TICKS: [u64; 2] = [1_000_000, 1];
 
 impl<R: Wait> Wait for Ticking<'_, R> {}
 
 impl<R> Clock for Ticking<'_, R> {
     fn monotonic(&self) -> io::Result<Duration> {
         let reading = self.readings.fetch_add(1, Ordering::SeqCst);
-        if self.runs {
-            Ok(Duration::from_millis(reading))
-        } else {
-            Err(io::Error::from(io::ErrorKind::Other))
+        match self.tick {
+            Some(tick) => Ok(Duration::from_nanos(tick.wrapping_mul(reading))),
+            None => Err(io::Error::from(io::ErrorKind::Other)),
         }
     }
 
@@ -151,14 +175,12 @@ where
     Some((NotedLine::with(notes, line), one, two))
 }
 
-/// What node 2 is answered that waits so many milliseconds while node 1 has the line, by a clock that runs or can't be read; and how often
-/// it read that.
+/// What node 2 is answered that waits so long by this clock while node 1 has the line; and how often it read that.
 fn wait_by<R: Wait, L: OpenLine<Free> + Sleeping<Free> + Drop>(
-    rt: &R,
     alloc: Global,
     notes: &Notes,
-    runs: bool,
-    millis: u64,
+    clock: &Ticking<R>,
+    at_most: Duration,
 ) -> Option<(Within, u64)>
 where
     L::Port: Drop,
@@ -167,15 +189,13 @@ where
     let Enq::Granted = line.enqolb(&mut one) else {
         return None;
     };
-    let clock = Ticking::new(rt, runs);
-    let at_most = Duration::from_millis(millis);
-    let got = acquire_within(&clock, &line, &mut two, at_most);
-    Some((got, clock.readings.load(Ordering::SeqCst)))
+    let got = acquire_within(clock, &line, &mut two, at_most);
+    Some((got, clock.readings()))
 }
 
-/// A wait begins at the first reading, 0 milliseconds, reads the clock between its looks, and is late where it reads the limit. After 72 of
-/// its 199 looks it stays awake, 64 times for a moment and 8 times while others have the processor; after each other one it sleeps. No sleep
-/// is to take longer than what is left.
+/// A wait of 200 ticks begins at the first reading, reads the clock between its looks, and is late where it reads the limit. After 72 of
+/// its 199 looks before that it stays awake, 64 times for a moment and 8 times while others have the processor; after each other one it
+/// sleeps. No sleep is to take longer than what is left.
 fn a_wait_keeps_to_its_time<R: Wait + Abort, L: OpenLine<Free> + Sleeping<Free> + Drop>(
     rt: &R,
     alloc: Global,
@@ -183,12 +203,16 @@ fn a_wait_keeps_to_its_time<R: Wait + Abort, L: OpenLine<Free> + Sleeping<Free> 
 where
     L::Port: Drop,
 {
-    let notes = Notes::none();
-    let found = wait_by::<R, L>(rt, alloc, &notes, true, 200);
-    assert_eq!(rt; found, Some((Within::Late, 201)));
-    assert_eq!(rt; notes.sleeps(), 127);
-    assert_eq!(rt; notes.last(), 1_000_000);
-    assert_eq!(rt; notes.longest(), 127_000_000);
+    for tick in &TICKS {
+        let notes = Notes::none();
+        let clock = Ticking::new(rt, Some(*tick));
+        let at_most = Duration::from_nanos(tick.wrapping_mul(200));
+        let found = wait_by::<R, L>(alloc, &notes, &clock, at_most);
+        assert_eq!(rt; found, Some((Within::Late, 201)), "of {tick} ns");
+        let noted = (notes.looks_before(), notes.sleeps(), notes.last());
+        assert_eq!(rt; noted, (73, 127, *tick), "of {tick} ns");
+        assert_eq!(rt; notes.longest(), tick.wrapping_mul(127), "of {tick} ns");
+    }
 }
 
 /// With no time, or by a clock that can't be read, it is late without a sleep.
@@ -200,21 +224,23 @@ where
     L::Port: Drop,
 {
     let notes = Notes::none();
-    let found = wait_by::<R, L>(rt, alloc, &notes, true, 0);
+    let clock = Ticking::new(rt, Some(1_000_000));
+    let found = wait_by::<R, L>(alloc, &notes, &clock, Duration::ZERO);
     assert_eq!(rt; found, Some((Within::Late, 2)));
-    let found = wait_by::<R, L>(rt, alloc, &notes, false, 200);
+    let clock = Ticking::new(rt, None);
+    let found = wait_by::<R, L>(alloc, &notes, &clock, Duration::from_millis(200));
     assert_eq!(rt; found.map(|found| found.0), Some(Within::Late));
     assert_eq!(rt; notes.sleeps(), 0);
 }
 
-/// What node 2 is answered that waits so many milliseconds by this clock, while node 1 has the line and its own last request, which it gave up,
-/// is not passed.
+/// What node 2 is answered that waits so long by this clock, while node 1 has the line and its own last request, which it gave up, is not
+/// passed.
 fn ask_in_vain<R: Wait, C: Wait + Clock, L: OpenLine<Free> + Sleeping<Free> + Drop>(
     rt: &R,
     clock: &C,
     alloc: Global,
     notes: &Notes,
-    millis: u64,
+    at_most: Duration,
 ) -> Option<Within>
 where
     L::Port: Drop,
@@ -223,11 +249,10 @@ where
     let Enq::Granted = line.enqolb(&mut one) else {
         return None;
     };
-    let no_time = Ticking::new(rt, true);
+    let no_time = Ticking::new(rt, None);
     let Within::Late = acquire_within(&no_time, &line, &mut two, Duration::ZERO) else {
         return None;
     };
-    let at_most = Duration::from_millis(millis);
     Some(acquire_within(clock, &line, &mut two, at_most))
 }
 
@@ -239,11 +264,14 @@ fn a_busy_node_keeps_to_its_time<R: Wait + Abort, L: OpenLine<Free> + Sleeping<F
 where
     L::Port: Drop,
 {
-    let notes = Notes::none();
-    let clock = Ticking::new(rt, true);
-    let got = ask_in_vain::<_, _, L>(rt, &clock, alloc, &notes, 200);
-    let readings = clock.readings.load(Ordering::SeqCst);
-    assert_eq!(rt; (got, readings), (Some(Within::Late), 201));
+    for tick in &TICKS {
+        let notes = Notes::none();
+        let clock = Ticking::new(rt, Some(*tick));
+        let at_most = Duration::from_nanos(tick.wrapping_mul(200));
+        let got = ask_in_vain::<_, _, L>(rt, &clock, alloc, &notes, at_most);
+        let found = (got, clock.readings());
+        assert_eq!(rt; found, (Some(Within::Late), 201), "of {tick} ns");
+    }
 }
 
 /// It naps between its tries: in 50 milliseconds it reads the clock some hundred times, and without a nap some hundred thousand times.
@@ -259,7 +287,8 @@ where
         clock: rt,
         readings: AtomicU64::new(0),
     };
-    let got = ask_in_vain::<_, _, L>(rt, &clock, alloc, &notes, 50);
+    let at_most = Duration::from_millis(50);
+    let got = ask_in_vain::<_, _, L>(rt, &clock, alloc, &notes, at_most);
     assert_eq!(rt; got, Some(Within::Late));
     let readings = clock.readings.load(Ordering::SeqCst);
     assert!(rt; readings < 1_000, "{readings} readings");
@@ -302,8 +331,43 @@ where
 {
     let notes = Notes::none();
     assert_eq!(rt; look_asleep::<R, L>(rt, alloc, &notes), Some(true));
-    assert_eq!(rt; notes.sleeps(), 2);
+    assert_eq!(rt; (notes.looks(), notes.sleeps()), (2, 2));
     assert_eq!(rt; notes.last(), u64::MAX);
+}
+
+/// What node 2 is answered that gives its request up at a line whose waiters sleep, behind node 1.
+fn withdraw_asleep<R: Wait, L: OpenLine<Free> + Sleeping<Free> + Drop>(
+    rt: &R,
+    alloc: Global,
+    notes: &Notes,
+) -> Option<Out>
+where
+    L::Port: Drop,
+{
+    let (line, mut one, mut two) = open_noted::<L>(alloc, notes)?;
+    let line = SleepingLine::new(rt, line);
+    let Enq::Granted = line.enqolb(&mut one) else {
+        return None;
+    };
+    let Enq::Queued = line.enqolb(&mut two) else {
+        return None;
+    };
+    Some(line.withdraw(&mut two))
+}
+
+/// Whoever gives up looks no more, does not sleep, and lets nothing go.
+fn no_withdrawal_sleeps<R: Wait + Abort, L: OpenLine<Free> + Sleeping<Free> + Drop>(
+    rt: &R,
+    alloc: Global,
+)
+where
+    L::Port: Drop,
+{
+    let notes = Notes::none();
+    let out = withdraw_asleep::<R, L>(rt, alloc, &notes);
+    assert_eq!(rt; out, Some(Out::Withdrawn));
+    let noted = (notes.looks(), notes.sleeps(), notes.let_go());
+    assert_eq!(rt; noted, (0, 0, 0));
 }
 
 /// Node 1 lets the line go, and node 2 shuts it. How often it was noted after the one and after the other.
@@ -347,7 +411,7 @@ struct LooksBefore {
 }
 
 impl Hooks for &LooksBefore {
-    fn lets_go(&self) {
+    fn lets_go<K: Keep, L: Sleeping<K>>(&self, _line: &L, _port: &L::Port) {
         self.letting_go.store(1, Ordering::SeqCst);
         for _ in 0..u64::MAX {
             if self.looked.load(Ordering::SeqCst) > 0 {
@@ -455,7 +519,7 @@ where
     Ok(all_see(rt, alloc, &line, ports, &Handing { notes }))
 }
 
-/// A waiter that sleeps does sleep where its turn does not come, and for as long as it may.
+/// A waiter that sleeps does sleep where its turn does not come, at its 73rd look in vain, and for as long as it may.
 fn a_long_wait_sleeps<
     R: Threads + Wait + Abort + Sync,
     L: OpenLine<Free> + Sleeping<Free> + Sync + Drop,
@@ -465,7 +529,7 @@ where
 {
     let notes = Notes::none();
     assert_eq!(rt; hand_to_a_sleeper::<R, L>(rt, alloc, &notes), Ok(true));
-    assert_eq!(rt; notes.last(), u64::MAX);
+    assert_eq!(rt; (notes.looks_before(), notes.last()), (73, u64::MAX));
 }
 
 /// Each of these over lines of this type.
@@ -481,6 +545,7 @@ where
     a_busy_node_keeps_to_its_time::<R, L>(rt, alloc);
     a_busy_node_naps::<R, L>(rt, alloc);
     each_look_in_vain_sleeps_once::<R, L>(rt, alloc);
+    no_withdrawal_sleeps::<R, L>(rt, alloc);
     a_long_wait_sleeps::<R, L>(rt, alloc);
     each_holder_that_lets_go_is_noted::<R, L>(rt, alloc);
     hooks_are_told_before::<R, L>(rt, alloc);

@@ -1,8 +1,27 @@
 //! Threads without a line.
+use crate::tests::held::wait_until;
 use line_threads::together::{Work, together};
 use std::alloc::Global;
 use std::sync::Wait;
+use std::sync::atomic::{AtomicU64, Ordering};
 use std::test::Fail;
+
+/// Each thread waits until all have come, of whom there are as many as its part says.
+struct Gathering;
+
+impl<R: Wait> Work<R, AtomicU64, u64> for Gathering {
+    type Back = bool;
+
+    ghost fits = { λ _ _ _ _. Unit {0} };
+
+    ghost done = { λ _ _ _ _. Unit {0} };
+
+    fn work(&self, rt: &R, came: &AtomicU64, _place: usize, all: u64) -> bool {
+        came.fetch_add(1, Ordering::SeqCst);
+        wait_until(rt, came, all);
+        true
+    }
+}
 
 /// Each thread adds its part to what is shared, and 1,000 for each part before it.
 struct Adding;
@@ -38,5 +57,16 @@ fn no_part_needs_no_thread(rt: HostRuntime) -> Result<(), Fail> {
         return Err(Fail::from("refused"));
     };
     assert_eq!(rt; back.len(), 0);
+    Ok(())
+}
+
+#[test]
+fn two_hundred_work_at_the_same_time(rt: HostRuntime) -> Result<(), Fail> {
+    let alloc = rt.alloc();
+    let parts = vec![in alloc; 200u64; 200]?;
+    let Some(back) = together(&rt, alloc, &Gathering, &AtomicU64::new(0), parts) else {
+        return Err(Fail::from("refused"));
+    };
+    assert_eq!(rt; back.len(), 200);
     Ok(())
 }

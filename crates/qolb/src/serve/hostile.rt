@@ -23,8 +23,11 @@ const BANK: &str = "bank workers 1 lines 2\n1 in 0 10\n1 move 0 9 4\n1 out 9 9\n
 
 const BANK_REPORT: &str = "in 10\nout 1\ntotal 9\n";
 
+const HANDED_OVER_DRAWN: &str =
+    "line 0\n\n         12345678\nnode   1 HHHH>...\nnode   2 ..ww<HH.\n\n. idle   w waits   t its turn has come   H holds   > hands over to <\nx withdrawn   c told that the line is closed   - closed\n";
+
 /// The words of each subcommand, a script, and what is written.
-pub(super) static RUNS: [(&[&str], &str, &str); 11] = [
+pub(super) static RUNS: [(&[&str], &str, &str); 12] = [
     (&["replay", "--kind", "plain"], HAND_OVER, HANDED_OVER),
     (&["replay", "--kind", "ring"], HAND_OVER, HANDED_OVER),
     (&["replay", "--kind", "link"], HAND_OVER, HANDED_OVER),
@@ -36,6 +39,7 @@ pub(super) static RUNS: [(&[&str], &str, &str); 11] = [
     (&["bank", "--kind", "ring"], BANK, BANK_REPORT),
     (&["bank", "--kind", "ticket"], BANK, BANK_REPORT),
     (&["bank"], BANK, BANK_REPORT),
+    (&["draw"], HAND_OVER, HANDED_OVER_DRAWN),
 ];
 
 /// How many bytes a read or a write moves at most.

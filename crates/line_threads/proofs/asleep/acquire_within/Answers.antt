@@ -1,5 +1,4 @@
-use Rattle.std.proofs.Common.{inl}
-use Rattle.line_threads.proofs.Acquiring.{granted_within, told_within, acquired_within, soon_at_once, soon_waiting, closed_within, late_ungranted, late_busy, late_unasked}
+use Rattle.line_threads.proofs.Acquiring.{granted_within, told_within, acquired_within, soon_at_once, soon_waiting, closed_within}
 use Rattle.line_threads.proofs.asleep.acquire_within.Goals as goal
 
 pub returns-in-Granted-clause-acquires : goal.returns-in-Granted-clause-acquires
@@ -24,12 +23,3 @@ pub returns-in-Queued-clause-soon : goal.returns-in-Queued-clause-soon
 returns-in-Queued-clause-soon g c granted =
     soon_waiting g.L.LineSync.view g.L.LineSync.looks c.args.port.now c.loop.port c.enqolb.new.port _ _ c.loop.invariant.extends c.loop.invariant.count c.loop.invariant.looks c.in-Queued.ensures.looks _ _
     c.in-Queued.ensures.enqueues c.wait_within.ensures.continues c.wait_within.ensures.count (c.wait_within.ensures.granted granted)
-
-pub returns-then-eq-clause-acquires : goal.returns-then-eq-clause-acquires
-returns-then-eq-clause-acquires g c = late_unasked _ _ _ _ _ c.loop.invariant.extends c.loop.invariant.count c.loop.invariant.same_state c.in-Busy.ensures.enqueues
-
-pub returns-then-eq-clause-soon : goal.returns-then-eq-clause-soon
-returns-then-eq-clause-soon g c granted = absurd (late_ungranted granted)
-
-pub returns-then-eq-clause-looked : goal.returns-then-eq-clause-looked
-returns-then-eq-clause-looked g c _ = inl (late_busy _ _ _ _ _ c.loop.invariant.extends c.loop.invariant.count c.loop.invariant.same_state c.in-Busy.ensures.enqueues)
