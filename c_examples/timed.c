@@ -1,5 +1,5 @@
-/* A timed lock: threads share a line that guards data of the program's own, and give up where it takes too long. Then the answers of the calls that
- * wait. Prints nothing but what went wrong.
+/* A timed lock: threads share a line that guards data of the program's own, and give up where it takes too long. Then who is told that the line is
+ * closed, and the answers of the calls that wait. Prints nothing but what went wrong.
  *
  * The thread sanitizer sees the data, and must be quiet. Built with -DUNGUARDED each thread has a line of its own, so that nothing guards the data,
  * and then it must not be. */
@@ -9,6 +9,7 @@
 #include <stdio.h>
 #include <string.h>
 #include <time.h>
+#include <unistd.h>
 
 enum { THREADS = 4, ROUNDS = 5000 };
 
@@ -35,6 +36,13 @@ struct worker {
 
 static struct worker workers[THREADS];
 
+/* What must not be. The thread lets go of the line before it ends, as the others would wait for it. */
+static void *went_wrong(struct worker *me, uint32_t got) {
+    me->wrong = got;
+    if (qolb_withdraw(&me->node) != QOLB_WITHDRAWN) qolb_deqolb(&me->node);
+    return NULL;
+}
+
 static void *work(void *argument) {
     struct worker *me = argument;
     int self = (int)(me - workers);
@@ -43,23 +51,18 @@ static void *work(void *argument) {
                        : round % 3 == 1 ? qolb_acquire_within(&me->node, 1000000)
                                         : qolb_acquire(&me->node);
         if (got == QOLB_BUSY || got == QOLB_LATE) {
-            /* Who gave up has no turn, also where it came at that moment: the line would stay with it. */
-            if (qolb_state(&me->node) == QOLB_STATE_HOLDING) {
-                me->wrong = got;
-                return NULL;
-            }
+            /* Who gave up has no turn, also where it came at that moment, and none to come: the line would stay with it. */
+            uint32_t state = qolb_state(&me->node);
+            if (state == QOLB_STATE_HOLDING || state == QOLB_STATE_QUEUED) return went_wrong(me, got);
             me->gave_up++;
             continue;
         }
-        if (got != QOLB_GRANTED) {
-            me->wrong = got;
-            return NULL;
-        }
+        if (got != QOLB_GRANTED) return went_wrong(me, got);
         guarded.turns++;
         guarded.by[self]++;
         memset(guarded.last, 'a' + self, sizeof guarded.last);
         me->had++;
-        if ((got = qolb_deqolb(&me->node)) != QOLB_DONE) me->wrong = got;
+        if ((got = qolb_deqolb(&me->node)) != QOLB_DONE) return went_wrong(me, got);
     }
     return NULL;
 }
@@ -97,6 +100,40 @@ static int share(uint32_t kind) {
 }
 
 #ifndef UNGUARDED
+/* The last turn: it writes what the line guards, and shuts. */
+static void *shuts(void *argument) {
+    guarded.turns = 7;
+    return qolb_shut(argument) == QOLB_DONE ? NULL : "not shut";
+}
+
+/* Who is told that the line is closed sees what its last holder wrote, by the line alone: the thread is joined after that. In a list the news may
+ * come by the second half of asking. */
+static int told_sees(uint32_t kind, int in_halves) {
+    qolb_bytes zeros = {{0}};
+    qolb_node n[2] = {{0}};
+    pthread_t id;
+    void *wrong;
+    memset(&guarded, 0, sizeof guarded);
+    WANT(qolb_open(kind, 3, 2, QOLB_NO_LEASE, &zeros, n, 2), QOLB_DONE);
+    WANT(qolb_acquire(&n[0]), QOLB_GRANTED);
+    if (in_halves) WANT(qolb_prepend(&n[1]), QOLB_LINKING);
+    WANT(pthread_create(&id, NULL, shuts, &n[0]), 0);
+    if (in_halves) {
+        struct timespec nap = {0, 20000000}; /* so that the line is closed, most of the time, before it links */
+        nanosleep(&nap, NULL);
+        uint32_t got = qolb_link(&n[1]);
+        while (got == QOLB_QUEUED || got == QOLB_WAITING) got = qolb_poll(&n[1]);
+        WANT(got, QOLB_CLOSED);
+    } else {
+        WANT(qolb_acquire(&n[1]), QOLB_CLOSED);
+    }
+    WANT(guarded.turns, 7);
+    WANT(pthread_join(id, &wrong), 0);
+    WANT(wrong == NULL, 1);
+    for (int k = 0; k < 2; k++) WANT(qolb_close(&n[k]), QOLB_DONE);
+    return 0;
+}
+
 static double now(void) {
     struct timespec at;
     clock_gettime(CLOCK_MONOTONIC, &at);
@@ -157,11 +194,25 @@ static int answers(uint32_t kind) {
     return 0;
 }
 
+#define NAMED(answer) WANT(strcmp(qolb_answer_name(answer), #answer), 0)
+
 static int names(void) {
-    WANT(strcmp(qolb_answer_name(QOLB_DONE), "QOLB_DONE"), 0);
-    WANT(strcmp(qolb_answer_name(QOLB_MISUSE), "QOLB_MISUSE"), 0);
-    WANT(strcmp(qolb_answer_name(QOLB_OCCUPIED), "QOLB_OCCUPIED"), 0);
-    WANT(strcmp(qolb_answer_name(QOLB_LATE), "QOLB_LATE"), 0);
+    NAMED(QOLB_DONE);
+    NAMED(QOLB_GRANTED);
+    NAMED(QOLB_QUEUED);
+    NAMED(QOLB_WAITING);
+    NAMED(QOLB_LINKING);
+    NAMED(QOLB_WITHDRAWN);
+    NAMED(QOLB_CLOSED);
+    NAMED(QOLB_BUSY);
+    NAMED(QOLB_MISUSE);
+    NAMED(QOLB_NO_MEMORY);
+    NAMED(QOLB_BAD_NODES);
+    NAMED(QOLB_BAD_LEASE);
+    NAMED(QOLB_BAD_KIND);
+    NAMED(QOLB_TOO_FEW);
+    NAMED(QOLB_OCCUPIED);
+    NAMED(QOLB_LATE);
     WANT(strcmp(qolb_answer_name(16), "?"), 0);
     WANT(qolb_version(), QOLB_VERSION);
     return 0;
@@ -169,11 +220,12 @@ static int names(void) {
 #endif
 
 int main(void) {
+    alarm(300); /* where a turn is lost, who waits for it does not end */
     for (uint32_t kind = QOLB_RING; kind <= QOLB_TICKET; kind++)
         if (share(kind)) return 1;
 #ifndef UNGUARDED
     for (uint32_t kind = QOLB_RING; kind <= QOLB_TICKET; kind++)
-        if (answers(kind)) return 1;
+        if (answers(kind) || told_sees(kind, 0) || (kind == QOLB_LIST && told_sees(kind, 1))) return 1;
     if (names()) return 1;
 #endif
     return 0;

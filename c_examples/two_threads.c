@@ -1,9 +1,11 @@
-/* Two threads add to one lane of a line of each kind; then every mistake is made that the library must answer. Prints nothing but
- * what went wrong. */
+/* Two threads add to one lane of a line of each kind; then every mistake is made that the library must answer, and a line of each number of nodes is
+ * opened. Prints nothing but what went wrong. */
+#define _POSIX_C_SOURCE 200809L
 #include <pthread.h>
 #include <qolb.h>
 #include <stdio.h>
 #include <string.h>
+#include <unistd.h>
 
 enum { THREADS = 2, ROUNDS = 20000 };
 
@@ -92,6 +94,27 @@ static int refusals(void) {
     WANT(nodes[2].own == own, 1);
     for (int k = 0; k < 3; k++) WANT(qolb_close(&nodes[k]), QOLB_DONE);
     for (int k = 0; k < 3; k++) WANT(nodes[k].own == NULL, 1);
+    return 0;
+}
+
+/* Where memory is there, a line of each number of nodes opens, under short leases and long ones, with large labels, and with more handles than
+ * it needs; a line of 200 under each of the leases. */
+static int opens(uint32_t kind) {
+    static const uint64_t leases[] = {1, UINT32_MAX, (uint64_t)UINT32_MAX + 1, (uint64_t)1 << 63, UINT64_MAX - 1, QOLB_NO_LEASE};
+    static qolb_node nodes[1000];
+    qolb_bytes zeros = {{0}};
+    for (uint64_t many = 1; many <= 200; many++)
+        for (uint64_t k = 0; k < 6; k++) {
+            if (many < 200 && k != many % 6) continue;
+            uint64_t label = k % 2 ? UINT64_MAX - many : many << 32;
+            WANT(qolb_open(kind, label, many, leases[k], &zeros, nodes, k < 3 ? 1000 : many), QOLB_DONE);
+            WANT(nodes[many].own == NULL, 1);
+            WANT(qolb_enqolb(&nodes[many - 1]), QOLB_GRANTED);
+            WANT(qolb_turns_left(&nodes[many - 1]), leases[k]);
+            WANT(qolb_label(&nodes[many - 1]), label);
+            WANT(qolb_deqolb(&nodes[many - 1]), QOLB_DONE);
+            for (uint64_t n = 0; n < many; n++) WANT(qolb_close(&nodes[n]), QOLB_DONE);
+        }
     return 0;
 }
 
@@ -194,7 +217,8 @@ static int halves(void) {
 }
 
 int main(void) {
+    alarm(300); /* where a turn is lost, who waits for it does not end */
     for (uint32_t kind = QOLB_RING; kind <= QOLB_TICKET; kind++)
-        if (count(kind) || misuse(kind)) return 1;
+        if (count(kind) || misuse(kind) || opens(kind)) return 1;
     return refusals() || empty_handle() || halves();
 }

@@ -6,6 +6,7 @@
 #include <cstring>
 #include <mutex>
 #include <thread>
+#include <unistd.h>
 #include <vector>
 
 namespace {
@@ -114,9 +115,63 @@ bool is_assigned(qolb_kind kind) {
     return b.acquire_for(1min) == qolb::Got::granted;
 }
 
+// What `with` makes of the bytes is written, all of them; a guard writes the bytes of its mask alone; and one that shuts closes the line.
+bool is_written(qolb_kind kind) {
+    auto opened = qolb::Node::open(kind, 1, 2, qolb_bytes{});
+    auto &a = opened.second[0], &b = opened.second[1];
+    qolb::Got got = a.with([](qolb_bytes &bytes) { std::memset(bytes.byte, 0xa5, sizeof bytes.byte); });
+    if (got != qolb::Got::granted || a.state() != QOLB_STATE_IDLE) return false;
+    qolb::Guard turn(b);
+    for (std::uint64_t k = 0; k < 8; k++)
+        if (turn.lane(k) != 0xa5a5a5a5a5a5a5a5) return false;
+    turn.write(2, qolb_bytes{});
+    if (turn.lane(0) != 0xa5a5a5a5a5a500a5 || turn.lane(1) != 0xa5a5a5a5a5a5a5a5) return false;
+    // A guard that was moved away is over, and the other has its turn.
+    qolb::Guard moved(std::move(turn));
+    if (!throws<qolb::Misuse>([&] { (void)turn.lane(0); }) || moved.lane(7) != 0xa5a5a5a5a5a5a5a5) return false;
+    moved.shut();
+    if (!throws<qolb::Misuse>([&] { moved.shut(); })) return false;
+    return b.state() == QOLB_STATE_SHUT && a.try_acquire() == qolb::Got::closed;
+}
+
+// A node that is destroyed while it waits is withdrawn, also where it has not linked yet, and one whose turn has come meanwhile releases.
+bool waiter_is_destroyed(qolb_kind kind) {
+    auto opened = qolb::Node::open(kind, 1, 4, qolb_bytes{});
+    auto &nodes = opened.second;
+    if (nodes[0].acquire() != qolb::Got::granted || nodes[1].enqolb() != QOLB_QUEUED) return false;
+    if (kind == QOLB_LIST ? nodes[2].prepend() != QOLB_LINKING : nodes[2].enqolb() != QOLB_QUEUED) return false;
+    nodes[2] = qolb::Node();
+    nodes[1] = qolb::Node();
+    if (nodes[0].deqolb() != QOLB_DONE || nodes[3].try_acquire() != qolb::Got::granted) return false;
+    if (nodes[0].enqolb() != QOLB_QUEUED || nodes[3].deqolb() != QOLB_DONE) return false;
+    nodes[0] = qolb::Node(); // its turn has come, and it has not looked
+    return nodes[3].try_acquire() == qolb::Got::granted;
+}
+
+// A time below zero is no time, and the longest is as long as it takes: while the node is busy, and while it waits.
+bool times_are_taken(qolb_kind kind) {
+    using namespace std::chrono_literals;
+    auto opened = qolb::Node::open(kind, 1, 2, qolb_bytes{});
+    auto &a = opened.second[0], &b = opened.second[1];
+    if (a.acquire() != qolb::Got::granted) return false;
+    if (b.acquire_for(-1ns) != qolb::Got::late || b.acquire_for(std::chrono::hours::min()) != qolb::Got::late) return false;
+    if (b.try_lock_until(std::chrono::steady_clock::now() - 1h)) return false;
+    for (bool by_hours : {false, true}) {
+        std::thread back([&] {
+            std::this_thread::sleep_for(5ms);
+            a.unlock();
+        });
+        qolb::Got got = by_hours ? b.acquire_for(std::chrono::hours::max()) : b.acquire_for(std::chrono::nanoseconds::max());
+        back.join();
+        if (got != qolb::Got::granted || b.deqolb() != QOLB_DONE || a.acquire() != qolb::Got::granted) return false;
+    }
+    return true;
+}
+
 } // namespace
 
 int main() {
+    alarm(300); // where a turn is lost, who waits for it does not end
     auto [refused, none] = qolb::Node::open(QOLB_RING, 1, 201, qolb_bytes{});
     if (refused != QOLB_BAD_NODES || !none.empty()) return std::puts("201 nodes were opened"), 1;
     for (qolb_kind kind : {QOLB_RING, QOLB_LIST, QOLB_TICKET}) {
@@ -124,6 +179,9 @@ int main() {
         if (!work_throws(kind)) return std::puts("a holder whose work throws"), 1;
         if (!is_assigned(kind)) return std::puts("a holder that is assigned to"), 1;
         if (!is_lock(kind)) return std::puts("the node as a lock"), 1;
+        if (!is_written(kind)) return std::puts("what a turn writes"), 1;
+        if (!waiter_is_destroyed(kind)) return std::puts("a waiter that is destroyed"), 1;
+        if (!times_are_taken(kind)) return std::puts("times below zero and without end"), 1;
     }
     return 0;
 }

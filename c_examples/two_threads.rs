@@ -118,7 +118,36 @@ fn guards(kind: Kind) {
     assert_eq!(a.try_acquire(), Answer::Closed);
 }
 
+/// A node that is dropped while it waits is withdrawn, also where it has not linked yet, and one whose turn has come meanwhile releases.
+fn waiter_is_dropped(kind: Kind) {
+    let mut nodes = qolb::open(kind, 1, 4, None, &Bytes([0; 64])).unwrap();
+    let mut last = nodes.pop().unwrap();
+    let mut third = nodes.pop().unwrap();
+    let mut second = nodes.pop().unwrap();
+    let mut first = nodes.pop().unwrap();
+    assert_eq!(first.acquire(), Answer::Granted);
+    assert_eq!(second.enqolb(), Answer::Queued);
+    if kind == Kind::List {
+        assert_eq!(third.prepend(), Answer::Linking);
+    } else {
+        assert_eq!(third.enqolb(), Answer::Queued);
+    }
+    drop(third);
+    drop(second);
+    assert_eq!(first.deqolb(), Answer::Done);
+    assert_eq!(last.try_acquire(), Answer::Granted);
+    assert_eq!(first.enqolb(), Answer::Queued);
+    assert_eq!(last.deqolb(), Answer::Done);
+    drop(first); // its turn has come, and it has not looked
+    assert_eq!(last.try_acquire(), Answer::Granted);
+}
+
+unsafe extern "C" {
+    safe fn alarm(seconds: u32) -> u32;
+}
+
 fn main() {
+    alarm(300); // where a turn is lost, who waits for it does not end
     assert_eq!(qolb::open(Kind::Ring, 1, 0, None, &Bytes([0; 64])).err(), Some(Answer::BadNodes));
     assert_eq!(qolb::open(Kind::List, 1, 2, Some(0), &Bytes([0; 64])).err(), Some(Answer::BadLease));
     let kinds = [Kind::Ring, Kind::List, Kind::Ticket];
@@ -135,6 +164,7 @@ fn main() {
     for kind in kinds {
         panics_while_holding(kind);
         guards(kind);
+        waiter_is_dropped(kind);
     }
     assert_eq!(qolb::version(), 10200);
 }

@@ -1,5 +1,5 @@
 //! A node of a line that several share, for any kind of line.
-ghost use Rattle.std.specs.Prelude.{◌≡◌, ◌≢◌, ℕ, ◌<◌, true, false, Some, MatchResult};
+ghost use Rattle.std.specs.Prelude.{◌≡◌, ◌≢◌, ℕ, ◌+◌, ◌<◌, true, false, Some, MatchResult};
 ghost use Rattle.std.specs.Arc.{arc_value};
 ghost use Rattle.qolb_model.specs.Calls.{Enqueues, Prepends, LinksUp, Polls, Withdraws, Releases, TellEachOther};
 ghost use Rattle.qolb_model.specs.Leases.{turns_left};
@@ -71,7 +71,7 @@ impl<L: LineSync<Free>> Node<L> {
     /// `Misuse` where the node waits or holds.
     pub fn enqolb(&mut self) -> Result<Enq, Misuse>
         ensures line { self.new.line ≡ self.old.line }
-        ensures enqueues { MatchResult result (λ answer. (may_ask (L.view self.old.port).state ≡ true) × Enqueues anything (L.view self.old.port) (L.view self.new.port) (L.turn self.new.port) answer) (λ _. (may_ask (L.view self.old.port).state ≢ true) × (self.new ≡ self.old)) }
+        ensures enqueues { MatchResult result (λ answer. (may_ask (L.view self.old.port).state ≡ true) × Enqueues anything (L.view self.old.port) (L.view self.new.port) (L.turn self.new.port) answer × (L.looks self.new.port ≡ L.looks self.old.port)) (λ _. (may_ask (L.view self.old.port).state ≢ true) × (self.new ≡ self.old)) }
     {
         if self.state().may_ask() {
             Ok(self.line.enqolb(&mut self.port))
@@ -87,7 +87,7 @@ impl<L: LineSync<Free>> Node<L> {
     /// `Misuse` where the node does not wait.
     pub fn poll(&mut self) -> Result<Poll, Misuse>
         ensures line { self.new.line ≡ self.old.line }
-        ensures polls { MatchResult result (λ answer. ((L.view self.old.port).state ≡ PortState.Queued) × Polls anything (L.view self.old.port) (L.view self.new.port) (L.turn self.new.port) answer) (λ _. ((L.view self.old.port).state ≢ PortState.Queued) × (self.new ≡ self.old)) }
+        ensures polls { MatchResult result (λ answer. ((L.view self.old.port).state ≡ PortState.Queued) × Polls anything (L.view self.old.port) (L.view self.new.port) (L.turn self.new.port) answer × (L.looks self.new.port ≡ L.looks self.old.port + 1)) (λ _. ((L.view self.old.port).state ≢ PortState.Queued) × (self.new ≡ self.old)) }
     {
         if self.state() != PortState::Queued {
             return Err(Misuse);
@@ -117,7 +117,7 @@ impl<L: LineSync<Free>> Node<L> {
     /// `Misuse` where the node does not wait.
     pub fn withdraw(&mut self) -> Result<Out, Misuse>
         ensures line { self.new.line ≡ self.old.line }
-        ensures withdraws { MatchResult result (λ answer. ((L.view self.old.port).state ≡ PortState.Queued) × Withdraws anything (L.view self.old.port) (L.view self.new.port) (L.turn self.new.port) answer) (λ _. ((L.view self.old.port).state ≢ PortState.Queued) × (self.new ≡ self.old)) }
+        ensures withdraws { MatchResult result (λ answer. ((L.view self.old.port).state ≡ PortState.Queued) × Withdraws anything (L.view self.old.port) (L.view self.new.port) (L.turn self.new.port) answer × (L.looks self.new.port ≡ L.looks self.old.port)) (λ _. ((L.view self.old.port).state ≢ PortState.Queued) × (self.new ≡ self.old)) }
     {
         if self.state() != PortState::Queued {
             return Err(Misuse);
@@ -223,7 +223,7 @@ impl Node<List> {
     /// `Misuse` where the node waits or holds.
     pub fn prepend(&mut self) -> Result<Prep, Misuse>
         ensures line { self.new.line ≡ self.old.line }
-        ensures prepends { MatchResult result (λ answer. (may_ask self.old.port.view.state ≡ true) × Prepends anything self.old.port.view self.new.port.view self.new.port.turn answer) (λ _. (may_ask self.old.port.view.state ≢ true) × (self.new ≡ self.old)) }
+        ensures prepends { MatchResult result (λ answer. (may_ask self.old.port.view.state ≡ true) × Prepends anything self.old.port.view self.new.port.view self.new.port.turn answer × (self.new.port.looks ≡ self.old.port.looks)) (λ _. (may_ask self.old.port.view.state ≢ true) × (self.new ≡ self.old)) }
     {
         if !self.state().may_ask() {
             return Err(Misuse);
@@ -238,7 +238,7 @@ impl Node<List> {
     /// `Misuse` where the node has no request to link.
     pub fn link(&mut self) -> Result<Enq, Misuse>
         ensures line { self.new.line ≡ self.old.line }
-        ensures links { MatchResult result (λ answer. (self.old.port.view.state ≡ PortState.Linking) × LinksUp anything self.old.port.view self.new.port.view self.new.port.turn answer) (λ _. (self.old.port.view.state ≢ PortState.Linking) × (self.new ≡ self.old)) }
+        ensures links { MatchResult result (λ answer. (self.old.port.view.state ≡ PortState.Linking) × LinksUp anything self.old.port.view self.new.port.view self.new.port.turn answer × (self.new.port.looks ≡ self.old.port.looks)) (λ _. (self.old.port.view.state ≢ PortState.Linking) × (self.new ≡ self.old)) }
     {
         if self.state() != PortState::Linking {
             return Err(Misuse);
