@@ -49,7 +49,7 @@ def tried(file, room):
     test = head["Test"]
     if re.search(rf"^test {re.escape(test)} \.\.\. ok$", said, re.M):
         return "PASSES", test
-    if f"test {test} ... FAILED" in said or re.search(r"had not ended|run=(?!ended)", said) or run.returncode == 124:
+    if f"test {test} ... FAILED" in said or re.search(r"had not ended|run=(?!ended|none)", said) or run.returncode == 124:
         return "refused", test
     return "BROKEN", (said.strip().splitlines() or ["nothing was said"])[-1][:200]
 

@@ -102,17 +102,25 @@ node   1 H
 }
 
 #[test]
-fn draws_the_largest_script(rt: HostRuntime) -> Result<(), Fail> {
-    let mut script = String::from_str(rt.alloc(), "nodes 200 lines 8\nenq 200 7\n")?;
+fn draws_the_last_of_200_nodes(rt: HostRuntime) -> Result<(), Fail> {
+    let script = "nodes 200 lines 1\nenq 200 0\n";
+    let picture = drawn(rt.alloc(), script, Form::Text)?;
+    assert!(rt; picture.contains("\nnode 200 H\n"));
+    Ok(())
+}
+
+#[test]
+fn draws_the_longest_script(rt: HostRuntime) -> Result<(), Fail> {
+    let mut script = String::from_str(rt.alloc(), "nodes 2 lines 8\nenq 2 7\n")?;
     for _ in 2..100_000 {
-        script.push_str("show 200 7\n")?;
+        script.push_str("show 2 7\n")?;
     }
     script.push_str("poll 1 7\n")?;
     let picture = drawn(rt.alloc(), script.as_str(), Form::Text)?;
     let mut rows = 0u32;
     let mut letters = 0usize;
     for line in picture.lines() {
-        if let Some(held) = line.strip_prefix("node 200 ") {
+        if let Some(held) = line.strip_prefix("node   2 ") {
             rows = rows.saturating_add(1);
             letters = letters.saturating_add(held.len());
         }

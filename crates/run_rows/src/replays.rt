@@ -31,8 +31,8 @@ fn refused(alloc: Global, script: &str, kind: Kind) -> (Option<ReplayError>, usi
     (done.err(), text.len())
 }
 
-/// How long a line of 64 bytes in hexadecimal digits is, with its end.
-const SHOWN: usize = 129;
+/// How long the answer to a `show` is: the digits of 64 bytes, and a newline.
+const ROW_OF_DIGITS: usize = 129;
 
 #[test]
 fn the_longest_reply_is_whole(rt: HostRuntime) -> Result<(), Fail> {
@@ -46,7 +46,7 @@ fn the_longest_reply_is_whole(rt: HostRuntime) -> Result<(), Fail> {
     assert!(rt; reply.ends_with(ends));
     assert_eq!(rt;
         reply.len(),
-        "granted\n".len() + 99_999 * SHOWN + ends.len()
+        "granted\n".len() + 99_999 * ROW_OF_DIGITS + ends.len()
     );
     Ok(())
 }
