@@ -1,5 +1,6 @@
 #!/usr/bin/env python3
-"""Tries each must-fail edit of the crates that are named (all, if none is) and says by what it was refused.
+"""Tries each edit of the crates that are named (all, if none is), in must-fail/ of the crate and in tools/wrong_bodies/edits/CRATE, and says by
+what it was refused. The gate tries those in must-fail/ alone.
 
 An edit shows something only where the prover refuses it by a goal: what the changed function promises, what a call in it requires, or what a
 caller of it relies on. An edit that only renames goals is refused because answers name goals that are gone, which a harmless rewrite of the
@@ -40,7 +41,8 @@ NAMES_ALONE = re.compile(r"is not in scope|has no field|has no `|was not admitte
 
 
 def edits_of(crate):
-    return sorted((crate / "must-fail").glob("*.edit"))
+    moved = crate.parent.parent / "tools" / "wrong_bodies" / "edits" / crate.name
+    return sorted([*(crate / "must-fail").glob("*.edit"), *moved.glob("*.edit")])
 
 
 def apply_edit(crate, edit):
@@ -186,7 +188,7 @@ def main():
                 kind, where = verdict(log, goals)
                 control = harmless(edit) if kind in ("search", "new") else None
                 if control is not None:
-                    path = crate / "must-fail" / "control"
+                    path = pathlib.Path(room) / "control"
                     path.write_text(control)
                     log = tried(crate, path, args.jobs)
                     if re.search(r"^logic=", log, re.M):

@@ -6,6 +6,7 @@ mod did;
 mod late;
 mod lines;
 mod named;
+mod script;
 
 use crate::row::Counted;
 use link_line::LinkLine;
@@ -35,19 +36,14 @@ where
 {
     asleep::a_waiter_that_has_slept_is_counted_no_more::<R, L>(rt, alloc);
     lines::lines_have_nodes_and_turns::<R, L>(rt, alloc);
+    script::each_script::<R, L>(rt, alloc);
     lines::a_release_passes_those_who_withdrew::<R, L>(rt, alloc, steps.few)?;
-    lines::a_node_asks_again_once_it_was_passed::<R, L>(rt, alloc)?;
-    lines::who_withdraws_at_its_turn_is_granted::<R, L>(rt, alloc)?;
-    lines::all_are_told_of_a_closed_line::<R, L>(rt, alloc)?;
-    lines::the_last_turn_of_a_lease_closes_the_line::<R, L>(rt, alloc)?;
-    lines::a_line_without_a_lease_counts_no_turns::<R, L>(rt, alloc)?;
     lines::one_node_takes_300_turns::<R, L>(rt, alloc)?;
     lines::a_release_passes_all_other_nodes_of_200::<R, L>(rt, alloc, steps.many)?;
-    lines::finish_wants_a_quiet_port_of_each_node::<R, L>(rt, alloc)?;
-    lines::finish_wants_no_other_port::<R, L>(rt, alloc)?;
+    lines::finish_wants_a_port_of_each_node::<R, L>(rt, alloc);
+    lines::finish_wants_no_other_port::<R, L>(rt, alloc);
     lines::each_allocation_of_opening_is_refused::<R, L>(rt, alloc)?;
     lines::each_growth_of_finish_is_refused::<R, L>(rt, alloc)?;
-    lines::four_nodes_are_served_in_order::<R, L>(rt, alloc)?;
     lines::a_line_is_handed_over_with_its_bytes::<R, L>(rt, alloc)?;
     lines::any_line_is_handed_over::<R, L>(rt, alloc)
 }

@@ -1,5 +1,5 @@
 -- Waiting for a line: one request after tries that were busy.
-use Rattle.std.proofs.Common.{◌≡◌, ◌≢◌, ◌⊎◌, inl, inr, ℕ, ◌+◌, ◌<◌, ◌≤◌, true, List, length, refl, ap, ◌∙◌, subst, arith}
+use Rattle.std.proofs.Common.{◌≡◌, ◌≢◌, ◌⊎◌, inl, inr, ℕ, ◌+◌, ◌<◌, ◌≤◌, true, List, length, refl, sym, ap, ◌∙◌, subst, arith}
 use Rattle.qolb_model.specs.declared.answer.Enq.{Enq}
 use Rattle.qolb_model.specs.declared.answer.Enq.TheVariants as enq
 use Rattle.qolb_model.specs.declared.answer.PortState.TheVariants.{Left, Rolled}
@@ -149,3 +149,38 @@ closed_in_time is = cc is
 -- a port that looks once more has looked
 pub looked_first : (first now last : ℕ) → first ≤ now → last ≡ now + 1 → first + 1 ≤ last
 looked_first first now last before more = omega arith
+
+-- and has looked as often as before, and more
+pub looked_more : (first now last : ℕ) → first ≤ now → last ≡ now + 1 → first ≤ last
+looked_more first now last before more = omega arith
+
+-- a wait within a time does not come to be granted where it is late
+pub late_ungranted : within.Late ≢ within.Granted
+late_ungranted is = cc is
+
+late_untold : within.Late ≢ within.Closed
+late_untold is = cc is
+
+-- a port that was busy all the while was busy
+pub busy_still : (old mid new : View) → mid.count ≡ old.count → mid.state ≡ old.state → IsBusy mid new → IsBusy old new
+busy_still old mid new same still b = record { was = by b.was; unclear = b.unclear; state = b.state ∙ still; count = b.count ∙ same }
+  where
+    by : (mid.state ≡ Left) ⊎ (mid.state ≡ Rolled) → (old.state ≡ Left) ⊎ (old.state ≡ Rolled)
+    by (inl was) = inl (sym still ∙ was)
+    by (inr was) = inr (sym still ∙ was)
+
+-- and was late
+pub busy_within : (allows : List ℕ → List ℕ → Type 0) (old mid new : View) (turn : Write) → Extends old mid → mid.count ≡ old.count → mid.state ≡ old.state
+    → Enqueues allows mid new turn enq.Busy → AcquiresWithin allows old new turn within.Late
+busy_within allows old mid new turn e same still q = record {
+  continues = continues_on allows old mid new e q.continues;
+  asks = λ some. absurd (some refl);
+  joined = λ some. absurd (some refl);
+  granted = λ is. absurd (late_ungranted is);
+  told = λ is. absurd (late_untold is);
+  late = λ _. inr (busy_still old mid new same still (q.busy refl));
+}
+
+-- a port that has looked since it asked has looked
+pub looked_meanwhile : (old mid asked new : ℕ) → mid ≡ old → asked ≡ mid → asked + 1 ≤ new → old + 1 ≤ new
+looked_meanwhile old mid asked new same still more = omega arith

@@ -30,43 +30,78 @@ fn main(rt: HostRuntime) -> anyhow::Result<()> {
     }
 }
 
-/// The command line.
-fn command<'a>(alloc: Global) -> Result<Command<'a>, AllocError> {
-    let turns_of = Arg::new(alloc, "turns-of")
+/// How long a turn is.
+fn turns_argument<'a>(alloc: Global) -> Arg<'a> {
+    Arg::new(alloc, "turns-of")
         .long("turns-of")
         .value_name("MICROSECONDS")
         .help("How long the holder keeps its processor busy before it adds 1")
-        .value_parser(clap::value_parser!(u64).range(0..));
-    let kind = Arg::new(alloc, "kind")
-        .long("kind")
-        .value_name("KIND")
-        .help("The kind of line: a ring, where the words name none, a list, or a ticket line")
-        .value_parser(KINDS.as_slice())
-        .requires_arg("turns-of")?;
-    let seconds = Arg::new(alloc, "seconds")
-        .long("seconds")
-        .value_name("SECONDS")
-        .help("How long the threads go on asking: a second, where the words name no time")
-        .value_parser(clap::value_parser!(u64).range(1..))
-        .requires_arg("turns-of")?;
-    let threads = Arg::new(alloc, "threads")
-        .long("threads")
-        .value_name("THREADS")
-        .help("How many threads take turns: 4, where the words name no number")
-        .value_parser(clap::value_parser!(u64).range(1..))
-        .requires_arg("turns-of")?;
+        .value_parser(clap::value_parser!(u64).range(0..))
+}
+
+/// What a measure is of.
+fn argument<'a>(
+    alloc: Global,
+    name: &'a str,
+    value: &'a str,
+    help: &'a str,
+) -> Result<Arg<'a>, AllocError> {
+    Arg::new(alloc, name)
+        .long(name)
+        .value_name(value)
+        .help(help)
+        .requires_arg("turns-of")
+}
+
+/// The command line.
+fn command<'a>(alloc: Global) -> Result<Command<'a>, AllocError> {
+    let command = Command::new(alloc, "line_waits")
+        .about("Measures how long threads that take turns of one length at a line wait for them")
+        .arg(turns_argument(alloc))?;
+    let command = with_kind(alloc, command)?;
+    let command = with_number(
+        alloc,
+        command,
+        "seconds",
+        "How long the threads go on asking: a second, where the words name no time",
+    )?;
+    let command = with_number(
+        alloc,
+        command,
+        "threads",
+        "How many threads take turns: 4, where the words name no number",
+    )?;
+    with_sleep(alloc, command)
+}
+
+fn with_kind<'a>(alloc: Global, command: Command<'a>) -> Result<Command<'a>, AllocError> {
+    let help = "The kind of line: a ring, where the words name none, a list, or a ticket line";
+    command.arg(argument(alloc, "kind", "KIND", help)?.value_parser(KINDS.as_slice()))
+}
+
+fn with_number<'a>(
+    alloc: Global,
+    command: Command<'a>,
+    name: &'a str,
+    help: &'a str,
+) -> Result<Command<'a>, AllocError> {
+    let value = if name == "seconds" {
+        "SECONDS"
+    } else {
+        "THREADS"
+    };
+    command.arg(argument(alloc, name, value, help)?.value_parser(clap::value_parser!(u64).range(
+        1..,
+    )))
+}
+
+fn with_sleep<'a>(alloc: Global, command: Command<'a>) -> Result<Command<'a>, AllocError> {
     let sleep = Arg::new(alloc, "sleep")
         .long("sleep")
         .help("Wait by waiters that sleep")
         .action(ArgAction::SetTrue)
         .requires_arg("turns-of")?;
-    Command::new(alloc, "line_waits")
-        .about("Measures how long threads that take turns of one length at a line wait for them")
-        .arg(turns_of)?
-        .arg(kind)?
-        .arg(seconds)?
-        .arg(threads)?
-        .arg(sleep)
+    command.arg(sleep)
 }
 
 /// The plan that the words name, for turns of so many microseconds.

@@ -63,7 +63,7 @@ pub fn try_each<R: Threads + Wait + Clock + Print + Sync>(
                 time: Duration::from_millis(20),
                 waiter,
             };
-            let came = over_named!(lines, run, [R], [Free], (rt, alloc, plan))?;
+            let came = run_over(rt, alloc, lines, plan)?;
             println!(rt;
                 "{lines:?} {waiter:?} threads {} lost {}",
                 plan.threads, came.lost
@@ -81,7 +81,7 @@ pub fn measure<R: Threads + Wait + Clock + Print + Sync>(
     lines: Lines,
     plan: Plan,
 ) -> anyhow::Result<()> {
-    let came = over_named!(lines, run, [R], [Free], (rt, alloc, plan))?;
+    let came = run_over(rt, alloc, lines, plan)?;
     let each_second = u128::from(came.turns) * 1_000_000_000 / came.time.as_nanos().max(1);
     println!(rt;
         "threads {} us a turn {} turns {} lost {} turns a second {each_second} longest wait us {}",
@@ -93,6 +93,16 @@ pub fn measure<R: Threads + Wait + Clock + Print + Sync>(
     )?;
     came.check()?;
     Ok(())
+}
+
+/// The same over lines of this name.
+fn run_over<R: Threads + Wait + Clock + Print + Sync>(
+    rt: &R,
+    alloc: Global,
+    lines: Lines,
+    plan: Plan,
+) -> anyhow::Result<Came> {
+    over_named!(lines, run, [R], [Free], (rt, alloc, plan))
 }
 
 /// The nodes of a new line of zeros take turns by the plan.

@@ -7,7 +7,7 @@ use line_lanes::{Line64, Mask, changed, lane, placed, with_lane};
 use line_rows::handing::hand_over;
 use line_rows::opened::{open_zeros, with_two};
 use linked_list_allocator::LocalHeap;
-use qolb_model::{Enq, FinishError, Free, OpenError, Out, Poll, PortState, Terms};
+use qolb_model::{Enq, FinishError, Free, OpenError, Out, Poll, Terms};
 use std::alloc::Global;
 use std::process::Abort;
 use std::test::Fail;
@@ -63,131 +63,34 @@ where
     Ok(())
 }
 
-/// A node is busy until the release that passes it.
-static PASSED: [(u64, Did); 11] = [
-    (2, Did::Steps(0)),
-    (1, Did::Ask(Enq::Granted)),
-    (2, Did::Ask(Enq::Queued)),
-    (3, Did::Ask(Enq::Queued)),
-    (2, Did::Withdraw(Out::Withdrawn)),
-    (2, Did::Ask(Enq::Busy)),
-    (1, Did::Release),
-    (2, Did::Ask(Enq::Queued)),
-    (3, Did::Poll(Poll::Granted)),
-    (3, Did::Release),
-    (2, Did::Poll(Poll::Granted)),
-];
-
-pub(super) fn a_node_asks_again_once_it_was_passed<R: Abort, L: Counted + Drop>(
-    rt: &R,
-    alloc: Global,
-) -> Result<(), Fail>
+/// Node 1 asks, adds 1 to the first lane, and releases.
+fn turn<L: Counted + Drop>(row: &mut Row<L>) -> Option<bool>
 where
     L::Port: Drop,
 {
-    let mut row = Row::<L>::of_zeros(alloc, 3)?;
-    expect(rt, &mut row, &PASSED);
-    Ok(())
+    if row.ask(1)? != Enq::Granted {
+        return None;
+    }
+    let held = Line64::from_bytes(row.bytes(1)?);
+    let raised = with_lane(&held, 0, lane(&held, 0).wrapping_add(1));
+    row.write(1, changed(&held, &raised), &raised);
+    row.release(1)
 }
 
-/// A node withdraws after the release that came to it.
-static AT_ITS_TURN: [(u64, Did); 5] = [
-    (1, Did::Ask(Enq::Granted)),
-    (2, Did::Ask(Enq::Queued)),
-    (1, Did::Release),
-    (2, Did::Withdraw(Out::Granted)),
-    (2, Did::Release),
-];
-
-pub(super) fn who_withdraws_at_its_turn_is_granted<R: Abort, L: Counted + Drop>(
-    rt: &R,
-    alloc: Global,
-) -> Result<(), Fail>
+/// How many of 300 turns node 1 had, and the first lane at last.
+fn turns<L: Counted + Drop>(alloc: Global) -> Option<(u32, u64)>
 where
     L::Port: Drop,
 {
-    let mut row = Row::<L>::of_zeros(alloc, 2)?;
-    expect(rt, &mut row, &AT_ITS_TURN);
-    Ok(())
-}
-
-/// Two wait when the line is closed, and are told in turn; whoever asks is told at once.
-static TOLD: [(u64, Did); 9] = [
-    (1, Did::Ask(Enq::Granted)),
-    (2, Did::Ask(Enq::Queued)),
-    (3, Did::Ask(Enq::Queued)),
-    (1, Did::Shut),
-    (3, Did::Poll(Poll::Waiting)),
-    (2, Did::Poll(Poll::Closed)),
-    (3, Did::Poll(Poll::Closed)),
-    (1, Did::Ask(Enq::Closed)),
-    (2, Did::Ask(Enq::Closed)),
-];
-
-pub(super) fn all_are_told_of_a_closed_line<R: Abort, L: Counted + Drop>(
-    rt: &R,
-    alloc: Global,
-) -> Result<(), Fail>
-where
-    L::Port: Drop,
-{
-    let mut row = Row::<L>::of_zeros(alloc, 3)?;
-    expect(rt, &mut row, &TOLD);
-    assert!(rt; row.finish(alloc).is_ok());
-    Ok(())
-}
-
-/// Two turns, and none more.
-static TWO_TURNS: [(u64, Did); 13] = [
-    (1, Did::Ask(Enq::Granted)),
-    (1, Did::TurnsLeft(Some(2))),
-    (1, Did::Write(7)),
-    (2, Did::Ask(Enq::Queued)),
-    (1, Did::Release),
-    (1, Did::State(PortState::Idle)),
-    (2, Did::Poll(Poll::Granted)),
-    (2, Did::TurnsLeft(Some(1))),
-    (1, Did::Ask(Enq::Queued)),
-    (2, Did::Release),
-    (2, Did::State(PortState::Shut)),
-    (1, Did::Poll(Poll::Closed)),
-    (2, Did::Ask(Enq::Closed)),
-];
-
-pub(super) fn the_last_turn_of_a_lease_closes_the_line<R: Abort, L: Counted + Drop>(
-    rt: &R,
-    alloc: Global,
-) -> Result<(), Fail>
-where
-    L::Port: Drop,
-{
-    let terms = Terms {
-        nodes: 2,
-        opening: Line64::zero(),
-        lease: Some(2),
-    };
-    let mut row = Row::<L>::open(alloc, 7, terms)?;
-    expect(rt, &mut row, &TWO_TURNS);
-    let line = row.finish(alloc).ok().ok_or("no end")?;
-    let mut want = [0; 64];
-    want[0] = 7;
-    assert_eq!(rt; line.to_bytes(), want);
-    Ok(())
-}
-
-/// A turn at a line without a lease.
-static NO_LEASE: [(u64, Did); 2] = [(1, Did::Ask(Enq::Granted)), (1, Did::TurnsLeft(None))];
-
-pub(super) fn a_line_without_a_lease_counts_no_turns<R: Abort, L: Counted + Drop>(
-    rt: &R,
-    alloc: Global,
-) -> Result<(), Fail>
-where
-    L::Port: Drop,
-{
-    let mut row = Row::<L>::of_zeros(alloc, 1)?;
-    expect(rt, &mut row, &NO_LEASE);
-    Ok(())
+    let mut row = Row::<L>::of_zeros(alloc, 1).ok()?;
+    let mut had = 0u32;
+    for _ in 0..300u32 {
+        if turn(&mut row) == Some(true) {
+            had = had.saturating_add(1);
+        }
+    }
+    let line = row.finish(alloc).ok()?;
+    Some((had, lane(&line, 0)))
 }
 
 pub(super) fn one_node_takes_300_turns<R: Abort, L: Counted + Drop>(
@@ -197,16 +100,7 @@ pub(super) fn one_node_takes_300_turns<R: Abort, L: Counted + Drop>(
 where
     L::Port: Drop,
 {
-    let mut row = Row::<L>::of_zeros(alloc, 1)?;
-    for round in 0..300u32 {
-        assert_eq!(rt; row.ask(1), Some(Enq::Granted), "round {round}");
-        let held = Line64::from_bytes(row.bytes(1).ok_or("not held")?);
-        let raised = with_lane(&held, 0, lane(&held, 0).wrapping_add(1));
-        assert_eq!(rt; row.write(1, changed(&held, &raised), &raised), Some(true));
-        assert_eq!(rt; row.release(1), Some(true));
-    }
-    let line = row.finish(alloc).ok().ok_or("no end")?;
-    assert_eq!(rt; lane(&line, 0), 300);
+    assert_eq!(rt; turns::<L>(alloc), Some((300, 300)));
     Ok(())
 }
 
@@ -237,20 +131,8 @@ where
     Ok(())
 }
 
-/// One holds and one waits.
-static UNQUIET: [(u64, Did); 2] = [(1, Did::Ask(Enq::Granted)), (2, Did::Ask(Enq::Queued))];
-
-/// Both have their turn, and are idle.
-static QUIET: [(u64, Did); 3] = [
-    (1, Did::Release),
-    (2, Did::Poll(Poll::Granted)),
-    (2, Did::Release),
-];
-
-pub(super) fn finish_wants_a_quiet_port_of_each_node<R: Abort, L: Counted + Drop>(
-    rt: &R,
-    alloc: Global,
-) -> Result<(), Fail>
+/// Why a line of two nodes is not finished without the second port, and its bytes once that is back.
+fn without_a_port<L: Counted + Drop>(alloc: Global) -> Option<(FinishError, [u8; 64])>
 where
     L::Port: Drop,
 {
@@ -259,44 +141,94 @@ where
         opening: Line64::from_bytes([7; 64]),
         lease: None,
     };
-    let mut row = Row::<L>::open(alloc, 7, terms)?;
-    let two = row.take(2).ok_or("no second port")?;
-    let (why, mut row) = row.finish(alloc).err().ok_or("one port finishes")?;
-    assert_eq!(rt; why, FinishError::Missing(2));
-
-    assert!(rt; row.put(two));
-    expect(rt, &mut row, &UNQUIET);
-    let (why, mut row) = row.finish(alloc).err().ok_or("a holder finishes")?;
-    assert_eq!(rt; why, FinishError::Unquiet(1));
-
-    expect(rt, &mut row, &QUIET);
-    let line = row.finish(alloc).ok().ok_or("idle ports do not finish")?;
-    assert_eq!(rt; line.to_bytes(), [7; 64]);
-    Ok(())
+    let mut row = Row::<L>::open(alloc, 7, terms).ok()?;
+    let two = row.take(2)?;
+    let (why, mut row) = row.finish(alloc).err()?;
+    row.put(two);
+    let line = row.finish(alloc).ok()?;
+    Some((why, line.to_bytes()))
 }
 
-pub(super) fn finish_wants_no_other_port<R: Abort, L: Counted + Drop>(
-    rt: &R,
-    alloc: Global,
-) -> Result<(), Fail>
+pub(super) fn finish_wants_a_port_of_each_node<R: Abort, L: Counted + Drop>(rt: &R, alloc: Global)
 where
     L::Port: Drop,
 {
-    let mut row = Row::<L>::of_zeros(alloc, 2)?;
+    assert_eq!(rt;
+        without_a_port::<L>(alloc),
+        Some((FinishError::Missing(2), [7; 64]))
+    );
+}
+
+/// Why a line of two nodes is not finished with a port of another line, and whether it is without. `None` if it owned that port.
+fn beside_a_stranger<L: Counted + Drop>(alloc: Global) -> Option<(FinishError, bool)>
+where
+    L::Port: Drop,
+{
+    let mut row = Row::<L>::of_zeros(alloc, 2).ok()?;
     let terms = Terms {
         nodes: 3,
         opening: Line64::zero(),
         lease: None,
     };
-    let mut other = Row::<L>::open(alloc, 8, terms)?;
-    let three = other.take(3).ok_or("no third port")?;
-    assert!(rt; !row.owns(&three));
-    assert!(rt; row.put(three));
-    let (why, mut row) = row.finish(alloc).err().ok_or("another port finishes")?;
-    assert_eq!(rt; why, FinishError::Missing(0));
-    assert!(rt; row.take(3).is_some());
-    assert!(rt; row.finish(alloc).is_ok());
-    Ok(())
+    let mut other = Row::<L>::open(alloc, 8, terms).ok()?;
+    let three = other.take(3)?;
+    if row.owns(&three) {
+        drop(three);
+        return None;
+    }
+    row.put(three);
+    let (why, mut row) = row.finish(alloc).err()?;
+    let back = row.take(3)?;
+    drop(back);
+    Some((why, row.finish(alloc).is_ok()))
+}
+
+pub(super) fn finish_wants_no_other_port<R: Abort, L: Counted + Drop>(rt: &R, alloc: Global)
+where
+    L::Port: Drop,
+{
+    let want = Some((FinishError::Missing(0), true));
+    assert_eq!(rt; beside_a_stranger::<L>(alloc), want);
+}
+
+/// A line of four nodes, of which the third has had a turn and written two bytes.
+fn written<L: Counted + Drop>(alloc: Global) -> Option<Row<L>>
+where
+    L::Port: Drop,
+{
+    let mut row = Row::<L>::of_zeros(alloc, 4).ok()?;
+    row.ask(3);
+    row.write(3, Mask(0b110), &Line64::from_bytes([9; 64]));
+    row.release(3);
+    Some(row)
+}
+
+/// What is finished of it on this heap, and whether it was refused there for want of memory and finished elsewhere.
+fn finished_on<L: Counted + Drop>(alloc: Global, heap: &LocalHeap) -> Option<(bool, [u8; 64])>
+where
+    L::Port: Drop,
+{
+    match written::<L>(alloc)?.finish_in(heap) {
+        Ok(line) => Some((false, line.to_bytes())),
+        Err((FinishError::Memory, back)) => {
+            let line = back.finish(alloc).ok()?;
+            Some((true, line.to_bytes()))
+        }
+        Err(_) => None,
+    }
+}
+
+/// The same on a heap of so many bytes, and how many of these are in use at last.
+fn finished_within<L: Counted + Drop>(
+    alloc: Global,
+    bytes: usize,
+) -> Option<(bool, [u8; 64], usize)>
+where
+    L::Port: Drop,
+{
+    let heap = LocalHeap::new(alloc, bytes).ok()?;
+    let (refused, line) = finished_on::<L>(alloc, &heap)?;
+    Some((refused, line, heap.used()))
 }
 
 pub(super) fn each_growth_of_finish_is_refused<R: Abort, L: Counted + Drop>(
@@ -306,63 +238,24 @@ pub(super) fn each_growth_of_finish_is_refused<R: Abort, L: Counted + Drop>(
 where
     L::Port: Drop,
 {
-    let mut refused = 0u32;
-    let mut finished = false;
+    let mut want = [0; 64];
+    want[1] = 9;
+    want[2] = 9;
+    let mut refusals = 0usize;
     for step in 1..40usize {
-        let heap = LocalHeap::new(alloc, 64 * step)?;
-        let mut row = Row::<L>::of_zeros(alloc, 4)?;
-        assert_eq!(rt; row.ask(3), Some(Enq::Granted));
-        let nines = Line64::from_bytes([9; 64]);
-        assert_eq!(rt; row.write(3, Mask(0b110), &nines), Some(true));
-        assert_eq!(rt; row.release(3), Some(true));
-        let mut want = [0; 64];
-        want[1] = 9;
-        want[2] = 9;
-        let line = match row.finish_in(&heap) {
-            Ok(line) => {
-                finished = true;
-                line
-            }
-            Err((why, row)) => {
-                assert_eq!(rt; why, FinishError::Memory, "at {step}");
-                assert!(rt; !finished, "at {step}");
-                refused = refused.saturating_add(1);
-                row.finish(alloc).ok().ok_or("nothing was handed back")?
-            }
-        };
-        assert_eq!(rt; line.to_bytes(), want, "at {step}");
-        assert_eq!(rt; heap.used(), 0, "at {step}");
+        let is_refused = step == refusals.saturating_add(1)
+            && finished_within::<L>(alloc, 64 * step) == Some((true, want, 0));
+        if is_refused {
+            refusals = step;
+        } else {
+            assert_eq!(rt;
+                finished_within::<L>(alloc, 64 * step),
+                Some((false, want, 0)),
+                "at {step}"
+            );
+        }
     }
-    assert!(rt; finished);
-    assert!(rt; refused > 0);
-    Ok(())
-}
-
-/// Four ask, and are served in the order in which they asked.
-static IN_ORDER: [(u64, Did); 12] = [
-    (4, Did::Ask(Enq::Granted)),
-    (3, Did::Ask(Enq::Queued)),
-    (1, Did::Ask(Enq::Queued)),
-    (2, Did::Ask(Enq::Queued)),
-    (4, Did::Release),
-    (1, Did::Poll(Poll::Waiting)),
-    (3, Did::Poll(Poll::Granted)),
-    (3, Did::Release),
-    (2, Did::Poll(Poll::Waiting)),
-    (1, Did::Poll(Poll::Granted)),
-    (1, Did::Release),
-    (2, Did::Poll(Poll::Granted)),
-];
-
-pub(super) fn four_nodes_are_served_in_order<R: Abort, L: Counted + Drop>(
-    rt: &R,
-    alloc: Global,
-) -> Result<(), Fail>
-where
-    L::Port: Drop,
-{
-    let mut row = Row::<L>::of_zeros(alloc, 4)?;
-    expect(rt, &mut row, &IN_ORDER);
+    assert!(rt; refusals > 0 && refusals < 39);
     Ok(())
 }
 

@@ -1,4 +1,6 @@
-use Rattle.line_threads.proofs.Acquiring.{granted_at_once, told_at_once, acquired_waiting, soon_at_once, soon_waiting, closed_ungranted}
+use Rattle.std.proofs.Common.{refl, ◌∙◌}
+use Rattle.qolb_model.proofs.Going.{continues_on}
+use Rattle.line_threads.proofs.Acquiring.{granted_at_once, told_at_once, acquired_waiting, soon_at_once, soon_waiting, closed_ungranted, quiet_busy}
 use Rattle.line_threads.proofs.asleep.acquire_asleep.Goals as goal
 
 pub returns-in-Granted-clause-acquires : goal.returns-in-Granted-clause-acquires
@@ -23,3 +25,21 @@ pub returns-in-Queued-clause-soon : goal.returns-in-Queued-clause-soon
 returns-in-Queued-clause-soon g c granted =
     soon_waiting g.L.LineSync.view g.L.LineSync.looks c.args.port.now c.loop.port c.enqolb.new.port _ _ c.loop.invariant.extends c.loop.invariant.count c.loop.invariant.looks c.in-Queued.ensures.looks _ _
     c.in-Queued.ensures.enqueues c.wait_asleep.ensures.continues c.wait_asleep.ensures.count (c.wait_asleep.ensures.granted granted)
+
+pub loop-preserved : goal.loop-preserved
+loop-preserved g c = record {
+  belongs = c.in-Busy.ensures.belongs;
+  state = quiet_busy _ _ (c.in-Busy.ensures.enqueues.busy refl);
+  extends = (continues_on _ _ _ _ c.loop.invariant.extends c.in-Busy.ensures.enqueues.continues).extends;
+  count = (c.in-Busy.ensures.enqueues.busy refl).count ∙ c.loop.invariant.count;
+  looks = c.in-Busy.ensures.looks ∙ c.loop.invariant.looks;
+}
+
+pub loop-preserved-then-not-pause : goal.loop-preserved-then-not-pause
+loop-preserved-then-not-pause g c = record {
+  belongs = c.in-Busy.ensures.belongs;
+  state = quiet_busy _ _ (c.in-Busy.ensures.enqueues.busy refl);
+  extends = (continues_on _ _ _ _ c.loop.invariant.extends c.in-Busy.ensures.enqueues.continues).extends;
+  count = (c.in-Busy.ensures.enqueues.busy refl).count ∙ c.loop.invariant.count;
+  looks = c.in-Busy.ensures.looks ∙ c.loop.invariant.looks;
+}

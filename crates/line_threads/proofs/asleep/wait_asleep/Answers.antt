@@ -26,3 +26,25 @@ returns-in-Closed-clause-granted g c granted = absurd (closed_ungranted granted)
 
 pub returns-in-Closed-clause-told : goal.returns-in-Closed-clause-told
 returns-in-Closed-clause-told g c _ = c.in-Closed.ensures.polls.told refl
+
+pub loop-preserved : goal.loop-preserved
+loop-preserved g c = record {
+  belongs = c.in-Waiting.ensures.belongs;
+  state = (c.in-Waiting.ensures.polls.waiting refl).state;
+  extends = (continues_on _ _ _ _ c.loop.invariant.extends c.in-Waiting.ensures.polls.continues).extends;
+  count = c.in-Waiting.ensures.polls.count ∙ c.loop.invariant.count;
+}
+
+pub loop-preserved-then-not-pause : goal.loop-preserved-then-not-pause
+loop-preserved-then-not-pause g c = record {
+  belongs = c.in-Waiting.ensures.belongs;
+  state = (c.in-Waiting.ensures.polls.waiting refl).state;
+  extends = (continues_on _ _ _ _ c.loop.invariant.extends c.in-Waiting.ensures.polls.continues).extends;
+  count = c.in-Waiting.ensures.polls.count ∙ c.loop.invariant.count;
+}
+
+pub sleep-requires-clause-belongs : goal.sleep-requires-clause-belongs
+sleep-requires-clause-belongs g c = c.in-Waiting.ensures.belongs
+
+pub sleep-requires-clause-state : goal.sleep-requires-clause-state
+sleep-requires-clause-state g c = (c.in-Waiting.ensures.polls.waiting refl).state

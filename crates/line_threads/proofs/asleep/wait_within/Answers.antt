@@ -1,6 +1,6 @@
 use Rattle.std.proofs.Common.{refl, ◌∙◌}
 use Rattle.qolb_model.proofs.Going.{continues_on}
-use Rattle.line_threads.proofs.Acquiring.{told_in_time, closed_within, granted_in_time, closed_in_time, looked_first}
+use Rattle.line_threads.proofs.Acquiring.{told_in_time, closed_within, granted_in_time, closed_in_time, looked_first, looked_more}
 use Rattle.line_threads.proofs.asleep.wait_within.Goals as goal
 
 pub returns-in-Granted-clause-continues : goal.returns-in-Granted-clause-continues
@@ -38,3 +38,48 @@ returns-in-Closed-clause-late g c late = absurd (closed_in_time late)
 
 pub returns-in-Closed-clause-looked : goal.returns-in-Closed-clause-looked
 returns-in-Closed-clause-looked g c = looked_first _ _ _ c.loop.invariant.looks c.in-Closed.ensures.looks
+
+pub returns-in_default-clause-belongs : goal.returns-in_default-clause-belongs
+returns-in_default-clause-belongs g c = c.give_up.ensures.belongs
+
+pub returns-in_default-clause-continues : goal.returns-in_default-clause-continues
+returns-in_default-clause-continues g c = continues_on _ _ _ _ (continues_on _ _ _ _ c.loop.invariant.extends c.in-Waiting.ensures.polls.continues).extends c.give_up.ensures.continues
+
+pub returns-in_default-clause-count : goal.returns-in_default-clause-count
+returns-in_default-clause-count g c = c.give_up.ensures.count ∙ (c.in-Waiting.ensures.polls.count ∙ c.loop.invariant.count)
+
+pub returns-in_default-clause-granted : goal.returns-in_default-clause-granted
+returns-in_default-clause-granted g c = c.give_up.ensures.granted
+
+pub returns-in_default-clause-told : goal.returns-in_default-clause-told
+returns-in_default-clause-told g c = c.give_up.ensures.told
+
+pub returns-in_default-clause-late : goal.returns-in_default-clause-late
+returns-in_default-clause-late g c = c.give_up.ensures.late
+
+pub returns-in_default-clause-looked : goal.returns-in_default-clause-looked
+returns-in_default-clause-looked g c = looked_first _ _ _ c.loop.invariant.looks (c.give_up.ensures.looks ∙ c.in-Waiting.ensures.looks)
+
+pub loop-preserved-then-not-pause : goal.loop-preserved-then-not-pause
+loop-preserved-then-not-pause g c = record {
+  belongs = c.in-Waiting.ensures.belongs;
+  state = (c.in-Waiting.ensures.polls.waiting refl).state;
+  extends = (continues_on _ _ _ _ c.loop.invariant.extends c.in-Waiting.ensures.polls.continues).extends;
+  looks = looked_more _ _ _ c.loop.invariant.looks c.in-Waiting.ensures.looks;
+  count = c.in-Waiting.ensures.polls.count ∙ c.loop.invariant.count;
+}
+
+pub loop-preserved : goal.loop-preserved
+loop-preserved g c = record {
+  belongs = c.in-Waiting.ensures.belongs;
+  state = (c.in-Waiting.ensures.polls.waiting refl).state;
+  extends = (continues_on _ _ _ _ c.loop.invariant.extends c.in-Waiting.ensures.polls.continues).extends;
+  looks = looked_more _ _ _ c.loop.invariant.looks c.in-Waiting.ensures.looks;
+  count = c.in-Waiting.ensures.polls.count ∙ c.loop.invariant.count;
+}
+
+pub sleep-requires-clause-belongs : goal.sleep-requires-clause-belongs
+sleep-requires-clause-belongs g c = c.in-Waiting.ensures.belongs
+
+pub sleep-requires-clause-state : goal.sleep-requires-clause-state
+sleep-requires-clause-state g c = (c.in-Waiting.ensures.polls.waiting refl).state

@@ -26,3 +26,11 @@ returns-in-Closed-clause-granted g c granted = absurd (closed_ungranted granted)
 
 pub returns-in-Closed-clause-told : goal.returns-in-Closed-clause-told
 returns-in-Closed-clause-told g c _ = c.in-Closed.ensures.polls.told refl
+
+pub loop-preserved : goal.loop-preserved
+loop-preserved g c = record {
+  belongs = c.in-Waiting.ensures.belongs;
+  state = (c.in-Waiting.ensures.polls.waiting refl).state;
+  extends = (continues_on _ _ _ _ c.loop.invariant.extends c.in-Waiting.ensures.polls.continues).extends;
+  count = c.in-Waiting.ensures.polls.count ∙ c.loop.invariant.count;
+}
