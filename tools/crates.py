@@ -1,0 +1,123 @@
+"""The crates of the repository, and work on them side by side."""
+
+import os
+import pathlib
+import shutil
+import signal
+import subprocess
+import sys
+import time
+
+ROOT = pathlib.Path(__file__).resolve().parent.parent
+# What a crate's proof reads, in its folder.
+PARTS = ("src", "specs", "proofs")
+
+
+class Crate:
+    """A line of crates.txt: the crate's name, the names of the repository's crates that it uses, and the line itself."""
+
+    def __init__(self, line, names):
+        head, _, used = line.partition(":")
+        self.line = line
+        self.name = head.split()[0]
+        self.uses = [it for it in used.split() if it in names]
+        self.folder = ROOT / "crates" / self.name
+        self.is_program = (self.folder / "src" / "main.rt").is_file()
+
+    def files(self):
+        """The files that its proof reads."""
+        return [it for part in PARTS for it in sorted((self.folder / part).rglob("*")) if it.is_file()]
+
+    def lines(self):
+        """How many lines its proof reads."""
+        return sum(it.read_bytes().count(b"\n") for it in self.files())
+
+
+def read_crates():
+    """The crates by name, lowest first."""
+    lines = [it.partition("#")[0].strip() for it in (ROOT / "crates.txt").read_text().splitlines()]
+    lines = [it for it in lines if it]
+    names = {it.partition(":")[0].split()[0] for it in lines}
+    left, sorted_crates = [Crate(it, names) for it in lines], {}
+    while left:
+        lowest = next(it for it in left if all(used in sorted_crates for used in it.uses))
+        sorted_crates[lowest.name] = lowest
+        left.remove(lowest)
+    return sorted_crates
+
+
+def below(crates, name):
+    """The names of the crates that this one stands on, lowest first."""
+    wanted = set()
+    for used in crates[name].uses:
+        wanted |= {used, *below(crates, used)}
+    return [it for it in crates if it in wanted]
+
+
+def named(crates, names):
+    """These names, or all; ends with a word where one is no crate."""
+    unknown = sorted(set(names) - set(crates))
+    if unknown:
+        sys.exit(f"no such crate: {', '.join(unknown)}")
+    return names or list(crates)
+
+
+def lanes():
+    """How many checks may run at a time: one a processor, and no more than a fifth of the memory in GB, which a check can take."""
+    memory = os.sysconf("SC_PAGE_SIZE") * os.sysconf("SC_PHYS_PAGES") / 5e9
+    return max(1, min(len(os.sched_getaffinity(0)), int(memory)))
+
+
+def end_all(running):
+    """Tells processes to end, and waits until they have."""
+    for it in running:
+        it.terminate()
+    for it in running:
+        try:
+            it.wait(10)
+        except subprocess.TimeoutExpired:
+            it.kill()
+
+
+def say(text):
+    """A line on standard error, in the place of what `show` left there."""
+    print(f"\r\033[K{text}" if sys.stderr.isatty() else text, file=sys.stderr, flush=True)
+
+
+def show(text):
+    """Text at the foot of a terminal, until the next."""
+    if sys.stderr.isatty():
+        print(f"\r\033[K{text[: shutil.get_terminal_size().columns - 1]}", end="", file=sys.stderr, flush=True)
+
+
+def side_by_side(waits, lanes, start, ended):
+    """Runs a process for each name of `waits`, first those that come first, each once those that it waits for have ended; true if all ended well.
+
+    `start` is given a name and how many processors it may take, and gives the process, or None if it can't begin yet. `ended` is given the name, the
+    status and the seconds, and says whether to go on. However this ends, no process is left."""
+    signal.signal(signal.SIGTERM, lambda *_: sys.exit(143))
+    left, running, done = list(waits), {}, set()
+    try:
+        while left or running:
+            ready = [it for it in left if done.issuperset(waits[it])]
+            for place, name in enumerate(ready):
+                idle = lanes - sum(jobs for _, jobs, _ in running.values())
+                if idle < 1:
+                    break
+                jobs = max(1, min(4, idle // (len(ready) - place)))
+                process = start(name, jobs)
+                if process:
+                    left.remove(name)
+                    running[name] = process, jobs, time.monotonic()
+            show(f"{len(done)} of {len(waits)} done; at work: {', '.join(running)}")
+            time.sleep(0.1)
+            for name, (process, _, since) in list(running.items()):
+                if process.poll() is not None:
+                    del running[name]
+                    done.add(name)
+                    if not ended(name, process.returncode, time.monotonic() - since):
+                        return False
+        return True
+    finally:
+        show("")
+        end_all([process for process, _, _ in running.values()])
