@@ -62,26 +62,42 @@ def named(crates, names):
     return names or list(crates)
 
 
+def copy_sources(crates, to):
+    """Copies what proofs and tests of these crates read to another folder, as a repository of their own."""
+    for crate in crates:
+        for part in PARTS:
+            if (crate.folder / part).is_dir():
+                shutil.copytree(crate.folder / part, to / "crates" / crate.name / part)
+    (to / "crates.txt").write_text("".join(f"{it.line}\n" for it in crates))
+
+
 def lanes():
     """How many checks may run at a time: one a processor, and no more than a fifth of the memory in GB, which a check can take."""
     memory = os.sysconf("SC_PAGE_SIZE") * os.sysconf("SC_PHYS_PAGES") / 5e9
     return max(1, min(len(os.sched_getaffinity(0)), int(memory)))
 
 
+def spawn(words, folder, log=None):
+    """Starts a process in a session of its own, so that all that it starts can be ended with it; what it says goes to `log`."""
+    out = {"stdout": log, "stderr": subprocess.STDOUT} if log else {}
+    return subprocess.Popen(words, cwd=folder, stdin=subprocess.DEVNULL, start_new_session=True, **out)
+
+
 def end_all(running):
-    """Tells processes to end, and waits until they have."""
-    for it in running:
-        it.terminate()
-    for it in running:
-        try:
-            it.wait(10)
-        except subprocess.TimeoutExpired:
-            it.kill()
+    """Tells processes to end, with all that they started, and waits until they have."""
+    for how in (signal.SIGTERM, signal.SIGKILL):
+        for it in running:
+            if it.poll() is None:
+                os.killpg(it.pid, how)
+        until = time.monotonic() + 10
+        while time.monotonic() < until and any(it.poll() is None for it in running):
+            time.sleep(0.1)
 
 
-def say(text):
-    """A line on standard error, in the place of what `show` left there."""
-    print(f"\r\033[K{text}" if sys.stderr.isatty() else text, file=sys.stderr, flush=True)
+def say(text, file=sys.stderr):
+    """A line, in the place of what `show` left at the foot of the terminal."""
+    show("")
+    print(text, file=file, flush=True)
 
 
 def show(text):
@@ -90,12 +106,20 @@ def show(text):
         print(f"\r\033[K{text[: shutil.get_terminal_size().columns - 1]}", end="", file=sys.stderr, flush=True)
 
 
+def run_main(main):
+    """Ends with what `main` gives; also a signal has what was begun put away."""
+    signal.signal(signal.SIGTERM, lambda *_: sys.exit(143))
+    try:
+        sys.exit(main())
+    except KeyboardInterrupt:
+        sys.exit(130)
+
+
 def side_by_side(waits, lanes, start, ended):
     """Runs a process for each name of `waits`, first those that come first, each once those that it waits for have ended; true if all ended well.
 
     `start` is given a name and how many processors it may take, and gives the process, or None if it can't begin yet. `ended` is given the name, the
     status and the seconds, and says whether to go on. However this ends, no process is left."""
-    signal.signal(signal.SIGTERM, lambda *_: sys.exit(143))
     left, running, done = list(waits), {}, set()
     try:
         while left or running:

@@ -20,13 +20,35 @@ import collections
 import pathlib
 import re
 
-ROOT = pathlib.Path(__file__).resolve().parent.parent
+from crates import ROOT
+
+# What the prover makes of a function F: a module F.WORD, or F.WORD.MORE, for each of these words.
+OF_FUNCTION = re.compile(r"\.(?:Lts|Tie|Proof|Answers|Invariants|Code|Given|Goals|Kinds|Layout|Met|Named|Reads|Statement|Symbol|TheLink)(?:\..*)?$")
 
 
 def module_of(path):
     """The module that a kept file is of, without the crate's name."""
     name = path.name.removesuffix(".oantt").removesuffix(".decls")
     return re.sub(r"^Rattle-[a-z0-9_]+-(proofs|specs)\.", r"\1 ", name)
+
+
+def took(kept, since=0.0):
+    """The seconds that each module took, by what a check kept in this folder."""
+    files = sorted((path.stat().st_mtime, module_of(path)) for path in pathlib.Path(kept).rglob("*") if path.is_file())
+    files = [it for it in files if it[0] >= since]
+    seconds, before = collections.Counter(), since or (files[0][0] if files else 0.0)
+    for time, module in files:
+        seconds[module] += time - before
+        before = time
+    return seconds
+
+
+def by_function(seconds):
+    """The seconds of each function, of all its modules."""
+    functions = collections.Counter()
+    for module, much in seconds.items():
+        functions[OF_FUNCTION.sub("", module.removeprefix("proofs "))] += much
+    return functions
 
 
 def main():
@@ -36,17 +58,12 @@ def main():
     parser.add_argument("--since", type=float, default=0, help="only what was written since then")
     args = parser.parse_args()
     kept = ROOT / "crates" / args.crate / "out" / "incremental"
-    files = sorted((path.stat().st_mtime, module_of(path)) for path in kept.rglob("*") if path.is_file())
-    files = [it for it in files if it[0] >= args.since]
-    if not files:
+    seconds = took(kept, args.since)
+    if not seconds:
         raise SystemExit(f"{kept} has nothing: run rt check --jobs 1 in the crate first")
-    took, before = collections.Counter(), args.since or files[0][0]
-    for time, module in files:
-        took[module] += time - before
-        before = time
-    print(f"{sum(took.values()):8.1f}  in all")
-    for module, seconds in took.most_common(args.most):
-        print(f"{seconds:8.1f}  {module}")
+    print(f"{sum(seconds.values()):8.1f}  in all")
+    for module, much in seconds.most_common(args.most):
+        print(f"{much:8.1f}  {module}")
 
 
 if __name__ == "__main__":

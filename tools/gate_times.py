@@ -1,0 +1,218 @@
+#!/usr/bin/env python3
+"""Runs the gate and says what it took: processor minutes and the peak of memory by crate and kind of work, as a table for docs/CHANGING.md.
+
+    tools/gate_times.py [--anew] [--folder CHECKOUT] [--log FILE] [NAME ..]
+    tools/gate_times.py --functions [NAME ..]
+
+It starts `rt ci` (with `--anew` and the names, if given) in the checkout, with RT_JOBS as .ci/run sets it, and looks at its processes in /proc twice
+a second. The kinds: the crate's proof; that of its tests; the seed, a check which its wrong bodies begin with; the wrong bodies. A check that ends
+loses what it took since the last look; the total is the system's own count. The longest chain is that of checks of which each waits for the one
+before, in minutes by the clock as they were here. What `rt ci` says goes to the log. It ends as `rt ci` does.
+
+With --functions it checks each crate that is named (all, if none is) at one job, over nothing kept, with its tests, and says which twenty functions
+take the prover longest, as tools/times.py does. Crates below must be proved (tools/prove). Times are by the clock: let nothing else run.
+"""
+
+import argparse
+import collections
+import os
+import pathlib
+import re
+import resource
+import subprocess
+import tempfile
+import time
+
+import times
+from crates import ROOT, below, end_all, lanes, named, read_crates, run_main, say, show, spawn
+from tests import tests_of
+
+KINDS = ("proof", "tests", "seed", "edits")
+TICK = os.sysconf("SC_CLK_TCK")
+PAGE = os.sysconf("SC_PAGE_SIZE")
+EVERY = 0.5
+MOST = 20
+
+
+def processes():
+    """Each process, by its number and the time at which it began: its parent's number, the seconds that it took, and its memory in GB."""
+    found = {}
+    for name in os.listdir("/proc"):
+        if name.isdigit():
+            try:
+                stat = pathlib.Path(f"/proc/{name}/stat").read_text()
+            except OSError:
+                continue
+            words = stat[stat.rindex(")") + 2 :].split()
+            found[int(name), words[19]] = int(words[1]), (int(words[11]) + int(words[12])) / TICK, int(words[21]) * PAGE / 1e9
+    return found
+
+
+def work_of(pid):
+    """What a process of the toolchain works on, the crate and the kind, or None."""
+    try:
+        words = pathlib.Path(f"/proc/{pid}/cmdline").read_bytes().decode(errors="replace").split("\0")
+        room = os.readlink(f"/proc/{pid}/cwd")
+    except OSError:
+        return None
+    if not words[0].endswith("/rattle") or "--crate-name" not in words:
+        return None
+    crate = words[words.index("--crate-name") + 1]
+    kept = words[words.index("--incremental") + 1] if "--incremental" in words else ""
+    if "--test" in words:
+        return crate, "tests"
+    if kept.endswith("/seed"):
+        return crate, "seed"
+    return crate, "edits" if kept or "/rt-edit-" in room else "proof"
+
+
+class Task:
+    """What was seen of a crate's work of one kind."""
+
+    def __init__(self, now):
+        self.seconds, self.most, self.began, self.ended = 0.0, 0.0, now, now
+
+    def clock(self):
+        return self.ended - self.began
+
+
+class Watch:
+    """Looks at the processes below one, again and again."""
+
+    def __init__(self, top):
+        self.top, self.tasks, self.works, self.took, self.most = top, {}, {}, {}, 0.0
+
+    def check_of(self, pid, parents):
+        """The highest process below the first that a process belongs to and that works on a crate."""
+        path = []
+        while pid in parents and pid != self.top:
+            who, pid = parents[pid]
+            path.append(who)
+        for who in reversed(path) if pid == self.top else ():
+            work = self.works.get(who) or work_of(who[0])
+            if work:
+                self.works[who] = work
+                return who
+        return None
+
+    def look(self):
+        now, found, held = time.monotonic(), processes(), collections.Counter()
+        parents = {who[0]: (who, parent) for who, (parent, _, _) in found.items()}
+        for who, (_, seconds, memory) in found.items():
+            check = self.check_of(who[0], parents)
+            if check:
+                task = self.tasks.setdefault(self.works[check], Task(now))
+                task.ended = now
+                task.seconds += seconds - self.took.get(who, 0.0)
+                self.took[who] = seconds
+                held[check] += memory
+        for check, memory in held.items():
+            task = self.tasks[self.works[check]]
+            task.most = max(task.most, memory)
+        self.most = max(self.most, sum(held.values()))
+
+
+def longest_chain(crates, tasks):
+    """The longest chain of proofs of which each waits for the one before, the last one's tests behind it, with their minutes by the clock."""
+    clock = lambda crate, kind: tasks[crate, kind].clock() / 60 if (crate, kind) in tasks else 0.0
+    longer = lambda chain, what, minutes: (chain[0] + minutes, (*chain[1], (what, minutes)))
+    chains, ends = {}, []
+    for name in crates:
+        under = max((chains[it] for it in crates[name].uses), key=lambda it: it[0], default=(0.0, ()))
+        chains[name] = longer(under, name, clock(name, "proof"))
+        ends += [chains[name], longer(under, f"the tests of {name}", clock(name, "tests"))]
+    return max(ends)
+
+
+def table(crates, watch):
+    """The rows, by crate, in processor minutes."""
+    tasks = watch.tasks
+    rows = ["| Crate | Proof | Tests | Seed | Wrong bodies | In all | Most memory of a check, GB |", "|---|---|---|---|---|---|---|"]
+    sums = collections.Counter()
+    for name in crates:
+        mine = {kind: tasks[name, kind] for kind in KINDS if (name, kind) in tasks}
+        if not mine:
+            continue
+        minutes = {kind: task.seconds / 60 for kind, task in mine.items()}
+        sums.update(minutes)
+        cells = [f"{minutes[kind]:.1f}" if kind in minutes else "" for kind in KINDS]
+        rows.append(f"| {' | '.join([name, *cells])} | {sum(minutes.values()):.1f} | {max(it.most for it in mine.values()):.1f} |")
+    cells = [f"{sums[kind]:.1f}" for kind in KINDS]
+    rows.append(f"| {' | '.join(['all', *cells])} | {sum(sums.values()):.1f} | {watch.most:.1f} at a time |")
+    return rows
+
+
+def gate(args, crates):
+    """Runs the gate, watched; its status."""
+    jobs = os.environ.get("RT_JOBS") or str(lanes())
+    words = ["rt", "ci", *["--anew"] * args.anew, *args.names]
+    began = time.monotonic()
+    with open(args.log, "w") as log:
+        running = spawn(["env", f"RT_JOBS={jobs}", *words], args.folder, log)
+    watch = Watch(running.pid)
+    try:
+        while running.poll() is None:
+            watch.look()
+            show(f"{(time.monotonic() - began) / 60:.0f} minutes; what rt ci says is in {args.log}")
+            time.sleep(EVERY)
+    finally:
+        end_all([running])
+    used = resource.getrusage(resource.RUSAGE_CHILDREN)
+    minutes, chain = longest_chain(crates, watch.tasks)
+    show("")
+    print("\n".join(table(crates, watch)))
+    print()
+    print(f"`{' '.join(words)}`: {pathlib.Path(args.log).read_text().splitlines()[-1]}")
+    print(f"{(used.ru_utime + used.ru_stime) / 60:.0f} processor minutes in all, {(time.monotonic() - began) / 60:.0f} by the clock, RT_JOBS={jobs}")
+    print(f"The longest chain, without wrong bodies: {minutes:.0f} minutes: {', '.join(f'{what} {took:.1f}' for what, took in chain)}")
+    return running.returncode
+
+
+def words_of(crate, crates, kept):
+    """The words by which rt checks a crate with its tests, at one job."""
+    kit = pathlib.Path(subprocess.run(["rt", "doc"], capture_output=True, text=True, check=True).stdout.strip()).parent
+    rlib = lambda name: crates[name].folder / "out" / "rlib" / f"{name}.rlib"
+    words = [kit / "bin" / "rattle", "check", "--crate-name", crate.name, f"src/{'main' if crate.is_program else 'lib'}.rt"]
+    for name in ["std", *(it for it in crate.line.partition(":")[2].split() if it not in crates)]:
+        words += ["--extern", f"{name}={kit}/rlibs/{name}.rlib"]
+    words += ["-L", f"dependency={kit}/rlibs"]
+    for name in crate.uses:
+        words += ["--extern", f"{name}={rlib(name)}"]
+    for name in below(crates, crate.name):
+        words += ["-L", f"dependency={rlib(name).parent}"]
+    words += ["--antt-project", f"{kit}/rattle/logic/antt-project.json", "--logic-built", kit / "logic_built", "--links", f"{crate.name}="]
+    words += ["--test"] * bool(tests_of(crate)) + ["--crate-type", "staticlib"] * ("staticlib" in crate.line.split(":")[0])
+    return [*words, "--jobs", "1", "--incremental", kept]
+
+
+def functions(args, crates):
+    """Says which functions the prover takes longest for."""
+    took = collections.Counter()
+    for name in named(crates, args.names):
+        show(f"checking {name}")
+        with tempfile.TemporaryDirectory(prefix="gate-times-") as kept:
+            ran = subprocess.run(words_of(crates[name], crates, kept), cwd=crates[name].folder, capture_output=True, text=True)
+            if ran.returncode:
+                say(f"{name}: not proved\n{(ran.stdout + ran.stderr)[-2000:]}")
+                return 1
+            for function, seconds in times.by_function(times.took(kept)).items():
+                took[f"{name}::{function}"] += seconds
+    print("| Function | Seconds |\n|---|---|")
+    for function, seconds in took.most_common(MOST):
+        print(f"| `{function}` | {seconds:.0f} |")
+    return 0
+
+
+def main():
+    parser = argparse.ArgumentParser(description=__doc__, formatter_class=argparse.RawDescriptionHelpFormatter)
+    parser.add_argument("--anew", action="store_true")
+    parser.add_argument("--folder", default=ROOT)
+    parser.add_argument("--log", default=os.path.join(tempfile.gettempdir(), "gate_times.log"))
+    parser.add_argument("--functions", action="store_true")
+    parser.add_argument("names", nargs="*", metavar="NAME")
+    args = parser.parse_args()
+    return (functions if args.functions else gate)(args, read_crates())
+
+
+if __name__ == "__main__":
+    run_main(main)

@@ -1,0 +1,45 @@
+"""The tests of crates: which there are, and which can't run without a proof."""
+
+import re
+
+TEST = re.compile(r"#\[test\]\s*(?:pub(?:\([a-z]+\))? )?fn (\w+)")
+# What takes all memory away, of the crate hoard. `rt try` builds programs with another allocator, over which that fails whatever the code does.
+TAKES_ALL = re.compile(r"\b(?:Hoard|Siege)::")
+
+
+def code_of(crate):
+    """The text of each of its source files, without comments."""
+    return {it: re.sub(r"//[^\n]*", "", it.read_text()) for it in sorted((crate.folder / "src").rglob("*.rt"))}
+
+
+def tests_of(crate):
+    """The names of its tests."""
+    return [name for text in code_of(crate).values() for name in TEST.findall(text)]
+
+
+def takers_of_all(crate):
+    """The names of its functions that take all memory away, themselves or by a function of the crate that they call."""
+    bodies = []
+    for text in code_of(crate).values():
+        parts = re.split(r"\bfn (\w+)", text)
+        bodies += zip(parts[1::2], parts[2::2])
+    found, more = set(), {name for name, body in bodies if TAKES_ALL.search(body)}
+    while more - found:
+        found |= more
+        calls = re.compile(rf"\b(?:{'|'.join(found)})\s*(?:::<|\()")
+        more = {name for name, body in bodies if calls.search(body)}
+    return found
+
+
+def left_out(crate):
+    """The names of its tests that can't run without a proof."""
+    takers = takers_of_all(crate)
+    return [it for it in tests_of(crate) if it in takers]
+
+
+def leave_out(folder, names):
+    """Removes these tests from a copy of their crate: from the attribute to the brace below it, as rt fmt lays them out."""
+    whole = re.compile(rf"^( *)#\[test\]\n *fn (?:{'|'.join(names)})\(.*?^\1}}\n", re.M | re.S)
+    for file in (folder / "src").rglob("*.rt"):
+        text = file.read_text()
+        file.write_text(whole.sub("", text))
