@@ -71,6 +71,34 @@ def copy_sources(crates, to):
     (to / "crates.txt").write_text("".join(f"{it.line}\n" for it in crates))
 
 
+def link(one, other):
+    """Gives a proved file a second name, and copies any other: rt removes such a file before it makes it anew."""
+    try:
+        os.link(one, other)
+    except OSError:
+        shutil.copy2(one, other)
+
+
+def lay_out(crates, name, to):
+    """Makes a repository in which this crate alone is to be proved: with its sources, and with the libraries that were built of those below."""
+    under = [crates[it] for it in below(crates, name)]
+    copy_sources([*under, crates[name]], to)
+    for crate in under:
+        shutil.copytree(crate.folder / "out" / "rlib", to / "crates" / crate.name / "out" / "rlib", copy_function=link)
+    (to / "crates" / name / "out").mkdir()
+    return to / "crates" / name
+
+
+def take_kept(crate, folder):
+    """Gives a copy of a crate the work that checks of it kept, what was proved by links."""
+
+    def take(one, other):
+        (link if one.endswith(".oantt") else shutil.copy2)(one, other)
+
+    if (crate.folder / "out" / "incremental").is_dir():
+        shutil.copytree(crate.folder / "out" / "incremental", folder / "out" / "incremental", copy_function=take)
+
+
 def lanes():
     """How many checks may run at a time: one a processor, and no more than a fifth of the memory in GB, which a check can take."""
     memory = os.sysconf("SC_PAGE_SIZE") * os.sysconf("SC_PHYS_PAGES") / 5e9
@@ -100,9 +128,13 @@ def say(text, file=sys.stderr):
     print(text, file=file, flush=True)
 
 
+SHOWN = [""]
+
+
 def show(text):
     """Text at the foot of a terminal, until the next."""
-    if sys.stderr.isatty():
+    if sys.stderr.isatty() and text != SHOWN[0]:
+        SHOWN[0] = text
         print(f"\r\033[K{text[: shutil.get_terminal_size().columns - 1]}", end="", file=sys.stderr, flush=True)
 
 

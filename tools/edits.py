@@ -1,32 +1,43 @@
 #!/usr/bin/env python3
-"""Tries each edit of the crates that are named (all, if none is), in must-fail/ of the crate and in tools/wrong_bodies/edits/CRATE, and says by
-what it was refused. The gate tries those in must-fail/ alone.
+"""Tries each wrong body and says by what it was refused: the edits of the crates that are named (all, if none is), in must-fail/ of the crate and in
+tools/wrong_bodies/edits/CRATE, which a goal must refuse; and the patches tools/wrong_bodies/*.patch, which a test must refuse, where the crate is
+changed or its tests are run. The gate tries those in must-fail/ alone.
 
 An edit shows something only where the prover refuses it by a goal: what the changed function promises, what a call in it requires, or what a
 caller of it relies on. An edit that only renames goals is refused because answers name goals that are gone, which a harmless rewrite of the
-same place would be too; such an edit shows nothing.
+same place would be too; such an edit shows nothing. A patch is what no clause can say (that threads run at the same time, say): its head has what it
+shows, the crate whose tests are run, and the test that must not pass. The tests are run without a proof, by `rt try --test`; but a test that takes all
+memory away fails there whatever the body, so such a patch is judged by `rt test`, and with --proved alone: it proves all crates from the one changed on.
 
-Each edit is tried in a copy of the repository, over the work that earlier checks kept in out/, so prove the crates first (`rt all check`).
-For each one a line:
+Edits are tried over the work that `tools/prove` keeps, which is called first. For each body a line:
 
   answer  CRATE/EDIT  FUNCTION: GOAL    an answer that is written in proofs/ no longer proves the goal of that name
   search  CRATE/EDIT  FUNCTION: GOAL    a goal of that name, which the tactics proved, they no longer prove
   false   CRATE/EDIT  FUNCTION: GOAL    the goal is false: the prover found values
-  new     CRATE/EDIT  FUNCTION: GOAL    only goals are open that have a new name: look whether a harmless rewrite is refused alike
   meant   CRATE/EDIT  FUNCTION: GOAL    the same edit made harmless is proved: a condition that it adds is what is refused
+  test    PATCH       TEST              the test failed, or did not end
+  new     CRATE/EDIT  FUNCTION: GOAL    only goals are open that have a new name: look whether a harmless rewrite is refused alike
   shape   CRATE/EDIT  FUNCTION: GOAL    the same edit made harmless is refused alike: it shows nothing, rewrite it
   names   CRATE/EDIT  FUNCTION          only names of the proof are gone: it shows nothing, rewrite it
-  PROVED  CRATE/EDIT                    the contracts let it through
+  ALIVE   ..                            the contracts let it through, or the test passed
+  BROKEN  ..          WHY               it can't be applied, or the compiler refuses it
+  NOT JUDGED  PATCH   TEST              it wants --proved
 
-It ends with 1 where an edit is `new`, `shape`, `names` or proved, or can't be applied.
+The lines are kept in tools/wrong_bodies/RECORD, each with a sum of what it was tried on, the commit and the day. What stands there with the same sum
+is not tried again, but with --anew. It ends with 1 where a body is `new`, `shape`, `names`, ALIVE or BROKEN.
 
 With --log it tries nothing: it reads what a run of `rt ci` or `rt must-fail` said of each edit, which is the first error alone. Then an edit is
-`answer`, `goal` (one that the tactics no longer prove, by whatever name), `names`, `limit` (the prover gave up) or PROVED.
+`answer`, `goal` (one that the tactics no longer prove, by whatever name), `names`, `limit` (the prover gave up), ALIVE or BROKEN.
 
-  tools/edits.py [--jobs N] [--only WORD] [--keep FOLDER] [--log FILE] [CRATE ..]
+  tools/edits.py [--jobs N] [--only WORD] [--anew] [--proved] [--keep FOLDER] [--log FILE] [CRATE ..]
 """
 
 import argparse
+import collections
+import datetime
+import fcntl
+import hashlib
+import os
 import pathlib
 import re
 import shutil
@@ -34,53 +45,107 @@ import subprocess
 import sys
 import tempfile
 
-ROOT = pathlib.Path(__file__).resolve().parent.parent
+from crates import PARTS, ROOT, below, copy_sources, lay_out, named, read_crates, run_main, say, side_by_side, spawn, take_kept
+from refused import by_check, by_gate, by_tests, goals_of, is_proved
+from tests import leave_out, left_out
 
-# An answer refused for this names what the edit took away: it says nothing of the goal.
-NAMES_ALONE = re.compile(r"is not in scope|has no field|has no `|was not admitted")
+BODIES = ROOT / "tools" / "wrong_bodies"
+RECORD = BODIES / "RECORD"
+HEAD = "# What refused each wrong body: its name, how, by what; a sum of what it was tried on, the commit, the day (tools/edits.py).\n"
+NOTHING_SHOWN = ("new", "shape", "names", "ALIVE", "BROKEN")
+MINUTES = 120
 
 
-def edits_of(crate):
-    moved = crate.parent.parent / "tools" / "wrong_bodies" / "edits" / crate.name
-    return sorted([*(crate / "must-fail").glob("*.edit"), *moved.glob("*.edit")])
+class Body:
+    """A wrong body: an edit of a crate, or a patch."""
+
+    def __init__(self, crates, file):
+        self.file, self.text = file, file.read_text()
+        self.is_patch = file.suffix == ".patch"
+        if self.is_patch:
+            self.head = dict(line.split(": ", 1) for line in self.text.partition("\n\n")[0].splitlines())
+            self.crate, self.name = crates[self.head["Crate"]], file.stem
+            self.touches = {self.crate.name, *re.findall(r"^\+\+\+ b/crates/(\w+)", self.text, re.M)}
+        else:
+            folder = file.parent.parent if file.parent.name == "must-fail" else file.parent
+            self.crate, self.name = crates[folder.name], f"{folder.name}/{file.stem}"
+            self.touches = {self.crate.name}
+        # Bodies of one batch are tried one after another.
+        self.batch = file.name if self.is_patch else self.crate.name
+
+    def takes_all_memory(self):
+        return self.is_patch and self.head["Test"].rpartition("::")[2] in left_out(self.crate)
 
 
-def apply_edit(crate, edit):
-    """Makes the edit's changes; each old text stands once in its file."""
+def bodies_of(crates, names, only):
+    files = [file for it in crates.values() for file in sorted((it.folder / "must-fail").glob("*.edit"))]
+    files += sorted(BODIES.glob("edits/*/*.edit")) + sorted(BODIES.glob("*.patch"))
+    found = [Body(crates, it) for it in files]
+    return [it for it in found if only in it.file.name and (not names or it.touches & set(names))]
+
+
+class Record:
+    """What is known of each body, by its name: how it was refused, by what, the sum of what it was tried on, the commit, the day."""
+
+    def __init__(self, crates):
+        self.crates, self.sums = crates, {}
+        self.kit = subprocess.run(["rt", "version"], capture_output=True, text=True).stdout
+        git = lambda *words: subprocess.run(["git", *words], cwd=ROOT, capture_output=True, text=True).stdout.strip()
+        self.commit = git("rev-parse", "--short", "HEAD") + ("+" if git("status", "--porcelain", "crates") else "")
+
+    def of_crate(self, name):
+        """A sum of what a check of the crate reads, without those below."""
+        if name not in self.sums:
+            crate = self.crates[name]
+            files = "".join(f"{it.relative_to(crate.folder)} {hashlib.sha256(it.read_bytes()).hexdigest()}\n" for it in crate.files())
+            self.sums[name] = crate.line + files
+        return self.sums[name]
+
+    def sum(self, body):
+        parts = [self.kit, body.text, *(self.of_crate(it) for it in [*below(self.crates, body.crate.name), body.crate.name])]
+        return hashlib.sha256("\n".join(parts).encode()).hexdigest()[:12]
+
+    def read(self):
+        lines = RECORD.read_text().splitlines() if RECORD.is_file() else []
+        return {it.split("\t")[0]: it.split("\t")[1:] for it in lines if not it.startswith("#")}
+
+    def known(self, body):
+        """How the body was refused, and by what, if it was tried as it now is."""
+        kind, where, made_of, *_ = self.read().get(body.name, ["", "", ""])
+        return (kind, where) if made_of == self.sum(body) else None
+
+    def write(self, body, kind, where):
+        here = os.open(BODIES, os.O_RDONLY)
+        fcntl.flock(here, fcntl.LOCK_EX)
+        try:
+            rows = self.read()
+            rows[body.name] = [kind, " ".join(where.split()), self.sum(body), self.commit, f"{datetime.date.today()}"]
+            RECORD.write_text(HEAD + "".join("\t".join([name, *row]) + "\n" for name, row in sorted(rows.items())))
+        finally:
+            os.close(here)
+
+
+def apply_edit(crate, text):
+    """Makes an edit's changes in the folder of a crate, each old text standing once in its file; why it can't, if so."""
     path = old = None
-    for line in edit.read_text().splitlines():
-        key, _, text = line.partition(":")
-        text = text[1:] if text.startswith(" ") else text
+    for line in text.splitlines():
+        key, _, rest = line.partition(":")
+        rest = rest.removeprefix(" ")
         if key == "file":
-            path = crate / text.strip()
+            path = crate / rest.strip()
         elif key == "old":
-            old = text
+            old = rest
         elif key == "new":
             body = path.read_text()
             if body.count(old) != 1:
-                raise SystemExit(f"{edit}: {old!r} stands {body.count(old)} times in {path}")
-            path.write_text(body.replace(old, text))
+                return f"{old!r} stands {body.count(old)} times in {path.name}"
+            path.write_text(body.replace(old, rest))
+    return None
 
 
-def check(crate, jobs, *more):
-    run = subprocess.run(["rt", "check", "--jobs", str(jobs), *more], cwd=crate, capture_output=True, text=True)
-    return run.stdout + run.stderr
-
-
-def goals_of(generated):
-    """The goals of each function of a check, answered or found by the tactics, by the path of its folder of proofs."""
-    goals = {}
-    for path in pathlib.Path(generated).glob("*-proofs/**/*.antt"):
-        folder = str(path.parent.relative_to(next(p for p in path.parents if p.name.endswith("-proofs"))))
-        if path.name in ("Goals.antt", "Proof.antt"):
-            names = re.findall(r"^\s*(?:abbrev )?(?:pub )?(?:the-asks-)?(\S+) :", path.read_text(), re.M)
-            goals.setdefault(folder, set()).update(names)
-    return goals
-
-
-def harmless(edit):
+def harmless(text):
     """The same edit made harmless, where it adds a condition: one that never holds, or always."""
-    lines = edit.read_text().splitlines()
+    lines = text.splitlines()
     for place, line in enumerate(lines):
         found = re.match(r"(new: .*?) (\|\||&&) (.+?)( \{|;|)$", line)
         if found and place > 0 and lines[place - 1][5:].split() == (found[1][5:] + found[4]).split():
@@ -92,112 +157,152 @@ def harmless(edit):
     return None
 
 
-def tried(crate, edit, jobs):
-    """What a check says of the crate with the edit; the crate is then as it was."""
-    kept = {path: path.read_bytes() for folder in ("src", "specs", "proofs") for path in (crate / folder).rglob("*") if path.is_file()}
-    apply_edit(crate, edit)
-    log = check(crate, jobs)
-    for path, body in kept.items():
-        if path.read_bytes() != body:
-            path.write_bytes(body)
-    return log
+def ran(words, folder):
+    """What a command said, and its status; it is ended after so many minutes."""
+    run = subprocess.run(["timeout", f"{MINUTES}m", *words], cwd=folder, capture_output=True, text=True, errors="replace", stdin=subprocess.DEVNULL)
+    return run.stdout + run.stderr, run.returncode
 
 
-def verdict(log, goals):
-    """What refused an edit: the kind, and the function with its goal."""
-    if re.search(r"^logic=proved", log, re.M):
-        return "PROVED", ""
-    log = re.sub(r"^so far: ", "", log, flags=re.M)
-    refused = re.findall(r"^\./proofs/(\S+)/(?:Answers|Invariants)\.antt:\d+:\d+: error: `([^`]+)`(.*)$", log, re.M)
-    answers = {(folder, goal) for folder, goal, why in refused if not NAMES_ALONE.search(why)}
-    gone = "no longer" in log or re.search(r"Answers\.antt:\d+:\d+: error: .*(is not in scope|has no `)", log)
-    held = [(folder, goal) for folder, goal in answers if goal in goals.get(folder, set())]
-    if held:
-        return "answer", "; ".join(f"{folder}: {goal}" for folder, goal in sorted(held)[:2])
-    missing = re.findall(r"^fn (\S+): no proof: expected answers in \./proofs/(\S+)/Answers\.antt; `search` did not prove (.*)$", log, re.M)
-    open_goals = [(folder, goal) for _, folder, names in missing for goal in re.findall(r"`([^`]+)`", names)]
-    if "may be false:" in log or "the facts known there allow values" in log:
-        return "false", "; ".join(f"{folder}: {goal}" for folder, goal in open_goals[:2])
-    same = [(folder, goal) for folder, goal in open_goals if goal in goals.get(folder, set())]
-    if same:
-        return "search", "; ".join(f"{folder}: {goal}" for folder, goal in same[:2])
-    if open_goals:
-        return "new", "; ".join(f"{folder}: {goal}" for folder, goal in open_goals[:2])
-    first = next((line for line in log.splitlines() if "error" in line or ": no proof" in line or ": not proved" in line), "")
-    return "names", ("gone: " if gone else "") + first[:160]
+class Edits:
+    """The edits of one crate, each tried in a copy of it over the work that was kept."""
+
+    def __init__(self, crates, crate, room):
+        self.folder = lay_out(crates, crate.name, room / "repository")
+        take_kept(crate, self.folder)
+        if not is_proved(self.check()):
+            raise SystemExit(f"{crate.name} is not proved as it is")
+        generated = room / "generated"
+        generated.mkdir()
+        self.check("--generated", str(generated))
+        self.goals = goals_of(generated)
+
+    def check(self, *more):
+        return ran(["rt", "check", "--jobs", "1", *more], self.folder)[0]
+
+    def check_with(self, text):
+        """What a check says of the crate with the edit; the crate is then as it was."""
+        kept = {path: path.read_bytes() for part in PARTS for path in (self.folder / part).rglob("*") if path.is_file()}
+        why = apply_edit(self.folder, text)
+        log = "" if why else self.check()
+        for path, body in kept.items():
+            if path.read_bytes() != body:
+                path.write_bytes(body)
+        return log, why
+
+    def tried(self, body):
+        log, why = self.check_with(body.text)
+        if why:
+            return "BROKEN", why, ""
+        kind, where = by_check(log, self.goals)
+        control = harmless(body.text) if kind in ("search", "new") else None
+        if control:
+            said, _ = self.check_with(control)
+            if re.search(r"^logic=", said, re.M):
+                kind = "meant" if is_proved(said) else "shape"
+        return kind, where, log
 
 
-def told(text):
-    """What `rt ci` said of an edit: the kind, and the goal that it names first."""
-    goal = next(iter(re.findall(r"`([^`]+)`", text)), "")
-    if text.startswith("NOT REFUSED"):
-        return "PROVED", ""
-    if "only because a proof file names" in text:
-        return "names", goal
-    if "only by a limit" in text:
-        return "limit", goal
-    if not text.startswith("refused"):
-        return "bad", text[:160]
-    return ("answer" if re.search(r"/(Answers|Invariants)\.antt:", text) else "goal"), goal
+def tried_by_test(crates, body, room):
+    """What becomes of a patch: how it was refused, by what, and what was said."""
+    words = ["rt", "try", "--test"]
+    if body.takes_all_memory():
+        words = ["rt", "test"]
+        lay_out(crates, body.crate.name, room)
+        for name in [*below(crates, body.crate.name), body.crate.name]:
+            take_kept(crates[name], room / "crates" / name)
+    else:
+        copy_sources(crates.values(), room)
+        leave_out(room / "crates" / body.crate.name, left_out(body.crate))
+    fits = subprocess.run(["patch", "-p1", "--silent", "--force"], cwd=room, input=body.text, capture_output=True, text=True)
+    if fits.returncode:
+        return "BROKEN", fits.stdout.strip()[:200], ""
+    log, status = ran(words, room / "crates" / body.crate.name)
+    return *by_tests(log, body.head["Test"], status), log
 
 
-def by_log(path, only, names):
-    """Says of each edit what the log of a run says of it."""
+def try_batch(crates, bodies, record, args):
+    """Tries the bodies of one batch, tells of each, and keeps what became of it."""
+    with tempfile.TemporaryDirectory(prefix="wrong-bodies-") as room:
+        edits = None
+        for body in bodies:
+            if body.is_patch:
+                kind, where, log = tried_by_test(crates, body, pathlib.Path(room))
+            else:
+                edits = edits or Edits(crates, body.crate, pathlib.Path(room))
+                kind, where, log = edits.tried(body)
+            record.write(body, kind, where)
+            print(f"{kind:7} {body.name}  {where}", flush=True)
+            if args.keep:
+                file = pathlib.Path(args.keep) / f"{body.name}.log"
+                file.parent.mkdir(parents=True, exist_ok=True)
+                file.write_text(log)
+    return 0
+
+
+def by_log(args):
+    """Says of each edit what the log of a run of the gate says of it."""
     bad = 0
-    for crate, edit, text in re.findall(r"^(?:rt: )?must-fail ([a-z0-9_]+)/(\S+)\.edit: (.*)$", pathlib.Path(path).read_text(), re.M):
-        if only not in edit or (names and crate not in names):
-            continue
-        kind, goal = told(text)
-        bad += kind in ("names", "bad", "PROVED")
-        print(f"{kind:7} {crate}/{edit}  {goal}")
+    for crate, edit, text in re.findall(r"^(?:rt: )?must-fail ([a-z0-9_]+)/(\S+)\.edit: (.*)$", pathlib.Path(args.log).read_text(), re.M):
+        if args.only in edit and (not args.names or crate in args.names):
+            kind, goal = by_gate(text)
+            bad += kind in NOTHING_SHOWN
+            print(f"{kind:7} {crate}/{edit}  {goal}")
     return 1 if bad else 0
+
+
+def try_all(crates, bodies, record, args):
+    """Tries these bodies, each batch in a process of its own, so many side by side; true if all processes ended well."""
+    batches = collections.Counter(it.batch for it in bodies)
+    proofs = sorted({it.crate.name for it in bodies if not it.is_patch or it.takes_all_memory()})
+    if proofs and subprocess.run([ROOT / "tools" / "prove", *proofs]).returncode:
+        return False
+    lost = []
+
+    def start(name, _jobs):
+        more = ["--anew"] * args.anew + ["--proved"] * args.proved + (["--keep", args.keep] if args.keep else [])
+        return spawn([sys.executable, __file__, "--batch", name, "--only", args.only, *more], ROOT)
+
+    def ended(name, status, _seconds):
+        if status:
+            lost.append(name)
+        return True
+
+    side_by_side({it: [] for it, _ in batches.most_common()}, args.jobs, start, ended)
+    if lost:
+        say(f"not tried to the end: {', '.join(lost)}")
+    return not lost
 
 
 def main():
     parser = argparse.ArgumentParser(description=__doc__, formatter_class=argparse.RawDescriptionHelpFormatter)
-    parser.add_argument("--jobs", type=int, default=2)
-    parser.add_argument("--only", default="", help="only edits whose names contain this")
-    parser.add_argument("--keep", help="where to keep the check's words, a file an edit")
+    parser.add_argument("--jobs", type=int, default=1, help="how many are tried side by side")
+    parser.add_argument("--only", default="", help="only bodies whose names contain this")
+    parser.add_argument("--anew", action="store_true", help="also those that were tried as they are")
+    parser.add_argument("--proved", action="store_true", help="also those whose tests must be proved to be run")
+    parser.add_argument("--keep", type=os.path.abspath, help="where to keep what was said, a file a body")
     parser.add_argument("--log", help="the log of a run of rt ci or rt must-fail")
-    parser.add_argument("crates", nargs="*")
+    parser.add_argument("--batch", help=argparse.SUPPRESS)
+    parser.add_argument("names", nargs="*", metavar="CRATE")
     args = parser.parse_args()
     if args.log:
-        return by_log(args.log, args.only, args.crates)
-    names = args.crates or [line.split(":")[0].split()[0] for line in (ROOT / "crates.txt").read_text().splitlines() if line[:1].isalpha()]
-    bad = 0
-    with tempfile.TemporaryDirectory() as room:
-        copy = pathlib.Path(room) / "repository"
-        shutil.copytree(ROOT, copy, symlinks=True, ignore=shutil.ignore_patterns(".git", "scratch"))
-        for name in names:
-            crate = copy / "crates" / name
-            edits = [edit for edit in edits_of(crate) if args.only in edit.name]
-            if not edits:
-                continue
-            generated = pathlib.Path(room) / "generated" / name
-            generated.mkdir(parents=True)
-            if not re.search(r"^logic=proved", check(crate, args.jobs), re.M):
-                raise SystemExit(f"{name} is not proved as it is")
-            check(crate, args.jobs, "--generated", str(generated))
-            goals = goals_of(generated)
-            for edit in edits:
-                log = tried(crate, edit, args.jobs)
-                if args.keep:
-                    folder = pathlib.Path(args.keep) / name
-                    folder.mkdir(parents=True, exist_ok=True)
-                    (folder / f"{edit.stem}.log").write_text(log)
-                kind, where = verdict(log, goals)
-                control = harmless(edit) if kind in ("search", "new") else None
-                if control is not None:
-                    path = pathlib.Path(room) / "control"
-                    path.write_text(control)
-                    log = tried(crate, path, args.jobs)
-                    if re.search(r"^logic=", log, re.M):
-                        kind = "meant" if verdict(log, goals)[0] == "PROVED" else "shape"
-                    path.unlink()
-                bad += kind in ("new", "shape", "names", "PROVED")
-                print(f"{kind:7} {name}/{edit.stem}  {where}", flush=True)
-    return 1 if bad else 0
+        return by_log(args)
+    crates = read_crates()
+    named(crates, args.names)
+    record = Record(crates)
+    bodies = [it for it in bodies_of(crates, args.names, args.only) if not args.batch or it.batch == args.batch]
+    left = [it for it in bodies if (args.anew or not record.known(it)) and (args.proved or not it.takes_all_memory())]
+    if args.batch:
+        return try_batch(crates, left, record, args)
+    done = not left or try_all(crates, left, record, args)
+    counts = collections.Counter()
+    for body in bodies:
+        kind, where = record.known(body) or ("NOT JUDGED", body.head["Test"] if body.is_patch else "")
+        counts["not judged" if kind == "NOT JUDGED" else "to be looked at" if kind in NOTHING_SHOWN else "refused"] += 1
+        if body not in left:
+            print(f"{kind:7} {body.name}  {where}", flush=True)
+    print(", ".join(f"{counts[it]} {it}" for it in ("refused", "to be looked at", "not judged")))
+    return 1 if counts["to be looked at"] or not done else 0
 
 
 if __name__ == "__main__":
-    sys.exit(main())
+    run_main(main)

@@ -39,6 +39,8 @@ def left_out(crate):
 
 def leave_out(folder, names):
     """Removes these tests from a copy of their crate: from the attribute to the brace below it, as rt fmt lays them out."""
+    if not names:
+        return
     whole = re.compile(rf"^( *)#\[test\]\n *fn (?:{'|'.join(names)})\(.*?^\1}}\n", re.M | re.S)
     for file in (folder / "src").rglob("*.rt"):
         text = file.read_text()
