@@ -25,6 +25,32 @@ struct Steps {
     many: u64,
 }
 
+/// What is tried of a line.
+#[derive(Clone, Copy)]
+enum Part {
+    Calls,
+    /// What opening answers as memory is refused. It takes all memory of the process away.
+    OpeningWithoutMemory,
+}
+
+/// The part, over lines of this type.
+fn try_part<R: Wait + Abort, L: Counted + Sleeping<Free> + Drop>(
+    rt: &R,
+    alloc: Global,
+    steps: &Steps,
+    part: Part,
+) -> Result<(), Fail>
+where
+    L::Port: Drop,
+{
+    match part {
+        Part::Calls => each_call::<R, L>(rt, alloc, steps),
+        Part::OpeningWithoutMemory => lines::each_allocation_of_opening_is_refused::<R, L>(
+            rt, alloc,
+        ),
+    }
+}
+
 /// Each call, over lines of this type.
 fn each_call<R: Wait + Abort, L: Counted + Sleeping<Free> + Drop>(
     rt: &R,
@@ -42,26 +68,44 @@ where
     lines::a_release_passes_all_other_nodes_of_200::<R, L>(rt, alloc, steps.many)?;
     lines::finish_wants_a_port_of_each_node::<R, L>(rt, alloc);
     lines::finish_wants_no_other_port::<R, L>(rt, alloc);
-    lines::each_allocation_of_opening_is_refused::<R, L>(rt, alloc)?;
     lines::each_growth_of_finish_is_refused::<R, L>(rt, alloc)?;
     lines::a_line_is_handed_over_with_its_bytes::<R, L>(rt, alloc)?;
     lines::any_line_is_handed_over::<R, L>(rt, alloc)
 }
 
+fn over_rings<R: Wait + Abort>(rt: &R, alloc: Global, part: Part) -> Result<(), Fail> {
+    let steps = Steps { few: 8, many: 599 };
+    try_part::<_, RingLine<Free>>(rt, alloc, &steps, part)
+}
+
+fn over_lists<R: Wait + Abort>(rt: &R, alloc: Global, part: Part) -> Result<(), Fail> {
+    let steps = Steps { few: 9, many: 797 };
+    try_part::<_, LinkLine<Free>>(rt, alloc, &steps, part)
+}
+
+fn over_ticket_lines<R: Wait + Abort>(rt: &R, alloc: Global, part: Part) -> Result<(), Fail> {
+    let steps = Steps { few: 5, many: 399 };
+    try_part::<_, TicketLine<Free>>(rt, alloc, &steps, part)
+}
+
 #[test]
 fn a_ring_answers_each_call(rt: HostRuntime) -> Result<(), Fail> {
-    let steps = Steps { few: 8, many: 599 };
-    each_call::<_, RingLine<Free>>(&rt, rt.alloc(), &steps)
+    over_rings(&rt, rt.alloc(), Part::Calls)
 }
 
 #[test]
 fn a_list_answers_each_call(rt: HostRuntime) -> Result<(), Fail> {
-    let steps = Steps { few: 9, many: 797 };
-    each_call::<_, LinkLine<Free>>(&rt, rt.alloc(), &steps)
+    over_lists(&rt, rt.alloc(), Part::Calls)
 }
 
 #[test]
 fn a_ticket_line_answers_each_call(rt: HostRuntime) -> Result<(), Fail> {
-    let steps = Steps { few: 5, many: 399 };
-    each_call::<_, TicketLine<Free>>(&rt, rt.alloc(), &steps)
+    over_ticket_lines(&rt, rt.alloc(), Part::Calls)
+}
+
+#[test]
+fn each_allocation_of_opening_is_refused(rt: HostRuntime) -> Result<(), Fail> {
+    over_rings(&rt, rt.alloc(), Part::OpeningWithoutMemory)?;
+    over_lists(&rt, rt.alloc(), Part::OpeningWithoutMemory)?;
+    over_ticket_lines(&rt, rt.alloc(), Part::OpeningWithoutMemory)
 }

@@ -8,6 +8,7 @@ use std::rt::Clock;
 use std::sync::Wait;
 use std::sync::atomic::{AtomicU64, Ordering};
 use std::test::Fail;
+use std::thread::Threads;
 use std::time::Duration;
 
 /// A clock whose second is set, and a standard error that expects these lines, one after another.
@@ -86,17 +87,24 @@ impl<R: Wait, G: Gate> Work<R, G, u64> for Asking {
     }
 }
 
+/// Whether all asks of four workers were allowed. `None` if a thread was refused.
+fn asked_by_four<T: Threads + Wait + Sync, G: Gate + Sync>(
+    rt: &T,
+    alloc: Global,
+    gate: &G,
+) -> Option<bool> {
+    let workers = vec![in alloc; 1, 2, 3, 4].ok()?;
+    let asked = together(rt, alloc, &Asking, gate, workers)?;
+    Some(asked.iter().all(|may| *may))
+}
+
 #[test]
 fn no_job_of_four_workers_is_forgotten(rt: HostRuntime) -> Result<(), Fail> {
     let expected = ["80001 of 100000 jobs done"];
     let console = expecting(rt.alloc(), expected.as_slice());
     let gate = Progress::new(&console)?;
     gate.begins(100_000);
-    let workers = vec![in rt.alloc(); 1, 2, 3, 4]?;
-    let Some(asked) = together(&rt, rt.alloc(), &Asking, &gate, workers) else {
-        return Err(Fail::from("refused"));
-    };
-    assert!(rt; asked.iter().all(|may| *may));
+    assert_eq!(rt; asked_by_four(&rt, rt.alloc(), &gate), Some(true));
     console.second.store(1, Ordering::SeqCst);
     assert!(rt; gate.may(1, 1));
     assert_eq!(rt; console.came.load(Ordering::SeqCst), 1);

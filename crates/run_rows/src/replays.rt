@@ -160,13 +160,17 @@ fn push_each(
     Ok(())
 }
 
-#[test]
-fn a_release_passes_199_withdrawn_nodes(rt: HostRuntime) -> Result<(), Fail> {
-    let alloc = rt.alloc();
+/// 199 of 200 nodes withdraw behind the first, which then releases.
+fn withdrawn_behind_one(alloc: Global) -> Result<String, Fail> {
     let mut script = "nodes 200 lines 1\n".to_string(alloc)?;
     push_each(alloc, &mut script, 1, 201, "enq", " 0\n")?;
     push_each(alloc, &mut script, 2, 201, "out", " 0\n")?;
     script.push_str("deq 1 0\n")?;
+    Ok(script)
+}
+
+/// What is answered to it.
+fn passed_behind_one(alloc: Global) -> Result<String, Fail> {
     let mut reply = "granted\n".to_string(alloc)?;
     for _ in 2..201 {
         reply.push_str("queued\n")?;
@@ -175,8 +179,15 @@ fn a_release_passes_199_withdrawn_nodes(rt: HostRuntime) -> Result<(), Fail> {
         reply.push_str("withdrawn\n")?;
     }
     reply.push_str("released\nline 0 served 1 withdrawn 199 told 0 left 0\n")?;
+    Ok(reply)
+}
+
+#[test]
+fn a_release_passes_199_withdrawn_nodes(rt: HostRuntime) -> Result<(), Fail> {
+    let script = withdrawn_behind_one(rt.alloc())?;
+    let reply = passed_behind_one(rt.alloc())?;
     for kind in &KINDS {
-        assert_eq!(rt; reply_to(alloc, script.as_str(), *kind)?, reply);
+        assert_eq!(rt; reply_to(rt.alloc(), script.as_str(), *kind)?, reply);
     }
     Ok(())
 }

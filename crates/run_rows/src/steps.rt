@@ -2,6 +2,7 @@
 use linked_list_allocator::LocalHeap;
 use qolb_run::{Detail, ReplayError, run_steps};
 use qolb_script::Watched;
+use std::alloc::Global;
 use std::test::Fail;
 
 /// A node withdraws before it is granted.
@@ -29,34 +30,35 @@ fn ranks_are_written(rt: HostRuntime) -> Result<(), Fail> {
     Ok(())
 }
 
+/// What comes of the script on a heap of so many bytes: its error, whether the reply is right, how much was written, and how many bytes of
+/// the heap are in use at last.
+fn run_within(alloc: Global, bytes: usize) -> Option<(Option<ReplayError>, bool, usize, usize)> {
+    let heap = LocalHeap::new(alloc, bytes).ok()?;
+    let mut reader = Watched::new(SCRIPT.as_bytes());
+    let mut text: Vec<u8> = Vec::new(alloc);
+    let done = run_steps(
+        &heap,
+        &mut reader,
+        &mut Watched::new(&mut text),
+        Detail::Words,
+    );
+    let is_right = text.as_slice() == REPLY.as_bytes();
+    Some((done.err(), is_right, text.len(), heap.used()))
+}
+
 #[test]
 fn each_allocation_is_refused(rt: HostRuntime) -> Result<(), Fail> {
-    let mut refused = 0u32;
-    let mut ran = false;
+    let refused = (Some(ReplayError::Memory), false, 0, 0);
+    let ran = (None, true, REPLY.len(), 0);
+    let mut refusals = 0usize;
     for step in 1..200usize {
-        let heap = LocalHeap::new(rt.alloc(), 32 * step)?;
-        let mut reader = Watched::new(SCRIPT.as_bytes());
-        let mut text: Vec<u8> = Vec::new(rt.alloc());
-        match run_steps(
-            &heap,
-            &mut reader,
-            &mut Watched::new(&mut text),
-            Detail::Words,
-        ) {
-            Ok(()) => {
-                ran = true;
-                assert_eq!(rt; text.as_slice(), REPLY.as_bytes(), "at {step}");
-            }
-            Err(error) => {
-                assert_eq!(rt; error, ReplayError::Memory, "at {step}");
-                assert!(rt; !ran, "at {step}");
-                assert_eq!(rt; text.len(), 0, "at {step}");
-                refused = refused.saturating_add(1);
-            }
+        let found = run_within(rt.alloc(), 32 * step).ok_or("a heap")?;
+        if refusals.saturating_add(1) == step && found == refused {
+            refusals = step;
+        } else {
+            assert_eq!(rt; found, ran, "at {step}");
         }
-        assert_eq!(rt; heap.used(), 0, "at {step}");
     }
-    assert!(rt; ran);
-    assert!(rt; refused > 5);
+    assert!(rt; refusals > 5 && refusals < 199);
     Ok(())
 }

@@ -287,6 +287,29 @@ where
     Ok(())
 }
 
+/// What comes of opening a line of four nodes in a room of so many bytes: its bytes once it is finished.
+fn opened_in<L: Counted + Drop>(
+    alloc: Global,
+    siege: &Siege,
+    bytes: usize,
+) -> Option<Result<[u8; 64], OpenError>>
+where
+    L::Port: Drop,
+{
+    let terms = Terms {
+        nodes: 4,
+        opening: Line64::from_bytes([3; 64]),
+        lease: None,
+    };
+    let rest = siege.leave(alloc, bytes).ok()?;
+    let opened = Row::<L>::open(alloc, 7, terms);
+    drop(rest);
+    match opened {
+        Ok(row) => Some(Ok(row.finish(alloc).ok()?.to_bytes())),
+        Err(why) => Some(Err(why)),
+    }
+}
+
 /// In a room that grows by the grain of the heap a line is refused for want of memory, until all that it takes is there; each of its
 /// allocations is refused on the way.
 pub(super) fn each_allocation_of_opening_is_refused<R: Abort, L: Counted + Drop>(
@@ -296,21 +319,12 @@ pub(super) fn each_allocation_of_opening_is_refused<R: Abort, L: Counted + Drop>
 where
     L::Port: Drop,
 {
-    let terms = Terms {
-        nodes: 4,
-        opening: Line64::from_bytes([3; 64]),
-        lease: None,
-    };
     let siege = Siege::begin(alloc, 1 << 20)?;
     let mut refused = 0u32;
     for grains in 2..20_000usize {
-        let rest = siege.leave(alloc, GRAIN * grains)?;
-        let opened = Row::<L>::open(alloc, 7, terms);
-        drop(rest);
-        match opened {
-            Ok(row) => {
-                let line = row.finish(alloc).ok().ok_or("finished")?;
-                assert_eq!(rt; line.to_bytes(), [3; 64]);
+        match opened_in::<L>(alloc, &siege, GRAIN * grains).ok_or("a room, or finished")? {
+            Ok(bytes) => {
+                assert_eq!(rt; bytes, [3; 64]);
                 assert!(rt; refused > 0);
                 return Ok(());
             }
@@ -321,6 +335,17 @@ where
     Err(Fail::from("no room was large enough"))
 }
 
+/// What one node releases, and what the next sees then, over a line of two nodes. `None` if it was not handed over.
+fn handed<L: Counted + Drop>(alloc: Global) -> Option<(Line64, Line64)>
+where
+    L::Port: Drop,
+{
+    let opened = open_zeros::<Free, L>(alloc, 2, None)?;
+    let (line, mut one, mut two) = with_two::<Free, L>(opened)?;
+    let fives = Line64::from_bytes([5; 64]);
+    hand_over(&line, &mut two, &mut one, Mask(0b1000), &fives)
+}
+
 /// What a function over any line hands from one node to another.
 pub(super) fn any_line_is_handed_over<R: Abort, L: Counted + Drop>(
     rt: &R,
@@ -329,12 +354,7 @@ pub(super) fn any_line_is_handed_over<R: Abort, L: Counted + Drop>(
 where
     L::Port: Drop,
 {
-    let opened = open_zeros::<Free, L>(alloc, 2, None).ok_or("opened")?;
-    let (line, mut one, mut two) = with_two::<Free, L>(opened).ok_or("two ports")?;
-    let fives = Line64::from_bytes([5; 64]);
-    let (released, seen) = hand_over(&line, &mut two, &mut one, Mask(0b1000), &fives).ok_or(
-        "handed over",
-    )?;
+    let (released, seen) = handed::<L>(alloc).ok_or("handed over")?;
     let mut want = [0; 64];
     want[3] = 5;
     assert_eq!(rt; released.to_bytes(), want);

@@ -4,7 +4,7 @@ ghost use Rattle.line_accounts.specs.NewDesks.{IsNewPort};
 
 use crate::boards::{eight_tasks, late_node, three_turns, two_tasks};
 use crate::opened::{open_zeros, with_last, with_two};
-use crate::producers::hand_over;
+use crate::producers::{Handed, hand_over};
 use line_board::{BoardLaw, Put, Take};
 use qolb_model::{OpenLine, PortState};
 use std::alloc::Global;
@@ -34,7 +34,16 @@ where
     with_two::<BoardLaw, L>(opened)
 }
 
-/// A line for one node. Seven tasks are stored, an eighth finds the board full, and the seven are taken in order; then none is left.
+/// What a board for one node answers to eight puts and eight takes.
+fn eight_on_a_board<L: OpenLine<BoardLaw> + Drop>(alloc: Global) -> Option<([Put; 8], [Take; 8])>
+where
+    L::Port: Drop,
+{
+    let (line, mut port) = board::<L>(alloc, None)?;
+    Some(eight_tasks(&line, &mut port))
+}
+
+/// Seven tasks are stored, an eighth finds the board full, and the seven are taken in order; then none is left.
 pub(super) fn tasks_are_taken_in_their_order<R: Abort, L: OpenLine<BoardLaw> + Drop>(
     rt: &R,
     alloc: Global,
@@ -42,8 +51,7 @@ pub(super) fn tasks_are_taken_in_their_order<R: Abort, L: OpenLine<BoardLaw> + D
 where
     L::Port: Drop,
 {
-    let (line, mut port) = board::<L>(alloc, None).ok_or("opened")?;
-    let (puts, takes) = eight_tasks(&line, &mut port);
+    let (puts, takes) = eight_on_a_board::<L>(alloc).ok_or("opened")?;
     for (k, answer) in puts.iter().enumerate() {
         let want = if k < 7 { Put::Stored } else { Put::Full };
         assert_eq!(rt; *answer, want, "put {k}");
@@ -59,62 +67,92 @@ where
     Ok(())
 }
 
-/// A line for one node. Tasks 5 and 9 lie in its bytes in this order.
-pub(super) fn tasks_lie_in_the_line<R: Abort, L: OpenLine<BoardLaw> + Drop>(
-    rt: &R,
+/// What a board for one node answers to two puts, and its bytes then.
+fn two_on_a_board<L: OpenLine<BoardLaw> + Drop>(
     alloc: Global,
-) -> Result<(), Fail>
+) -> Option<([Put; 2], Option<[u8; 64]>)>
 where
     L::Port: Drop,
 {
-    let (line, mut port) = board::<L>(alloc, None).ok_or("opened")?;
-    let (puts, seen) = two_tasks(&line, &mut port);
-    assert_eq!(rt; puts, [Put::Stored, Put::Stored]);
+    let (line, mut port) = board::<L>(alloc, None)?;
+    Some(two_tasks(&line, &mut port))
+}
+
+/// Tasks 5 and 9 lie in its bytes in this order.
+pub(super) fn tasks_lie_in_the_line<R: Abort, L: OpenLine<BoardLaw> + Drop>(rt: &R, alloc: Global)
+where
+    L::Port: Drop,
+{
     let mut board = [0; 64];
     board[0] = 2;
     board[8] = 5;
     board[16] = 9;
-    assert_eq!(rt; seen.ok_or("granted")?, board);
-    Ok(())
+    let want = Some(([Put::Stored, Put::Stored], Some(board)));
+    assert_eq!(rt; two_on_a_board::<L>(alloc), want);
 }
 
-/// A line for two nodes. A node that is late is then busy, until its request was passed.
+fn a_late_node<L: OpenLine<BoardLaw> + Drop>(
+    alloc: Global,
+) -> Option<([Put; 3], PortState, [Take; 2])>
+where
+    L::Port: Drop,
+{
+    let (line, mut holder, mut port) = shared_board::<L>(alloc)?;
+    late_node(&line, &mut holder, &mut port)
+}
+
+/// A node that is late is then busy, until its request was passed.
 pub(super) fn a_late_node_is_busy_until_it_is_passed<R: Abort, L: OpenLine<BoardLaw> + Drop>(
     rt: &R,
     alloc: Global,
-) -> Result<(), Fail>
+)
 where
     L::Port: Drop,
 {
-    let (line, mut holder, mut port) = shared_board::<L>(alloc).ok_or("opened")?;
-    let (puts, state, takes) = late_node(&line, &mut holder, &mut port).ok_or("granted")?;
-    assert_eq!(rt; puts, [Put::Late, Put::Busy, Put::Stored]);
-    assert_eq!(rt; state, PortState::Rolled);
-    assert_eq!(rt; takes, [Take::Task(5), Take::Empty]);
-    Ok(())
+    let puts = [Put::Late, Put::Busy, Put::Stored];
+    let takes = [Take::Task(5), Take::Empty];
+    let want = Some((puts, PortState::Rolled, takes));
+    assert_eq!(rt; a_late_node::<L>(alloc), want);
 }
 
-/// A line for one node with a lease of three turns, which ends the board.
-pub(super) fn a_lease_ends_a_board<R: Abort, L: OpenLine<BoardLaw> + Drop>(
-    rt: &R,
+/// What a board with a lease of three turns answers.
+fn a_leased_board<L: OpenLine<BoardLaw> + Drop>(
     alloc: Global,
-) -> Result<(), Fail>
+) -> Option<([Put; 2], [Take; 3], PortState)>
 where
     L::Port: Drop,
 {
-    let (line, mut port) = board::<L>(alloc, Some(3)).ok_or("opened")?;
-    let (puts, takes, state) = three_turns(&line, &mut port);
-    assert_eq!(rt; puts, [Put::Stored, Put::Closed]);
-    assert_eq!(rt; takes, [Take::Task(5), Take::Empty, Take::Closed]);
-    assert_eq!(rt; state, PortState::Shut);
-    Ok(())
+    let (line, mut port) = board::<L>(alloc, Some(3))?;
+    Some(three_turns(&line, &mut port))
+}
+
+/// The last turn of the lease ends the board.
+pub(super) fn a_lease_ends_a_board<R: Abort, L: OpenLine<BoardLaw> + Drop>(rt: &R, alloc: Global)
+where
+    L::Port: Drop,
+{
+    let puts = [Put::Stored, Put::Closed];
+    let takes = [Take::Task(5), Take::Empty, Take::Closed];
+    let want = Some((puts, takes, PortState::Shut));
+    assert_eq!(rt; a_leased_board::<L>(alloc), want);
 }
 
 /// How many tasks each producer puts.
 const TASKS: u32 = 1_000;
 
-/// A line for four nodes, of which two produce and two consume. Each task is taken once, a consumer takes each producer's tasks in their order,
-/// and none is left on the board.
+/// What two producers and two consumers of a line for four nodes leave behind.
+fn handed_over<R: Threads + Wait + Sync, L: OpenLine<BoardLaw> + Sync + Drop>(
+    rt: &R,
+    alloc: Global,
+) -> Option<Handed>
+where
+    L::Port: Send + Drop,
+{
+    let (line, ports) = open_zeros::<BoardLaw, L>(alloc, 4, None)?;
+    hand_over(rt, alloc, line, ports, TASKS)
+}
+
+/// Each task is taken once, a consumer takes each producer's tasks in their order, and none is left on the board.
 pub(super) fn each_task_is_taken_once<
     R: Threads + Wait + Sync + Abort,
     L: OpenLine<BoardLaw> + Sync + Drop,
@@ -122,8 +160,7 @@ pub(super) fn each_task_is_taken_once<
 where
     L::Port: Send + Drop,
 {
-    let (line, ports) = open_zeros::<BoardLaw, L>(alloc, 4, None).ok_or("opened")?;
-    let handed = hand_over(rt, alloc, line, ports, TASKS).ok_or("handed over")?;
+    let handed = handed_over::<R, L>(rt, alloc).ok_or("handed over")?;
     assert!(rt; handed.rest.is_empty());
     let mut all = Vec::new(alloc);
     for taken in handed.taken.iter() {

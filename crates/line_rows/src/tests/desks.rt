@@ -1,5 +1,6 @@
 //! The answers of the desks' rows, and what is settled. The lines are of zeros.
-ghost use Rattle.std.specs.Prelude.{All, IfSome};
+ghost use Rattle.std.specs.Prelude.{◌≡◌, All, IfSome};
+ghost use Rattle.line_accounts.specs.Desks.{IsDeskOver};
 ghost use Rattle.line_accounts.specs.NewDesks.{IsNewPort};
 
 use crate::desks::{
@@ -7,10 +8,11 @@ use crate::desks::{
     settle_with,
 };
 use crate::opened::{open_zeros, with_last, with_two};
-use crate::transfers::{ACCOUNTS, PAID_IN, transfer_at_random};
+use crate::transfers::{ACCOUNTS, PAID_IN, Settled, transfer_at_random};
 use hoard::{GRAIN, Siege};
-use line_accounts::{AccountLaw, Reply, SettleError};
-use qolb_model::{Enq, OpenLine};
+use line_accounts::{AccountLaw, Desk, Reply, SettleError};
+use line_lanes::Line64;
+use qolb_model::{Enq, LineSync, OpenLine};
 use std::alloc::Global;
 use std::process::Abort;
 use std::sync::Wait;
@@ -61,45 +63,86 @@ where
     Some(lines)
 }
 
-/// A line for one node. Of the 100 that came in and the 10 that were paid out, 90 are left.
-pub(super) fn a_day_is_settled<R: Abort, L: OpenLine<AccountLaw> + Drop>(
-    rt: &R,
+/// The total that is settled with this desk alone. `None` if settling is refused.
+fn total_of<L: LineSync<AccountLaw> + Drop>(
     alloc: Global,
-) -> Result<(), Fail>
+    lines: Vec<L>,
+    desk: Desk<L>,
+) -> Option<u128>
+where
+    L::Port: Drop,
+    requires { IsDeskOver L.belongs L.view lines.items desk }
+{
+    settle_with(alloc, lines, desk)?.ok()
+}
+
+/// A line and its first port, without the second.
+fn without_the_second<L: OpenLine<AccountLaw>>(made: (L, L::Port, L::Port)) -> (L, L::Port)
+where
+    L::Port: Drop,
+    ensures line { result.0 ≡ made.0 }
+    ensures port { result.1 ≡ made.1 }
+{
+    let (line, port, _) = made;
+    (line, port)
+}
+
+fn day<L: OpenLine<AccountLaw> + Drop>(alloc: Global) -> Option<u128>
 where
     L::Port: Drop,
 {
-    let (line, port) = accounts::<L>(alloc, None).ok_or("opened")?;
-    assert_eq!(rt; a_day(alloc, line, port), Some(90));
-    Ok(())
+    let (line, port) = accounts::<L>(alloc, None)?;
+    a_day(alloc, line, port)
 }
 
-/// A line for one node.
-pub(super) fn a_balance_has_a_limit<R: Abort, L: OpenLine<AccountLaw> + Drop>(
-    rt: &R,
-    alloc: Global,
-) -> Result<(), Fail>
+/// Of the 100 that came in and the 10 that were paid out, 90 are left.
+pub(super) fn a_day_is_settled<R: Abort, L: OpenLine<AccountLaw> + Drop>(rt: &R, alloc: Global)
 where
     L::Port: Drop,
 {
-    let (line, port) = accounts::<L>(alloc, None).ok_or("opened")?;
-    let (lines, mut desk) = over_one(alloc, line, port).ok_or("a desk")?;
-    assert_eq!(rt;
-        limits(&lines, &mut desk),
-        [
-            Reply::Done,
-            Reply::Over,
-            Reply::Short,
-            Reply::SameAccount,
-            Reply::NoAccount
-        ]
-    );
-    let total = settle_with(alloc, lines, desk).and_then(|settled| settled.ok());
-    assert_eq!(rt; total, Some(281_474_976_710_656));
-    Ok(())
+    assert_eq!(rt; day::<L>(alloc), Some(90));
 }
 
-/// A line for two nodes, of which the second looks: 2^48 is 1 in the seventh byte of account 0.
+/// What the desk answers at the limits of an account, and the total that is settled. `None` if memory was refused.
+fn at_the_limits<L: OpenLine<AccountLaw> + Drop>(
+    alloc: Global,
+) -> Option<([Reply; 5], Option<u128>)>
+where
+    L::Port: Drop,
+{
+    let (line, port) = accounts::<L>(alloc, None)?;
+    let (lines, mut desk) = over_one(alloc, line, port)?;
+    let answers = limits(&lines, &mut desk);
+    Some((answers, total_of(alloc, lines, desk)))
+}
+
+pub(super) fn a_balance_has_a_limit<R: Abort, L: OpenLine<AccountLaw> + Drop>(rt: &R, alloc: Global)
+where
+    L::Port: Drop,
+{
+    let answers = [
+        Reply::Done,
+        Reply::Over,
+        Reply::Short,
+        Reply::SameAccount,
+        Reply::NoAccount,
+    ];
+    let want = Some((answers, Some(281_474_976_710_656)));
+    assert_eq!(rt; at_the_limits::<L>(alloc), want);
+}
+
+/// What the second of two nodes finds in a line whose account 0 holds all it may.
+fn a_full_line<L: OpenLine<AccountLaw> + Drop>(alloc: Global) -> Option<Line64>
+where
+    L::Port: Drop,
+{
+    let (line, port, mut other) = shared_accounts::<L>(alloc, None)?;
+    let (lines, mut desk) = over_one(alloc, line, port)?;
+    limits(&lines, &mut desk);
+    found_by(&lines[0], &mut other)
+}
+
+/// 2^48 is 1 in the seventh byte of account 0.
 pub(super) fn a_full_balance_lies_in_its_lane<R: Abort, L: OpenLine<AccountLaw> + Drop>(
     rt: &R,
     alloc: Global,
@@ -107,18 +150,43 @@ pub(super) fn a_full_balance_lies_in_its_lane<R: Abort, L: OpenLine<AccountLaw> 
 where
     L::Port: Drop,
 {
-    let (line, port, mut other) = shared_accounts::<L>(alloc, None).ok_or("opened")?;
-    let (lines, mut desk) = over_one(alloc, line, port).ok_or("a desk")?;
-    limits(&lines, &mut desk);
     let mut full = [0; 64];
     full[6] = 1;
-    let found = found_by(&lines[0], &mut other).ok_or("granted")?;
-    assert_eq!(rt; found.bytes, full);
+    assert_eq!(rt; a_full_line::<L>(alloc).ok_or("granted")?.bytes, full);
     Ok(())
 }
 
-/// Two lines for two nodes, of which the second looks: account 0, the first of the first line, holds 6, and account 9, the second of the
-/// second line, holds 4.
+/// Two lines of empty accounts for one node, and a desk over them. The first has this lease.
+fn two_lines<L: OpenLine<AccountLaw> + Drop>(
+    alloc: Global,
+    lease: Option<u64>,
+) -> Option<(Vec<L>, Desk<L>)>
+where
+    L::Port: Drop,
+    ensures { IfSome result (λ made. IsDeskOver L.belongs L.view made.0.items made.1) }
+{
+    let (first, first_port) = accounts::<L>(alloc, lease)?;
+    let (second, second_port) = accounts::<L>(alloc, None)?;
+    over_two(alloc, first, first_port, second, second_port)
+}
+
+/// What the desk answers over two lines for two nodes, and then the second node finds in each.
+fn six_and_four<L: OpenLine<AccountLaw> + Drop>(
+    alloc: Global,
+) -> Option<([Reply; 2], Option<Line64>, Option<Line64>)>
+where
+    L::Port: Drop,
+{
+    let (first, first_port, mut looks) = shared_accounts::<L>(alloc, None)?;
+    let (second, second_port, mut looks_too) = shared_accounts::<L>(alloc, None)?;
+    let (lines, mut desk) = over_two(alloc, first, first_port, second, second_port)?;
+    let answers = across(&lines, &mut desk);
+    let six = found_by(&lines[0], &mut looks);
+    let four = found_by(&lines[1], &mut looks_too);
+    Some((answers, six, four))
+}
+
+/// Account 0, the first of the first line, holds 6, and account 9, the second of the second line, holds 4.
 pub(super) fn a_transfer_leaves_six_and_brings_four<R: Abort, L: OpenLine<AccountLaw> + Drop>(
     rt: &R,
     alloc: Global,
@@ -126,135 +194,187 @@ pub(super) fn a_transfer_leaves_six_and_brings_four<R: Abort, L: OpenLine<Accoun
 where
     L::Port: Drop,
 {
-    let (first, first_port, mut looks) = shared_accounts::<L>(alloc, None).ok_or("opened")?;
-    let (second, second_port, mut looks_too) = shared_accounts::<L>(alloc, None).ok_or("opened")?;
-    let (lines, mut desk) = over_two(alloc, first, first_port, second, second_port).ok_or(
-        "a desk",
-    )?;
-    assert_eq!(rt; across(&lines, &mut desk), [Reply::Done, Reply::Done]);
+    let (answers, first, second) = six_and_four::<L>(alloc).ok_or("opened")?;
     let mut six = [0; 64];
     six[0] = 6;
-    let found = found_by(&lines[0], &mut looks).ok_or("granted")?;
-    assert_eq!(rt; found.bytes, six);
     let mut four = [0; 64];
     four[8] = 4;
-    let found = found_by(&lines[1], &mut looks_too).ok_or("granted")?;
-    assert_eq!(rt; found.bytes, four);
+    assert_eq!(rt; answers, [Reply::Done, Reply::Done]);
+    assert_eq!(rt; first.ok_or("granted")?.bytes, six);
+    assert_eq!(rt; second.ok_or("granted")?.bytes, four);
     Ok(())
 }
 
-/// Two lines for one node.
+/// What the desk answers over two lines, and the total that is settled. `None` if memory was refused.
+fn moved_across<L: OpenLine<AccountLaw> + Drop>(alloc: Global) -> Option<([Reply; 2], Option<u128>)>
+where
+    L::Port: Drop,
+{
+    let (lines, mut desk) = two_lines::<L>(alloc, None)?;
+    let answers = across(&lines, &mut desk);
+    Some((answers, total_of(alloc, lines, desk)))
+}
+
 pub(super) fn a_transfer_goes_over_two_lines<R: Abort, L: OpenLine<AccountLaw> + Drop>(
     rt: &R,
     alloc: Global,
-) -> Result<(), Fail>
+)
 where
     L::Port: Drop,
 {
-    let (first, first_port) = accounts::<L>(alloc, None).ok_or("opened")?;
-    let (second, second_port) = accounts::<L>(alloc, None).ok_or("opened")?;
-    let (lines, mut desk) = over_two(alloc, first, first_port, second, second_port).ok_or(
-        "a desk",
-    )?;
-    assert_eq!(rt; across(&lines, &mut desk), [Reply::Done, Reply::Done]);
-    let total = settle_with(alloc, lines, desk).and_then(|settled| settled.ok());
-    assert_eq!(rt; total, Some(10));
-    Ok(())
+    let want = Some(([Reply::Done, Reply::Done], Some(10)));
+    assert_eq!(rt; moved_across::<L>(alloc), want);
 }
 
-/// Two lines for one node.
+/// What the desk answers at the limit of an account, and the total that is settled. `None` if memory was refused.
+fn moved_to_a_full_account<L: OpenLine<AccountLaw> + Drop>(
+    alloc: Global,
+) -> Option<([Reply; 3], Option<u128>)>
+where
+    L::Port: Drop,
+{
+    let (lines, mut desk) = two_lines::<L>(alloc, None)?;
+    let answers = over(&lines, &mut desk);
+    Some((answers, total_of(alloc, lines, desk)))
+}
+
 pub(super) fn a_transfer_keeps_the_limit<R: Abort, L: OpenLine<AccountLaw> + Drop>(
     rt: &R,
     alloc: Global,
-) -> Result<(), Fail>
+)
 where
     L::Port: Drop,
 {
-    let (first, first_port) = accounts::<L>(alloc, None).ok_or("opened")?;
-    let (second, second_port) = accounts::<L>(alloc, None).ok_or("opened")?;
-    let (lines, mut desk) = over_two(alloc, first, first_port, second, second_port).ok_or(
-        "a desk",
-    )?;
-    assert_eq!(rt;
-        over(&lines, &mut desk),
-        [Reply::Done, Reply::Done, Reply::Over]
-    );
-    let total = settle_with(alloc, lines, desk).and_then(|settled| settled.ok());
-    assert_eq!(rt; total, Some(281_474_976_710_661));
-    Ok(())
+    let answers = [Reply::Done, Reply::Done, Reply::Over];
+    let want = Some((answers, Some(281_474_976_710_661)));
+    assert_eq!(rt; moved_to_a_full_account::<L>(alloc), want);
 }
 
-/// Two lines for one node, the first with a lease of two turns.
+/// What a desk answers over two lines, the first with a lease of two turns; its counters, and the total that is settled.
+#[derive(Clone, Copy, Debug, PartialEq, Eq)]
+struct Leased {
+    answers: [Reply; 4],
+    paid_in: u128,
+    paid_out: u128,
+    total: Option<u128>,
+}
+
+fn under_a_lease<L: OpenLine<AccountLaw> + Drop>(alloc: Global) -> Option<Leased>
+where
+    L::Port: Drop,
+{
+    let (lines, mut desk) = two_lines::<L>(alloc, Some(2))?;
+    let answers = leased(&lines, &mut desk);
+    let paid_in = desk.paid_in();
+    let paid_out = desk.paid_out();
+    let total = total_of(alloc, lines, desk);
+    Some(Leased {
+        answers,
+        paid_in,
+        paid_out,
+        total,
+    })
+}
+
 pub(super) fn a_lease_closes_the_line<R: Abort, L: OpenLine<AccountLaw> + Drop>(
     rt: &R,
     alloc: Global,
-) -> Result<(), Fail>
+)
 where
     L::Port: Drop,
 {
-    let (first, first_port) = accounts::<L>(alloc, Some(2)).ok_or("opened")?;
-    let (second, second_port) = accounts::<L>(alloc, None).ok_or("opened")?;
-    let (lines, mut desk) = over_two(alloc, first, first_port, second, second_port).ok_or(
-        "a desk",
-    )?;
-    assert_eq!(rt;
-        leased(&lines, &mut desk),
-        [Reply::Done, Reply::Done, Reply::Closed, Reply::Done]
-    );
-    assert_eq!(rt; (desk.paid_in(), desk.paid_out()), (10, 4));
-    let total = settle_with(alloc, lines, desk).and_then(|settled| settled.ok());
-    assert_eq!(rt; total, Some(6));
-    Ok(())
+    let want = Leased {
+        answers: [Reply::Done, Reply::Done, Reply::Closed, Reply::Done],
+        paid_in: 10,
+        paid_out: 4,
+        total: Some(6),
+    };
+    assert_eq!(rt; under_a_lease::<L>(alloc), Some(want));
 }
 
-/// Two lines for two nodes. A transfer that is late moves nothing; and without the ports of node 2 nothing is settled.
-pub(super) fn a_late_transfer_moves_nothing<R: Abort, L: OpenLine<AccountLaw> + Drop>(
-    rt: &R,
+/// Why the desks could not be settled, and how many lines and desks came back.
+fn refusal<L: LineSync<AccountLaw> + Drop>(
     alloc: Global,
-) -> Result<(), Fail>
+    lines: Vec<L>,
+    desk: Desk<L>,
+) -> Option<(SettleError, Option<(usize, usize)>)>
 where
     L::Port: Drop,
+    requires { IsDeskOver L.belongs L.view lines.items desk }
 {
-    let (first, first_port, _) = shared_accounts::<L>(alloc, None).ok_or("opened")?;
-    let (second, second_port, mut other) = shared_accounts::<L>(alloc, None).ok_or("opened")?;
-    let (lines, mut desk) = over_two(alloc, first, first_port, second, second_port).ok_or(
-        "a desk",
-    )?;
-    let (asked, answers) = late(&lines, &mut desk, &lines[1], &mut other);
-    assert_eq!(rt; asked, Enq::Granted);
-    assert_eq!(rt;
-        answers,
-        [Reply::Done, Reply::Late, Reply::Busy, Reply::Done]
-    );
-    let settled = settle_with(alloc, lines, desk).ok_or("memory")?;
-    let refused = settled.err().ok_or("refused")?;
-    assert_eq!(rt; refused.why, SettleError::Missing { line: 0, node: 2 });
+    let refused = settle_with(alloc, lines, desk)?.err()?;
     let back = refused
         .back
         .map(|(lines, desks)| (lines.len(), desks.len()));
-    assert_eq!(rt; back, Some((2, 1)));
-    Ok(())
+    Some((refused.why, back))
 }
 
-/// Two lines for two nodes, the second with a lease of one turn, which a transfer that waits for the first has not used.
+/// What a desk over two lines for two nodes answers, while the second node has the second line.
+#[derive(Clone, Copy, Debug, PartialEq, Eq)]
+struct Late {
+    asked: Enq,
+    answers: [Reply; 4],
+    refusal: Option<(SettleError, Option<(usize, usize)>)>,
+}
+
+fn beside_a_holder<L: OpenLine<AccountLaw> + Drop>(alloc: Global) -> Option<Late>
+where
+    L::Port: Drop,
+{
+    let (first, first_port) = without_the_second(shared_accounts::<L>(alloc, None)?);
+    let (second, second_port, mut other) = shared_accounts::<L>(alloc, None)?;
+    let (lines, mut desk) = over_two(alloc, first, first_port, second, second_port)?;
+    let (asked, answers) = late(&lines, &mut desk, &lines[1], &mut other);
+    Some(Late {
+        asked,
+        answers,
+        refusal: refusal(alloc, lines, desk),
+    })
+}
+
+/// A transfer that is late moves nothing; and without the ports of node 2 nothing is settled.
+pub(super) fn a_late_transfer_moves_nothing<R: Abort, L: OpenLine<AccountLaw> + Drop>(
+    rt: &R,
+    alloc: Global,
+)
+where
+    L::Port: Drop,
+{
+    let want = Late {
+        asked: Enq::Granted,
+        answers: [Reply::Done, Reply::Late, Reply::Busy, Reply::Done],
+        refusal: Some((SettleError::Missing { line: 0, node: 2 }, Some((2, 1)))),
+    };
+    assert_eq!(rt; beside_a_holder::<L>(alloc), Some(want));
+}
+
+/// What node 2 and the desk of node 1 answer over two lines, the second with a lease of one turn, which a transfer that waits for the
+/// first line has not used.
+fn waits_for_the_lower<L: OpenLine<AccountLaw> + Drop>(
+    alloc: Global,
+    from: u64,
+    to: u64,
+) -> Option<(Enq, [Reply; 2])>
+where
+    L::Port: Drop,
+{
+    let (first, first_port, mut other) = shared_accounts::<L>(alloc, None)?;
+    let (second, second_port) = without_the_second(shared_accounts::<L>(alloc, Some(1))?);
+    let (lines, mut desk) = over_two(alloc, first, first_port, second, second_port)?;
+    Some(lower_line_first(&lines, &mut desk, &lines[0], &mut other, from, to))
+}
+
 pub(super) fn the_lower_line_is_asked_for_first<R: Abort, L: OpenLine<AccountLaw> + Drop>(
     rt: &R,
     alloc: Global,
     from: u64,
     to: u64,
-) -> Result<(), Fail>
+)
 where
     L::Port: Drop,
 {
-    let (first, first_port, mut other) = shared_accounts::<L>(alloc, None).ok_or("opened")?;
-    let (second, second_port, _) = shared_accounts::<L>(alloc, Some(1)).ok_or("opened")?;
-    let (lines, mut desk) = over_two(alloc, first, first_port, second, second_port).ok_or(
-        "a desk",
-    )?;
-    let (asked, answers) = lower_line_first(&lines, &mut desk, &lines[0], &mut other, from, to);
-    assert_eq!(rt; asked, Enq::Granted);
-    assert_eq!(rt; answers, [Reply::Late, Reply::Done]);
-    Ok(())
+    let want = Some((Enq::Granted, [Reply::Late, Reply::Done]));
+    assert_eq!(rt; waits_for_the_lower::<L>(alloc, from, to), want);
 }
 
 /// How many customers transfer, and how often each.
@@ -262,7 +382,19 @@ pub(super) const CUSTOMERS: u64 = 4;
 
 const ROUNDS: u64 = 250_000;
 
-/// Eight lines for as many nodes as there are customers, who transfer at random in threads. What is settled is what they paid in.
+/// What is settled of eight lines for as many nodes as there are customers, who transfer at random in threads.
+fn settled_at_random<R: Threads + Wait + Sync, L: OpenLine<AccountLaw> + Sync + Drop>(
+    rt: &R,
+    alloc: Global,
+) -> Option<Settled>
+where
+    L::Port: Send + Drop,
+{
+    let opened = eight_lines::<L>(alloc, CUSTOMERS)?;
+    transfer_at_random(rt, alloc, opened, CUSTOMERS as usize, ROUNDS)
+}
+
+/// What is settled is what they paid in.
 pub(super) fn what_was_paid_in_is_settled<
     R: Threads + Wait + Sync + Abort,
     L: OpenLine<AccountLaw> + Sync + Drop,
@@ -270,10 +402,7 @@ pub(super) fn what_was_paid_in_is_settled<
 where
     L::Port: Send + Drop,
 {
-    let opened = eight_lines::<L>(alloc, CUSTOMERS).ok_or("opened")?;
-    let settled = transfer_at_random(rt, alloc, opened, CUSTOMERS as usize, ROUNDS).ok_or(
-        "settled",
-    )?;
+    let settled = settled_at_random::<R, L>(rt, alloc).ok_or("settled")?;
     assert_eq!(rt; settled.total, u128::from(CUSTOMERS * ACCOUNTS * PAID_IN));
     let counts = settled.counts;
     let all = [counts.done, counts.short, counts.other]
@@ -288,8 +417,43 @@ where
     Ok(())
 }
 
-/// Two lines for one node. In a room that grows by the grain of the heap settling is refused for want of memory, with nothing handed back,
-/// until all that it takes is there.
+/// What came of settling in a room of memory.
+#[derive(Clone, Copy, Debug, PartialEq, Eq)]
+enum InRoom {
+    /// The list of desks was refused.
+    NoList,
+    /// Settling was refused; whether lines and desks came back.
+    Refused { why: SettleError, back: bool },
+    Settled { total: u128 },
+}
+
+/// Settles two lines, between which 4 of 10 were moved, in a room of so many bytes.
+fn settled_in<L: OpenLine<AccountLaw> + Drop>(
+    alloc: Global,
+    siege: &Siege,
+    bytes: usize,
+) -> Option<([Reply; 2], InRoom)>
+where
+    L::Port: Drop,
+{
+    let (lines, mut desk) = two_lines::<L>(alloc, None)?;
+    let paid = across(&lines, &mut desk);
+    let rest = siege.leave(alloc, bytes).ok()?;
+    let settled = settle_with(alloc, lines, desk);
+    drop(rest);
+    let found = match settled {
+        None => InRoom::NoList,
+        Some(Ok(total)) => InRoom::Settled { total },
+        Some(Err(refused)) => InRoom::Refused {
+            why: refused.why,
+            back: refused.back.is_some(),
+        },
+    };
+    Some((paid, found))
+}
+
+/// In a room that grows by the grain of the heap settling is refused for want of memory, with nothing handed back, until all that it takes
+/// is there.
 pub(super) fn settling_is_refused_for_want_of_memory<R: Abort, L: OpenLine<AccountLaw> + Drop>(
     rt: &R,
     alloc: Global,
@@ -300,29 +464,19 @@ where
     let siege = Siege::begin(alloc, 1 << 20)?;
     let mut refused = 0u32;
     for grains in 2..4_000usize {
-        let (first, first_port) = accounts::<L>(alloc, None).ok_or("opened")?;
-        let (second, second_port) = accounts::<L>(alloc, None).ok_or("opened")?;
-        let (lines, mut desk) = over_two(alloc, first, first_port, second, second_port).ok_or(
-            "a desk",
-        )?;
-        let paid = across(&lines, &mut desk);
-        let rest = siege.leave(alloc, GRAIN * grains)?;
-        let settled = settle_with(alloc, lines, desk);
-        drop(rest);
+        let (paid, found) = settled_in::<L>(alloc, &siege, GRAIN * grains).ok_or("opened")?;
         assert_eq!(rt; paid, [Reply::Done, Reply::Done]);
-        match settled {
-            Some(Ok(total)) => {
+        match found {
+            InRoom::Settled { total } => {
                 assert_eq!(rt; total, 10);
                 assert!(rt; refused > 0);
                 return Ok(());
             }
-            Some(Err(back)) => {
-                assert_eq!(rt; back.why, SettleError::Memory);
-                assert!(rt; back.back.is_none());
+            InRoom::Refused { why, back } => {
+                assert_eq!(rt; (why, back), (SettleError::Memory, false));
                 refused = refused.saturating_add(1);
             }
-            // The list of desks itself was refused.
-            None => {}
+            InRoom::NoList => {}
         }
     }
     Err(Fail::from("no room was large enough"))

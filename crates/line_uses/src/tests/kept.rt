@@ -36,6 +36,28 @@ where
     Ok(())
 }
 
+/// Puts a value down, takes it up if `takes`, and finishes the line: whether it was put down, whether one was taken, and the last bytes.
+fn put_and_taken<L: OpenLine<Free> + Drop>(
+    alloc: Global,
+    takes: bool,
+) -> Option<(bool, bool, Line64)>
+where
+    L::Port: Drop,
+{
+    let terms = Terms {
+        nodes: 1,
+        opening: opening(),
+        lease: None,
+    };
+    let (line, mut ports) = L::open_with(alloc, 1, terms).ok()?;
+    let mut port = ports.pop()?;
+    let put = mailbox::put_down(&line, &mut port, 5);
+    let taken = takes && mailbox::take_up(&line, &mut port).is_some();
+    ports.push(port).ok()?;
+    let last = line.finish(alloc, ports).ok()?;
+    Some((put, taken, last))
+}
+
 /// A value that is put down lies in the first lane, and one that is taken up is gone from there; the other lanes stay.
 pub(super) fn a_value_lies_in_its_lane<R: Abort, L: OpenLine<Free> + Drop>(
     rt: &R,
@@ -45,25 +67,8 @@ pub(super) fn a_value_lies_in_its_lane<R: Abort, L: OpenLine<Free> + Drop>(
 where
     L::Port: Drop,
 {
-    let terms = Terms {
-        nodes: 1,
-        opening: opening(),
-        lease: None,
-    };
-    let (line, mut ports) = L::open_with(alloc, 1, terms)?;
-    let Some(mut port) = ports.pop() else {
-        return Err(Fail::from("no port"));
-    };
-    let put = mailbox::put_down(&line, &mut port, 5);
-    let taken = if takes {
-        mailbox::take_up(&line, &mut port)
-    } else {
-        None
-    };
-    ports.push(port)?;
-    let last = line.finish(alloc, ports).ok().ok_or("finished")?;
-    assert!(rt; put);
-    assert_eq!(rt; taken.is_some(), takes);
+    let (put, taken, last) = put_and_taken::<L>(alloc, takes).ok_or("finished")?;
+    assert_eq!(rt; (put, taken), (true, takes));
     let lies = if takes { 0 } else { 5 };
     assert_eq!(rt; last, with_lane(&opening(), 0, lies));
     Ok(())

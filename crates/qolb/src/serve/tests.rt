@@ -327,20 +327,32 @@ static NO_DRAWING: [&[&str]; 3] = [
     &["draw", "--svg=1"],
 ];
 
+/// A hand-over of which a picture is drawn.
+const DRAWN: &str = "nodes 2 lines 1\nenq 1 0\nenq 2 0\ndeq 1 0\npoll 2 0\n";
+
 #[test]
 fn draws_schedules(rt: HostRuntime) -> Result<(), Fail> {
-    let alloc = rt.alloc();
-    let script = "nodes 2 lines 1\nenq 1 0\nenq 2 0\ndeq 1 0\npoll 2 0\n";
-    let (status, out, err) = told(&rt, alloc, &["draw"], script)?;
+    let (status, out, err) = told(&rt, rt.alloc(), &["draw"], DRAWN)?;
     assert_eq!(rt; (status, err.as_str()), (0, ""));
     assert!(rt; out.starts_with("line 0\n\n         1234\nnode   1 HH>.\nnode   2 .w<H\n\n"));
-    let (status, out, err) = told(&rt, alloc, &["draw", "--svg"], script)?;
+    Ok(())
+}
+
+#[test]
+fn draws_schedules_as_an_svg(rt: HostRuntime) -> Result<(), Fail> {
+    let (status, out, err) = told(&rt, rt.alloc(), &["draw", "--svg"], DRAWN)?;
     assert_eq!(rt; (status, err.as_str()), (0, ""));
     assert!(rt; out.starts_with("<svg ") && out.contains(".w<tspan fill='red'>&lt;</tspan>"));
+    Ok(())
+}
+
+#[test]
+fn refuses_to_draw(rt: HostRuntime) -> Result<(), Fail> {
     let refused = (1, "", "bad line 2\n");
-    expect(&rt, alloc, &["draw"], "nodes 2 lines 1\nenq 3 0", refused)?;
+    let script = "nodes 2 lines 1\nenq 3 0";
+    expect(&rt, rt.alloc(), &["draw"], script, refused)?;
     for words in &NO_DRAWING {
-        let (status, out, _) = told(&rt, alloc, *words, script)?;
+        let (status, out, _) = told(&rt, rt.alloc(), *words, DRAWN)?;
         assert_eq!(rt; (status, out.as_str()), (2, ""), "of {words:?}");
     }
     Ok(())
