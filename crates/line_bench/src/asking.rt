@@ -41,28 +41,33 @@ impl<L: LineSync<Rising>> Asking<L> for AtOnce {
     }
 }
 
-/// By the list's two calls, so that others release, ask and withdraw between a node's request and its link.
+/// On a list, by one call or by the list's two. By two, others release, ask and withdraw between a node's request and its link.
 #[derive(Drop)]
-pub struct Apart {
+pub struct OnList {
+    apart: bool,
     late: AtomicU64,
 }
 
-impl Apart {
-    /// With no late link yet.
-    pub fn new() -> Apart {
-        Apart {
+impl OnList {
+    /// By two calls or by one, with no late link yet.
+    pub fn new(apart: bool) -> OnList {
+        OnList {
+            apart,
             late: AtomicU64::new(0),
         }
     }
 }
 
-impl<Q: Linked<Rising>, W: Waking> Asking<Line<Rising, Q, W>> for Apart {
+impl<Q: Linked<Rising>, W: Waking> Asking<Line<Rising, Q, W>> for OnList {
     fn ask(
         &self,
         line: &Line<Rising, Q, W>,
         port: &mut Port<Q>,
         rng: &mut Xoshiro256PlusPlus,
     ) -> Enq {
+        if !self.apart {
+            return line.enqolb(port);
+        }
         match line.prepend(port) {
             Prep::Granted => Enq::Granted,
             Prep::Busy => Enq::Busy,

@@ -11,12 +11,11 @@ mod run;
 mod stress;
 mod workers;
 
-use asking::{Apart, Asking, AtOnce};
+use asking::{Asking, AtOnce, OnList};
 use clap::{Arg, ArgAction, ArgMatches, Command};
 use law::Rising;
 use line_lanes::lane;
-use link_line::LinkLine;
-use locks::{Lines, over_named};
+use locks::{LinkLine, RingLine, TicketLine};
 use qolb_model::{LineSync, OpenLine};
 use rounds::Rounds;
 use run::{RunError, open, run_task};
@@ -49,13 +48,13 @@ enum Wanted {
     Stress(u64),
 }
 
-/// The line that it is done on, and how its nodes ask under stress.
+/// The kind of line that it is done on, and how a list's nodes ask under stress.
 #[derive(Clone, Copy)]
 enum Kind {
-    /// A line of this name, whose nodes ask by one call.
-    AtOnce(Lines),
-    /// A list whose nodes ask by two calls.
-    ListApart,
+    Ring,
+    /// A list, whose nodes ask by two calls or by one.
+    List { apart: bool },
+    Ticket,
 }
 
 fn main(rt: HostRuntime) -> anyhow::Result<()> {
@@ -82,38 +81,68 @@ fn main(rt: HostRuntime) -> anyhow::Result<()> {
 
 /// The command line.
 fn command<'a>(alloc: Global) -> Result<Command<'a>, AllocError> {
-    let rounds = Arg::new(alloc, "rounds")
-        .long("rounds")
-        .value_name("ROUNDS")
-        .help("Rounds of each thread; with it times are printed")
+    let command = Command::new(alloc, "line_bench").about(
+        "Times rounds of ask, add 1 to a lane, release, by 1, 2, 3, 4 and 8 threads",
+    );
+    let command = with_number(
+        alloc,
+        command,
+        "rounds",
+        "ROUNDS",
+        "Rounds of each thread; with it times are printed",
+    )?;
+    let command = with_number(
+        alloc,
+        command,
+        "stress",
+        "SECONDS",
+        "Ask, withdraw and release at random for this time, and then close the line",
+    )?;
+    let command = with_kind(alloc, command)?;
+    let command = with_apart(alloc, command)?;
+    with_number(
+        alloc,
+        command,
+        "threads",
+        "THREADS",
+        "So many threads, and no others",
+    )
+}
+
+/// The command with an option that takes a number of at least 1.
+fn with_number<'a>(
+    alloc: Global,
+    command: Command<'a>,
+    name: &'a str,
+    value: &'a str,
+    help: &'a str,
+) -> Result<Command<'a>, AllocError> {
+    let number = Arg::new(alloc, name)
+        .long(name)
+        .value_name(value)
+        .help(help)
         .value_parser(clap::value_parser!(u64).range(1..));
-    let stress = Arg::new(alloc, "stress")
-        .long("stress")
-        .value_name("SECONDS")
-        .help("Ask, withdraw and release at random for this time, and then close the line")
-        .value_parser(clap::value_parser!(u64).range(1..));
+    command.arg(number)
+}
+
+/// The command with an option that names the kind of line.
+fn with_kind<'a>(alloc: Global, command: Command<'a>) -> Result<Command<'a>, AllocError> {
     let kind = Arg::new(alloc, "kind")
         .long("kind")
         .value_name("KIND")
         .help("The kind of line: a ring, where the words name none, a list, or a ticket line")
         .value_parser(KINDS.as_slice());
+    command.arg(kind)
+}
+
+/// The command with the option to ask by two calls.
+fn with_apart<'a>(alloc: Global, command: Command<'a>) -> Result<Command<'a>, AllocError> {
     let apart = Arg::new(alloc, "apart")
         .long("apart")
         .help("Under stress on a list, ask by two calls with a pause at random between them")
         .action(ArgAction::SetTrue)
         .requires_arg("stress")?;
-    let threads = Arg::new(alloc, "threads")
-        .long("threads")
-        .value_name("THREADS")
-        .help("So many threads, and no others")
-        .value_parser(clap::value_parser!(u64).range(1..));
-    Command::new(alloc, "line_bench")
-        .about("Times rounds of ask, add 1 to a lane, release, by 1, 2, 3, 4 and 8 threads")
-        .arg(rounds)?
-        .arg(stress)?
-        .arg(kind)?
-        .arg(apart)?
-        .arg(threads)
+    command.arg(apart)
 }
 
 /// What the words ask for.
@@ -131,16 +160,18 @@ fn wanted_of(matches: &ArgMatches) -> Wanted {
 /// The line that they name: a ring where they name none.
 fn kind_of(matches: &ArgMatches) -> Kind {
     if matches.get_flag("apart") {
-        return Kind::ListApart;
+        return Kind::List { apart: true };
     }
-    Kind::AtOnce(match matches.get_str("kind") {
-        Some("link") => Lines::Link,
-        Some("ticket") => Lines::Ticket,
-        _ => Lines::Ring,
-    })
+    match matches.get_str("kind") {
+        Some("link") => Kind::List { apart: false },
+        Some("ticket") => Kind::Ticket,
+        _ => Kind::Ring,
+    }
 }
 
 /// Does what is wanted on a line of this kind.
+///
+/// Each lock is named once in the program, here: the prover takes long for each naming.
 fn run_kind<R: Threads + Wait + Clock + Print + Sync>(
     rt: &R,
     alloc: Global,
@@ -149,18 +180,11 @@ fn run_kind<R: Threads + Wait + Clock + Print + Sync>(
     wanted: Wanted,
 ) -> anyhow::Result<()> {
     match kind {
-        Kind::AtOnce(lines) => {
-            over_named!(
-                lines,
-                bench,
-                [R, AtOnce],
-                [Rising],
-                (rt, alloc, AtOnce, threads, wanted)
-            )
+        Kind::Ring => bench::<R, AtOnce, RingLine<Rising>>(rt, alloc, AtOnce, threads, wanted),
+        Kind::List { apart } => {
+            bench::<R, OnList, LinkLine<Rising>>(rt, alloc, OnList::new(apart), threads, wanted)
         }
-        Kind::ListApart => {
-            bench::<R, Apart, LinkLine<Rising>>(rt, alloc, Apart::new(), threads, wanted)
-        }
+        Kind::Ticket => bench::<R, AtOnce, TicketLine<Rising>>(rt, alloc, AtOnce, threads, wanted),
     }
 }
 
