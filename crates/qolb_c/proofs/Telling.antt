@@ -1,11 +1,11 @@
 -- From a node's call to what is told of it.
-use Rattle.std.proofs.Common.{◌≡◌, ◌∙◌, ℕ, ap, sym, subst}
+use Rattle.std.proofs.Common.{◌≡◌, ◌∙◌, ℕ, ap, sym, subst, arith}
 use Rattle.std.specs.Prelude.{Option, Some, Result, Ok, Err, MatchResult}
 use Rattle.qolb_c.specs.declared.answer.Answer.{Answer}
 use Rattle.qolb_c.specs.declared.answer.Answer.TheVariants as answer
 use Rattle.qolb_c.specs.declared.answer.Misuse.{Misuse}
 use Rattle.qolb_c.specs.declared.any_node.AnyNode.{AnyNode}
-use Rattle.qolb_c.specs.Calls.{AreOfOneLine, IsCall, Calls}
+use Rattle.qolb_c.specs.Calls.{AreOfOneLine, IsCall, Calls, Polls, Waits}
 use Rattle.qolb_c.specs.Numbers.{number_of}
 
 -- a call of a node, of any kind, by its own result and by what is told of that
@@ -24,3 +24,14 @@ pub called :
     → old ≡ Some held → was ≡ held → new ≡ Some now → n ≡ number_of a → Does was now a → Calls Does old new n
 called Does old new held was now a n had same has tells does =
     subst (λ (o : Option AnyNode). Calls Does o new n) (sym (had ∙ ap (λ (node : AnyNode). Some node) (sym same))) (now, a, has, tells, does)
+
+-- one look is a wait of one look
+pub poll_of_wait : (was now : AnyNode) (a : Answer) → Waits 1 was now a → Polls was now a
+poll_of_wait was now a waits = record {
+  misuse = λ no. waits.misuse (λ both. no both.0);
+  does = λ queued.
+      let done = waits.does (queued, omega arith) in
+      let within = done.2.1 in
+      (done.0, done.1, (done.2.0, omega (arith, within.some, within.at_most)));
+  line = waits.line;
+}

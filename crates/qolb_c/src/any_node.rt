@@ -4,10 +4,10 @@ ghost use Rattle.qolb_model.specs.PortStates.{may_ask};
 ghost use Rattle.qolb_c.specs.Calls.{view_of, turn_of, state_of, Enqolbs, Polls, Waits, Prepends, LinksUp, Withdraws, Reads, ReadsLane, Writes, WritesLane, Releases, TellsTurns};
 ghost use Rattle.qolb_c.specs.declared.any_node.AnyNode.{AnyNode};
 
-use crate::answer::{Answer, turns_number};
+use crate::answer::Answer;
 use crate::kinds::{List, Ring, Ticket};
 use crate::lanes::for_lane;
-use crate::node::Node;
+use crate::node::{Node, Shown};
 use line_lanes::{Line64, Mask, lane, placed};
 use qolb_model::{Free, PortState};
 
@@ -37,25 +37,36 @@ macro_rules! of_any {
 }
 
 impl AnyNode {
+    /// What the node shows.
+    #[inline(always)]
+    fn shown(&self) -> Shown
+        ensures number { result.number ≡ (view_of self.now).node }
+        ensures label { result.label ≡ (view_of self.now).label }
+        ensures state { result.state ≡ state_of self.now }
+        ensures turns { TellsTurns self.now result.turns_left }
+    {
+        of_any!(self, node => node.shown())
+    }
+
     /// The node's number.
     pub fn number(&self) -> u64
         ensures { result ≡ (view_of self.now).node }
     {
-        of_any!(self, node => node.number())
+        self.shown().number
     }
 
     /// The label of the node's line.
     pub fn label(&self) -> u64
         ensures { result ≡ (view_of self.now).label }
     {
-        of_any!(self, node => node.label())
+        self.shown().label
     }
 
     /// What the node's last call left.
     pub fn state(&self) -> PortState
         ensures { result ≡ state_of self.now }
     {
-        of_any!(self, node => node.state())
+        self.shown().state
     }
 
     /// Asks for the line.
@@ -73,7 +84,7 @@ impl AnyNode {
     pub fn poll(&mut self) -> Answer
         ensures { Polls self.old self.new result }
     {
-        of_any!(self, node => Answer::of_poll(node.poll()))
+        self.wait(1)
     }
 
     /// Looks at most so many times, with a pause between two.
@@ -121,7 +132,7 @@ impl AnyNode {
     pub fn turns_left(&self) -> u64
         ensures { TellsTurns self.now result }
     {
-        of_any!(self, node => turns_number(node.turns_left()))
+        self.shown().turns_left
     }
 
     /// The holder reads the line.
@@ -184,14 +195,22 @@ impl AnyNode {
     pub fn deqolb(&mut self) -> Answer
         ensures { Releases false self.old self.new result }
     {
-        of_any!(self, node => Answer::of_done(node.deqolb()))
+        self.release(false)
     }
 
     /// Releases the line, and closes it.
     pub fn shut(&mut self) -> Answer
         ensures { Releases true self.old self.new result }
     {
-        of_any!(self, node => Answer::of_done(node.shut()))
+        self.release(true)
+    }
+
+    /// Releases the line, and closes it if `shut`.
+    #[inline(always)]
+    fn release(&mut self, shut: bool) -> Answer
+        ensures { Releases shut self.old self.new result }
+    {
+        of_any!(self, node => Answer::of_done(node.release(shut)))
     }
 }
 

@@ -1,13 +1,14 @@
 //! A node of a line that several share, for any kind of line.
-ghost use Rattle.std.specs.Prelude.{◌≡◌, ◌≢◌, ℕ, ◌+◌, ◌<◌, true, false, Some, MatchResult};
+ghost use Rattle.std.specs.Prelude.{◌≡◌, ◌≢◌, ℕ, ◌+◌, ◌<◌, ◌≤◌, true, false, Some, MatchResult};
 ghost use Rattle.std.specs.Arc.{arc_value};
 ghost use Rattle.qolb_model.specs.Calls.{Enqueues, Prepends, LinksUp, Polls, Withdraws, Releases, TellEachOther};
 ghost use Rattle.qolb_model.specs.Leases.{turns_left};
 ghost use Rattle.qolb_model.specs.OneOwner.{turn_after};
 ghost use Rattle.qolb_model.specs.PortStates.{may_ask};
 ghost use Rattle.qolb_c.specs.Nodes.{anything, PollsWithin};
+ghost use Rattle.qolb_c.specs.Numbers.{turns_number};
 
-use crate::answer::Misuse;
+use crate::answer::{Misuse, turns_number};
 use crate::kinds::List;
 use line_lanes::{Line64, Mask};
 use qolb_model::{Enq, Free, LineSync, Out, Poll, PortState, Prep};
@@ -15,6 +16,19 @@ use std::alloc::Global;
 use std::hint::spin_loop;
 use std::marker::Model;
 use std::sync::Arc;
+
+/// What a node shows.
+#[derive(Clone, Copy)]
+pub struct Shown {
+    /// The node's number.
+    pub number: u64,
+    /// The label of its line.
+    pub label: u64,
+    /// What its last call left.
+    pub state: PortState,
+    /// How many turns are left of the line's lease, by C's number; 0 where the node does not hold the line.
+    pub turns_left: u64,
+}
 
 /// A share of a line, and a port of it.
 #[derive(Drop)]
@@ -43,22 +57,26 @@ impl<L: LineSync<Free>> Node<L> {
         Node { line, port }
     }
 
-    /// The node's number.
-    pub fn number(&self) -> u64
-        ensures { result ≡ (L.view self.now.port).node }
+    /// What the node shows.
+    #[inline(always)]
+    pub fn shown(&self) -> Shown
+        ensures number { result.number ≡ (L.view self.now.port).node }
+        ensures label { result.label ≡ (L.view self.now.port).label }
+        ensures state { result.state ≡ (L.view self.now.port).state }
+        ensures turns { (L.view self.now.port).state ≡ PortState.Holding → result.turns_left ≡ turns_number (turns_left (L.view self.now.port).terms.lease (L.view self.now.port).ends) }
+        ensures some { (L.view self.now.port).state ≡ PortState.Holding → 1 ≤ result.turns_left }
+        ensures none { (L.view self.now.port).state ≢ PortState.Holding → result.turns_left ≡ 0 }
     {
-        L::node(&self.port)
-    }
-
-    /// The label of the node's line.
-    pub fn label(&self) -> u64
-        ensures { result ≡ (L.view self.now.port).label }
-    {
-        self.line.label()
+        Shown {
+            number: L::node(&self.port),
+            label: self.line.label(),
+            state: self.state(),
+            turns_left: turns_number(self.turns_left()),
+        }
     }
 
     /// What the node's last call left.
-    pub fn state(&self) -> PortState
+    fn state(&self) -> PortState
         ensures { result ≡ (L.view self.now.port).state }
     {
         L::state(&self.port)
@@ -78,21 +96,6 @@ impl<L: LineSync<Free>> Node<L> {
         } else {
             Err(Misuse)
         }
-    }
-
-    /// Looks whether the request has come to its turn.
-    ///
-    /// # Errors
-    ///
-    /// `Misuse` where the node does not wait.
-    pub fn poll(&mut self) -> Result<Poll, Misuse>
-        ensures line { self.new.line ≡ self.old.line }
-        ensures polls { MatchResult result (λ answer. ((L.view self.old.port).state ≡ PortState.Queued) × Polls anything (L.view self.old.port) (L.view self.new.port) (L.turn self.new.port) answer × (L.looks self.new.port ≡ L.looks self.old.port + 1)) (λ _. ((L.view self.old.port).state ≢ PortState.Queued) × (self.new ≡ self.old)) }
-    {
-        if self.state() != PortState::Queued {
-            return Err(Misuse);
-        }
-        Ok(self.line.poll(&mut self.port))
     }
 
     /// Looks at most so many times whether the request has come to its turn, with a pause between two.
@@ -145,7 +148,7 @@ impl<L: LineSync<Free>> Node<L> {
     /// # Errors
     ///
     /// `Misuse` where the node does not hold the line.
-    pub fn turns_left(&self) -> Result<Option<u64>, Misuse>
+    fn turns_left(&self) -> Result<Option<u64>, Misuse>
         ensures { MatchResult result (λ left. ((L.view self.now.port).state ≡ PortState.Holding) × (left ≡ turns_left (L.view self.now.port).terms.lease (L.view self.now.port).ends) × (left ≢ Some 0)) (λ _. (L.view self.now.port).state ≢ PortState.Holding) }
     {
         if self.state() != PortState::Holding {
@@ -172,35 +175,24 @@ impl<L: LineSync<Free>> Node<L> {
         Ok(())
     }
 
-    /// Releases the line.
+    /// Releases the line, and closes it if `shut`.
     ///
     /// # Errors
     ///
     /// `Misuse` where the node does not hold it.
-    pub fn deqolb(&mut self) -> Result<(), Misuse>
+    #[inline(always)]
+    pub fn release(&mut self, shut: bool) -> Result<(), Misuse>
         ensures line { self.new.line ≡ self.old.line }
-        ensures releases { MatchResult result (λ _. ((L.view self.old.port).state ≡ PortState.Holding) × Releases anything false (L.view self.old.port) (L.view self.new.port) (L.turn self.old.port)) (λ _. ((L.view self.old.port).state ≢ PortState.Holding) × (self.new ≡ self.old)) }
+        ensures releases { MatchResult result (λ _. ((L.view self.old.port).state ≡ PortState.Holding) × Releases anything shut (L.view self.old.port) (L.view self.new.port) (L.turn self.old.port)) (λ _. ((L.view self.old.port).state ≢ PortState.Holding) × (self.new ≡ self.old)) }
     {
         if self.state() != PortState::Holding {
             return Err(Misuse);
+        }
+        if shut {
+            self.line.shut(&mut self.port);
+            return Ok(());
         }
         self.line.deqolb(&mut self.port);
-        Ok(())
-    }
-
-    /// Releases the line, and closes it.
-    ///
-    /// # Errors
-    ///
-    /// `Misuse` where the node does not hold it.
-    pub fn shut(&mut self) -> Result<(), Misuse>
-        ensures line { self.new.line ≡ self.old.line }
-        ensures releases { MatchResult result (λ _. ((L.view self.old.port).state ≡ PortState.Holding) × Releases anything true (L.view self.old.port) (L.view self.new.port) (L.turn self.old.port)) (λ _. ((L.view self.old.port).state ≢ PortState.Holding) × (self.new ≡ self.old)) }
-    {
-        if self.state() != PortState::Holding {
-            return Err(Misuse);
-        }
-        self.line.shut(&mut self.port);
         Ok(())
     }
 
