@@ -1,0 +1,23 @@
+// Two threads count together over a line, in C++. Prints 2000.
+#include <iostream>
+#include <qolb.hpp>
+#include <thread>
+
+static void add(qolb::Node node) {
+    for (int round = 0; round < 1000; round++) {
+        qolb::Guard turn(node); // waits for the thread's turn
+        turn.set_lane(0, turn.lane(0) + 1);
+    } // the guard releases the line at the end of its scope
+}
+
+int main() {
+    auto [opened, nodes] = qolb::Node::open(QOLB_TICKET, 1, 3, qolb_bytes{});
+    if (opened != QOLB_DONE) return 1;
+    std::thread first(add, std::move(nodes[0]));
+    std::thread second(add, std::move(nodes[1]));
+    first.join();
+    second.join();
+    qolb::Guard turn(nodes[2]);
+    std::cout << turn.lane(0) << '\n';
+    return turn.lane(0) != 2000;
+}
