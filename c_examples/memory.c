@@ -1,0 +1,46 @@
+/* What a line takes of the heap: the bytes that stay taken after qolb_open, by kind and number of nodes, as malloc_usable_size counts them. */
+#include <malloc.h>
+#include <qolb.h>
+#include <stdio.h>
+
+static size_t taken;
+
+void *__real_malloc(size_t size);
+void *__real_realloc(void *block, size_t size);
+void __real_free(void *block);
+
+void *__wrap_malloc(size_t size) {
+    void *block = __real_malloc(size);
+    taken += malloc_usable_size(block);
+    return block;
+}
+
+void *__wrap_realloc(void *block, size_t size) {
+    size_t before = malloc_usable_size(block);
+    void *moved = __real_realloc(block, size);
+    if (moved) taken += malloc_usable_size(moved) - before;
+    return moved;
+}
+
+void __wrap_free(void *block) {
+    taken -= malloc_usable_size(block);
+    __real_free(block);
+}
+
+int main(void) {
+    static const char *const names[] = {"ring", "list", "ticket line"};
+    static const uint64_t nodes[] = {1, 2, 8, 50, 200};
+    for (uint32_t kind = QOLB_RING; kind <= QOLB_TICKET; kind++) {
+        for (size_t k = 0; k < sizeof nodes / sizeof nodes[0]; k++) {
+            qolb_bytes zeros = {{0}};
+            qolb_node node[200] = {{0}};
+            size_t before = taken;
+            if (qolb_open(kind, 1, nodes[k], QOLB_NO_LEASE, &zeros, node, 200) != QOLB_DONE) return 1;
+            printf("%-11s nodes %3d bytes %zu\n", names[kind], (int)nodes[k], taken - before);
+            for (uint64_t n = 0; n < nodes[k]; n++)
+                if (qolb_close(&node[n]) != QOLB_DONE) return 1;
+            if (taken != before) return 1;
+        }
+    }
+    return 0;
+}
