@@ -1,0 +1,36 @@
+#!/usr/bin/env python3
+"""Writes the pictures of the pages, docs/pictures/*.svg.
+
+    tools/pictures/draw.py            writes them
+    tools/pictures/draw.py --check    writes nothing, and ends with 1 where one differs from what would be written
+
+To see one as an image: rsvg-convert --background-color white docs/pictures/crates.svg > crates.png (Debian's package librsvg2-bin).
+"""
+
+import pathlib
+import sys
+
+import graph
+import handovers
+import states
+
+FOLDER = pathlib.Path(__file__).resolve().parents[2] / "docs/pictures"
+
+
+def main():
+    drawn = {**handovers.pictures(), **states.pictures(), **graph.pictures()}
+    stale = []
+    for name, picture in drawn.items():
+        path = FOLDER / f"{name}.svg"
+        if "--check" in sys.argv[1:]:
+            if not path.is_file() or path.read_text() != picture.svg():
+                stale.append(path.name)
+        else:
+            path.write_text(picture.svg())
+    if stale:
+        sys.exit(f"stale: {', '.join(stale)}")
+    print(f"{len(drawn)} pictures")
+
+
+if __name__ == "__main__":
+    main()

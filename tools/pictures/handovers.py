@@ -1,0 +1,145 @@
+"""A hand-over as a sequence of word steps, by each lock."""
+
+from dataclasses import dataclass
+
+from svg import Picture
+
+LANE, ROW, TOP, SIDE = 138, 42, 78, 150
+LEFT, RIGHT = "node 1", "node 2"
+
+
+@dataclass
+class Step:
+    """What a node does to a word, or to a slot where `plain`; what is there afterwards; and what the node is told."""
+
+    node: str
+    place: str
+    does: str
+    after: str = ""
+    told: str = ""
+    hot: bool = False
+    plain: bool = False
+
+
+@dataclass
+class Scene:
+    """Places with what is in them at first, and the steps from there."""
+
+    title: str
+    places: dict
+    steps: list
+    held_until: int
+    holds_from: int
+    note: str = ""
+
+
+RING = Scene(
+    "The ring hands over: node 1 holds ticket 0, node 2 draws ticket 1",
+    {"ticket": "1", "cell 0": "1", "cell 1": "0", "slot": "0000"},
+    [
+        Step(RIGHT, "ticket", "fetch_add 1", "2", "enqolb"),
+        Step(RIGHT, "cell 1", "load", "", "queued"),
+        Step(LEFT, "slot", "copies the line", "a1b2", "deqolb", plain=True),
+        Step(LEFT, "cell 0", "store 0", "0"),
+        Step(LEFT, "cell 1", "fetch_add 1", "1", "released", hot=True),
+        Step(RIGHT, "cell 1", "load", "", "poll: granted"),
+        Step(RIGHT, "slot", "copies the line", "", "reads a1b2", plain=True),
+    ],
+    4,
+    5,
+)
+
+TICKET = Scene(
+    "The ticket line hands over by one step: a cell says 256 times the number of the ticket that it is granted to",
+    {"ticket": "1", "cell 1": "0", "slot 1": "0000"},
+    [
+        Step(RIGHT, "ticket", "fetch_add 1", "2", "enqolb"),
+        Step(RIGHT, "cell 1", "load", "", "queued"),
+        Step(LEFT, "slot 1", "copies the line", "a1b2", "deqolb", plain=True),
+        Step(LEFT, "cell 1", "swap 512", "512", "released", hot=True),
+        Step(RIGHT, "cell 1", "load", "", "poll: granted"),
+        Step(RIGHT, "slot 1", "copies the line", "", "reads a1b2", plain=True),
+    ],
+    3,
+    4,
+)
+
+LIST = Scene(
+    "The list hands over: the successor has linked itself to the holder's entry",
+    {"home": "1", "entry 1": "0", "entry 2": "0", "slot": "0000"},
+    [
+        Step(RIGHT, "entry 2", "store 0", "0", "enqolb"),
+        Step(RIGHT, "home", "swap 2", "2", "finds 1"),
+        Step(RIGHT, "entry 1", "fetch_add 512", "link 2", "queued"),
+        Step(LEFT, "slot", "copies the line", "a1b2", "deqolb", plain=True),
+        Step(LEFT, "home", "exchange 1 for 0", "", "finds 2"),
+        Step(LEFT, "entry 1", "fetch_add 4", "link 2, done", "finds the link"),
+        Step(LEFT, "entry 2", "fetch_add 1", "granted", "released", hot=True),
+        Step(RIGHT, "entry 2", "load", "", "poll: granted"),
+        Step(RIGHT, "slot", "copies the line", "", "reads a1b2", plain=True),
+    ],
+    6,
+    7,
+)
+
+LATE_LINK = Scene(
+    "A late link: the holder releases before its successor has linked, and does not wait",
+    {"home": "1", "entry 1": "0", "slot": "0000"},
+    [
+        Step(RIGHT, "home", "swap 2", "2", "enqolb, finds 1"),
+        Step(LEFT, "slot", "copies the line", "a1b2", "deqolb", plain=True),
+        Step(LEFT, "home", "exchange 1 for 0", "", "finds 2"),
+        Step(LEFT, "entry 1", "fetch_add 4", "done", "no link: released", hot=True),
+        Step(RIGHT, "entry 1", "fetch_add 512", "link 2, done", "finds done: granted", hot=True),
+        Step(RIGHT, "slot", "copies the line", "", "reads a1b2", plain=True),
+    ],
+    3,
+    4,
+    "Between its two steps node 2 may be preempted for long. In an MCS lock node 1 would spin for that time.",
+)
+
+
+def draw_step(picture, step, y, places, nodes):
+    """An arrow from the node to the place, with its words; what is there afterwards; what the node is told."""
+    x, to = nodes[step.node], places[step.place]
+    inward = 1 if to > x else -1
+    line, tip, word = ("hotline", "hottip", "code hot") if step.hot else ("dashed" if step.plain else "line", "tip", "small" if step.plain else "code")
+    picture.line(x + 5 * inward, y, to - 4 * inward, y, line, tip)
+    picture.text(x + inward * LANE / 2, y - 6, step.does, word)
+    if step.after:
+        picture.text(to + 8 * inward, y + 4, step.after, "code hot" if step.hot else "code", "start" if inward > 0 else "end")
+    picture.text(x - 14 * inward, y + 4, step.told, "small hot" if step.hot else "small", "end" if inward > 0 else "start")
+
+
+def draw(scene):
+    """The scene: places in the middle, nodes on both sides, time downwards."""
+    last = len(scene.places) + 1
+    nodes = {LEFT: SIDE, RIGHT: SIDE + LANE * last}
+    places = {name: SIDE + LANE * (k + 1) for k, name in enumerate(scene.places)}
+    end = TOP + ROW * len(scene.steps) + 6
+    picture = Picture(2 * SIDE + LANE * last, end + (34 if scene.note else 12), scene.title)
+    picture.text(picture.width / 2, 20, scene.title, "strong")
+    times = [TOP + 24 + ROW * k for k in range(len(scene.steps))]
+    for name, x in nodes.items():
+        picture.text(x, 50, name, "strong")
+        picture.line(x, 60, x, end)
+        first, until = (60, times[scene.held_until]) if name == LEFT else (times[scene.holds_from], end)
+        picture.box(x - 5, first, 10, until - first, "a", 2)
+    for name, x in places.items():
+        picture.box(x - 46, 34, 92, 36)
+        picture.text(x, 49, name, "strong small")
+        picture.text(x, 64, scene.places[name], "code")
+        picture.line(x, 70, x, end, "faint")
+    for step, y in zip(scene.steps, times):
+        draw_step(picture, step, y, places, nodes)
+    if scene.note:
+        picture.text(picture.width / 2, end + 22, scene.note, "small")
+    return picture
+
+
+SCENES = {"hand_over_ring": RING, "hand_over_list": LIST, "hand_over_ticket": TICKET, "late_link": LATE_LINK}
+
+
+def pictures():
+    """Each picture by its name."""
+    return {name: draw(scene) for name, scene in SCENES.items()}
