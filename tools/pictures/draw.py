@@ -1,10 +1,10 @@
 #!/usr/bin/env python3
-"""Writes the pictures of the pages, docs/pictures/*.svg.
+"""Writes the pictures of the pages, docs/figures/*.svg.
 
     tools/pictures/draw.py            writes them
     tools/pictures/draw.py --check    writes nothing, and ends with 1 where one differs from what would be written
 
-To see one as an image: rsvg-convert --background-color white docs/pictures/crates.svg > crates.png (Debian's package librsvg2-bin).
+To see one as an image: rsvg-convert --background-color white docs/figures/crates.svg > crates.png (Debian's package librsvg2-bin).
 """
 
 import pathlib
@@ -14,7 +14,7 @@ import graph
 import handovers
 import states
 
-FOLDER = pathlib.Path(__file__).resolve().parents[2] / "docs/pictures"
+FOLDER = pathlib.Path(__file__).resolve().parents[2] / "docs/figures"
 
 
 def main():
