@@ -8,7 +8,12 @@ from svg import Picture
 sys.path.insert(0, str(pathlib.Path(__file__).resolve().parent.parent))
 from crates import below, read_crates  # noqa: E402
 
-BOX, TALL, GAP, STEP, MARGIN = 112, 28, 26, 74, 24
+TALL, GAP, STEP, MARGIN = 28, 26, 74, 24
+
+
+def width_of(name):
+    """How wide a crate's box is."""
+    return max(88, 8 * len(name) + 16)
 
 
 def direct_uses(crates):
@@ -84,7 +89,7 @@ def untangle(rows, links):
 
 def spread(rows, links):
     """The middle of each crate and of each crossing point: near its neighbours, and apart from those beside it."""
-    wide = {it: BOX + GAP if isinstance(it, str) else 34 for row in rows for it in row}
+    wide = {it: width_of(it) + GAP if isinstance(it, str) else 34 for row in rows for it in row}
     near = {it: [] for row in rows for it in row}
     for a, b in links:
         near[a].append(b)
@@ -128,7 +133,8 @@ def crates_as_a_graph():
     top = 56
     height = top + STEP * (len(rows) - 1) + TALL + MARGIN
     y = {it: height - MARGIN - TALL / 2 - STEP * k for k, row in enumerate(rows) for it in row}
-    picture = Picture(max(x.values()) + BOX / 2 + MARGIN, height, "The crates, each above those that it uses")
+    right = max(x[it] + width_of(it) / 2 for it in crates)
+    picture = Picture(right + MARGIN, height, "The crates, each above those that it uses")
     picture.text(picture.width / 2, 20, "The crates, each above those that it uses", "strong")
     for a, b in links:
         up = y[a] - TALL / 2 if isinstance(a, str) else y[a]
@@ -136,7 +142,7 @@ def crates_as_a_graph():
         middle = (up + down) / 2
         picture.path(f"M{x[a]:.1f},{up:.1f} C{x[a]:.1f},{middle:.1f} {x[b]:.1f},{middle:.1f} {x[b]:.1f},{down:.1f}", "line")
     for name, kind in kinds_of(crates).items():
-        picture.box(x[name] - BOX / 2, y[name] - TALL / 2, BOX, TALL, kind)
+        picture.box(x[name] - width_of(name) / 2, y[name] - TALL / 2, width_of(name), TALL, kind)
         picture.text(x[name], y[name] + 4, name, "small strong")
     for k, (kind, says) in enumerate((("a", "others use it"), ("b", "tests and samples"), ("c", "program or library"))):
         picture.box(MARGIN + 160 * k, 34, 14, 12, kind, 3)
