@@ -88,6 +88,7 @@ impl AnyNode {
     }
 
     /// Looks at most so many times, with a pause between two.
+    #[inline(always)]
     pub fn wait(&mut self, polls: u64) -> Answer
         ensures { Waits polls self.old self.new result }
     {

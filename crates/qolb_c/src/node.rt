@@ -103,6 +103,7 @@ impl<L: LineSync<Free>> Node<L> {
     /// # Errors
     ///
     /// `Misuse` where the node does not wait, or may not look even once.
+    #[inline(always)]
     pub fn wait(&mut self, polls: u64) -> Result<Poll, Misuse>
         ensures line { self.new.line ≡ self.old.line }
         ensures polls { MatchResult result (λ answer. ((L.view self.old.port).state ≡ PortState.Queued) × (0 < polls) × Polls anything (L.view self.old.port) (L.view self.new.port) (L.turn self.new.port) answer × PollsWithin polls (L.looks self.old.port) (L.looks self.new.port) answer) (λ _. (((L.view self.old.port).state ≡ PortState.Queued) × (0 < polls) → ⊥) × (self.new ≡ self.old)) }
