@@ -1,10 +1,12 @@
 -- A port that meets others in their order, one after another.
-use Rattle.std.proofs.Common.{◌≡◌, ℕ, zero, suc, ◌+◌, ◌<◌, ◌≤◌, inl, inr, List, [], ◌∷◌, ◌++◌, length, map, take, drop, get_or, set, All, Some, slice_get, refl, sym, ap, ◌∙◌, subst, arith, length-set, get_or-set_same, get_or-set_other}
+use Rattle.std.proofs.Common.{◌≡◌, ℕ, zero, suc, ◌+◌, ◌<◌, ◌≤◌, inl, inr, List, [], ◌∷◌, ◌++◌, length, map, take, drop, get_or, set, All, Some, slice_get, refl, sym, ap, ◌∙◌, subst, arith, length-append, length-set, get_or-set_same, get_or-set_other}
 use Rattle.std.proofs.lemmas.Bool.{cases_eq}
-use Rattle.std.proofs.lemmas.List.{map-append, take_all}
+use Rattle.std.proofs.lemmas.List.{length-map, map-append, take_all}
+use Rattle.std.proofs.lemmas.List.Elements.{All-append, All-cons, All-head, All-nil, All-same, All-tail}
 use Rattle.qolb_model.specs.declared.view.View.{View}
 use Rattle.qolb_model.specs.declared.write.Write.{Write}
-use Rattle.qolb_model.specs.Rounds.{Meet, MeetsEach, nobody, another}
+use Rattle.qolb_model.specs.Rounds.{Meet, MeetsEach, MeetsOthers, nobody, another}
+use Rattle.qolb_model.specs.Whole.{Stance}
 use Rattle.qolb_model.proofs.Lists.{take_with}
 use Rattle.line_threads.specs.Stances.{stance_of}
 
@@ -80,3 +82,53 @@ module _ {P : Type 0} (allows : List ℕ → List ℕ → Type 0) (belongs : P �
       let e = r.many in
       subst (λ xs. MeetsEach allows (stance_of view turn first) (map (stance_of view turn) xs) (stance_of view turn port) (map (stance_of view turn) now)) (take_all i others (omega arith))
       (subst (λ xs. MeetsEach allows (stance_of view turn first) (map (stance_of view turn) (take i others)) (stance_of view turn port) (map (stance_of view turn) xs)) (take_all i now le) r.meets)
+
+-- the port at the place has met those before it, and then those behind it
+pub meets_others :
+    {P : Type 0} (allows : List ℕ → List ℕ → Type 0) (stance : P → Stance) (place : ℕ) (old before rest : List P) (port : P) (behind before_then : List P) (now port_then : P) (behind_then : List P)
+    → old ≡ before ++ rest → rest ≡ port ∷ behind → length before ≡ place
+    → MeetsEach allows (stance port) (map stance before) (stance now) (map stance before_then) → MeetsEach allows (stance now) (map stance behind) (stance port_then) (map stance behind_then)
+    → MeetsOthers allows place (map stance old) (map stance (before_then ++ port_then ∷ behind_then))
+meets_others allows stance place old before rest port behind before_then now port_then behind_then is some at first second = record {
+  before = map stance before;
+  port = stance port;
+  behind = map stance behind;
+  was = ap (map stance) (is ∙ ap (λ ps. before ++ ps) some) ∙ map-append stance before (port ∷ behind);
+  at = length-map before stance ∙ at;
+  before_then = map stance before_then;
+  now = stance now;
+  meets_before = first;
+  port_then = stance port_then;
+  behind_then = map stance behind_then;
+  meets_behind = second;
+  is = map-append stance before_then (port_then ∷ behind_then);
+}
+
+-- there is a port at a place of the ports
+pub some_port : {P X : Type 0} (old before rest : List P) (place : ℕ) → old ≡ before ++ rest → length before ≡ place → length rest ≡ 0 → place < length old → X
+some_port old before rest place is at none low = absurd (omega (arith, ap length is, length-append before rest))
+
+-- what holds of all ports holds of the one at the place, of those before it and of those behind it
+module _ {P : Type 0} (Q : P → Type 0) where
+  all_before : (before rest : List P) → All Q (before ++ rest) → All Q before
+  all_before [] rest all = All-nil Q
+  all_before (p ∷ before) rest all = All-cons Q p before (All-head Q p (before ++ rest) all) (all_before before rest (All-tail Q p (before ++ rest) all))
+
+  all_after : (before rest : List P) → All Q (before ++ rest) → All Q rest
+  all_after [] rest all = all
+  all_after (p ∷ before) rest all = all_after before rest (All-tail Q p (before ++ rest) all)
+
+  pub each_before : (old before rest : List P) → old ≡ before ++ rest → All Q old → All Q before
+  each_before old before rest is all = all_before before rest (All-same Q (before ++ rest) old (sym is) all)
+
+  at_last : (old before rest : List P) (port : P) (behind : List P) → old ≡ before ++ rest → rest ≡ port ∷ behind → All Q old → All Q (port ∷ behind)
+  at_last old before rest port behind is some all = All-same Q (port ∷ behind) rest (sym some) (all_after before rest (All-same Q (before ++ rest) old (sym is) all))
+
+  pub port_itself : (old before rest : List P) (port : P) (behind : List P) → old ≡ before ++ rest → rest ≡ port ∷ behind → All Q old → Q port
+  port_itself old before rest port behind is some all = All-head Q port behind (at_last old before rest port behind is some all)
+
+  pub each_behind : (old before rest : List P) (port : P) (behind : List P) → old ≡ before ++ rest → rest ≡ port ∷ behind → All Q old → All Q behind
+  each_behind old before rest port behind is some all = All-tail Q port behind (at_last old before rest port behind is some all)
+
+  pub all_of_them : (before : List P) (port : P) (behind : List P) → All Q before → Q port → All Q behind → All Q (before ++ port ∷ behind)
+  all_of_them before port behind first own second = All-append Q before (port ∷ behind) first (All-cons Q port behind own second)
