@@ -60,7 +60,7 @@
  * - Pass no null pointer, no freed one, and no two arguments that overlap.
  * - One call at a time for a handle. Different handles, of one line too, may be called by different threads at the same time.
  * - Hand a handle to another thread by a lock, a thread's start or join, or a sequentially consistent atomic.
- * - Call nothing from a signal handler, nor in the forked child of a process with threads.
+ * - Call nothing from a signal handler, nor in the forked child of a process with threads (PROCESSES, below).
  * - The program's malloc, realloc and free are of one allocator, which aligns as C asks.
  *
  * Every other mistake is answered QOLB_MISUSE, and then nothing has changed.
@@ -84,6 +84,10 @@
  *
  * Nothing promises that a turn comes. It comes once each node before has been granted the line and has released it, or was withdrawn.
  *
+ * No wait is a cancellation point. A thread that is cancelled while it waits goes on waiting, is granted the line or is late, and ends at its next
+ * cancellation point: so it leaves no request in the queue, with which the line would stay. A thread that may be cancelled at any instruction
+ * (PTHREAD_CANCEL_ASYNCHRONOUS) makes no call.
+ *
  * BUSY
  *
  * A request that is withdrawn stays in the queue until the line comes to it, and until then its node is busy. A release of another node passes it
@@ -96,6 +100,13 @@
  * A line knows nodes and not threads. A thread that ends while its node holds the line, or waits for it, releases and withdraws nothing: the line
  * comes to that node and stays there, and all behind it wait. Nobody can take it over, and nobody is told. But any thread that has the handle, and
  * has got it in one of the ways above, may go on with it: qolb_state says where the node stands.
+ *
+ * PROCESSES
+ *
+ * A line is of one process. A fork copies it: parent and child then have a line each, both as the one was, and neither sees what the other does.
+ * So a node that held the line holds it in both, and the line guards nothing between them, as a file or memory that they share. The child of a
+ * process with one thread may go on with its copy, and close its nodes. In the child of a process with threads call nothing: a thread that is not
+ * there any more may be in the midst of a call. What is opened after the fork is the opener's alone.
  *
  * SPEED
  *
@@ -121,10 +132,8 @@
 #ifndef QOLB_H
 #define QOLB_H
 
-#include <sched.h>
 #include <stddef.h>
 #include <stdint.h>
-#include <time.h>
 
 /* The version of this header. QOLB_VERSION is one number, 10000 for each major version, 100 for each minor one; qolb_version() is that of the
  * library that the program runs with. */
@@ -144,6 +153,18 @@
 #define QOLB_LOOK __attribute__((warn_unused_result))
 #else
 #define QOLB_LOOK
+#endif
+
+/* A conversion and a null pointer that no compiler warns of, in C and in C++. */
+#ifdef __cplusplus
+#define QOLB_AS_(type, value) static_cast<type>(value)
+#else
+#define QOLB_AS_(type, value) ((type)(value))
+#endif
+#if defined(__cplusplus) && __cplusplus >= 201103L
+#define QOLB_NULL_ nullptr
+#else
+#define QOLB_NULL_ NULL
 #endif
 
 #ifdef __cplusplus
@@ -257,7 +278,7 @@ uint32_t qolb_version(void);
 /* The node moves out of this handle, which is empty then, into the one that is returned. */
 static inline qolb_node qolb_move(qolb_node *from) {
     qolb_node to = *from;
-    from->own = NULL;
+    from->own = QOLB_NULL_;
     return to;
 }
 
@@ -307,31 +328,44 @@ static inline uint32_t qolb_shut_(qolb_node *node) { return qolb_gives_(node), q
 
 enum { QOLB_LOOKS_ = 64, QOLB_YIELDS_ = 16, QOLB_LONGEST_SLEEP_ = 200000 };
 
-/* The system's calls by names of their own: a compiler that is told to keep to ISO C declares them not. */
-int qolb_clock_gettime_(int clock, struct timespec *out) __asm__("clock_gettime");
-int qolb_nanosleep_(const struct timespec *time, struct timespec *left) __asm__("nanosleep");
+/* The system's calls, by names of their own: a compiler that is told to keep to ISO C does not declare them, and with the system's headers in it this
+ * one could not be imported as a header unit beside them. */
+struct qolb_time_ {
+    long seconds, nanoseconds;
+};
+int qolb_clock_gettime_(int clock, struct qolb_time_ *out) __asm__("clock_gettime");
+int qolb_nanosleep_(const struct qolb_time_ *time, struct qolb_time_ *left) __asm__("nanosleep");
+int qolb_sched_yield_(void) __asm__("sched_yield");
+int qolb_setcancelstate_(int state, int *old) __asm__("pthread_setcancelstate");
 
 /* Nanoseconds of a clock that nobody sets. */
 static inline uint64_t qolb_now_(void) {
-    struct timespec now;
+    struct qolb_time_ now;
     qolb_clock_gettime_(1 /* CLOCK_MONOTONIC */, &now);
-    return (uint64_t)now.tv_sec * 1000000000u + (uint64_t)now.tv_nsec;
+    return QOLB_AS_(uint64_t, now.seconds) * 1000000000u + QOLB_AS_(uint64_t, now.nanoseconds);
+}
+
+/* Sleeps for less than a second. Who is cancelled meanwhile sleeps on: its request would stay in the queue. */
+static inline void qolb_sleep_(uint64_t nanoseconds) {
+    struct qolb_time_ time;
+    int cancels;
+    time.seconds = 0;
+    time.nanoseconds = QOLB_AS_(long, nanoseconds);
+    qolb_setcancelstate_(1 /* PTHREAD_CANCEL_DISABLE */, &cancels);
+    qolb_nanosleep_(&time, QOLB_NULL_);
+    qolb_setcancelstate_(cancels, &cancels);
 }
 
 /* The k-th rest between two looks of who waits at most so long since then. 0, and no rest, where the time is over. */
 static inline int qolb_rest_(unsigned k, uint64_t since, uint64_t nanoseconds) {
     uint64_t spent = qolb_now_() - since, most;
-    struct timespec time;
     if (spent >= nanoseconds) return 0;
     if (k < QOLB_YIELDS_) {
-        sched_yield();
+        qolb_sched_yield_();
         return 1;
     }
-    most = k - QOLB_YIELDS_ < 8 ? (uint64_t)1000 << (k - QOLB_YIELDS_) : (uint64_t)QOLB_LONGEST_SLEEP_;
-    if (most > nanoseconds - spent) most = nanoseconds - spent;
-    time.tv_sec = 0;
-    time.tv_nsec = (long)most;
-    qolb_nanosleep_(&time, NULL);
+    most = k - QOLB_YIELDS_ < 8 ? QOLB_AS_(uint64_t, 1000) << (k - QOLB_YIELDS_) : QOLB_AS_(uint64_t, QOLB_LONGEST_SLEEP_);
+    qolb_sleep_(most < nanoseconds - spent ? most : nanoseconds - spent);
     return 1;
 }
 
@@ -340,11 +374,11 @@ static inline int qolb_rest_(unsigned k, uint64_t since, uint64_t nanoseconds) {
 /* Asks, and waits as long as it takes, also while the node is busy. Where the node may ask: GRANTED, CLOSED. Else MISUSE. */
 QOLB_LOOK static inline uint32_t qolb_acquire(qolb_node *node) {
     uint32_t got;
-    while ((got = qolb_enqolb(node)) == QOLB_BUSY) sched_yield();
+    while ((got = qolb_enqolb(node)) == QOLB_BUSY) qolb_sched_yield_();
     if (got != QOLB_QUEUED) return got;
     got = qolb_wait(node, QOLB_LOOKS_);
     while (got == QOLB_WAITING) {
-        sched_yield();
+        qolb_sched_yield_();
         got = qolb_poll(node);
     }
     return got;
@@ -356,7 +390,7 @@ QOLB_LOOK static inline uint32_t qolb_try(qolb_node *node) {
     uint32_t got = qolb_enqolb(node);
     if (got != QOLB_QUEUED) return got;
     got = qolb_withdraw(node);
-    return got == QOLB_WITHDRAWN ? (uint32_t)QOLB_BUSY : got;
+    return got == QOLB_WITHDRAWN ? QOLB_AS_(uint32_t, QOLB_BUSY) : got;
 }
 
 /* Asks, and waits at most so many nanoseconds, also while the node is busy. Where the node may ask: GRANTED, CLOSED, LATE. Else MISUSE.
@@ -372,7 +406,7 @@ QOLB_LOOK static inline uint32_t qolb_acquire_within(qolb_node *node, uint64_t n
     while (got == QOLB_WAITING) {
         if (!qolb_rest_(rests++, since, nanoseconds)) {
             got = qolb_withdraw(node);
-            return got == QOLB_WITHDRAWN ? (uint32_t)QOLB_LATE : got;
+            return got == QOLB_WITHDRAWN ? QOLB_AS_(uint32_t, QOLB_LATE) : got;
         }
         got = qolb_poll(node);
     }

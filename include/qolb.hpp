@@ -162,13 +162,13 @@ class Node {
         return got == Got::granted;
     }
 
-    // Never below the time, and as long as a number can say.
+    // Never below the time, and as long as a number can say. By a number with a fraction, which no period overflows and which has all 64 bits.
     template <class Rep, class Period> static std::uint64_t nanoseconds(const std::chrono::duration<Rep, Period> &time) {
-        if (time <= std::chrono::duration<Rep, Period>::zero()) return 0;
-        if (time >= std::chrono::hours(24 * 365 * 200)) return UINT64_MAX;
-        auto count = std::chrono::duration_cast<std::chrono::nanoseconds>(time);
-        if (count < time) count += std::chrono::nanoseconds(1);
-        return static_cast<std::uint64_t>(count.count());
+        long double exact = std::chrono::duration<long double, std::nano>(time).count();
+        if (!(exact > 0)) return 0;
+        if (exact >= static_cast<long double>(UINT64_MAX)) return UINT64_MAX;
+        auto count = static_cast<std::uint64_t>(exact);
+        return static_cast<long double>(count) < exact ? count + 1 : count;
     }
 
     qolb_node node_{};

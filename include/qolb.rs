@@ -1,6 +1,7 @@
 //! QOLB for Rust: a node that is moved and never copied, and a guard. `qolb.h` says what each call answers.
 //!
-//! A program takes this file as a module, `#[path = ".../qolb.rs"] mod qolb;`, and links with `-lqolb`.
+//! A program takes this file as a module, `#[path = ".../qolb.rs"] mod qolb;`, and links with `-lqolb`; or it takes the crate that is installed
+//! beside it, `qolb = { path = "PREFIX/share/qolb/rust" }`, whose build script finds the library.
 //!
 //! ```ignore
 //! let mut nodes = qolb::open(Kind::Ring, 1, 2, None, &Bytes([0; 64]))?;
@@ -19,6 +20,7 @@
 //! with it.
 #![allow(dead_code)]
 
+use std::cell::UnsafeCell;
 use std::ffi::c_void;
 use std::fmt;
 use std::ptr::null_mut;
@@ -59,6 +61,32 @@ pub enum Answer {
     /// Of `Node::acquire_for` alone: the time is over, and the request is withdrawn.
     Late,
 }
+
+impl fmt::Display for Answer {
+    fn fmt(&self, f: &mut fmt::Formatter<'_>) -> fmt::Result {
+        f.write_str(match self {
+            Answer::Done => "done",
+            Answer::Granted => "the node holds the line",
+            Answer::Queued => "the request waits",
+            Answer::Waiting => "the request waits still",
+            Answer::Linking => "the request stands behind another, and is not linked yet",
+            Answer::Withdrawn => "the request is withdrawn",
+            Answer::Closed => "the line is closed",
+            Answer::Busy => "the node's last request is not cleared away yet, or others have the line",
+            Answer::Misuse => "the node does not allow the call",
+            Answer::NoMemory => "out of memory",
+            Answer::BadNodes => "a line has 1 to 200 nodes",
+            Answer::BadLease => "a lease has at least one turn",
+            Answer::BadKind => "no such kind of line",
+            Answer::TooFew => "fewer handles than nodes",
+            Answer::Occupied => "one of the handles has a node",
+            Answer::Late => "the time is over, and the request is withdrawn",
+        })
+    }
+}
+
+/// So that `qolb::open(..)?` does in a function whose error is any.
+impl std::error::Error for Answer {}
 
 /// Why a lock cannot be had.
 #[derive(Clone, Copy, Debug, PartialEq, Eq)]
@@ -123,6 +151,7 @@ unsafe extern "C" {
     fn qolb_label(node: &mut Handle) -> u64;
     fn qolb_state(node: &mut Handle) -> u32;
     safe fn qolb_version() -> u32;
+    fn pthread_setcancelstate(state: i32, old: &mut i32) -> i32;
 }
 
 /// The version of the library: 10,000 for each major version, 100 for each minor one.
@@ -138,7 +167,7 @@ const LONGEST_SLEEP: Duration = Duration::from_micros(200);
 /// A node of a line. A node that is dropped withdraws its request, or releases the line that it holds.
 ///
 /// Nodes that lie side by side share cache lines, and then slow each other's threads down: keep each on its thread's stack.
-pub struct Node(Handle);
+pub struct Node(UnsafeCell<Handle>);
 
 // SAFETY: the library has it proved that a handle may go to another thread. No call takes a `&Node`, so nothing is shared.
 unsafe impl Send for Node {}
@@ -153,9 +182,19 @@ pub fn open(kind: Kind, label: u64, nodes: u64, lease: Option<u64>, opening: &By
     match told(answer) {
         Answer::Done => {
             handles.truncate(nodes as usize);
-            Ok(handles.into_iter().map(Node).collect())
+            Ok(handles.into_iter().map(|handle| Node(UnsafeCell::new(handle))).collect())
         }
         refused => Err(refused),
+    }
+}
+
+/// Its number, its line's label, and its state.
+impl fmt::Debug for Node {
+    fn fmt(&self, f: &mut fmt::Formatter<'_>) -> fmt::Result {
+        // SAFETY: no call has the handle now, as each borrows the node and returns it; nor does another thread, as a node is not `Sync`.
+        let handle = unsafe { &mut *self.0.get() };
+        let (number, label, state) = unsafe { (qolb_number(handle), qolb_label(handle), qolb_state(handle)) };
+        f.debug_struct("Node").field("number", &number).field("label", &label).field("state", &state_told(state)).finish()
     }
 }
 
@@ -163,98 +202,89 @@ pub fn open(kind: Kind, label: u64, nodes: u64, lease: Option<u64>, opening: &By
 impl Node {
     #[must_use]
     pub fn enqolb(&mut self) -> Answer {
-        told(unsafe { qolb_enqolb(&mut self.0) })
+        told(unsafe { qolb_enqolb(self.0.get_mut()) })
     }
 
     #[must_use]
     pub fn poll(&mut self) -> Answer {
-        told(unsafe { qolb_poll(&mut self.0) })
+        told(unsafe { qolb_poll(self.0.get_mut()) })
     }
 
     #[must_use]
     pub fn wait(&mut self, polls: u64) -> Answer {
-        told(unsafe { qolb_wait(&mut self.0, polls) })
+        told(unsafe { qolb_wait(self.0.get_mut(), polls) })
     }
 
     #[must_use]
     pub fn withdraw(&mut self) -> Answer {
-        told(unsafe { qolb_withdraw(&mut self.0) })
+        told(unsafe { qolb_withdraw(self.0.get_mut()) })
     }
 
     #[must_use]
     pub fn prepend(&mut self) -> Answer {
-        told(unsafe { qolb_prepend(&mut self.0) })
+        told(unsafe { qolb_prepend(self.0.get_mut()) })
     }
 
     #[must_use]
     pub fn link(&mut self) -> Answer {
-        told(unsafe { qolb_link(&mut self.0) })
+        told(unsafe { qolb_link(self.0.get_mut()) })
     }
 
     /// The line's bytes, where the node holds the line.
     pub fn read(&mut self) -> Option<Bytes> {
         let mut out = Bytes([0; 64]);
-        match told(unsafe { qolb_read(&mut self.0, &mut out) }) {
+        match told(unsafe { qolb_read(self.0.get_mut(), &mut out) }) {
             Answer::Done => Some(out),
             _ => None,
         }
     }
 
     pub fn write(&mut self, mask: u64, bytes: &Bytes) -> Answer {
-        told(unsafe { qolb_write(&mut self.0, mask, bytes) })
+        told(unsafe { qolb_write(self.0.get_mut(), mask, bytes) })
     }
 
     /// A lane of the line, where the node holds it and the lane is below 8.
     pub fn read_lane(&mut self, lane: u64) -> Option<u64> {
         let mut out = 0;
-        match told(unsafe { qolb_read_lane(&mut self.0, lane, &mut out) }) {
+        match told(unsafe { qolb_read_lane(self.0.get_mut(), lane, &mut out) }) {
             Answer::Done => Some(out),
             _ => None,
         }
     }
 
     pub fn write_lane(&mut self, lane: u64, value: u64) -> Answer {
-        told(unsafe { qolb_write_lane(&mut self.0, lane, value) })
+        told(unsafe { qolb_write_lane(self.0.get_mut(), lane, value) })
     }
 
     pub fn deqolb(&mut self) -> Answer {
-        told(unsafe { qolb_deqolb(&mut self.0) })
+        told(unsafe { qolb_deqolb(self.0.get_mut()) })
     }
 
     pub fn shut(&mut self) -> Answer {
-        told(unsafe { qolb_shut(&mut self.0) })
+        told(unsafe { qolb_shut(self.0.get_mut()) })
     }
 
     pub fn number(&mut self) -> u64 {
-        unsafe { qolb_number(&mut self.0) }
+        unsafe { qolb_number(self.0.get_mut()) }
     }
 
     pub fn state(&mut self) -> State {
-        match unsafe { qolb_state(&mut self.0) } {
-            1 => State::Idle,
-            2 => State::Linking,
-            3 => State::Queued,
-            4 => State::Holding,
-            5 => State::Left,
-            6 => State::Rolled,
-            7 => State::Shut,
-            _ => State::Empty,
-        }
+        state_told(unsafe { qolb_state(self.0.get_mut()) })
     }
 
     /// How many turns are left of the line's lease, with the holder's own: `u64::MAX` without a lease; 0 where the node does not hold the line.
     pub fn turns_left(&mut self) -> u64 {
-        unsafe { qolb_turns_left(&mut self.0) }
+        unsafe { qolb_turns_left(self.0.get_mut()) }
     }
 
     /// The label of the node's line.
     pub fn label(&mut self) -> u64 {
-        unsafe { qolb_label(&mut self.0) }
+        unsafe { qolb_label(self.0.get_mut()) }
     }
 
     /// Lets go of a node that neither waits nor holds. Any other is given back.
     pub fn close(mut self) -> Result<(), Node> {
-        match told(unsafe { qolb_close(&mut self.0) }) {
+        match told(unsafe { qolb_close(self.0.get_mut()) }) {
             Answer::Done => Ok(()),
             _ => Err(self),
         }
@@ -346,6 +376,7 @@ impl Node {
 }
 
 /// A turn of a node, which holds the line. Dropped, it releases the line, also where a panic unwinds (see above). It writes nothing by itself.
+#[derive(Debug)]
 #[must_use]
 pub struct Guard<'a>(&'a mut Node);
 
@@ -418,11 +449,21 @@ impl Rests {
             thread::yield_now();
         } else {
             let longest = Duration::from_micros(1 << (self.taken - YIELDS).min(8)).min(LONGEST_SLEEP);
-            thread::sleep(longest.min(left));
+            sleep(longest.min(left));
         }
         self.taken = (self.taken + 1).min(2 * YIELDS);
         true
     }
+}
+
+/// Sleeps. A thread that is cancelled meanwhile sleeps on: its request would stay in the queue.
+fn sleep(time: Duration) {
+    const DISABLE: i32 = 1;
+    let mut cancels = 0;
+    // SAFETY: the calls change this thread's own state alone, and the second sets it back.
+    unsafe { pthread_setcancelstate(DISABLE, &mut cancels) };
+    thread::sleep(time);
+    unsafe { pthread_setcancelstate(cancels, &mut cancels) };
 }
 
 fn stopped(answer: Answer) -> Stopped {
@@ -436,10 +477,10 @@ impl Drop for Node {
     /// Each of these calls leads to the next state, or is misuse and does nothing.
     fn drop(&mut self) {
         unsafe {
-            qolb_link(&mut self.0);
-            qolb_withdraw(&mut self.0);
-            qolb_deqolb(&mut self.0);
-            qolb_close(&mut self.0);
+            qolb_link(self.0.get_mut());
+            qolb_withdraw(self.0.get_mut());
+            qolb_deqolb(self.0.get_mut());
+            qolb_close(self.0.get_mut());
         }
     }
 }
@@ -461,5 +502,18 @@ fn told(answer: u32) -> Answer {
         13 => Answer::TooFew,
         14 => Answer::Occupied,
         _ => Answer::Misuse,
+    }
+}
+
+fn state_told(state: u32) -> State {
+    match state {
+        1 => State::Idle,
+        2 => State::Linking,
+        3 => State::Queued,
+        4 => State::Holding,
+        5 => State::Left,
+        6 => State::Rolled,
+        7 => State::Shut,
+        _ => State::Empty,
     }
 }

@@ -1,0 +1,81 @@
+/* A thread that is cancelled while it waits goes on waiting: it is granted the line, or is late, and ends at its next cancellation point. So no request
+ * of a thread that is gone stands in the queue, and the line goes on. Prints nothing but what went wrong. */
+#define _POSIX_C_SOURCE 200809L
+#include <pthread.h>
+#include <qolb.h>
+#include <stdio.h>
+#include <time.h>
+#include <unistd.h>
+
+enum { FOR_EVER, LONG, SHORT };
+
+#define WANT(call, wanted)                                                                     \
+    do {                                                                                       \
+        unsigned long long got_ = (call);                                                      \
+        if (got_ != (wanted)) {                                                                \
+            printf("line %d: %s gave %llu\n", __LINE__, #call, got_);                          \
+            return 1;                                                                          \
+        }                                                                                      \
+    } while (0)
+
+struct waiter {
+    _Alignas(QOLB_NODE_ALIGN) qolb_node node;
+    int how;
+    uint32_t got, released;
+};
+
+static void nap(long milliseconds) {
+    struct timespec time = {0, milliseconds * 1000000};
+    nanosleep(&time, NULL);
+}
+
+static void *waits(void *argument) {
+    struct waiter *me = argument;
+    me->got = me->how == FOR_EVER ? qolb_acquire(&me->node) : qolb_acquire_within(&me->node, me->how == LONG ? 60000000000 : 80000000);
+    if (me->got == QOLB_GRANTED) me->released = qolb_deqolb(&me->node);
+    pthread_testcancel();
+    return NULL;
+}
+
+/* The waiter is cancelled while another node holds the line; busy, where a request of its node is withdrawn and not passed yet. */
+static int cancelled(uint32_t kind, int how, int busy) {
+    qolb_bytes zeros = {{0}};
+    qolb_node n[3] = {{0}};
+    struct waiter waiter = {{0}, how, 99, 99};
+    pthread_t id;
+    void *told = NULL;
+    WANT(qolb_open(kind, 1, 3, QOLB_NO_LEASE, &zeros, n, 3), QOLB_DONE);
+    WANT(qolb_acquire(&n[0]), QOLB_GRANTED);
+    if (busy) WANT(qolb_try(&n[1]), QOLB_BUSY);
+    waiter.node = qolb_move(&n[1]);
+    WANT(pthread_create(&id, NULL, waits, &waiter), 0);
+    nap(20); /* it waits by now, or will be cancelled before it does */
+    WANT(pthread_cancel(id), 0);
+    if (how == SHORT) WANT(pthread_join(id, &told), 0);
+    nap(20);
+    WANT(qolb_deqolb(&n[0]), QOLB_DONE);
+    WANT(qolb_acquire_within(&n[2], 30000000000), QOLB_GRANTED);
+    if (how != SHORT) {
+        /* By now it has had its turn, or has it after this one. */
+        WANT(qolb_deqolb(&n[2]), QOLB_DONE);
+        WANT(pthread_join(id, &told), 0);
+        WANT(qolb_acquire_within(&n[2], 30000000000), QOLB_GRANTED);
+    }
+    WANT(told == PTHREAD_CANCELED, 1);
+    WANT(waiter.got, how == SHORT ? QOLB_LATE : QOLB_GRANTED);
+    WANT(waiter.released, how == SHORT ? 99 : QOLB_DONE);
+    WANT(qolb_state(&waiter.node), how == SHORT ? QOLB_STATE_ROLLED : QOLB_STATE_IDLE);
+    WANT(qolb_deqolb(&n[2]), QOLB_DONE);
+    WANT(qolb_acquire(&waiter.node), QOLB_GRANTED);
+    WANT(qolb_deqolb(&waiter.node), QOLB_DONE);
+    WANT(qolb_close(&n[0]) + qolb_close(&n[2]) + qolb_close(&waiter.node), QOLB_DONE);
+    return 0;
+}
+
+int main(void) {
+    alarm(300); /* where the line stays with a thread that is gone, who waits for it does not end */
+    for (uint32_t kind = QOLB_RING; kind <= QOLB_TICKET; kind++)
+        for (int how = FOR_EVER; how <= SHORT; how++)
+            if (cancelled(kind, how, 0) || cancelled(kind, how, 1)) return 1;
+    return 0;
+}

@@ -1,0 +1,193 @@
+// Each call of a node in each of its states, over a line of each kind: what it answers or throws, and where the node stands then. Linked with --wrap for
+// clock_gettime and nanosleep, so that no time passes but in sleeps. Prints nothing but what went wrong.
+#include <qolb.hpp>
+
+#include <chrono>
+#include <cstdio>
+#include <functional>
+#include <mutex>
+#include <string>
+#include <thread>
+#include <time.h>
+#include <unistd.h>
+#include <vector>
+
+namespace {
+
+std::uint64_t now; // nanoseconds that were slept, by the thread that makes the calls
+
+} // namespace
+
+extern "C" int __wrap_clock_gettime(clockid_t, struct timespec *out) {
+    out->tv_sec = static_cast<time_t>(now / 1000000000);
+    out->tv_nsec = static_cast<long>(now % 1000000000);
+    return 0;
+}
+
+extern "C" int __wrap_nanosleep(const struct timespec *time, struct timespec *) {
+    now += static_cast<std::uint64_t>(time->tv_sec) * 1000000000 + static_cast<std::uint64_t>(time->tv_nsec);
+    return 0;
+}
+
+namespace {
+
+constexpr std::uint64_t label = 7, lease = 9;
+constexpr std::size_t states = 8;
+constexpr qolb_node_state every_state[states] = {QOLB_STATE_EMPTY,   QOLB_STATE_IDLE, QOLB_STATE_LINKING, QOLB_STATE_QUEUED,
+                                                 QOLB_STATE_HOLDING, QOLB_STATE_LEFT, QOLB_STATE_ROLLED,  QOLB_STATE_SHUT};
+
+// A line of three nodes. The second is `node`, which stands in the wanted state: where it waits or was withdrawn the first holds the line, and where it
+// has left the third has not linked yet.
+struct Line {
+    std::vector<qolb::Node> nodes;
+    qolb::Node node;
+
+    Line(qolb_kind kind, qolb_node_state state) {
+        auto opened = qolb::Node::open(kind, label, 3, qolb_bytes{}, lease);
+        nodes = std::move(opened.second);
+        if (state == QOLB_STATE_EMPTY) return;
+        node = std::move(nodes[1]);
+        bool waits = state == QOLB_STATE_LINKING || state == QOLB_STATE_QUEUED || state == QOLB_STATE_ROLLED;
+        if (waits) (void)nodes[0].acquire();
+        if (state == QOLB_STATE_LINKING) (void)node.prepend();
+        if (state == QOLB_STATE_QUEUED || state == QOLB_STATE_ROLLED) (void)node.enqolb();
+        if (state == QOLB_STATE_ROLLED) (void)node.withdraw();
+        if (state == QOLB_STATE_HOLDING || state == QOLB_STATE_LEFT || state == QOLB_STATE_SHUT) (void)node.acquire();
+        if (state == QOLB_STATE_LEFT) (void)nodes[2].prepend();
+        if (state == QOLB_STATE_LEFT) node.deqolb();
+        if (state == QOLB_STATE_SHUT) node.shut();
+    }
+
+    // A node that is busy in this state may be granted the line after this.
+    void goes_on() {
+        (void)nodes[2].link();
+        nodes[2].deqolb();
+        nodes[0].deqolb();
+    }
+};
+
+constexpr qolb_node_state EMPTY = QOLB_STATE_EMPTY, IDLE = QOLB_STATE_IDLE, LINK = QOLB_STATE_LINKING, QUEUED = QOLB_STATE_QUEUED,
+                          HOLDS = QOLB_STATE_HOLDING, LEFT = QOLB_STATE_LEFT, ROLLED = QOLB_STATE_ROLLED, SHUT = QOLB_STATE_SHUT;
+constexpr qolb_answer DONE = QOLB_DONE, GRANTED = QOLB_GRANTED, CLOSED = QOLB_CLOSED, BUSY = QOLB_BUSY, NO = QOLB_MISUSE;
+
+// What a call that may throw ended with.
+enum Ended { has = 100, has_not, throws_closed, throws_misuse, does };
+
+// A call, what it tells in each state, in the order of the numbers of the states, and where the node stands then.
+struct Row {
+    const char *name;
+    std::function<int(Line &)> call;
+    int told[states];
+    qolb_node_state then[states];
+};
+
+template <class Call> int ended(Call call) {
+    try {
+        return call() ? has : has_not;
+    } catch (const qolb::Closed &) {
+        return throws_closed;
+    } catch (const qolb::Misuse &) {
+        return throws_misuse;
+    }
+}
+
+// While another thread lets the line go on, so that a call that waits as long as it takes does not wait for ever.
+template <class Call> int meanwhile(Line &line, Call call) {
+    std::thread other([&line] {
+        usleep(2000);
+        line.goes_on();
+    });
+    int told = call();
+    other.join();
+    return told;
+}
+
+constexpr int G = static_cast<int>(qolb::Got::granted), C = static_cast<int>(qolb::Got::closed), B = static_cast<int>(qolb::Got::busy),
+              L = static_cast<int>(qolb::Got::late), M = static_cast<int>(qolb::Got::misuse);
+
+#define STAYS {EMPTY, IDLE, LINK, QUEUED, HOLDS, LEFT, ROLLED, SHUT}
+
+const std::vector<Row> rows = {
+    {"enqolb", [](Line &l) { return l.node.enqolb(); }, {NO, GRANTED, NO, NO, NO, BUSY, BUSY, CLOSED}, {EMPTY, HOLDS, LINK, QUEUED, HOLDS, LEFT, ROLLED, SHUT}},
+    {"poll", [](Line &l) { return l.node.poll(); }, {NO, NO, NO, QOLB_WAITING, NO, NO, NO, NO}, STAYS},
+    {"wait", [](Line &l) { return l.node.wait(3); }, {NO, NO, NO, QOLB_WAITING, NO, NO, NO, NO}, STAYS},
+    {"wait for no poll", [](Line &l) { return l.node.wait(0); }, {NO, NO, NO, NO, NO, NO, NO, NO}, STAYS},
+    {"withdraw", [](Line &l) { return l.node.withdraw(); }, {NO, NO, NO, QOLB_WITHDRAWN, NO, NO, NO, NO}, {EMPTY, IDLE, LINK, ROLLED, HOLDS, LEFT, ROLLED, SHUT}},
+    {"link", [](Line &l) { return l.node.link(); }, {NO, NO, QOLB_QUEUED, NO, NO, NO, NO, NO}, {EMPTY, IDLE, QUEUED, QUEUED, HOLDS, LEFT, ROLLED, SHUT}},
+    {"read", [](Line &l) { qolb_bytes out; return l.node.read(out); }, {NO, NO, NO, NO, DONE, NO, NO, NO}, STAYS},
+    {"write", [](Line &l) { return l.node.write(1, qolb_bytes{}); }, {NO, NO, NO, NO, DONE, NO, NO, NO}, STAYS},
+    {"read_lane", [](Line &l) { std::uint64_t out; return l.node.read_lane(7, out); }, {NO, NO, NO, NO, DONE, NO, NO, NO}, STAYS},
+    {"read_lane of none", [](Line &l) { std::uint64_t out; return l.node.read_lane(8, out); }, {NO, NO, NO, NO, NO, NO, NO, NO}, STAYS},
+    {"write_lane", [](Line &l) { return l.node.write_lane(7, 1); }, {NO, NO, NO, NO, DONE, NO, NO, NO}, STAYS},
+    {"write_lane of none", [](Line &l) { return l.node.write_lane(8, 1); }, {NO, NO, NO, NO, NO, NO, NO, NO}, STAYS},
+    {"deqolb", [](Line &l) { return l.node.deqolb(); }, {NO, NO, NO, NO, DONE, NO, NO, NO}, {EMPTY, IDLE, LINK, QUEUED, IDLE, LEFT, ROLLED, SHUT}},
+    {"shut", [](Line &l) { return l.node.shut(); }, {NO, NO, NO, NO, DONE, NO, NO, NO}, {EMPTY, IDLE, LINK, QUEUED, SHUT, LEFT, ROLLED, SHUT}},
+    {"close", [](Line &l) { return l.node.close(); }, {NO, DONE, NO, NO, NO, DONE, DONE, DONE}, {EMPTY, EMPTY, LINK, QUEUED, HOLDS, EMPTY, EMPTY, EMPTY}},
+    {"turns_left", [](Line &l) { return static_cast<int>(l.node.turns_left()); }, {0, 0, 0, 0, lease, 0, 0, 0}, STAYS},
+    {"number", [](Line &l) { return static_cast<int>(l.node.number()); }, {0, 2, 2, 2, 2, 2, 2, 2}, STAYS},
+    {"label", [](Line &l) { return static_cast<int>(l.node.label()); }, {0, label, label, label, label, label, label, label}, STAYS},
+    {"acquire", [](Line &l) { return meanwhile(l, [&] { return static_cast<int>(l.node.acquire()); }); }, {M, G, M, M, M, G, G, C}, {EMPTY, HOLDS, LINK, QUEUED, HOLDS, HOLDS, HOLDS, SHUT}},
+    {"try_acquire", [](Line &l) { return static_cast<int>(l.node.try_acquire()); }, {M, G, M, M, M, B, B, C}, {EMPTY, HOLDS, LINK, QUEUED, HOLDS, LEFT, ROLLED, SHUT}},
+    {"acquire_for", [](Line &l) { return static_cast<int>(l.node.acquire_for(std::chrono::microseconds(50))); }, {M, G, M, M, M, L, L, C}, {EMPTY, HOLDS, LINK, QUEUED, HOLDS, LEFT, ROLLED, SHUT}},
+    {"lock", [](Line &l) { return meanwhile(l, [&] { return ended([&] { return l.node.lock(), true; }); }); }, {throws_misuse, has, throws_misuse, throws_misuse, throws_misuse, has, has, throws_closed}, {EMPTY, HOLDS, LINK, QUEUED, HOLDS, HOLDS, HOLDS, SHUT}},
+    {"try_lock", [](Line &l) { return ended([&] { return l.node.try_lock(); }); }, {throws_misuse, has, throws_misuse, throws_misuse, throws_misuse, has_not, has_not, throws_closed}, {EMPTY, HOLDS, LINK, QUEUED, HOLDS, LEFT, ROLLED, SHUT}},
+    {"try_lock_for", [](Line &l) { return ended([&] { return l.node.try_lock_for(std::chrono::microseconds(50)); }); }, {throws_misuse, has, throws_misuse, throws_misuse, throws_misuse, has_not, has_not, throws_closed}, {EMPTY, HOLDS, LINK, QUEUED, HOLDS, LEFT, ROLLED, SHUT}},
+    {"try_lock_until", [](Line &l) { return ended([&] { return l.node.try_lock_until(std::chrono::steady_clock::now() + std::chrono::microseconds(50)); }); }, {throws_misuse, has, throws_misuse, throws_misuse, throws_misuse, has_not, has_not, throws_closed}, {EMPTY, HOLDS, LINK, QUEUED, HOLDS, LEFT, ROLLED, SHUT}},
+    {"unlock", [](Line &l) { return ended([&] { return l.node.unlock(), true; }); }, {throws_misuse, throws_misuse, throws_misuse, throws_misuse, has, throws_misuse, throws_misuse, throws_misuse}, {EMPTY, IDLE, LINK, QUEUED, IDLE, LEFT, ROLLED, SHUT}},
+    {"with", [](Line &l) { return meanwhile(l, [&] { return static_cast<int>(l.node.with([](qolb_bytes &) {})); }); }, {M, G, M, M, M, G, G, C}, {EMPTY, IDLE, LINK, QUEUED, HOLDS, IDLE, IDLE, SHUT}},
+    {"a guard", [](Line &l) { return meanwhile(l, [&] { return ended([&] { qolb::Guard turn(l.node); return l.node.state() == HOLDS; }); }); }, {throws_misuse, has, throws_misuse, throws_misuse, throws_misuse, has, has, throws_closed}, {EMPTY, IDLE, LINK, QUEUED, HOLDS, IDLE, IDLE, SHUT}},
+    {"a guard of a turn", [](Line &l) { return ended([&] { qolb::Guard turn(l.node, std::adopt_lock); return true; }); }, {throws_misuse, throws_misuse, throws_misuse, throws_misuse, has, throws_misuse, throws_misuse, throws_misuse}, {EMPTY, IDLE, LINK, QUEUED, IDLE, LEFT, ROLLED, SHUT}},
+    {"a move", [](Line &l) { qolb::Node there(std::move(l.node)); int was = there.state(); l.node = std::move(there); return there.state() == EMPTY ? was : -1; }, {EMPTY, IDLE, LINK, QUEUED, HOLDS, LEFT, ROLLED, SHUT}, STAYS},
+    {"a move onto itself", [](Line &l) { qolb::Node &same = l.node; l.node = std::move(same); return static_cast<int>(DONE); }, {DONE, DONE, DONE, DONE, DONE, DONE, DONE, DONE}, STAYS},
+};
+
+// The first half of asking is a list's alone.
+const Row prepends = {"prepend", [](Line &l) { return l.node.prepend(); }, {NO, GRANTED, NO, NO, NO, BUSY, BUSY, CLOSED}, {EMPTY, HOLDS, LINK, QUEUED, HOLDS, LEFT, ROLLED, SHUT}};
+const Row no_prepends = {"prepend", [](Line &l) { return l.node.prepend(); }, {NO, NO, NO, NO, NO, NO, NO, NO}, STAYS};
+
+bool holds(const Row &row, qolb_kind kind, std::size_t k) {
+    if (kind != QOLB_LIST && (every_state[k] == LINK || every_state[k] == LEFT)) return true; // states of a list alone
+    Line line(kind, every_state[k]);
+    if (line.node.state() != every_state[k]) return std::printf("kind %d: no node in the state %zu\n", kind, k), false;
+    int told = row.call(line);
+    if (told == row.told[k] && line.node.state() == row.then[k]) return true;
+    std::printf("kind %d, %s in the state %zu: told %d, and leaves the state %d\n", kind, row.name, k, told, line.node.state());
+    return false;
+}
+
+// A time with a part of a nanosecond is rounded up: late comes not before it.
+bool rounds_up(qolb_kind kind) {
+    using namespace std::chrono;
+    Line line(kind, ROLLED);
+    constexpr struct {
+        double nanoseconds;
+        std::uint64_t wanted;
+    } times[] = {{0.25, 1}, {1.0, 1}, {1.5, 2}, {2.0, 2}, {16000.75, 16001}};
+    for (auto time : times) {
+        std::uint64_t since = now;
+        bool late = line.node.acquire_for(duration<double, std::nano>(time.nanoseconds)) == qolb::Got::late;
+        if (!late || now - since != time.wanted) return std::printf("%f ns: late after %llu\n", time.nanoseconds, static_cast<unsigned long long>(now - since)), false;
+    }
+    // So is one of a period as fine as can be, where an hour would not fit its number; and of a coarse one.
+    std::uint64_t since = now;
+    if (line.node.acquire_for(duration<std::int64_t, std::atto>(1)) != qolb::Got::late || now - since != 1) return false;
+    since = now;
+    if (line.node.acquire_for(duration<std::int64_t, std::pico>(2001)) != qolb::Got::late || now - since != 3) return false;
+    since = now;
+    return line.node.acquire_for(duration<int, std::ratio<60>>(1)) == qolb::Got::late && now - since == 60000000000;
+}
+
+} // namespace
+
+int main() {
+    alarm(300); // where a turn is lost, who waits for it does not end
+    for (qolb_kind kind : {QOLB_RING, QOLB_LIST, QOLB_TICKET}) {
+        for (std::size_t k = 0; k < states; k++) {
+            for (const Row &row : rows)
+                if (!holds(row, kind, k)) return 1;
+            if (!holds(kind == QOLB_LIST ? prepends : no_prepends, kind, k)) return 1;
+        }
+        if (!rounds_up(kind)) return std::puts("a part of a nanosecond"), 1;
+    }
+    return 0;
+}

@@ -1,0 +1,68 @@
+/* What a fork does: parent and child have a line each, both as the one was, and neither sees what the other does. Prints nothing but what went wrong. */
+#define _POSIX_C_SOURCE 200809L
+#include <qolb.h>
+#include <stdio.h>
+#include <stdlib.h>
+#include <sys/wait.h>
+#include <unistd.h>
+
+#define WANT(call, wanted)                                                                     \
+    do {                                                                                       \
+        unsigned long long got_ = (call);                                                      \
+        if (got_ != (wanted)) {                                                                \
+            printf("line %d: %s gave %llu\n", __LINE__, #call, got_);                          \
+            return 1;                                                                          \
+        }                                                                                      \
+    } while (0)
+
+/* The first node holds the line, with this in its lane 0, and the second waits: it goes on from there, and leaves its own number in the line. */
+static int goes_on(qolb_node *n, uint64_t was, uint64_t leaves) {
+    uint64_t lane;
+    WANT(qolb_state(&n[0]), QOLB_STATE_HOLDING);
+    WANT(qolb_read_lane(&n[0], 0, &lane), QOLB_DONE);
+    WANT(lane, was);
+    WANT(qolb_write_lane(&n[0], 0, leaves), QOLB_DONE);
+    WANT(qolb_poll(&n[1]), QOLB_WAITING);
+    WANT(qolb_deqolb(&n[0]), QOLB_DONE);
+    WANT(qolb_poll(&n[1]), QOLB_GRANTED);
+    WANT(qolb_read_lane(&n[1], 0, &lane), QOLB_DONE);
+    WANT(lane, leaves);
+    WANT(qolb_shut(&n[1]), QOLB_DONE);
+    WANT(qolb_acquire(&n[0]), QOLB_CLOSED);
+    return 0;
+}
+
+static int closes(qolb_node *n) {
+    for (int k = 0; k < 2; k++) WANT(qolb_close(&n[k]), QOLB_DONE);
+    return 0;
+}
+
+static int forks(uint32_t kind) {
+    qolb_bytes zeros = {{0}};
+    qolb_node n[2] = {{0}}, fresh = {0};
+    int ended;
+    WANT(qolb_open(kind, 1, 2, QOLB_NO_LEASE, &zeros, n, 2), QOLB_DONE);
+    WANT(qolb_acquire(&n[0]), QOLB_GRANTED);
+    WANT(qolb_write_lane(&n[0], 0, 5), QOLB_DONE);
+    WANT(qolb_enqolb(&n[1]), QOLB_QUEUED);
+    pid_t child = fork();
+    if (child < 0) return perror("fork"), 1;
+    if (child == 0) {
+        /* The child's copy is its own, and so is a line that it opens. */
+        int wrong = goes_on(n, 5, 6) || closes(n);
+        wrong = wrong || qolb_open(kind, 2, 1, QOLB_NO_LEASE, &zeros, &fresh, 1) != QOLB_DONE || qolb_acquire(&fresh) != QOLB_GRANTED;
+        wrong = wrong || qolb_deqolb(&fresh) != QOLB_DONE || qolb_close(&fresh) != QOLB_DONE;
+        exit(wrong);
+    }
+    WANT(waitpid(child, &ended, 0) == child, 1);
+    WANT(WIFEXITED(ended) && WEXITSTATUS(ended) == 0, 1);
+    /* Of all that the parent sees nothing: its node holds the line still, as it was. */
+    return goes_on(n, 5, 7) || closes(n);
+}
+
+int main(void) {
+    alarm(300);
+    for (uint32_t kind = QOLB_RING; kind <= QOLB_TICKET; kind++)
+        if (forks(kind)) return 1;
+    return 0;
+}

@@ -1,0 +1,17 @@
+/* A program that is linked with the library of one release, and runs with that of another. With -DCALLS_OF_1_1 it makes calls that came with 1.1. */
+#include <qolb.h>
+#include <stdio.h>
+
+int main(void) {
+    qolb_bytes zeros = {{0}};
+    qolb_node node = {0};
+    puts("begins");
+    fflush(stdout);
+    if (qolb_open(QOLB_RING, 7, 1, 3, &zeros, &node, 1) != QOLB_DONE || qolb_acquire(&node) != QOLB_GRANTED) return 2;
+#ifdef CALLS_OF_1_1
+    if (qolb_turns_left(&node) != 3 || qolb_label(&node) != 7 || qolb_version() < 10100) return 3;
+#endif
+    if (qolb_deqolb(&node) != QOLB_DONE || qolb_close(&node) != QOLB_DONE) return 4;
+    puts("ends");
+    return 0;
+}
