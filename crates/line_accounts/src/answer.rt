@@ -1,4 +1,5 @@
 //! Answers of a desk.
+ghost use Rattle.std.specs.Prelude.{◌≡◌, ℕ};
 
 /// The answer of a desk's call. Only `Done` changes a balance or a counter.
 #[derive(Clone, Copy, Debug, PartialEq, Eq)]
@@ -37,4 +38,17 @@ pub enum SettleError {
     Memory,
     /// No desk has a port of this node on this line. It is the least such line, and there the least such node.
     Missing { line: u64, node: u64 },
+}
+
+impl SettleError {
+    /// The error's number.
+    pub fn number(&self) -> u8
+        ensures memory { self.now ≡ SettleError.Memory → result ≡ 1 }
+        ensures missing { (line node : ℕ) → self.now ≡ SettleError.Missing line node → result ≡ 2 }
+    {
+        match self {
+            SettleError::Memory => 1,
+            SettleError::Missing { .. } => 2,
+        }
+    }
 }

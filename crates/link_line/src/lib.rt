@@ -11,4 +11,5 @@ mod steps;
 mod words;
 
 pub use own::LinkOwn;
+pub use qolb_model::Prep;
 pub use rule::{LinkLine, Links, Port};

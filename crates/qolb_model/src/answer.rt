@@ -20,12 +20,12 @@ pub enum Enq {
 pub enum Prep {
     /// The node holds the line.
     Granted,
-    /// The request stands behind another, and is not yet linked to it.
-    Linking,
     /// The line is closed, and the request has ended.
     Closed,
     /// The node's last request has ended or was withdrawn, and its entry is not clear, so it may not ask yet.
     Busy,
+    /// The request stands behind another, and is not yet linked to it.
+    Linking,
 }
 
 /// The answer of `poll`.

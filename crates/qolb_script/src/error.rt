@@ -1,3 +1,6 @@
+//! Why a script is refused.
+ghost use Rattle.std.specs.Prelude.{◌≡◌, ℕ};
+
 use thiserror::Error;
 
 /// Why a script is refused. Line numbers count from 1, and lines without words count too.
@@ -16,4 +19,21 @@ pub enum ScriptError {
     /// The line is the first command past the most that a script may have.
     #[error("bad line {0}")]
     TooMany(u64),
+}
+
+impl ScriptError {
+    /// The error's number.
+    pub fn number(&self) -> u8
+        ensures memory { self.now ≡ ScriptError.Memory → result ≡ 1 }
+        ensures bad_line { (line : ℕ) → self.now ≡ ScriptError.BadLine line → result ≡ 2 }
+        ensures out_of_range { (line : ℕ) → self.now ≡ ScriptError.Number line → result ≡ 3 }
+        ensures too_many { (line : ℕ) → self.now ≡ ScriptError.TooMany line → result ≡ 4 }
+    {
+        match self {
+            ScriptError::Memory => 1,
+            ScriptError::BadLine(_) => 2,
+            ScriptError::Number(_) => 3,
+            ScriptError::TooMany(_) => 4,
+        }
+    }
 }
