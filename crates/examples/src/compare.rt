@@ -2,7 +2,7 @@
 ghost use Rattle.std.specs.Prelude.{◌≡◌, ◌↔◌, IsOk};
 
 use anyhow::{bail, ensure};
-use qolb_run::{AlwaysOpen, Detail, Kind, Lines, Waits, report_work, run_schedule, run_steps};
+use qolb_run::{AlwaysOpen, Kind, Lines, Waits, report_work, run_schedule, run_steps};
 use qolb_script::{Watched, WorkKind};
 use std::alloc::Global;
 use std::sync::Wait;
@@ -20,12 +20,7 @@ pub enum Form {
 }
 
 /// The kinds of line that answer a schedule.
-static KINDS: [Kind; 4] = [
-    Kind::Plain,
-    Kind::Shared(Lines::Ring),
-    Kind::Shared(Lines::Link),
-    Kind::Shared(Lines::Ticket),
-];
+static KINDS: [Kind; 4] = [Kind::Plain, Kind::Ring, Kind::Link, Kind::Ticket];
 
 /// The kinds that workers share.
 static LINES: [Lines; 3] = [Lines::Ring, Lines::Link, Lines::Ticket];
@@ -93,7 +88,6 @@ fn steps(alloc: Global, script: &[u8]) -> anyhow::Result<Vec<u8>> {
         alloc,
         &mut Watched::new(script),
         &mut Watched::new(&mut said),
-        Detail::Words,
     );
     match done {
         Ok(()) => Ok(said),

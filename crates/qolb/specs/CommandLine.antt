@@ -86,7 +86,7 @@ the_command names = with_subcommand (any_answer names) draw_command.top
 -- the kind of this name
 abbrev pub kind_of_name : Option Text → Kind
 kind_of_name None = kind.Plain
-kind_of_name (Some name) = if bytes_eq name (codes "ring") then kind.Shared lines.Ring else if bytes_eq name (codes "link") then kind.Shared lines.Link else if bytes_eq name (codes "ticket") then kind.Shared lines.Ticket else kind.Plain
+kind_of_name (Some name) = if bytes_eq name (codes "ring") then kind.Ring else if bytes_eq name (codes "link") then kind.Link else if bytes_eq name (codes "ticket") then kind.Ticket else kind.Plain
 
 abbrev pub lines_of_name : Option Text → Lines
 lines_of_name None = lines.Link

@@ -239,9 +239,9 @@ fn kind_named(name: Option<&str>) -> Kind
     ensures { result ≡ spec.kind_of_name (option_map (λ n. n.now) name.entry) }
 {
     match name {
-        Some("ring") => Kind::Shared(Lines::Ring),
-        Some("link") => Kind::Shared(Lines::Link),
-        Some("ticket") => Kind::Shared(Lines::Ticket),
+        Some("ring") => Kind::Ring,
+        Some("link") => Kind::Link,
+        Some("ticket") => Kind::Ticket,
         _ => Kind::Plain,
     }
 }

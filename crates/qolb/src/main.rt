@@ -5,6 +5,7 @@ mod command_line;
 mod serve;
 
 use qolb_run::{ReplayError, TaskError};
+pub use serve::serve;
 use std::env;
 use std::io::{self, ErrorKind};
 use std::process::ExitCode;
@@ -20,7 +21,7 @@ fn words(rt: &HostRuntime) -> io::Result<Vec<String>> {
 
 fn main(rt: HostRuntime) -> ExitCode {
     match words(&rt) {
-        Ok(words) => ExitCode::from(serve::serve(
+        Ok(words) => ExitCode::from(serve(
             &rt,
             rt.alloc(),
             words.as_slice(),

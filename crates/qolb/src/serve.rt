@@ -16,7 +16,7 @@ use clap::error::ErrorKind;
 use qolb_draw::{Form, draw_schedule};
 use qolb_run::{
     AlwaysOpen, DoneOver, Lines, Locks, Progress, ReplayError, Task, TaskError, Waits, report_work,
-    run_schedule, run_steps,
+    run_schedule, run_steps_with,
 };
 use qolb_script::{ScriptError, Watched, WorkKind};
 use std::alloc::Global;
@@ -141,7 +141,7 @@ fn run<T: Threads + Wait + Clock + Eprint + Sync, R: Read, W: Write>(
 {
     match task {
         Task::Replay(kind) => Ok(run_schedule(alloc, input, output, kind)?),
-        Task::Steps(detail) => Ok(run_steps(alloc, input, output, detail)?),
+        Task::Steps(detail) => Ok(run_steps_with(alloc, input, output, detail)?),
         Task::Work(kind, lines, waits) => {
             work(rt, alloc, kind, lines, waits, progress, input, output)
         }

@@ -10,7 +10,7 @@ ghost use Rattle.qolb_draw.specs.Pictures.{picture_of, in_form, IsPicture};
 use crate::grid::draw_line;
 use crate::svg::svg;
 use crate::text::{LEGEND, push_line};
-use qolb_run::{ReplayError, read_all};
+use qolb_run::{ReplayError, read_input};
 use qolb_script::{Schedule, ScriptError, Watched, read_schedule};
 use std::alloc::{AllocError, Allocator};
 use std::io::{Read, Write};
@@ -42,7 +42,7 @@ pub fn draw_schedule<A: Allocator, R: Read, W: Write>(
     ensures written { OnOk result (has_failed writer.new ≡ false) }
     ensures memory { result ≢ Err (ReplayError.Script ScriptError.Memory) }
 {
-    let input = read_all(&alloc, reader)?;
+    let input = read_input(&alloc, reader)?;
     let schedule = read_schedule(&alloc, input.as_slice())?;
     let text = picture_in(&alloc, &schedule, form)?;
     writer.write_all(text.as_slice())?;

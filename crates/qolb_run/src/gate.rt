@@ -8,8 +8,8 @@ pub const MOST_REFUSALS: u32 = 1_000_000;
 
 /// Says when a worker may do its next job.
 pub trait Gate {
-    /// The gate may refuse this worker.
-    ghost may_refuse: { Self → ℕ → Type 0 };
+    /// The gate may refuse this worker. A gate that does not say may refuse each.
+    ghost may_refuse: { Self → ℕ → Type 0 } = { λ gate worker. Unit {0} };
 
     /// The workers are about to begin, with so many jobs in all. A gate that does not count does nothing.
     fn begins(&self, _jobs: usize) {}

@@ -1,7 +1,10 @@
 //! The whole input, read before anything else is done.
-ghost use Rattle.std.specs.Prelude.{◌≡◌, ◌↔◌, ◌<◌, ◌≤◌, ℕ, true, length, IfOk, IfSome, Err, vec_len};
+ghost use Rattle.std.specs.Prelude.{◌≡◌, ◌↔◌, ◌<◌, ◌≤◌, ℕ, true, length, IfErr, IfOk, IfSome, Err, vec_len};
 ghost use Rattle.qolb_script.specs.Watched.{inner_of, has_failed};
+ghost use Rattle.qolb_run.specs.Outcome.{as_replay_error};
+ghost use Rattle.qolb_run.specs.declared.input.InputError.{InputError};
 
+use crate::replay::ReplayError;
 use qolb_script::{Fault, Watched};
 use std::alloc::Allocator;
 use std::io::Read;
@@ -17,8 +20,24 @@ pub enum InputError {
     Long,
 }
 
-/// Reads the reader's whole rest, of at most `MOST_BYTES` bytes.
+/// Reads the reader's whole rest, of at most `MOST_BYTES` bytes, with a replay's errors.
+///
+/// Its errors are those of `read_input`: `Memory`, `Read` or `Long`.
 pub fn read_all<A: Allocator, R: Read>(
+    alloc: A,
+    reader: &mut Watched<R>,
+) -> Result<Vec<u8, A>, ReplayError>
+    ensures whole { IfOk result (λ bytes. IfSome (R.remaining (inner_of reader.old)) (λ rest. bytes.items ≡ rest)) }
+    ensures fits { IfOk result (λ bytes. vec_len bytes ≤ MOST_BYTES) }
+    ensures read { (result ≡ Err ReplayError.Read) ↔ (has_failed reader.new ≡ true) }
+    ensures long { result ≡ Err ReplayError.Long → IfSome (R.remaining (inner_of reader.old)) (λ rest. MOST_BYTES < length rest) }
+    ensures of_input { IfErr result (λ error. (fault : InputError) × (error ≡ as_replay_error fault)) }
+{
+    Ok(read_input(alloc, reader)?)
+}
+
+/// Reads the reader's whole rest, of at most `MOST_BYTES` bytes.
+pub fn read_input<A: Allocator, R: Read>(
     alloc: A,
     reader: &mut Watched<R>,
 ) -> Result<Vec<u8, A>, InputError>

@@ -19,7 +19,7 @@ mod work;
 mod workers;
 
 pub use gate::{AlwaysOpen, Gate, MOST_REFUSALS};
-pub use input::{InputError, MOST_BYTES, read_all};
+pub use input::{InputError, MOST_BYTES, read_all, read_input};
 pub use line::ReplayLine;
 pub use line_threads::{
     Got, SleepingLine, Within, acquire, acquire_asleep, acquire_within, meet_all, together,
@@ -28,6 +28,6 @@ pub use locks::Lines;
 pub use progress::Progress;
 pub use replay::{Kind, ReplayError, run_schedule, run_schedule_over};
 pub use report::{TaskError, report_work};
-pub use steps::run_steps;
+pub use steps::{run_steps, run_steps_with};
 pub use task::{Detail, Task, Waits};
-pub use work::{DoneOver, Locks, RunError, run_work, run_work_over};
+pub use work::{DoneOver, Locks, RunError, run_work, run_work_over, run_work_with};

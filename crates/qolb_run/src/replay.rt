@@ -13,7 +13,7 @@ ghost use Rattle.qolb_run.specs.declared.task.Task.TheVariants as task;
 ghost use Rattle.qolb_run.specs.Outcome.{IsReply, MayFail, HasNoReply, as_replay_error, script_error};
 
 use crate::by_ports::PortedLine;
-use crate::input::{InputError, read_all};
+use crate::input::{InputError, read_input};
 use crate::line::ReplayLine;
 use crate::tally::TalliedLine;
 use line_lanes::Line64;
@@ -25,12 +25,35 @@ use std::io::{Read, Write};
 use thiserror::Error;
 
 /// What represents the lines of a replay.
+///
+/// At lines that nodes share each has a port of its own. The port that acts meets each other one before and after its call.
 #[derive(Clone, Copy, Debug, PartialEq, Eq)]
 pub enum Kind {
     /// The plain reference, with one owner.
     Plain,
-    /// Lines that nodes share, each through a port of its own. The port that acts meets each other one before and after its call.
-    Shared(Lines),
+    /// Rings, which nodes share: lines by tickets and cells.
+    Ring,
+    /// Lists, which nodes share: lines by a home word and reversed links.
+    Link,
+    /// Ticket lines, which nodes share: lines by tickets, and cells that say whose turn it is by a number.
+    Ticket,
+}
+
+impl Kind {
+    /// The lines that nodes share of this kind, or none of the plain reference.
+    fn shared(self) -> Option<Lines>
+        ensures plain { self ≡ Kind.Plain → result ≡ None }
+        ensures ring { self ≡ Kind.Ring → result ≡ Some Lines.Ring }
+        ensures link { self ≡ Kind.Link → result ≡ Some Lines.Link }
+        ensures ticket { self ≡ Kind.Ticket → result ≡ Some Lines.Ticket }
+    {
+        match self {
+            Kind::Plain => None,
+            Kind::Ring => Some(Lines::Ring),
+            Kind::Link => Some(Lines::Link),
+            Kind::Ticket => Some(Lines::Ticket),
+        }
+    }
 }
 
 /// Why a schedule could not be replayed.
@@ -51,6 +74,25 @@ pub enum ReplayError {
     /// The writer failed, or took no byte.
     #[error("write fault")]
     Write,
+}
+
+impl ReplayError {
+    /// The error's number.
+    pub fn number(&self) -> u8
+        ensures memory { self.now ≡ ReplayError.Memory → result ≡ 1 }
+        ensures read { self.now ≡ ReplayError.Read → result ≡ 2 }
+        ensures long { self.now ≡ ReplayError.Long → result ≡ 3 }
+        ensures script { (fault : ScriptError) → self.now ≡ ReplayError.Script fault → result ≡ 4 }
+        ensures write { self.now ≡ ReplayError.Write → result ≡ 5 }
+    {
+        match self {
+            ReplayError::Memory => 1,
+            ReplayError::Read => 2,
+            ReplayError::Long => 3,
+            ReplayError::Script(_) => 4,
+            ReplayError::Write => 5,
+        }
+    }
 }
 
 impl From<AllocError> for ReplayError {
@@ -110,10 +152,10 @@ pub fn run_schedule<R: Read, W: Write>(
     ensures written { OnOk result (has_failed writer.new ≡ false) }
     ensures memory { result ≢ Err (ReplayError.Script ScriptError.Memory) }
 {
-    let input = read_all(alloc, reader)?;
-    let text = match kind {
-        Kind::Plain => answered_plainly(&alloc, input.as_slice())?,
-        Kind::Shared(lines) => over_lines(
+    let input = read_input(alloc, reader)?;
+    let text = match kind.shared() {
+        None => answered_plainly(&alloc, input.as_slice())?,
+        Some(lines) => over_lines(
             lines,
             Answering {
                 alloc: &alloc,
@@ -142,7 +184,7 @@ where
     ensures written { OnOk result (has_failed writer.new ≡ false) }
     ensures memory { result ≢ Err (ReplayError.Script ScriptError.Memory) }
 {
-    let input = read_all(alloc, reader)?;
+    let input = read_input(alloc, reader)?;
     let text = answered_over::<Global, L>(&alloc, alloc, input.as_slice())?;
     writer.write_all(text.as_slice())?;
     Ok(())

@@ -9,10 +9,10 @@ ghost use Rattle.qolb_run.specs.declared.report.TaskError.TheVariants.{Replay};
 ghost use Rattle.qolb_run.specs.Outcome.{IsWork, IsReplyOver, MayFail, MayEnd, task_error};
 
 use crate::gate::Gate;
-use crate::input::read_all;
+use crate::input::read_input;
 use crate::replay::ReplayError;
 use crate::task::Waits;
-use crate::work::{DoneOver, Locks, RunError, run_work};
+use crate::work::{DoneOver, Locks, RunError, run_work_with};
 use locks::Lines;
 use qolb_script::{ScriptError, Watched, Work, WorkKind, read_work, write_report};
 use std::alloc::Global;
@@ -75,7 +75,7 @@ pub fn report_work<T: Threads + Wait + Sync, G: Gate + Sync, R: Read, W: Write>(
     ensures memory { result ≢ Err (TaskError.Replay (ReplayError.Script ScriptError.Memory)) }
 {
     let work = read_script(alloc, reader, kind)?;
-    let report = run_work(rt, alloc, gate, &work, lines, waits)?;
+    let report = run_work_with(rt, alloc, gate, &work, lines, waits)?;
     if write_report(&report, writer).is_err() {
         return Err(TaskError::Replay(ReplayError::Write));
     }
@@ -93,7 +93,7 @@ fn read_script<R: Read>(
     ensures read_fault { (result ≡ Err ReplayError.Read) ↔ (has_failed reader.new ≡ true) }
     ensures memory { result ≢ Err (ReplayError.Script ScriptError.Memory) }
 {
-    let input = read_all(alloc, reader)?;
+    let input = read_input(alloc, reader)?;
     let work = read_work(alloc, input.as_slice(), kind)?;
     Ok(work)
 }

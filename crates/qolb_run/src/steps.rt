@@ -6,9 +6,10 @@ ghost use Rattle.qolb_script.specs.StepReply.{step_said};
 ghost use Rattle.link_core.specs.Progress.{rank};
 ghost use Rattle.qolb_run.specs.Outcome.{MayFail};
 ghost use Rattle.qolb_run.specs.declared.task.Task.TheVariants as task;
+ghost use Rattle.qolb_run.specs.declared.task.Detail.TheVariants as detail;
 ghost use Rattle.qolb_run.specs.StepRuns.{IsStepReply, IsStepReplyTo, Heard, heard_text, is_busy, nodes_busy};
 
-use crate::input::read_all;
+use crate::input::read_input;
 use crate::replay::ReplayError;
 use crate::tally::Counts;
 use crate::task::Detail;
@@ -19,12 +20,31 @@ use qolb_script::{Said, ScriptError, Steps, Watched, push_ranked, push_said, rea
 use std::alloc::{AllocError, Allocator};
 use std::io::{Read, Write};
 
-/// Runs the step script that the reader gives on a core of reversed links, and writes what each event told; with the core's rank after it,
-/// if that is wished.
+/// Runs the step script that the reader gives on a core of reversed links, and writes the word that each event told.
 ///
 /// The whole input is read first, and the reply is built whole before its first byte is written: with every error but `Write`
 /// nothing was written.
 pub fn run_steps<A: Allocator, R: Read, W: Write>(
+    alloc: A,
+    reader: &mut Watched<R>,
+    writer: &mut Watched<W>,
+) -> Result<(), ReplayError>
+    ensures ok { OnOk result (IfSome (R.remaining (inner_of reader.old)) (λ input. (text : List ℕ) × IsStepReplyTo detail.Words input text × Appends (W.contents (inner_of writer.old)) (W.contents (inner_of writer.new)) text)) }
+    ensures refused { IfErr result (λ error. IfSome (R.remaining (inner_of reader.old)) (λ input. MayFail (task.Steps detail.Words) input error)) }
+    ensures unwritten { IfErr result (λ error. error ≢ ReplayError.Write → writer.new ≡ writer.old) }
+    ensures read_fault { (result ≡ Err ReplayError.Read) ↔ (has_failed reader.new ≡ true) }
+    ensures write_fault { result ≡ Err ReplayError.Write → has_failed writer.new ≡ true }
+    ensures written { OnOk result (has_failed writer.new ≡ false) }
+    ensures memory { result ≢ Err (ReplayError.Script ScriptError.Memory) }
+{
+    run_steps_with(alloc, reader, writer, Detail::Words)
+}
+
+/// The same with so much of each event: its word alone, or the core's rank after it too.
+///
+/// The whole input is read first, and the reply is built whole before its first byte is written: with every error but `Write`
+/// nothing was written.
+pub fn run_steps_with<A: Allocator, R: Read, W: Write>(
     alloc: A,
     reader: &mut Watched<R>,
     writer: &mut Watched<W>,
@@ -38,7 +58,7 @@ pub fn run_steps<A: Allocator, R: Read, W: Write>(
     ensures written { OnOk result (has_failed writer.new ≡ false) }
     ensures memory { result ≢ Err (ReplayError.Script ScriptError.Memory) }
 {
-    let input = read_all(&alloc, reader)?;
+    let input = read_input(&alloc, reader)?;
     let steps = read_steps(&alloc, input.as_slice())?;
     let text = reply(&alloc, &steps, detail)?;
     writer.write_all(text.as_slice())?;

@@ -35,6 +35,19 @@ pub enum RunError {
     Stalled(u64),
 }
 
+impl RunError {
+    /// The error's number.
+    pub fn number(&self) -> u8
+        ensures memory { self.now ≡ RunError.Memory → result ≡ 1 }
+        ensures stalled { (worker : ℕ) → self.now ≡ RunError.Stalled worker → result ≡ 2 }
+    {
+        match self {
+            RunError::Memory => 1,
+            RunError::Stalled(_) => 2,
+        }
+    }
+}
+
 impl From<AllocError> for RunError {
     ghost from_gives = { λ _ error. error ≡ Memory };
 
@@ -67,9 +80,27 @@ impl DoneOver for Locks {
         (λ work report. IsBoardedOver ticket_board.belongs ticket_board.view ticket_board.terms_of work report × IsBankedOver ticket_bank.belongs ticket_bank.view ticket_bank.terms_of work report) };
 }
 
-/// A worker for each node does its jobs, all at once, each in a thread of its own, and waits so for its turns. Every line is opened with zeros, and taken apart when all
+/// A worker for each node does its jobs, all at once, each in a thread of its own. Every line is opened with zeros, and taken apart when all
 /// workers are done.
+///
+/// A worker that waits for its turn looks again and again; `run_work_with` has workers that sleep, too.
 pub fn run_work<R: Threads + Wait + Sync, G: Gate + Sync>(
+    rt: &R,
+    alloc: Global,
+    gate: &G,
+    work: &Work,
+    lines: Lines,
+) -> Result<Report, RunError>
+    ensures report { IfOk result (IsReportOf work.now) }
+    ensures over { IfOk result (⟦<Locks as DoneOver>⟧.done_over lines work.now) }
+    ensures stalled { IfErr result (MayStop work.now) }
+    ensures by_gate { (worker : ℕ) → result ≡ Err (RunError.Stalled worker) → G.may_refuse gate.now worker }
+{
+    run_work_with(rt, alloc, gate, work, lines, Waits::Awake)
+}
+
+/// The same by workers that wait so for their turns.
+pub fn run_work_with<R: Threads + Wait + Sync, G: Gate + Sync>(
     rt: &R,
     alloc: Global,
     gate: &G,

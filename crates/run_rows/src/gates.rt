@@ -1,7 +1,7 @@
 //! Workers before a gate.
 use crate::work::expect;
 use locks::{ALL, Lines};
-use qolb_run::{Gate, RunError, Waits, report_work, run_work};
+use qolb_run::{Gate, RunError, Waits, report_work, run_work, run_work_with};
 use qolb_script::{Report, Watched, WorkKind, read_work};
 use std::alloc::Global;
 use std::process::Abort;
@@ -57,7 +57,7 @@ fn expect_behind<R: Threads + Wait + Abort + Sync, G: Gate + Default + Sync + Dr
 ) -> Result<(), Fail> {
     let work = read_work(alloc, script.as_bytes(), kind)?;
     for lines in ALL {
-        let found = run_work(rt, alloc, &G::default(), &work, lines, Waits::Awake);
+        let found = run_work(rt, alloc, &G::default(), &work, lines);
         assert_eq!(rt; found, Ok(report), "by {lines:?}");
     }
     Ok(())
@@ -246,7 +246,7 @@ fn a_worker_asks_before_each_job_and_once_after_the_last(rt: HostRuntime) -> Res
         for lines in ALL {
             let gate = Counting::new(1);
             assert!(rt;
-                run_work(&rt, rt.alloc(), &gate, &work, lines, Waits::Asleep).is_ok(),
+                run_work_with(&rt, rt.alloc(), &gate, &work, lines, Waits::Asleep).is_ok(),
                 "{kind:?} by {lines:?}"
             );
             assert_eq!(rt;
@@ -269,7 +269,7 @@ fn a_gate_is_told_once_of_all_jobs_before_any_worker_asks(rt: HostRuntime) -> Re
         for lines in ALL {
             let gate = Counting::new(1);
             assert!(rt;
-                run_work(&rt, rt.alloc(), &gate, &work, lines, Waits::Awake).is_ok(),
+                run_work(&rt, rt.alloc(), &gate, &work, lines).is_ok(),
                 "{kind:?} by {lines:?}"
             );
             assert_eq!(rt;
@@ -329,7 +329,7 @@ fn a_worker_waits_for_the_millionth_ask(rt: HostRuntime) -> Result<(), Fail> {
         left: 1,
     };
     let gate = Counting::new(1_000_000);
-    let found = run_work(&rt, rt.alloc(), &gate, &work, Lines::Ring, Waits::Awake);
+    let found = run_work(&rt, rt.alloc(), &gate, &work, Lines::Ring);
     assert_eq!(rt; found, Ok(report));
     assert_eq!(rt; gate.asks_for(0), 1_000_000);
     assert_eq!(rt; gate.asks_for(1), 1);
@@ -340,7 +340,7 @@ fn a_worker_waits_for_the_millionth_ask(rt: HostRuntime) -> Result<(), Fail> {
 fn a_worker_gives_up_at_the_millionth_refusal(rt: HostRuntime) -> Result<(), Fail> {
     let work = read_work(rt.alloc(), b"board workers 1\n1 put 5\n", WorkKind::Board)?;
     let gate = Counting::new(1_000_001);
-    let found = run_work(&rt, rt.alloc(), &gate, &work, Lines::Ring, Waits::Awake);
+    let found = run_work(&rt, rt.alloc(), &gate, &work, Lines::Ring);
     assert_eq!(rt; found, Err(RunError::Stalled(1)));
     assert_eq!(rt; gate.asks_for(0), 1_000_000);
     assert_eq!(rt; gate.asks_for(1), 0);

@@ -1,19 +1,13 @@
 //! Replays of scripts by lines of each kind.
 use linked_list_allocator::LocalHeap;
-use locks::Lines;
-use qolb_run::{InputError, Kind, ReplayError, read_all, run_schedule};
+use qolb_run::{Kind, ReplayError, read_all, run_schedule};
 use qolb_script::{ScriptError, Watched};
 use std::alloc::Global;
 use std::io;
 use std::io::{Read, Write};
 use std::test::Fail;
 
-static KINDS: [Kind; 4] = [
-    Kind::Plain,
-    Kind::Shared(Lines::Ring),
-    Kind::Shared(Lines::Link),
-    Kind::Shared(Lines::Ticket),
-];
+static KINDS: [Kind; 4] = [Kind::Plain, Kind::Ring, Kind::Link, Kind::Ticket];
 
 /// What a replay of the script writes.
 fn reply_to(alloc: Global, script: &str, kind: Kind) -> Result<String, Fail> {
@@ -389,7 +383,7 @@ fn each_growth_of_an_input_is_refused(rt: HostRuntime) -> Result<(), Fail> {
         match read_all(&heap, &mut reader) {
             Ok(input) => assert_eq!(rt; input.as_slice(), HAND_OVER.as_bytes(), "at {step}"),
             Err(error) => {
-                assert_eq!(rt; error, InputError::Memory, "at {step}");
+                assert_eq!(rt; error, ReplayError::Memory, "at {step}");
                 refused = refused.saturating_add(1);
             }
         }

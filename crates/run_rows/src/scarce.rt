@@ -3,7 +3,7 @@ use crate::gates::Counting;
 use hoard::Siege;
 use locks::{Lines, TicketLine};
 use qolb_model::Free;
-use qolb_run::{Kind, ReplayError, RunError, Waits, run_schedule, run_schedule_over, run_work};
+use qolb_run::{Kind, ReplayError, RunError, run_schedule, run_schedule_over, run_work};
 use qolb_script::{Watched, Work, WorkKind, read_work};
 use std::alloc::Global;
 use std::sync::Wait;
@@ -15,12 +15,7 @@ const MANY_NODES: &str = "nodes 200 lines 8\n";
 
 /// The kinds of lines, those that take less memory first. With 200 nodes a plain line takes 3.3 KB, a list 26 KB of words, a ring 42 KB, a
 /// ticket line as many and 49 KB of slots; and each of the last three 27 KB of ports.
-static BY_SIZE: [Kind; 4] = [
-    Kind::Plain,
-    Kind::Shared(Lines::Link),
-    Kind::Shared(Lines::Ring),
-    Kind::Shared(Lines::Ticket),
-];
+static BY_SIZE: [Kind; 4] = [Kind::Plain, Kind::Link, Kind::Ring, Kind::Ticket];
 
 /// Rooms, in KB, in each of which eight lines of one kind more find place.
 static ROOMS: [usize; 4] = [300, 490, 750, 1_200];
@@ -97,7 +92,7 @@ fn worked_in<T: Threads + Wait + Sync>(
 ) -> Result<(Option<RunError>, u64, u64), Fail> {
     let gate = Counting::new(1);
     let rest = siege.leave(alloc, room << 20)?;
-    let found = run_work(rt, alloc, &gate, work, Lines::Ring, Waits::Awake);
+    let found = run_work(rt, alloc, &gate, work, Lines::Ring);
     drop(rest);
     Ok((found.err(), gate.asks_for(0), gate.asks_for(1)))
 }

@@ -1,6 +1,6 @@
 //! Replays of step scripts.
 use linked_list_allocator::LocalHeap;
-use qolb_run::{Detail, ReplayError, run_steps};
+use qolb_run::{Detail, ReplayError, run_steps, run_steps_with};
 use qolb_script::Watched;
 use std::alloc::Global;
 use std::test::Fail;
@@ -19,7 +19,7 @@ const RANKED: &str =
 #[test]
 fn ranks_are_written(rt: HostRuntime) -> Result<(), Fail> {
     let mut text: Vec<u8> = Vec::new(rt.alloc());
-    let done = run_steps(
+    let done = run_steps_with(
         rt.alloc(),
         &mut Watched::new(SCRIPT.as_bytes()),
         &mut Watched::new(&mut text),
@@ -36,12 +36,7 @@ fn run_within(alloc: Global, bytes: usize) -> Option<(Option<ReplayError>, bool,
     let heap = LocalHeap::new(alloc, bytes).ok()?;
     let mut reader = Watched::new(SCRIPT.as_bytes());
     let mut text: Vec<u8> = Vec::new(alloc);
-    let done = run_steps(
-        &heap,
-        &mut reader,
-        &mut Watched::new(&mut text),
-        Detail::Words,
-    );
+    let done = run_steps(&heap, &mut reader, &mut Watched::new(&mut text));
     let is_right = text.as_slice() == REPLY.as_bytes();
     Some((done.err(), is_right, text.len(), heap.used()))
 }

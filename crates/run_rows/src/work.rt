@@ -1,6 +1,6 @@
 //! Workers that share lines, over lines of each kind, awake and asleep.
 use locks::{ALL, Lines};
-use qolb_run::{AlwaysOpen, Gate, RunError, Waits, run_work};
+use qolb_run::{AlwaysOpen, Gate, RunError, Waits, run_work_with};
 use qolb_script::{Report, WorkKind, read_work};
 use std::alloc::Global;
 use std::process::Abort;
@@ -23,7 +23,7 @@ pub(crate) fn expect<R: Threads + Wait + Abort + Sync, G: Gate + Sync>(
     let work = read_work(alloc, script.as_bytes(), kind)?;
     for lines in ALL {
         for waits in EITHER {
-            let found = run_work(rt, alloc, gate, &work, lines, waits);
+            let found = run_work_with(rt, alloc, gate, &work, lines, waits);
             assert_eq!(rt; found, want, "by {lines:?}, {waits:?}");
         }
     }
