@@ -1,0 +1,69 @@
+//! Accounts over lines, and a desk of one node.
+ghost use Rattle.std.specs.Prelude.{◌≡◌};
+ghost use Rattle.line_accounts.specs.Desks.{IsDeskOver};
+
+use line_accounts::{
+    AccountLaw, Desk, Reply, SettleError, Unsettled, deposit, settle, take_out, transfer,
+};
+use line_rows::desks::over_one;
+use line_rows::opened::{open_zeros, with_last};
+use link_line::LinkLine;
+use qolb_model::{LineSync, OpenLine};
+use std::alloc::Global;
+
+/// Pays in 10, pays out 3, and moves 4 to another account.
+fn day<L: LineSync<AccountLaw>>(lines: &[L], desk: &mut Desk<L>) -> [Reply; 3]
+    requires { IsDeskOver L.belongs L.view lines.now desk.old }
+    ensures { IsDeskOver L.belongs L.view lines.now desk.new }
+{
+    let paid: Reply = deposit(lines, desk, 0, 10, 64);
+    let out: Reply = take_out(lines, desk, 0, 3, 64);
+    let moved: Reply = transfer(lines, desk, 0, 1, 4, 64);
+    [paid, out, moved]
+}
+
+/// Settles with this desk alone.
+fn settled<L: LineSync<AccountLaw> + Drop>(
+    alloc: Global,
+    lines: Vec<L>,
+    desk: Desk<L>,
+) -> Option<Result<u128, SettleError>>
+where
+    L::Port: Drop,
+    requires { IsDeskOver L.belongs L.view lines.items desk }
+{
+    let mut desks = Vec::new(alloc);
+    desks.push(desk).ok()?;
+    let total: Result<u128, Unsettled<L>> = settle(alloc, lines, desks);
+    match total {
+        Ok(total) => Some(Ok(total)),
+        Err(refused) => {
+            let Unsettled { why, back: _ } = refused;
+            Some(Err(why))
+        }
+    }
+}
+
+/// What a day's calls answer, what the desk then says was paid in and out, and what is settled.
+type Day = ([Reply; 3], (u128, u128), Result<u128, SettleError>);
+
+/// A day at a desk over a line of this type.
+fn day_over<L: OpenLine<AccountLaw> + Drop>(alloc: Global) -> Option<Day>
+where
+    L::Port: Drop,
+{
+    let opened = open_zeros::<AccountLaw, L>(alloc, 1, None)?;
+    let (line, port) = with_last::<AccountLaw, L>(opened)?;
+    let (lines, mut desk) = over_one(alloc, line, port)?;
+    let replies = day(&lines, &mut desk);
+    let paid: (u128, u128) = (desk.paid_in(), desk.paid_out());
+    let total = settled(alloc, lines, desk)?;
+    Some((replies, paid, total))
+}
+
+#[test]
+fn a_desk_pays_and_is_settled(rt: HostRuntime) {
+    let day = day_over::<LinkLine<AccountLaw>>(rt.alloc());
+    let wanted = ([Reply::Done, Reply::Done, Reply::Done], (10, 3), Ok(7));
+    assert_eq!(rt; day, Some(wanted));
+}

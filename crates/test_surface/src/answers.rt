@@ -1,0 +1,237 @@
+//! The variants of each answer and state, all of them in their order.
+use line_accounts::Reply;
+use line_board::{Put, Take};
+use link_core::Place;
+use link_line::Prep;
+use qolb_model::{Enq, Out, Poll, PortState};
+use qolb_run::{Got, Kind, Lines};
+use qolb_script::WorkKind;
+use std::fmt::Debug;
+use std::process::Abort;
+
+/// A type of which all variants are known.
+trait Listed {
+    /// The variant's place among them.
+    fn place(&self) -> usize;
+}
+
+impl Listed for Enq {
+    fn place(&self) -> usize {
+        match self {
+            Enq::Granted => 0,
+            Enq::Queued => 1,
+            Enq::Closed => 2,
+            Enq::Busy => 3,
+        }
+    }
+}
+
+impl Listed for Prep {
+    fn place(&self) -> usize {
+        match self {
+            Prep::Granted => 0,
+            Prep::Closed => 1,
+            Prep::Busy => 2,
+            Prep::Linking => 3,
+        }
+    }
+}
+
+impl Listed for Poll {
+    fn place(&self) -> usize {
+        match self {
+            Poll::Granted => 0,
+            Poll::Waiting => 1,
+            Poll::Closed => 2,
+        }
+    }
+}
+
+impl Listed for Out {
+    fn place(&self) -> usize {
+        match self {
+            Out::Withdrawn => 0,
+            Out::Granted => 1,
+            Out::Closed => 2,
+        }
+    }
+}
+
+impl Listed for PortState {
+    fn place(&self) -> usize {
+        match self {
+            PortState::Idle => 0,
+            PortState::Linking => 1,
+            PortState::Queued => 2,
+            PortState::Holding => 3,
+            PortState::Left => 4,
+            PortState::Rolled => 5,
+            PortState::Shut => 6,
+        }
+    }
+}
+
+impl Listed for Place {
+    fn place(&self) -> usize {
+        match self {
+            Place::Home => 0,
+            Place::Mailbox(_) => 1,
+            Place::Hand(_) => 2,
+        }
+    }
+}
+
+impl Listed for Put {
+    fn place(&self) -> usize {
+        match self {
+            Put::Stored => 0,
+            Put::Full => 1,
+            Put::Late => 2,
+            Put::Closed => 3,
+            Put::Busy => 4,
+        }
+    }
+}
+
+impl Listed for Take {
+    fn place(&self) -> usize {
+        match self {
+            Take::Task(_) => 0,
+            Take::Empty => 1,
+            Take::Late => 2,
+            Take::Closed => 3,
+            Take::Busy => 4,
+        }
+    }
+}
+
+impl Listed for Reply {
+    fn place(&self) -> usize {
+        match self {
+            Reply::Done => 0,
+            Reply::Short => 1,
+            Reply::Over => 2,
+            Reply::Late => 3,
+            Reply::Closed => 4,
+            Reply::Busy => 5,
+            Reply::NoAccount => 6,
+            Reply::SameAccount => 7,
+        }
+    }
+}
+
+impl Listed for WorkKind {
+    fn place(&self) -> usize {
+        match self {
+            WorkKind::Board => 0,
+            WorkKind::Bank => 1,
+        }
+    }
+}
+
+impl Listed for Got {
+    fn place(&self) -> usize {
+        match self {
+            Got::Granted => 0,
+            Got::Closed => 1,
+        }
+    }
+}
+
+// The lock that came last is another variant of these two.
+impl Listed for Lines {
+    fn place(&self) -> usize {
+        match self {
+            Lines::Ring => 0,
+            Lines::Link => 1,
+            _ => 2,
+        }
+    }
+}
+
+impl Listed for Kind {
+    fn place(&self) -> usize {
+        match self {
+            Kind::Plain => 0,
+            Kind::Ring => 1,
+            Kind::Link => 2,
+            _ => 3,
+        }
+    }
+}
+
+/// These are the type's variants, in their order.
+fn expect<R: Abort, T: Listed + Debug>(rt: &R, all: &[T]) {
+    for (place, one) in all.iter().enumerate() {
+        assert_eq!(rt; one.place(), place, "{one:?}");
+    }
+}
+
+#[test]
+fn a_line_answers_so(rt: HostRuntime) {
+    expect(&rt, &[Enq::Granted, Enq::Queued, Enq::Closed, Enq::Busy]);
+    expect(
+        &rt,
+        &[Prep::Granted, Prep::Closed, Prep::Busy, Prep::Linking],
+    );
+    expect(&rt, &[Poll::Granted, Poll::Waiting, Poll::Closed]);
+    expect(&rt, &[Out::Withdrawn, Out::Granted, Out::Closed]);
+    expect(&rt, &[Got::Granted, Got::Closed]);
+}
+
+#[test]
+fn nodes_and_lines_stand_so(rt: HostRuntime) {
+    expect(
+        &rt,
+        &[
+            PortState::Idle,
+            PortState::Linking,
+            PortState::Queued,
+            PortState::Holding,
+            PortState::Left,
+            PortState::Rolled,
+            PortState::Shut,
+        ],
+    );
+    expect(&rt, &[Place::Home, Place::Mailbox(1), Place::Hand(1)]);
+    expect(&rt, &[Lines::Ring, Lines::Link, Lines::Ticket]);
+    expect(&rt, &[Kind::Plain, Kind::Ring, Kind::Link, Kind::Ticket]);
+}
+
+#[test]
+fn boards_and_desks_answer_so(rt: HostRuntime) {
+    let puts = [Put::Stored, Put::Full, Put::Late, Put::Closed, Put::Busy];
+    expect(&rt, &puts);
+    expect(
+        &rt,
+        &[
+            Take::Task(5),
+            Take::Empty,
+            Take::Late,
+            Take::Closed,
+            Take::Busy,
+        ],
+    );
+    expect(
+        &rt,
+        &[
+            Reply::Done,
+            Reply::Short,
+            Reply::Over,
+            Reply::Late,
+            Reply::Closed,
+            Reply::Busy,
+            Reply::NoAccount,
+            Reply::SameAccount,
+        ],
+    );
+    expect(&rt, &[WorkKind::Board, WorkKind::Bank]);
+}
+
+#[test]
+fn variants_are_declared_in_this_order(rt: HostRuntime) {
+    let halves = [Prep::Granted, Prep::Closed, Prep::Busy, Prep::Linking];
+    for made in &halves {
+        assert_eq!(rt; *made as usize, made.place());
+    }
+}

@@ -1,0 +1,218 @@
+//! Lines that nodes share: the calls of any line, written once and made by each lock, and those of a lock's own.
+ghost use Rattle.std.specs.Prelude.{◌≡◌, ◌∷◌, [], IsTrue, IfSome, All, refl};
+ghost use Rattle.qolb_model.specs.PortStates.{may_ask};
+
+use crate::calls::{CALLS, Call, Came};
+use line_lanes::{Line64, Mask};
+use line_rows::opened::{open_zeros, with_last, with_two};
+use link_line::{LinkLine, Prep};
+use qolb_model::{
+    Enq, FinishError, Free, Keep, LineSync, OpenError, OpenLine, PortState, Unfinished,
+};
+use ring_line::RingLine;
+use std::alloc::Global;
+use std::process::Abort;
+use std::test::Fail;
+
+/// Makes the call by the port, if its state allows it.
+fn call<L: LineSync<Free>>(line: &L, port: &mut L::Port, call: Call) -> Came
+    requires { L.belongs line.now port.old }
+    ensures { L.belongs line.now port.new }
+{
+    let state: PortState = L::state(port);
+    match (call, state) {
+        (Call::Ask, _) if state.may_ask() => Came::Enq(line.enqolb(port)),
+        (Call::Poll, PortState::Queued) => Came::Poll(line.poll(port)),
+        (Call::Withdraw, PortState::Queued) => Came::Out(line.withdraw(port)),
+        (Call::Write, PortState::Holding) => {
+            L::write(port, Mask(1), &Line64::from_bytes([171; 64]));
+            let seen: u8 = L::bytes(port).bytes[0];
+            Came::Written(seen, line.turns_left(port))
+        }
+        (Call::Release, PortState::Holding) => {
+            line.deqolb(port);
+            Came::State(L::state(port))
+        }
+        (Call::Shut, PortState::Holding) => {
+            line.shut(port);
+            Came::State(L::state(port))
+        }
+        _ => Came::State(state),
+    }
+}
+
+/// The first call that comes out otherwise than is wanted, by its place among all.
+fn first_difference<L: LineSync<Free>>(
+    line: &L,
+    one: &mut L::Port,
+    two: &mut L::Port,
+) -> Option<usize>
+    requires one { L.belongs line.now one.old }
+    requires two { L.belongs line.now two.old }
+    ensures one { L.belongs line.now one.new }
+    ensures two { L.belongs line.now two.new }
+{
+    for (at, (node, made, wanted)) in CALLS.iter().enumerate() {
+        let came = if L::node(one) == *node {
+            call(line, one, *made)
+        } else {
+            call(line, two, *made)
+        };
+        if came != *wanted {
+            return Some(at);
+        }
+    }
+    None
+}
+
+/// Finishes a line of two nodes.
+fn finished<L: LineSync<Free> + Drop>(
+    alloc: Global,
+    line: L,
+    one: L::Port,
+    two: L::Port,
+) -> Option<Result<Line64, FinishError>>
+where
+    L::Port: Drop,
+    requires one { L.belongs line one }
+    requires two { L.belongs line two }
+{
+    let mut ports = Vec::new(alloc);
+    ports.push(one).ok()?;
+    ports.push(two).ok()?;
+    match line.finish(alloc, ports) {
+        Ok(bytes) => Some(Ok(bytes)),
+        Err(back) => {
+            let Unfinished {
+                why,
+                line: _,
+                ports: _,
+            } = back;
+            Some(Err(why))
+        }
+    }
+}
+
+/// All calls, by lines of this type.
+fn each_call<R: Abort, L: OpenLine<Free> + Drop>(rt: &R, alloc: Global) -> Result<(), Fail>
+where
+    L::Port: Drop,
+{
+    let opened = open_zeros::<Free, L>(alloc, 2, Some(2)).ok_or("a line")?;
+    let (line, mut one, mut two) = with_two::<Free, L>(opened).ok_or("two ports")?;
+    let known: (u64, u64, bool) = (line.label(), line.nodes(), line.owns(&one));
+    assert_eq!(rt; known, (1, 2, true));
+    assert_eq!(rt; first_difference(&line, &mut one, &mut two), None);
+    line.meet(&mut one, &mut two);
+    let last = finished(alloc, line, one, two).ok_or("memory")?;
+    let mut bytes = [0; 64];
+    bytes[0] = 171;
+    assert_eq!(rt; last, Ok(Line64::from_bytes(bytes)));
+    Ok(())
+}
+
+#[test]
+fn a_ring_is_called(rt: HostRuntime) -> Result<(), Fail> {
+    each_call::<_, RingLine<Free>>(&rt, rt.alloc())
+}
+
+#[test]
+fn a_list_is_called(rt: HostRuntime) -> Result<(), Fail> {
+    each_call::<_, LinkLine<Free>>(&rt, rt.alloc())
+}
+
+#[test]
+fn a_ring_is_opened(rt: HostRuntime) -> Result<(), Fail> {
+    let zero = Line64::zero();
+    let (line, ports): (RingLine<Free>, Vec<ring_line::Port>) = RingLine::open(
+        rt.alloc(),
+        7,
+        2,
+        zero,
+    )?;
+    for port in ports.iter() {
+        let steps: u64 = line.steps(port);
+        assert_eq!(rt; (line.label(), steps), (7, 0));
+    }
+    let refused: Option<OpenError> = RingLine::<Free>::open_leased(rt.alloc(), 7, 2, zero, 0).err();
+    assert_eq!(rt; refused, Some(OpenError::Lease));
+    Ok(())
+}
+
+#[test]
+fn a_list_is_opened(rt: HostRuntime) -> Result<(), Fail> {
+    let zero = Line64::zero();
+    let (line, ports): (LinkLine<Free>, Vec<link_line::Port>) = LinkLine::open(
+        rt.alloc(),
+        7,
+        2,
+        zero,
+    )?;
+    for port in ports.iter() {
+        let steps: u64 = line.steps(port);
+        assert_eq!(rt; (line.label(), steps), (7, 0));
+    }
+    let refused: Option<OpenError> = LinkLine::<Free>::open_leased(rt.alloc(), 7, 2, zero, 0).err();
+    assert_eq!(rt; refused, Some(OpenError::Lease));
+    Ok(())
+}
+
+#[test]
+fn a_node_asks_a_list_in_two_halves(rt: HostRuntime) -> Result<(), Fail> {
+    let (line, mut ports) = LinkLine::<Free>::open(rt.alloc(), 7, 2, Line64::zero())?;
+    let mut two = ports.pop().ok_or("a port")?;
+    let mut one = ports.pop().ok_or("a port")?;
+    if !LinkLine::<Free>::state(&one).may_ask() || !LinkLine::<Free>::state(&two).may_ask() {
+        Err("a port that is idle")?;
+    }
+    let first: Prep = line.prepend(&mut one);
+    let second: Prep = line.prepend(&mut two);
+    assert_eq!(rt; (first, second), (Prep::Granted, Prep::Linking));
+    assert_eq!(rt; LinkLine::<Free>::state(&two), PortState::Linking);
+    let linked: Enq = line.link(&mut two);
+    assert_eq!(rt; linked, Enq::Queued);
+    Ok(())
+}
+
+/// The law that a line's bytes stay as they are.
+struct Fixed;
+
+impl Keep for Fixed {
+    ghost good = { λ bytes. Unit {0} };
+
+    ghost allows = { λ old new. old ≡ new };
+
+    ghost stays_good = { λ old new good same. good };
+
+    ghost allows_same = { λ bytes good. refl };
+}
+
+/// Byte 0 of the line, read in a turn.
+fn read<L: LineSync<Fixed>>(line: &L, port: &mut L::Port) -> Option<u8>
+    requires belongs { L.belongs line.now port.old }
+    requires state { IsTrue (may_ask (L.view port.old).state) }
+{
+    match line.enqolb(port) {
+        Enq::Granted => {
+            let first = L::bytes(port).bytes[0];
+            line.deqolb(port);
+            Some(first)
+        }
+        Enq::Queued | Enq::Closed | Enq::Busy => None,
+    }
+}
+
+/// Byte 0 of a line of zeros under the law, of this type.
+fn read_zero<L: OpenLine<Fixed> + Drop>(alloc: Global) -> Option<u8>
+where
+    L::Port: Drop,
+{
+    let opened = open_zeros::<Fixed, L>(alloc, 1, None)?;
+    let (line, mut port) = with_last::<Fixed, L>(opened)?;
+    read(&line, &mut port)
+}
+
+#[test]
+fn a_ring_is_under_a_law(rt: HostRuntime) {
+    assert_eq!(rt; read_zero::<RingLine<Fixed>>(rt.alloc()), Some(0));
+}
