@@ -9,6 +9,8 @@ pub(crate) enum Call {
     Withdraw,
     /// Writes 171 into byte 0.
     Write,
+    /// Reads byte 0, and how many turns are left.
+    Read,
     Release,
     Shut,
 }
@@ -20,19 +22,20 @@ pub(crate) enum Came {
     Poll(Poll),
     Out(Out),
     /// The holder sees this byte 0, and so many turns are left.
-    Written(u8, Option<u64>),
+    Sees(u8, Option<u64>),
     /// The node then stands so.
     State(PortState),
 }
 
 /// A line is handed over past a node that withdrew, and closed.
-pub(crate) static CALLS: [(u64, Call, Came); 12] = [
+pub(crate) static CALLS: [(u64, Call, Came); 13] = [
     (1, Call::Ask, Came::Enq(Enq::Granted)),
     (2, Call::Ask, Came::Enq(Enq::Queued)),
     (2, Call::Poll, Came::Poll(Poll::Waiting)),
     (2, Call::Withdraw, Came::Out(Out::Withdrawn)),
     (2, Call::Ask, Came::Enq(Enq::Busy)),
-    (1, Call::Write, Came::Written(171, Some(2))),
+    (1, Call::Write, Came::State(PortState::Holding)),
+    (1, Call::Read, Came::Sees(171, Some(2))),
     (1, Call::Release, Came::State(PortState::Idle)),
     (2, Call::Ask, Came::Enq(Enq::Granted)),
     (1, Call::Ask, Came::Enq(Enq::Queued)),

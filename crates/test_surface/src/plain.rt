@@ -18,8 +18,11 @@ fn call(line: &mut PlainLine, node: u64, call: Call) -> Came
         (Call::Withdraw, PortState::Queued) => Came::Out(line.withdraw(node)),
         (Call::Write, PortState::Holding) => {
             line.write(node, Mask(1), &Line64::from_bytes([171; 64]));
+            Came::State(line.state(node))
+        }
+        (Call::Read, PortState::Holding) => {
             let seen: u8 = line.bytes(node).bytes[0];
-            Came::Written(seen, line.turns_left(node))
+            Came::Sees(seen, line.turns_left(node))
         }
         (Call::Release, PortState::Holding) => {
             line.deqolb(node);
