@@ -113,6 +113,7 @@ def spawn(words, folder, log=None):
 
 def end_all(running):
     """Tells processes to end, with all that they started, and waits until they have."""
+    running = [it for it in running if it.poll() is None]
     for how in (signal.SIGTERM, signal.SIGKILL):
         for it in running:
             if it.poll() is None:
@@ -120,6 +121,9 @@ def end_all(running):
         until = time.monotonic() + 10
         while time.monotonic() < until and any(it.poll() is None for it in running):
             time.sleep(0.1)
+    if running:
+        # The checks that rt started end right after it.
+        time.sleep(0.5)
 
 
 def say(text, file=sys.stderr):
