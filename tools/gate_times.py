@@ -25,7 +25,7 @@ import time
 
 import times
 from crates import ROOT, below, end_all, lanes, named, read_crates, run_main, say, show, spawn
-from tests import tests_of
+from tests import count_of_tests
 
 KINDS = ("proof", "tests", "seed", "edits")
 TICK = os.sysconf("SC_CLK_TCK")
@@ -181,7 +181,7 @@ def words_of(crate, crates, kept):
     for name in below(crates, crate.name):
         words += ["-L", f"dependency={rlib(name).parent}"]
     words += ["--antt-project", f"{kit}/rattle/logic/antt-project.json", "--logic-built", kit / "logic_built", "--links", f"{crate.name}="]
-    words += ["--test"] * bool(tests_of(crate)) + ["--crate-type", "staticlib"] * ("staticlib" in crate.line.split(":")[0])
+    words += ["--test"] * bool(count_of_tests(crate)) + ["--crate-type", "staticlib"] * ("staticlib" in crate.line.split(":")[0])
     return [*words, "--jobs", "1", "--incremental", kept]
 
 

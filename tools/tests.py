@@ -2,7 +2,10 @@
 
 import re
 
-TEST = re.compile(r"#\[test\]\s*(?:pub(?:\([a-z]+\))? )?fn (\w+)")
+ATTRIBUTE = "#[test]"
+# Other attributes may stand below it.
+HEAD = r"#\[test\]\s*(?:#\[[^\n]*\]\s*)*fn "
+TEST = re.compile(HEAD + r"(\w+)")
 # What takes all memory away, of the crate hoard. `rt try` builds programs with another allocator, over which that fails whatever the code does.
 TAKES_ALL = re.compile(r"\b(?:Hoard|Siege)::")
 
@@ -15,6 +18,10 @@ def code_of(crate):
 def tests_of(crate):
     """The names of its tests."""
     return [name for text in code_of(crate).values() for name in TEST.findall(text)]
+
+
+def count_of_tests(crate):
+    return sum(text.count(ATTRIBUTE) for text in code_of(crate).values())
 
 
 def takers_of_all(crate):
@@ -41,7 +48,7 @@ def leave_out(folder, names):
     """Removes these tests from a copy of their crate: from the attribute to the brace below it, as rt fmt lays them out."""
     if not names:
         return
-    whole = re.compile(rf"^( *)#\[test\]\n *fn (?:{'|'.join(names)})\(.*?^\1}}\n", re.M | re.S)
+    whole = re.compile(rf"^( *){HEAD}(?:{'|'.join(names)})\(.*?^\1}}\n", re.M | re.S)
     for file in (folder / "src").rglob("*.rt"):
         text = file.read_text()
         file.write_text(whole.sub("", text))
