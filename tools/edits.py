@@ -20,11 +20,11 @@ Edits are tried over the work that `tools/prove` keeps, which is called first. F
   shape   CRATE/EDIT  FUNCTION: GOAL    the same edit made harmless is refused alike: it shows nothing, rewrite it
   names   CRATE/EDIT  FUNCTION          only names of the proof are gone: it shows nothing, rewrite it
   ALIVE   ..                            the contracts let it through, or the test passed
-  BROKEN  ..          WHY               it can't be applied, or the compiler refuses it
+  BROKEN  ..          WHY               it can't be applied, the compiler refuses it, or the check gave no verdict
   NOT JUDGED  PATCH   TEST              it wants --proved
 
 The lines are kept in tools/wrong_bodies/RECORD, each with a sum of what it was tried on, the commit and the day. What stands there with the same sum
-is not tried again, but with --anew. It ends with 1 where a body is `new`, `shape`, `names`, ALIVE or BROKEN.
+is not tried again, if it wasn't BROKEN, but with --anew. It ends with 1 where a body is `new`, `shape`, `names`, ALIVE or BROKEN.
 
 With --log it tries nothing: it reads what a run of `rt ci` or `rt must-fail` said of each edit, which is the first error alone. Then an edit is
 `answer`, `goal` (one that the tactics no longer prove, by whatever name), `names`, `limit` (the prover gave up), ALIVE or BROKEN.
@@ -120,7 +120,9 @@ class Record:
         try:
             rows = self.read()
             rows[body.name] = [kind, " ".join(where.split()), self.sum(body), self.commit, f"{datetime.date.today()}"]
-            RECORD.write_text(HEAD + "".join("\t".join([name, *row]) + "\n" for name, row in sorted(rows.items())))
+            fresh = RECORD.with_suffix(".new")
+            fresh.write_text(HEAD + "".join("\t".join([name, *row]) + "\n" for name, row in sorted(rows.items())))
+            fresh.replace(RECORD)
         finally:
             os.close(here)
 
@@ -136,7 +138,7 @@ def apply_edit(crate, text):
         elif key == "old":
             old = rest
         elif key == "new":
-            body = path.read_text()
+            body = path.read_text() if path.is_file() else ""
             if body.count(old) != 1:
                 return f"{old!r} stands {body.count(old)} times in {path.name}"
             path.write_text(body.replace(old, rest))
@@ -290,7 +292,8 @@ def main():
     named(crates, args.names)
     record = Record(crates)
     bodies = [it for it in bodies_of(crates, args.names, args.only) if not args.batch or it.batch == args.batch]
-    left = [it for it in bodies if (args.anew or not record.known(it)) and (args.proved or not it.takes_all_memory())]
+    is_known = lambda body: not args.anew and (record.known(body) or ["BROKEN"])[0] != "BROKEN"
+    left = [it for it in bodies if not is_known(it) and (args.proved or not it.takes_all_memory())]
     if args.batch:
         return try_batch(crates, left, record, args)
     done = not left or try_all(crates, left, record, args)

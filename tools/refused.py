@@ -7,6 +7,7 @@ import re
 NAMES_ALONE = re.compile(r"is not in scope|has no field|has no `|was not admitted")
 # The compiler refused the text, before any goal.
 NO_CODE = re.compile(r"^.*\berror\[[\w-]+\].*$", re.M)
+VERDICT = re.compile(r"^logic=", re.M)
 
 
 def is_proved(log):
@@ -24,6 +25,10 @@ def goals_of(generated):
     return goals
 
 
+def last_line(log):
+    return (log.strip().splitlines() or ["nothing was said"])[-1][:160]
+
+
 def two(goals):
     return "; ".join(f"{folder}: {goal}" for folder, goal in goals[:2])
 
@@ -32,8 +37,9 @@ def by_check(log, goals):
     """What refused an edit: the kind, and the function with its goal."""
     if is_proved(log):
         return "ALIVE", ""
-    if not re.search(r"^logic=", log, re.M) and NO_CODE.search(log):
-        return "BROKEN", NO_CODE.search(log)[0][:160]
+    if not VERDICT.search(log):
+        why = NO_CODE.search(log)
+        return "BROKEN", why[0][:160] if why else last_line(log)
     log = re.sub(r"^so far: ", "", log, flags=re.M)
     refused = re.findall(r"^\./proofs/(\S+)/(?:Answers|Invariants)\.antt:\d+:\d+: error: `([^`]+)`(.*)$", log, re.M)
     answers = {(folder, goal) for folder, goal, why in refused if not NAMES_ALONE.search(why)}
@@ -76,4 +82,4 @@ def by_tests(log, test, status):
         return "test", test
     if re.search(r"^logic=not-proved", log, re.M):
         return "goal", next((it for it in log.splitlines() if ": no proof" in it or "error: `" in it), "")[:160]
-    return "BROKEN", (log.strip().splitlines() or ["nothing was said"])[-1][:200]
+    return "BROKEN", last_line(log)
