@@ -7,7 +7,7 @@
 It starts `rt ci` (with `--anew` and the names, if given) in the checkout, with RT_JOBS as .ci/run sets it, and looks at its processes in /proc twice
 a second. The kinds: the crate's proof; that of its tests; the seed, a check which its wrong bodies begin with; the wrong bodies. A check that ends
 loses what it took since the last look; the total is the system's own count. The longest chain is that of checks of which each waits for the one
-before, in minutes by the clock as they were here. What `rt ci` says goes to the log. It ends as `rt ci` does.
+before, in processor minutes, which are minutes by the clock where each check has one job. What `rt ci` says goes to the log. It ends as `rt ci` does.
 
 With --functions it checks each crate that is named (all, if none is) at one job, over nothing kept, with its tests, and says which twenty functions
 take the prover longest, as tools/times.py does. Crates below must be proved (tools/prove). Times are by the clock: let nothing else run.
@@ -69,11 +69,8 @@ def work_of(pid):
 class Task:
     """What was seen of a crate's work of one kind."""
 
-    def __init__(self, now):
-        self.seconds, self.most, self.began, self.ended = 0.0, 0.0, now, now
-
-    def clock(self):
-        return self.ended - self.began
+    def __init__(self):
+        self.seconds, self.most = 0.0, 0.0
 
 
 class Watch:
@@ -96,13 +93,12 @@ class Watch:
         return None
 
     def look(self):
-        now, found, held = time.monotonic(), processes(), collections.Counter()
+        found, held = processes(), collections.Counter()
         parents = {who[0]: (who, parent) for who, (parent, _, _) in found.items()}
         for who, (_, seconds, memory) in found.items():
             check = self.check_of(who[0], parents)
             if check:
-                task = self.tasks.setdefault(self.works[check], Task(now))
-                task.ended = now
+                task = self.tasks.setdefault(self.works[check], Task())
                 task.seconds += seconds - self.took.get(who, 0.0)
                 self.took[who] = seconds
                 held[check] += memory
@@ -113,14 +109,14 @@ class Watch:
 
 
 def longest_chain(crates, tasks):
-    """The longest chain of proofs of which each waits for the one before, the last one's tests behind it, with their minutes by the clock."""
-    clock = lambda crate, kind: tasks[crate, kind].clock() / 60 if (crate, kind) in tasks else 0.0
+    """The longest chain of proofs of which each waits for the one before, or the last one's tests, with their processor minutes."""
+    took = lambda crate, kind: tasks[crate, kind].seconds / 60 if (crate, kind) in tasks else 0.0
     longer = lambda chain, what, minutes: (chain[0] + minutes, (*chain[1], (what, minutes)))
     chains, ends = {}, []
     for name in crates:
         under = max((chains[it] for it in crates[name].uses), key=lambda it: it[0], default=(0.0, ()))
-        chains[name] = longer(under, name, clock(name, "proof"))
-        ends += [chains[name], longer(under, f"the tests of {name}", clock(name, "tests"))]
+        chains[name] = longer(under, name, took(name, "proof"))
+        ends += [chains[name], longer(under, f"the tests of {name}", took(name, "tests"))]
     return max(ends)
 
 
@@ -164,7 +160,7 @@ def gate(args, crates):
     print()
     print(f"`{' '.join(words)}`: {pathlib.Path(args.log).read_text().splitlines()[-1]}")
     print(f"{(used.ru_utime + used.ru_stime) / 60:.0f} processor minutes in all, {(time.monotonic() - began) / 60:.0f} by the clock, RT_JOBS={jobs}")
-    print(f"The longest chain, without wrong bodies: {minutes:.0f} minutes: {', '.join(f'{what} {took:.1f}' for what, took in chain)}")
+    print(f"The longest chain, without wrong bodies, takes {minutes:.0f} processor minutes: {', '.join(f'{what} {took:.1f}' for what, took in chain)}")
     return running.returncode
 
 
