@@ -11,7 +11,7 @@
  *     int main(void) {
  *         qolb_bytes zeros = {{0}};
  *         qolb_node node[2] = {{0}};
- *         if (qolb_open(QOLB_RING, 1, 2, QOLB_NO_LEASE, &zeros, node, 2) != QOLB_DONE) return 1;
+ *         if (qolb_open(QOLB_TICKET, 1, 2, QOLB_NO_LEASE, &zeros, node, 2) != QOLB_DONE) return 1;
  *
  *         // each thread has a node of its own: qolb_move(&node[0]), qolb_move(&node[1])
  *         uint32_t got = qolb_acquire_within(&node[0], 1000000);   // at most 1 ms; qolb_acquire waits as long as it takes
@@ -47,11 +47,12 @@
  *
  * A line is of one of three kinds, all under the same calls and promises:
  *
- * - QOLB_RING: a node draws a ticket and waits at a cell of its own. Take this one, unless you want what another has.
+ * - QOLB_RING: a node draws a ticket and waits at a cell of its own. It takes half the memory of a ticket line.
  * - QOLB_LIST: a node stands behind the one that asked before it, and links itself to that one. It alone has the two halves of asking, qolb_prepend
  *   and qolb_link, and in it a node may be busy after its own release (BUSY, below).
  * - QOLB_TICKET: a ticket line. It is a ring whose cells say by a number whose turn it is, and are never cleared. So a release that passes no
  *   withdrawn request takes one step on the words that nodes share, where a ring's takes two. By its answers nobody can tell it from a ring.
+ *   Take this one, unless memory is short or you want the two halves of asking.
  *
  * WHAT YOU MUST KEEP
  *
@@ -182,7 +183,7 @@ typedef struct qolb_bytes {
 } qolb_bytes;
 
 /* How the nodes of a line wait: at cells that they draw by tickets, in a list that they link, or at numbered cells that they draw by tickets. Take a
- * ring, unless you want the two halves of asking, which a list alone has, or the shorter release of a ticket line. */
+ * ticket line, unless memory is short or you want the two halves of asking: then take a list. */
 enum qolb_kind { QOLB_RING = 0, QOLB_LIST = 1, QOLB_TICKET = 2 };
 
 /* What a call answers. */

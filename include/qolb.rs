@@ -4,7 +4,7 @@
 //! beside it, `qolb = { path = "PREFIX/share/qolb/rust" }`, whose build script finds the library.
 //!
 //! ```ignore
-//! let mut nodes = qolb::open(Kind::Ring, 1, 2, None, &Bytes([0; 64]))?;
+//! let mut nodes = qolb::open(Kind::Ticket, 1, 2, None, &Bytes([0; 64]))?;
 //! let mut turn = nodes[0].lock()?;                 // waits; `Stopped::Closed` where the line is closed
 //! let count = turn.lane(0);
 //! turn.set_lane(0, count + 1);
@@ -27,7 +27,7 @@ use std::ptr::null_mut;
 use std::thread;
 use std::time::{Duration, Instant};
 
-/// How the nodes of a line wait. Take a ring, unless you want what another kind has.
+/// How the nodes of a line wait. Take a ticket line, unless memory is short.
 #[derive(Clone, Copy, Debug, PartialEq, Eq)]
 #[repr(u32)]
 pub enum Kind {
