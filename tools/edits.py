@@ -161,7 +161,7 @@ def harmless(text):
 
 def ran(words, folder):
     """What a command said, and its status; it is ended after so many minutes."""
-    run = subprocess.run(["timeout", f"{MINUTES}m", *words], cwd=folder, capture_output=True, text=True, errors="replace", stdin=subprocess.DEVNULL)
+    run = subprocess.run(["timeout", "--foreground", f"{MINUTES}m", *words], cwd=folder, capture_output=True, text=True, errors="replace", stdin=subprocess.DEVNULL)
     return run.stdout + run.stderr, run.returncode
 
 
