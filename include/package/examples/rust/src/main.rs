@@ -1,0 +1,21 @@
+//! Four threads add to a count that lies in the line.
+use qolb::{Bytes, Kind};
+use std::error::Error;
+use std::thread;
+
+fn main() -> Result<(), Box<dyn Error>> {
+    let mut nodes = qolb::open(Kind::Ring, 1, 4, None, &Bytes([0; 64]))?;
+    thread::scope(|scope| {
+        for node in &mut nodes {
+            scope.spawn(move || {
+                for _round in 0..1000 {
+                    let mut turn = node.lock().expect("nobody closes the line");
+                    let count = turn.lane(0);
+                    turn.set_lane(0, count + 1);
+                }
+            });
+        }
+    });
+    println!("{}", nodes[0].lock()?.lane(0));
+    Ok(())
+}
