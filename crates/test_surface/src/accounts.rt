@@ -1,15 +1,33 @@
 //! Accounts over lines, and a desk of one node.
-ghost use Rattle.std.specs.Prelude.{◌≡◌};
+ghost use Rattle.std.specs.Prelude.{IfSome};
 ghost use Rattle.line_accounts.specs.Desks.{IsDeskOver};
+ghost use Rattle.line_accounts.specs.NewDesks.{IsNewPort};
 
 use line_accounts::{
     AccountLaw, Desk, Reply, SettleError, Unsettled, deposit, settle, take_out, transfer,
 };
-use line_rows::desks::over_one;
 use line_rows::opened::{open_zeros, with_last};
 use link_line::LinkLine;
 use qolb_model::{LineSync, OpenLine};
 use std::alloc::Global;
+
+/// A line, and a desk over it. `None` if memory was refused.
+fn desk_over<L: LineSync<AccountLaw> + Drop>(
+    alloc: Global,
+    line: L,
+    port: L::Port,
+) -> Option<(Vec<L>, Desk<L>)>
+where
+    L::Port: Drop,
+    requires { IsNewPort L.belongs L.view line port }
+    ensures { IfSome result (λ made. IsDeskOver L.belongs L.view made.0.items made.1) }
+{
+    let mut lines = Vec::new(alloc);
+    lines.push(line).ok()?;
+    let mut ports = Vec::new(alloc);
+    ports.push(port).ok()?;
+    Some((lines, Desk::new(ports)))
+}
 
 /// Pays in 10, pays out 3, and moves 4 to another account.
 fn day<L: LineSync<AccountLaw>>(lines: &[L], desk: &mut Desk<L>) -> [Reply; 3]
@@ -54,7 +72,7 @@ where
 {
     let opened = open_zeros::<AccountLaw, L>(alloc, 1, None)?;
     let (line, port) = with_last::<AccountLaw, L>(opened)?;
-    let (lines, mut desk) = over_one(alloc, line, port)?;
+    let (lines, mut desk) = desk_over(alloc, line, port)?;
     let replies = day(&lines, &mut desk);
     let paid: (u128, u128) = (desk.paid_in(), desk.paid_out());
     let total = settled(alloc, lines, desk)?;

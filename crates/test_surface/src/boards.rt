@@ -1,6 +1,4 @@
 //! A board of tasks in a line.
-ghost use Rattle.std.specs.Prelude.{◌≡◌};
-
 use line_board::{BoardLaw, Put, Take, Tasks, decode, encode, put, take};
 use line_lanes::Line64;
 use line_rows::opened::{open_zeros, with_last};

@@ -1,5 +1,5 @@
 //! Lines that nodes share: the calls of any line, written once and made by each lock, and those of a lock's own.
-ghost use Rattle.std.specs.Prelude.{◌≡◌, ◌∷◌, [], IsTrue, IfSome, All, refl};
+ghost use Rattle.std.specs.Prelude.{◌≡◌, IsTrue, refl};
 ghost use Rattle.qolb_model.specs.PortStates.{may_ask};
 
 use crate::calls::{CALLS, Call, Came};
