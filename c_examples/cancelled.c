@@ -3,6 +3,8 @@
 #define _POSIX_C_SOURCE 200809L
 #include <pthread.h>
 #include <qolb.h>
+#include <sched.h>
+#include <stdatomic.h>
 #include <stdio.h>
 #include <time.h>
 #include <unistd.h>
@@ -22,6 +24,7 @@ struct waiter {
     _Alignas(QOLB_NODE_ALIGN) qolb_node node;
     int how;
     uint32_t got, released;
+    atomic_int is_cancelled;
 };
 
 static void nap(long milliseconds) {
@@ -33,6 +36,7 @@ static void *waits(void *argument) {
     struct waiter *me = argument;
     me->got = me->how == FOR_EVER ? qolb_acquire(&me->node) : qolb_acquire_within(&me->node, me->how == LONG ? 60000000000 : 80000000);
     if (me->got == QOLB_GRANTED) me->released = qolb_deqolb(&me->node);
+    while (!me->is_cancelled) sched_yield(); /* on a busy machine it may be late before it is cancelled */
     pthread_testcancel();
     return NULL;
 }
@@ -41,7 +45,7 @@ static void *waits(void *argument) {
 static int cancelled(uint32_t kind, int how, int busy) {
     qolb_bytes zeros = {{0}};
     qolb_node n[3] = {{0}};
-    struct waiter waiter = {{0}, how, 99, 99};
+    struct waiter waiter = {{0}, how, 99, 99, 0};
     pthread_t id;
     void *told = NULL;
     WANT(qolb_open(kind, 1, 3, QOLB_NO_LEASE, &zeros, n, 3), QOLB_DONE);
@@ -51,6 +55,7 @@ static int cancelled(uint32_t kind, int how, int busy) {
     WANT(pthread_create(&id, NULL, waits, &waiter), 0);
     nap(20); /* it waits by now, or will be cancelled before it does */
     WANT(pthread_cancel(id), 0);
+    waiter.is_cancelled = 1;
     if (how == SHORT) WANT(pthread_join(id, &told), 0);
     nap(20);
     WANT(qolb_deqolb(&n[0]), QOLB_DONE);
