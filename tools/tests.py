@@ -7,7 +7,9 @@ ATTRIBUTE = "#[test]"
 HEAD = r"#\[test\]\s*(?:#\[[^\n]*\]\s*)*fn "
 TEST = re.compile(HEAD + r"(\w+)")
 # What takes all memory away, of the crate hoard. `rt try` builds programs with another allocator, over which that fails whatever the code does.
-TAKES_ALL = re.compile(r"\b(?:Hoard|Siege)::")
+# A variant whose name ends so asks for that: a test that names it takes all memory away, and a function that has an arm for it does so by that arm alone.
+TAKES_ALL = re.compile(r"\b(?:Hoard|Siege)::|\b\w+::\w+WithoutMemory\b")
+ARM = re.compile(r"^( *)\w+::\w+WithoutMemory =>.*?(?=^\1\w|^ *\}$)", re.M | re.S)
 
 
 def code_of(crate):
@@ -28,7 +30,7 @@ def takers_of_all(crate):
     """The names of its functions that take all memory away, themselves or by a function of the crate that they call."""
     bodies = []
     for text in code_of(crate).values():
-        parts = re.split(r"\bfn (\w+)", text)
+        parts = re.split(r"\bfn (\w+)", ARM.sub("", text))
         bodies += zip(parts[1::2], parts[2::2])
     found, more = set(), {name for name, body in bodies if TAKES_ALL.search(body)}
     while more - found:
