@@ -1,5 +1,5 @@
 //! Workers before a gate.
-use crate::work::expect;
+use crate::work::{EITHER, expect};
 use locks::{ALL, Lines};
 use qolb_run::{Gate, RunError, Waits, report_work, run_work, run_work_with};
 use qolb_script::{Report, Watched, WorkKind, read_work};
@@ -296,22 +296,28 @@ fn a_gate_is_told_once_of_all_jobs_before_any_worker_asks(rt: HostRuntime) -> Re
 fn work_that_is_reported_is_done_once(rt: HostRuntime) -> Result<(), Fail> {
     for (kind, script) in &OF_THREE {
         for lines in ALL {
-            let gate = Counting::new(1);
-            let mut reader = Watched::new(script.as_bytes());
-            let mut writer = Watched::new(Vec::new(rt.alloc()));
-            let done = report_work(
-                &rt,
-                rt.alloc(),
-                &gate,
-                &mut reader,
-                &mut writer,
-                *kind,
-                lines,
-                Waits::Asleep,
-            );
-            assert!(rt; done.is_ok(), "{kind:?} by {lines:?}");
-            for at in 0..3usize {
-                assert_eq!(rt; gate.asks_for(at), 1, "for {at}, {kind:?} by {lines:?}");
+            for waits in EITHER {
+                let gate = Counting::new(1);
+                let mut reader = Watched::new(script.as_bytes());
+                let mut writer = Watched::new(Vec::new(rt.alloc()));
+                let done = report_work(
+                    &rt,
+                    rt.alloc(),
+                    &gate,
+                    &mut reader,
+                    &mut writer,
+                    *kind,
+                    lines,
+                    waits,
+                );
+                assert!(rt; done.is_ok(), "{kind:?} by {lines:?}, {waits:?}");
+                for at in 0..3usize {
+                    assert_eq!(rt;
+                        gate.asks_for(at),
+                        1,
+                        "for {at}, {kind:?} by {lines:?}, {waits:?}"
+                    );
+                }
             }
         }
     }
@@ -344,5 +350,55 @@ fn a_worker_gives_up_at_the_millionth_refusal(rt: HostRuntime) -> Result<(), Fai
     assert_eq!(rt; found, Err(RunError::Stalled(1)));
     assert_eq!(rt; gate.asks_for(0), 1_000_000);
     assert_eq!(rt; gate.asks_for(1), 0);
+    Ok(())
+}
+
+#[test]
+fn a_gate_is_told_of_work_without_jobs(rt: HostRuntime) -> Result<(), Fail> {
+    let work = read_work(rt.alloc(), b"board workers 2\n", WorkKind::Board)?;
+    let gate = Counting::new(1);
+    assert!(rt; run_work(&rt, rt.alloc(), &gate, &work, Lines::Ring).is_ok());
+    let told = (
+        gate.begun.load(Ordering::SeqCst),
+        gate.jobs.load(Ordering::SeqCst),
+        gate.early.load(Ordering::SeqCst),
+    );
+    assert_eq!(rt; told, (1, 0, 0));
+    Ok(())
+}
+
+/// An open gate that counts the asks, and those whose number is another.
+#[derive(Drop)]
+struct InOrder {
+    asked: AtomicU64,
+    wrong: AtomicU64,
+}
+
+impl Gate for InOrder {
+    fn may(&self, _worker: u64, at: u64) -> bool {
+        if self.asked.fetch_add(1, Ordering::SeqCst) != at {
+            self.wrong.fetch_add(1, Ordering::SeqCst);
+        }
+        true
+    }
+}
+
+#[test]
+fn a_worker_asks_by_the_number_of_its_job(rt: HostRuntime) -> Result<(), Fail> {
+    let mut script = "board workers 1\n".to_string(rt.alloc())?;
+    for _ in 0..300 {
+        script.push_str("1 take\n")?;
+    }
+    let work = read_work(rt.alloc(), script.as_bytes(), WorkKind::Board)?;
+    let gate = InOrder {
+        asked: AtomicU64::new(0),
+        wrong: AtomicU64::new(0),
+    };
+    assert!(rt; run_work(&rt, rt.alloc(), &gate, &work, Lines::Ring).is_ok());
+    let found = (
+        gate.asked.load(Ordering::SeqCst),
+        gate.wrong.load(Ordering::SeqCst),
+    );
+    assert_eq!(rt; found, (301, 0));
     Ok(())
 }

@@ -1,6 +1,8 @@
 //! Replays of scripts by lines of each kind.
 use linked_list_allocator::LocalHeap;
-use qolb_run::{Kind, ReplayError, read_all, run_schedule};
+use locks::TicketLine;
+use qolb_model::{Free, OpenLine};
+use qolb_run::{Kind, ReplayError, read_all, run_schedule, run_schedule_over};
 use qolb_script::{ScriptError, Watched};
 use std::alloc::Global;
 use std::io;
@@ -389,5 +391,68 @@ fn each_growth_of_an_input_is_refused(rt: HostRuntime) -> Result<(), Fail> {
         }
     }
     assert!(rt; refused > 0);
+    Ok(())
+}
+
+#[test]
+fn an_input_past_the_limit_is_read_no_further(rt: HostRuntime) {
+    // two parts of 4,096 bytes past the limit, of which the second is left to the reader
+    let mut reader = Watched::new(Newlines {
+        left: 16_777_216 + 8_192,
+        part: 65_536,
+        fails: false,
+    });
+    let refused = read_all(rt.alloc(), &mut reader).err();
+    assert_eq!(rt; refused, Some(ReplayError::Long));
+    assert_eq!(rt; reader.into_inner().left, 4_096);
+}
+
+/// Gives all its bytes at once, says once that it is at its end, and then fails.
+#[derive(Drop)]
+struct EndsOnce<'a> {
+    rest: &'a [u8],
+    ended: bool,
+}
+
+impl Read for EndsOnce<'_> {
+    fn read(&mut self, buf: &mut [u8]) -> io::Result<usize> {
+        if self.ended {
+            return Err(io::Error::from(io::ErrorKind::Other));
+        }
+        let given = self.rest.len().min(buf.len());
+        buf[..given].copy_from_slice(&self.rest[..given]);
+        self.rest = &self.rest[given..];
+        self.ended = given == 0;
+        Ok(given)
+    }
+}
+
+#[test]
+fn an_input_is_not_read_behind_its_end(rt: HostRuntime) {
+    let mut reader = Watched::new(EndsOnce {
+        rest: HAND_OVER.as_bytes(),
+        ended: false,
+    });
+    let refused = read_all(rt.alloc(), &mut reader).err();
+    assert_eq!(rt; (refused, reader.failed()), (None, false));
+}
+
+/// What a replay of the script over lines of this type writes.
+fn reply_over<L: OpenLine<Free> + Drop>(alloc: Global, script: &str) -> Result<String, Fail>
+where
+    L::Port: Drop,
+{
+    let mut reader = Watched::new(script.as_bytes());
+    let mut text: Vec<u8> = Vec::new(alloc);
+    run_schedule_over::<L, _, _>(alloc, &mut reader, &mut Watched::new(&mut text))?;
+    Ok(String::from_utf8(text)?)
+}
+
+#[test]
+fn answers_scripts_over_lines_of_a_type(rt: HostRuntime) -> Result<(), Fail> {
+    for (script, reply) in &REPLIES {
+        let found = reply_over::<TicketLine<Free>>(rt.alloc(), script)?;
+        assert_eq!(rt; found.as_str(), *reply, "of {script}");
+    }
     Ok(())
 }

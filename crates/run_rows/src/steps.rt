@@ -1,7 +1,7 @@
 //! Replays of step scripts.
 use linked_list_allocator::LocalHeap;
 use qolb_run::{Detail, ReplayError, run_steps, run_steps_with};
-use qolb_script::Watched;
+use qolb_script::{ScriptError, Watched};
 use std::alloc::Global;
 use std::test::Fail;
 
@@ -56,4 +56,28 @@ fn each_allocation_is_refused(rt: HostRuntime) -> Result<(), Fail> {
     }
     assert!(rt; refusals > 5 && refusals < 199);
     Ok(())
+}
+
+/// Step scripts that are refused.
+static FAULTS: [(&str, ScriptError); 3] = [
+    ("", ScriptError::BadLine(1)),
+    ("nodes 201", ScriptError::Number(1)),
+    ("nodes 2\nreset 3\n", ScriptError::Number(2)),
+];
+
+#[test]
+fn names_the_first_fault_of_steps(rt: HostRuntime) {
+    for (script, fault) in &FAULTS {
+        let mut text: Vec<u8> = Vec::new(rt.alloc());
+        let done = run_steps(
+            rt.alloc(),
+            &mut Watched::new(script.as_bytes()),
+            &mut Watched::new(&mut text),
+        );
+        assert_eq!(rt;
+            (done, text.len()),
+            (Err(ReplayError::Script(*fault)), 0),
+            "of {script}"
+        );
+    }
 }

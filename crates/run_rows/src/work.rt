@@ -9,7 +9,7 @@ use std::test::Fail;
 use std::thread::Threads;
 
 /// How workers may wait.
-static EITHER: [Waits; 2] = [Waits::Awake, Waits::Asleep];
+pub(crate) static EITHER: [Waits; 2] = [Waits::Awake, Waits::Asleep];
 
 /// The workers of the script do this behind the gate, over lines of each kind, awake and asleep.
 pub(crate) fn expect<R: Threads + Wait + Abort + Sync, G: Gate + Sync>(

@@ -230,8 +230,58 @@ fn boards_and_desks_answer_so(rt: HostRuntime) {
 
 #[test]
 fn variants_are_declared_in_this_order(rt: HostRuntime) {
-    let halves = [Prep::Granted, Prep::Closed, Prep::Busy, Prep::Linking];
-    for made in &halves {
-        assert_eq!(rt; *made as usize, made.place());
+    for one in [Enq::Granted, Enq::Queued, Enq::Closed, Enq::Busy] {
+        assert_eq!(rt; one as usize, one.place());
+    }
+    for one in [Prep::Granted, Prep::Closed, Prep::Busy, Prep::Linking] {
+        assert_eq!(rt; one as usize, one.place());
+    }
+    for one in [Poll::Granted, Poll::Waiting, Poll::Closed] {
+        assert_eq!(rt; one as usize, one.place());
+    }
+    for one in [Out::Withdrawn, Out::Granted, Out::Closed] {
+        assert_eq!(rt; one as usize, one.place());
+    }
+    for one in [
+        PortState::Idle,
+        PortState::Linking,
+        PortState::Queued,
+        PortState::Holding,
+        PortState::Left,
+        PortState::Rolled,
+        PortState::Shut,
+    ] {
+        assert_eq!(rt; one as usize, one.place());
+    }
+}
+
+#[test]
+fn variants_of_runs_are_declared_in_this_order(rt: HostRuntime) {
+    for one in [Got::Granted, Got::Closed] {
+        assert_eq!(rt; one as usize, one.place());
+    }
+    for one in [Lines::Ring, Lines::Link, Lines::Ticket] {
+        assert_eq!(rt; one as usize, one.place());
+    }
+    for one in [Kind::Plain, Kind::Ring, Kind::Link, Kind::Ticket] {
+        assert_eq!(rt; one as usize, one.place());
+    }
+    for one in [WorkKind::Board, WorkKind::Bank] {
+        assert_eq!(rt; one as usize, one.place());
+    }
+    for one in [Put::Stored, Put::Full, Put::Late, Put::Closed, Put::Busy] {
+        assert_eq!(rt; one as usize, one.place());
+    }
+    for one in [
+        Reply::Done,
+        Reply::Short,
+        Reply::Over,
+        Reply::Late,
+        Reply::Closed,
+        Reply::Busy,
+        Reply::NoAccount,
+        Reply::SameAccount,
+    ] {
+        assert_eq!(rt; one as usize, one.place());
     }
 }

@@ -4,6 +4,7 @@ use link_core::NotEnabled;
 use qolb_model::{FinishError, OpenError};
 use qolb_run::{ReplayError, RunError};
 use qolb_script::ScriptError;
+use std::test::Fail;
 
 /// The number of an error of opening.
 fn of_open(error: OpenError) -> u8 {
@@ -121,4 +122,15 @@ fn errors_of_runs_say_their_numbers(rt: HostRuntime) {
     ] {
         assert_eq!(rt; error.number(), of_replay(error), "{error:?}");
     }
+}
+
+#[test]
+fn errors_of_work_say_what_they_are(rt: HostRuntime) -> Result<(), Fail> {
+    for (error, text) in [
+        (RunError::Memory, "out of memory"),
+        (RunError::Stalled(7), "stalled 7"),
+    ] {
+        assert_eq!(rt; error.to_string(rt.alloc())?.as_str(), text);
+    }
+    Ok(())
 }

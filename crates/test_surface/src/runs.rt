@@ -2,13 +2,14 @@
 use line_rows::opened::{open_zeros, with_last};
 use qolb_model::{Free, LineSync, OpenLine};
 use qolb_run::{
-    AlwaysOpen, Gate, Got, Kind, Lines, ReplayError, RunError, acquire, read_all, run_schedule,
-    run_steps, run_work,
+    AlwaysOpen, Gate, Got, Kind, Lines, ReplayError, RunError, Waits, acquire, read_all,
+    run_schedule, run_steps, run_work,
 };
 use qolb_script::{Report, Watched, Work, WorkKind, read_work};
 use ring_line::RingLine;
 use std::alloc::Global;
 use std::sync::Wait;
+use std::sync::atomic::{AtomicU64, Ordering};
 use std::test::Fail;
 
 /// Waits for the line and closes it, and asks again.
@@ -36,12 +37,15 @@ fn a_line_is_acquired_until_it_is_closed(rt: HostRuntime) {
     assert_eq!(rt; found, Some((Got::Granted, Got::Closed)));
 }
 
-/// A gate that lets every worker through, with no more said than `may`.
-struct Through;
+/// A gate that refuses whoever asks first, with no more said than `may`.
+#[derive(Drop)]
+struct Once {
+    asked: AtomicU64,
+}
 
-impl Gate for Through {
+impl Gate for Once {
     fn may(&self, _worker: u64, _at: u64) -> bool {
-        true
+        self.asked.fetch_add(1, Ordering::SeqCst) > 0
     }
 }
 
@@ -54,8 +58,12 @@ fn work_is_run(rt: HostRuntime) -> Result<(), Fail> {
         paid_out: 0,
         total: 2,
     };
-    let found: Result<Report, RunError> = run_work(&rt, rt.alloc(), &Through, &work, Lines::Ring);
+    let gate = Once {
+        asked: AtomicU64::new(0),
+    };
+    let found: Result<Report, RunError> = run_work(&rt, rt.alloc(), &gate, &work, Lines::Ring);
     assert_eq!(rt; found, Ok(report));
+    assert_eq!(rt; Waits::default(), Waits::Awake);
     let always: Result<Report, RunError> = run_work(
         &rt,
         rt.alloc(),
