@@ -24,6 +24,10 @@ use Rattle.qolb_model.specs.LettingGo.{EndsTurn, IsTold}
 use Rattle.qolb_model.specs.Linking.{IsLinking, Links}
 use Rattle.qolb_model.specs.Meeting.{Meets}
 
+-- the line has come, by this answer: the port holds it, granted; or it was closed, and the port was told, and has passed it on
+abbrev pub HasCome : {A : Type 0} → A → A → A → View → Write → Type 0
+HasCome granted closed answer new turn = ((answer ≡ granted) × IsGranted new turn) ⊎ ((answer ≡ closed) × IsTold new)
+
 module _ (allows : List ℕ → List ℕ → Type 0) where
   -- `enqolb`: the port asks for the line, unless it is busy
   pub record Enqueues (old new : View) (turn : Write) (answer : Enq) : Type 0 where

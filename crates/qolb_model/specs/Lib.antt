@@ -24,6 +24,7 @@ pub mod Meeting
 pub mod Entries
 pub mod Finishing
 pub mod Calls
+pub mod Counting
 pub mod Patience
 pub mod Sums
 pub mod Laws

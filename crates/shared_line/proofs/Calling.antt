@@ -1,12 +1,10 @@
 -- What a port's fields, and what its contract shows of them, are after a call.
-use Rattle.std.proofs.Common.{◌≡◌, ◌≢◌, ℕ, ◌+◌, ◌≤◌, Option, List, true, false, sym, ap, ◌∙◌, subst, Bool, ◌||◌, bit_or, arith}
+use Rattle.std.proofs.Common.{◌≡◌, ◌≢◌, ℕ, Option, List, true, false, sym, ap, ◌∙◌, subst, Bool, ◌||◌, bit_or}
 use Rattle.line_lanes.specs.Line.{merged}
 use Rattle.atomic_table.specs.Seated.{TableId}
 use Rattle.qolb_model.specs.declared.answer.PortState.{PortState}
 use Rattle.qolb_model.specs.declared.answer.PortState.TheVariants as shows
 use Rattle.qolb_model.specs.declared.end.End.TheVariants.{Served}
-use Rattle.qolb_model.specs.declared.terms.Terms.{Terms}
-use Rattle.qolb_model.specs.declared.terms.TheConstants.{MOST_NODES}
 use Rattle.qolb_model.specs.declared.view.View.{View}
 use Rattle.qolb_model.specs.PortStates.{left_by}
 use Rattle.qolb_model.specs.Leases.{closes}
@@ -28,9 +26,8 @@ use Rattle.shared_line.specs.declared.rule.Parcel.{Parcel}
 use Rattle.shared_line.specs.declared.rule.Setup.{Setup}
 use Rattle.shared_line.specs.Entries.{LineSeat}
 use Rattle.shared_line.specs.Slots.{Slots}
-use Rattle.shared_line.specs.Steps.{SameSeat, IsOwnNode, entry_of, sole, HasLine, write_of, own_end, Carries}
-use Rattle.shared_line.specs.Ports.{Standing, standing, Holds, IsPort, BelongsTo, IsPutBack}
-use Rattle.shared_line.proofs.Turning.{Went}
+use Rattle.shared_line.specs.Steps.{SameSeat, entry_of, sole, HasLine, write_of, own_end, Carries, Went}
+use Rattle.shared_line.specs.Ports.{Standing, standing, Holds, IsPort, BelongsTo, IsSeated, IsPutBack}
 use Rattle.shared_line.proofs.Letting.{carries_served, holds_written}
 
 -- one that came, or stands behind another, was not busy
@@ -39,10 +36,6 @@ came_asked is busy = cc (is, busy)
 
 pub behind_asked : {answer : Asked} → answer ≡ asked.Behind → answer ≢ asked.Busy
 behind_asked is busy = cc (is, busy)
-
--- some steps more than one are within as many more than the most of a call
-pub few_steps : (more steps most : ℕ) → steps ≤ more + 1 → 1 ≤ most → steps ≤ most + more
-few_steps more steps most few some = omega arith
 
 -- after n steps of a port of the line
 module _ {O : Type 0} {fresh : O} {good : List ℕ → Type 0} {allows : List ℕ → List ℕ → Type 0} {key : Setup} {table_id : TableId} {p : Standing} (s : LineSeat O) (y : Parcel) (steps looks : ℕ) (b : BelongsTo good allows key table_id p) (is : standing fresh s y steps looks ≡ p) {t : LineSeat O} {n : ℕ} (w : Went allows fresh s t n) where
@@ -57,21 +50,14 @@ module _ {O : Type 0} {fresh : O} {good : List ℕ → Type 0} {allows : List �
     sound = sound_goes good allows key.label key.terms p.view (entry_of fresh t).view b.sound call_continues;
   }
 
-  -- the line has as many nodes as it knows
-  pub call_nodes : (entry_of fresh t).view.terms.nodes ≡ key.terms.nodes
-  call_nodes = ap (λ (a : Terms). a.nodes) (w.goes.extends.terms ∙ (ap (λ (x : Standing). x.view.terms) is ∙ b.sound.terms_are))
-
-  module _ (nodes : ℕ) (counted : nodes ≡ key.terms.nodes) (few : nodes ≤ MOST_NODES) where
-    -- which are some, and not too many
-    pub call_many : 1 ≤ nodes → (1 ≤ (entry_of fresh t).view.terms.nodes) × ((entry_of fresh t).view.terms.nodes ≤ MOST_NODES)
-    call_many some = let many = call_nodes in (omega arith, omega arith)
-
-    -- it is of the same node
-    pub call_own : (node : ℕ) → (entry_of fresh s).view.node ≡ node → IsOwnNode fresh node t
-    call_own node node_is =
-        let shown = ap (λ (x : Standing). x.view.node) is in
-        let last = b.sound.last_node in
-        (sym (w.goes.extends.node ∙ node_is), omega arith)
+  -- its seat is that of its node
+  pub call_seat : (node : ℕ) → (entry_of fresh s).view.node ≡ node → IsSeated good allows key table_id fresh node t
+  call_seat node node_is = record {
+    alone = w.goes.alone;
+    node_is = w.goes.extends.node ∙ node_is;
+    table_is = w.same.0 ∙ (ap (λ (x : Standing). x.table) is ∙ b.table_is);
+    sound = sound_goes good allows key.label key.terms p.view (entry_of fresh t).view b.sound call_continues;
+  }
 
 -- the count of a port's requests, as its contract shows it
 pub same_count : {O : Type 0} (fresh : O) {p : Standing} (w : View) (s : LineSeat O) (y : Parcel) (steps looks : ℕ) → standing fresh s y steps looks ≡ p → w.count ≡ (entry_of fresh s).view.count → w.count ≡ p.view.count

@@ -1,10 +1,10 @@
 -- How a seat goes on, step by step.
-use Rattle.std.proofs.Common.{◌≡◌, ℕ, ◌+◌, List, sym, ◌∙◌, subst, arith}
+use Rattle.std.proofs.Common.{◌≡◌, ℕ, ◌+◌, ◌-◌, ◌≤◌, List, sym, ◌∙◌, subst, arith}
 use Rattle.qolb_model.specs.Views.{Extends}
 use Rattle.qolb_model.specs.Sound.{Continues}
 use Rattle.qolb_model.proofs.Agreeing.{extends_trans}
 use Rattle.shared_line.specs.Entries.{Contents, LineSeat}
-use Rattle.shared_line.specs.Steps.{SameSeat, sole, GoesOn}
+use Rattle.shared_line.specs.Steps.{SameSeat, sole, GoesOn, Went}
 
 pub goes_trans : {O : Type 0} (allows : List ℕ → List ℕ → Type 0) (fresh : O) (a b c : Contents O) (i j : ℕ) → GoesOn allows fresh a b i → GoesOn allows fresh b c j → GoesOn allows fresh a c (i + j)
 goes_trans allows fresh a b c i j f g = record {
@@ -23,17 +23,16 @@ put_on {O} {allows} {fresh} {a} {b} {c} {n} same goes = record {
   counted = subst (λ es. (sole fresh c.0).steps ≡ (sole fresh es).steps + n) same goes.counted;
 }
 
--- it is the same seat, and it has gone on by so many steps
-pub record Went {O : Type 0} (allows : List ℕ → List ℕ → Type 0) (fresh : O) (s t : LineSeat O) (steps : ℕ) : Type 0 where
-  pub same : SameSeat s t
-  pub goes : GoesOn allows fresh s.me t.me steps
-
 -- and then by more
 pub then : {O : Type 0} {allows : List ℕ → List ℕ → Type 0} {fresh : O} {s t u : LineSeat O} {i j : ℕ} → Went allows fresh s t i → Went allows fresh t u j → Went allows fresh s u (i + j)
 then {allows = allows} {fresh = fresh} {s = s} {t = t} {u = u} {i = i} {j = j} a b = record {
   same = (b.same.0 ∙ a.same.0, b.same.1 ∙ a.same.1);
   goes = goes_trans allows fresh s.me t.me u.me i j a.goes b.goes;
 }
+
+-- and then on to so many in all
+pub then_to : {O : Type 0} {allows : List ℕ → List ℕ → Type 0} {fresh : O} {s t u : LineSeat O} {i j : ℕ} → Went allows fresh s t i → i ≤ j → Went allows fresh t u (j - i) → Went allows fresh s u j
+then_to {allows = allows} {fresh = fresh} {s = s} {u = u} {i = i} {j = j} a more b = let e : i + (j - i) ≡ j = omega arith in subst (Went allows fresh s u) e (then a b)
 
 -- what is put into the slot first is no matter
 pub put_then : {O : Type 0} {allows : List ℕ → List ℕ → Type 0} {fresh : O} {s t u : LineSeat O} {n : ℕ} → SameSeat s t × (t.me.0 ≡ s.me.0) → SameSeat t u → GoesOn allows fresh t.me u.me n → Went allows fresh s u n

@@ -3,5 +3,4 @@ pub mod Slots
 pub mod Steps
 pub mod Ports
 pub mod Finish
-pub mod Arrivals
 pub mod Turns

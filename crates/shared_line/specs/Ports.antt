@@ -1,9 +1,14 @@
 -- What a port knows and holds.
-use Rattle.std.specs.Prelude.{◌≡◌, ◌≢◌, ℕ, ◌+◌, ◌-◌, length, slice_get, Bool, false, List, [], Option, Some}
+use Rattle.std.specs.Prelude.{◌≡◌, ◌≢◌, ℕ, ◌+◌, ◌-◌, ◌≤◌, length, slice_get, Bool, false, List, [], Option, Some}
 use Rattle.std.specs.List.{All}
 use Rattle.atomic_table.specs.Seated.{TableId}
 use Rattle.qolb_model.specs.declared.answer.PortState.{PortState}
 use Rattle.qolb_model.specs.declared.answer.PortState.TheVariants as shows
+use Rattle.qolb_model.specs.declared.answer.Enq.{Enq}
+use Rattle.qolb_model.specs.declared.answer.Enq.TheVariants as enq
+use Rattle.qolb_model.specs.declared.answer.Poll.TheVariants as poll
+use Rattle.qolb_model.specs.declared.answer.Out.TheVariants as out
+use Rattle.qolb_model.specs.Counting as port
 use Rattle.qolb_model.specs.declared.terms.Terms.{Terms}
 use Rattle.qolb_model.specs.declared.view.View.{View}
 use Rattle.qolb_model.specs.declared.write.Write.{Write}
@@ -33,6 +38,17 @@ pub record Standing : Type 0 where
 
 abbrev pub standing : {O : Type 0} → O → LineSeat O → Parcel → ℕ → ℕ → Standing
 standing fresh s y steps looks = record { table = s.table_id; view = (entry_of fresh s).view; turn = write_of y; steps = steps; taken = (entry_of fresh s).steps; looks = looks }
+
+-- and as any line's contracts see it
+abbrev pub known : Standing → port.Standing
+known p = record { view = p.view; turn = p.turn; steps = p.steps; taken = p.taken; looks = p.looks }
+
+-- how many word steps a call takes, by what its lock says of asking and of letting go, and of the most
+abbrev pub takes : (PortState → Enq → ℕ → Type 0) → (ℕ → ℕ → ℕ → Type 0) → ℕ → port.Call → View → View → ℕ → Type 0
+takes asks_in lets_go_in most (port.asks answer) old new n = (answer ≢ enq.Closed → asks_in old.state answer n) × (n ≤ most + 3)
+takes asks_in lets_go_in most (port.polls answer) old new n = (answer ≢ poll.Closed → n ≡ 1) × (n ≤ most)
+takes asks_in lets_go_in most (port.withdraws answer) old new n = (answer ≢ out.Closed → n ≡ 1) × (n ≤ most)
+takes asks_in lets_go_in most port.releases old new n = lets_go_in (length old.ends) (length new.ends) n × (n + 1 ≤ most)
 
 -- the turn's bytes are those of the earlier ends, changed under the mask
 abbrev pub IsMerged : View → Parcel → Type 0
@@ -74,6 +90,13 @@ pub record IsPutBack (turn : Parcel) (closed : Bool) (y : Parcel) : Type 0 where
 pub record BelongsTo (good : List ℕ → Type 0) (allows : List ℕ → List ℕ → Type 0) (key : Setup) (table_id : TableId) (p : Standing) : Type 0 where
   pub table_is : p.table ≡ table_id
   pub sound : IsSound good allows key.label key.terms p.view
+
+-- the seat has the entry of this node alone, and is of the line of this table
+pub record IsSeated {O : Type 0} (good : List ℕ → Type 0) (allows : List ℕ → List ℕ → Type 0) (key : Setup) (table_id : TableId) (fresh : O) (node : ℕ) (s : LineSeat O) : Type 0 where
+  pub alone : Alone fresh s.me
+  pub node_is : (entry_of fresh s).view.node ≡ node
+  pub table_is : s.table_id ≡ table_id
+  pub sound : IsSound good allows key.label key.terms (entry_of fresh s).view
 
 -- the ports of the first n nodes, which never asked
 pub record AreSplit (table_id : TableId) (about : Setup) (n : ℕ) (ports : List Standing) : Type 0 where

@@ -71,6 +71,11 @@ pub record GoesOn {O : Type 0} (allows : List ℕ → List ℕ → Type 0) (fres
   pub continues : (v : View) → Continues allows v (sole fresh old.0).view → Continues allows v (sole fresh new.0).view
   pub counted : (sole fresh new.0).steps ≡ (sole fresh old.0).steps + steps
 
+-- it is the same seat, and it has gone on by so many steps
+pub record Went {O : Type 0} (allows : List ℕ → List ℕ → Type 0) (fresh : O) (s t : LineSeat O) (steps : ℕ) : Type 0 where
+  pub same : SameSeat s t
+  pub goes : GoesOn allows fresh s.me t.me steps
+
 -- the request has not come to its turn, and is not withdrawn
 pub record IsEarly {O : Type 0} (rests : PortState → ℕ → O → Type 0) (mark : ℕ) (w : Entry O) : Type 0 where
   pub stands : rests shows.Queued mark w.own

@@ -1,49 +1,59 @@
 //! A line that has come to its turn.
-ghost use Rattle.std.specs.Prelude.{◌≡◌, ◌≢◌, ℕ, ◌+◌, ◌<◌, ◌≤◌, true};
+ghost use Rattle.std.specs.Prelude.{◌≡◌, ◌≢◌, ℕ, ◌+◌, ◌-◌, ◌<◌, ◌≤◌, true};
 ghost use Rattle.qolb_model.specs.declared.terms.TheConstants.{MOST_NODES};
+ghost use Rattle.qolb_model.specs.Calls.{HasCome};
 ghost use Rattle.shared_line.specs.declared.rule.Parcel.{Parcel};
-ghost use Rattle.shared_line.specs.Steps.{SameSeat, IsSeatOf, IsOwnNode, Alone, entry_of, GoesOn, Comes};
-ghost use Rattle.shared_line.specs.Ports.{IsPassedOn};
-ghost use Rattle.shared_line.specs.Arrivals.{steps_of, HasArrived, WakesWithin};
+ghost use Rattle.shared_line.specs.Steps.{SameSeat, IsSeatOf, IsOwnNode, Alone, entry_of, write_of, GoesOn, Went, Comes};
+ghost use Rattle.shared_line.specs.Ports.{IsPassedOn, IsPort, IsSeated};
 
+use crate::line::Line;
 use crate::queue::{Discipline, Released};
 use crate::rule::{Ground, LineSeat, Parcel};
+use crate::sleeping::Waking;
 use qolb_model::{Keep, PortState};
 
-/// What became of a line that has come.
-pub(crate) enum Arrival {
-    /// The port holds it.
-    Held,
-    /// It was closed, and is passed on.
-    PassedOn(Released),
-}
-
-/// Takes in the line that has come to its turn: the port holds it, at no further step. A closed line is passed on at once.
-#[inline]
-pub(crate) fn arrive<K: Keep, Q: Discipline<K>>(
-    ground: &Ground<K, Q>,
-    seat: &mut LineSeat<Q::Own>,
-    parcel: &mut Parcel,
-    node: u64,
-    mark: u64,
-) -> Arrival
-    requires table { IsSeatOf Q.word_count ground.now.table_id seat.old }
-    requires alone { Alone Q.fresh seat.old.me }
-    requires own { IsOwnNode Q.fresh node seat.old }
-    requires nodes { (1 ≤ (entry_of Q.fresh seat.old).view.terms.nodes) × ((entry_of Q.fresh seat.old).view.terms.nodes ≤ MOST_NODES) }
-    requires comes { (y : Parcel) × Q.brings mark y seat.old.me.1 × Comes Q.holding Q.refused mark (entry_of Q.fresh seat.old) y }
-    ensures same { SameSeat seat.old seat.new }
-    ensures goes_on { GoesOn K.allows Q.fresh seat.old.me seat.new.me (steps_of result) }
-    ensures count { (entry_of Q.fresh seat.new).view.count ≡ (entry_of Q.fresh seat.old).view.count }
-    ensures arrived { HasArrived Q.fresh Q.rests Q.holding Q.keeps seat.new parcel.new mark result }
-    ensures to_wake { WakesWithin Q.word_count result }
-    ensures bound { steps_of result + 1 ≤ Q.most (entry_of Q.fresh seat.old).view.terms.nodes }
-{
-    Q::take(ground, seat, mark, parcel);
-    if parcel.closed {
-        Arrival::PassedOn(pass_on(ground, seat, node, mark))
-    } else {
-        Arrival::Held
+impl<K: Keep, Q: Discipline<K>, W: Waking> Line<K, Q, W> {
+    /// Takes in the line that has come to its turn: the port holds it, at no further step, and the answer is `granted`. A closed line is
+    /// passed on at once, and the answer is `closed`.
+    #[inline(always)]
+    pub(crate) fn arrive<A: Copy>(
+        &self,
+        seat: &mut LineSeat<Q::Own>,
+        parcel: &mut Parcel,
+        state: &mut PortState,
+        steps: &mut u64,
+        node: u64,
+        mark: u64,
+        granted: A,
+        closed: A,
+    ) -> A
+        requires seat { IsSeated K.good K.allows self.now.table.shared.key self.now.table.shared.table_id Q.fresh node seat.old }
+        requires comes { (y : Parcel) × Q.brings mark y seat.old.me.1 × Comes Q.holding Q.refused mark (entry_of Q.fresh seat.old) y }
+        requires few { steps.old ≤ 4 }
+        ensures seat { IsSeated K.good K.allows self.now.table.shared.key self.now.table.shared.table_id Q.fresh node seat.new }
+        ensures port { (label : ℕ) → (entry_of Q.fresh seat.old).view.label ≡ label → IsPort Q.fresh Q.rests Q.holding Q.keeps label node seat.new parcel.new mark state.new }
+        ensures more { steps.old ≤ steps.new }
+        ensures went { Went K.allows Q.fresh seat.old seat.new (steps.new - steps.old) }
+        ensures count { (entry_of Q.fresh seat.new).view.count ≡ (entry_of Q.fresh seat.old).view.count }
+        ensures came { HasCome granted closed result (entry_of Q.fresh seat.new).view (write_of parcel.new) }
+        ensures counted { result ≢ closed → steps.new ≡ steps.old }
+        ensures bound { steps.new + 1 ≤ steps.old + Q.most self.now.table.shared.key.terms.nodes }
+    {
+        let ground = &self.table.shared;
+        Q::take(ground, seat, mark, parcel);
+        if !parcel.closed {
+            *state = PortState::Holding;
+            return granted;
+        }
+        let Released {
+            state: left,
+            steps: more,
+            to_wake,
+        } = pass_on(ground, seat, node, mark);
+        *state = left;
+        *steps += more;
+        self.wake(to_wake);
+        closed
     }
 }
 

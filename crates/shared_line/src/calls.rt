@@ -1,42 +1,74 @@
-//! The calls of a line by which nodes queue at it.
-ghost use Rattle.std.specs.Prelude.{◌≡◌, ◌≢◌, ◌+◌, ◌≤◌, length, IsTrue, Some, true, false};
-ghost use Rattle.qolb_model.specs.PortStates as states;
-ghost use Rattle.qolb_model.specs.Leases.{turns_left};
+//! The line as one that many nodes share: the calls by which they queue at it.
+ghost use Rattle.std.specs.Prelude.{◌≡◌, ◌+◌, map, All, IfOk, IfErr};
 ghost use Rattle.qolb_model.specs.Kept.{MayRelease};
-ghost use Rattle.qolb_model.specs.Calls.{Enqueues, Polls, Withdraws, Releases, TellEachOther};
-ghost use Rattle.shared_line.specs.Ports.{BelongsTo};
+ghost use Rattle.qolb_model.specs.Calls.{Releases};
+ghost use Rattle.qolb_model.specs.Counting.{Counts};
+ghost use Rattle.qolb_model.specs.Counting as call;
+ghost use Rattle.qolb_model.specs.Finishing.{MayRefuse, IsFinished};
+ghost use Rattle.shared_line.specs.Ports.{BelongsTo, known, takes};
 
-use crate::arriving::{Arrival, arrive};
 use crate::line::Line;
 use crate::meeting::meet_seats;
 use crate::port::Port;
 use crate::queue::{Asked, Discipline, Released};
 use crate::sleeping::Waking;
 use crate::slot::park;
-use qolb_model::{Enq, Keep, Out, Poll, PortState};
+use line_lanes::{Line64, Mask, merge};
+use qolb_model::{Enq, Keep, LineSync, Out, Poll, PortState, Unfinished};
+use std::alloc::Global;
 
-impl<K: Keep, Q: Discipline<K>, W: Waking> Line<K, Q, W> {
-    /// How many turns are left of the line's lease, with the holder's own: at least 1. `None` without a lease.
-    pub fn turns_left(&self, port: &Port<Q>) -> Option<u64>
-        requires belongs { BelongsTo K.good K.allows self.now.table.shared.key self.now.table.shared.table_id port.now }
-        requires state { port.now.view.state ≡ PortState.Holding }
-        ensures left { result ≡ turns_left self.now.table.shared.key.terms.lease port.now.view.ends }
-        ensures some { result ≢ Some 0 }
-    {
+impl<K: Keep, Q: Discipline<K>, W: Waking> LineSync<K> for Line<K, Q, W> {
+    type Port = Port<Q>;
+
+    ghost knows = { λ port. known port };
+
+    ghost shows = { Q.may_show };
+
+    ghost takes = { λ line. takes Q.asks_in Q.lets_go_in (Q.most line.table.shared.key.terms.nodes) };
+
+    ghost most = { λ line. Q.most line.table.shared.key.terms.nodes + 3 };
+
+    ghost belongs = { λ line port. BelongsTo K.good K.allows line.table.shared.key line.table.shared.table_id port };
+
+    ghost label_of = { λ line. line.table.shared.key.label };
+
+    ghost terms_of = { λ line. line.table.shared.key.terms };
+
+    fn label(&self) -> u64 {
+        self.label
+    }
+
+    fn nodes(&self) -> u64 {
+        self.nodes
+    }
+
+    fn node(port: &Port<Q>) -> u64 {
+        port.node
+    }
+
+    fn state(port: &Port<Q>) -> PortState {
+        port.state
+    }
+
+    fn owns(&self, port: &Port<Q>) -> bool {
+        port.label == self.label
+    }
+
+    fn bytes(port: &Port<Q>) -> &Line64 {
+        &port.parcel.bytes
+    }
+
+    fn turns_left(&self, port: &Port<Q>) -> Option<u64> {
         port.parcel.turns_left
     }
 
-    /// Asks for the line.
-    pub fn enqolb(&self, port: &mut Port<Q>) -> Enq
-        requires belongs { BelongsTo K.good K.allows self.now.table.shared.key self.now.table.shared.table_id port.old }
-        requires state { IsTrue (states.may_ask port.old.view.state) }
-        ensures belongs { BelongsTo K.good K.allows self.now.table.shared.key self.now.table.shared.table_id port.new }
-        ensures enqueues { Enqueues K.allows port.old.view port.new.view port.new.turn result }
-        ensures taken { port.new.taken ≡ port.old.taken + port.new.steps }
-        ensures looks { port.new.looks ≡ port.old.looks }
-        ensures counted { result ≢ Enq.Closed → Q.asks_in port.old.view.state result port.new.steps }
-        ensures bound { port.new.steps ≤ Q.most self.now.table.shared.key.terms.nodes + 3 }
-    {
+    #[inline(always)]
+    fn write(port: &mut Port<Q>, mask: Mask, bytes: &Line64) {
+        port.parcel.bytes = merge(&port.parcel.bytes, bytes, mask);
+        port.parcel.mask = Mask(port.parcel.mask.0 | mask.0);
+    }
+
+    fn enqolb(&self, port: &mut Port<Q>) -> Enq {
         let ground = &self.table.shared;
         let made = Q::ask(ground, &mut port.seat, port.node, port.state);
         port.steps = made.steps;
@@ -49,152 +81,101 @@ impl<K: Keep, Q: Discipline<K>, W: Waking> Line<K, Q, W> {
             }
             Asked::Came => {
                 port.mark = made.mark;
-                let came = arrive(
-                    ground,
+                self.arrive(
                     &mut port.seat,
                     &mut port.parcel,
+                    &mut port.state,
+                    &mut port.steps,
                     port.node,
                     port.mark,
-                );
-                match came {
-                    Arrival::Held => {
-                        port.state = PortState::Holding;
-                        Enq::Granted
-                    }
-                    Arrival::PassedOn(gone) => {
-                        let Released {
-                            state,
-                            steps,
-                            to_wake,
-                        } = gone;
-                        port.steps += steps;
-                        port.state = state;
-                        self.wake(to_wake);
-                        Enq::Closed
-                    }
-                }
+                    Enq::Granted,
+                    Enq::Closed,
+                )
             }
         }
     }
 
-    /// Looks whether the request has come to its turn.
     #[inline]
-    pub fn poll(&self, port: &mut Port<Q>) -> Poll
-        requires belongs { BelongsTo K.good K.allows self.now.table.shared.key self.now.table.shared.table_id port.old }
-        requires state { port.old.view.state ≡ PortState.Queued }
-        ensures belongs { BelongsTo K.good K.allows self.now.table.shared.key self.now.table.shared.table_id port.new }
-        ensures polls { Polls K.allows port.old.view port.new.view port.new.turn result }
-        ensures taken { port.new.taken ≡ port.old.taken + port.new.steps }
-        ensures looks { port.new.looks ≡ port.old.looks + 1 }
-        ensures counted { result ≢ Poll.Closed → port.new.steps ≡ 1 }
-        ensures bound { port.new.steps ≤ Q.most self.now.table.shared.key.terms.nodes }
-    {
+    fn poll(&self, port: &mut Port<Q>) -> Poll {
         let ground = &self.table.shared;
         port.looks = port.looks.and_one();
         port.steps = 1;
         if !Q::look(ground, &mut port.seat, port.node, port.mark) {
             return Poll::Waiting;
         }
-        let came = arrive(
-            ground,
+        self.arrive(
             &mut port.seat,
             &mut port.parcel,
+            &mut port.state,
+            &mut port.steps,
             port.node,
             port.mark,
-        );
-        match came {
-            Arrival::Held => {
-                port.state = PortState::Holding;
-                Poll::Granted
-            }
-            Arrival::PassedOn(gone) => {
-                let Released {
-                    state,
-                    steps,
-                    to_wake,
-                } = gone;
-                port.steps = 1 + steps;
-                port.state = state;
-                self.wake(to_wake);
-                Poll::Closed
-            }
-        }
+            Poll::Granted,
+            Poll::Closed,
+        )
     }
 
-    /// Withdraws the request, unless it has come to its turn.
-    pub fn withdraw(&self, port: &mut Port<Q>) -> Out
-        requires belongs { BelongsTo K.good K.allows self.now.table.shared.key self.now.table.shared.table_id port.old }
-        requires state { port.old.view.state ≡ PortState.Queued }
-        ensures belongs { BelongsTo K.good K.allows self.now.table.shared.key self.now.table.shared.table_id port.new }
-        ensures withdraws { Withdraws K.allows port.old.view port.new.view port.new.turn result }
-        ensures taken { port.new.taken ≡ port.old.taken + port.new.steps }
-        ensures looks { port.new.looks ≡ port.old.looks }
-        ensures counted { result ≢ Out.Closed → port.new.steps ≡ 1 }
-        ensures bound { port.new.steps ≤ Q.most self.now.table.shared.key.terms.nodes }
-    {
+    fn withdraw(&self, port: &mut Port<Q>) -> Out {
         let ground = &self.table.shared;
         port.steps = 1;
         if !Q::roll(ground, &mut port.seat, port.node, port.mark) {
             port.state = PortState::Rolled;
             return Out::Withdrawn;
         }
-        let came = arrive(
-            ground,
+        self.arrive(
             &mut port.seat,
             &mut port.parcel,
+            &mut port.state,
+            &mut port.steps,
             port.node,
             port.mark,
-        );
-        match came {
-            Arrival::Held => {
-                port.state = PortState::Holding;
-                Out::Granted
-            }
-            Arrival::PassedOn(gone) => {
-                let Released {
-                    state,
-                    steps,
-                    to_wake,
-                } = gone;
-                port.steps = 1 + steps;
-                port.state = state;
-                self.wake(to_wake);
-                Out::Closed
-            }
-        }
+            Out::Granted,
+            Out::Closed,
+        )
     }
 
-    /// Releases the line: the request has been served. The last turn of a lease closes the line, as `shut` does.
     #[inline(always)]
-    pub fn deqolb(&self, port: &mut Port<Q>)
-        requires belongs { BelongsTo K.good K.allows self.now.table.shared.key self.now.table.shared.table_id port.old }
-        requires state { port.old.view.state ≡ PortState.Holding }
-        requires allowed { MayRelease K.allows port.old.view port.old.turn }
-        ensures belongs { BelongsTo K.good K.allows self.now.table.shared.key self.now.table.shared.table_id port.new }
-        ensures releases { Releases K.allows false port.old.view port.new.view port.old.turn }
-        ensures taken { port.new.taken ≡ port.old.taken + port.new.steps }
-        ensures looks { port.new.looks ≡ port.old.looks }
-        ensures counted { Q.lets_go_in (length port.old.view.ends) (length port.new.view.ends) port.new.steps }
-        ensures bound { port.new.steps + 1 ≤ Q.most self.now.table.shared.key.terms.nodes }
-    {
+    fn deqolb(&self, port: &mut Port<Q>) {
         self.let_go(port, false);
     }
 
-    /// Releases the line, and closes it: no later request is served.
-    pub fn shut(&self, port: &mut Port<Q>)
-        requires belongs { BelongsTo K.good K.allows self.now.table.shared.key self.now.table.shared.table_id port.old }
-        requires state { port.old.view.state ≡ PortState.Holding }
-        requires allowed { MayRelease K.allows port.old.view port.old.turn }
-        ensures belongs { BelongsTo K.good K.allows self.now.table.shared.key self.now.table.shared.table_id port.new }
-        ensures releases { Releases K.allows true port.old.view port.new.view port.old.turn }
-        ensures taken { port.new.taken ≡ port.old.taken + port.new.steps }
-        ensures looks { port.new.looks ≡ port.old.looks }
-        ensures counted { Q.lets_go_in (length port.old.view.ends) (length port.new.view.ends) port.new.steps }
-        ensures bound { port.new.steps + 1 ≤ Q.most self.now.table.shared.key.terms.nodes }
-    {
+    fn shut(&self, port: &mut Port<Q>) {
         self.let_go(port, true);
     }
 
+    fn meet(&self, a: &mut Port<Q>, b: &mut Port<Q>) {
+        let ground = &self.table.shared;
+        if !b.holds() {
+            meet_seats(ground, &mut a.seat, &mut b.seat);
+        } else if !a.holds() {
+            meet_seats(ground, &mut b.seat, &mut a.seat);
+        } else {
+            // Not both hold, as the line is in one hand. But that is seen only where their entries are compared, in one seat, and a seat
+            // can be joined to another only without the slot: so this one gives it up first.
+            park(ground, &mut b.seat);
+            meet_seats(ground, &mut a.seat, &mut b.seat);
+            unreachable!()
+        }
+    }
+
+    fn finish(
+        self,
+        alloc: Global,
+        ports: Vec<Port<Q>>,
+    ) -> Result<Line64, Unfinished<Line<K, Q, W>, Port<Q>>>
+        requires belong { All (λ port. port.view.label ≡ self.table.shared.key.label → BelongsTo K.good K.allows self.table.shared.key self.table.shared.table_id port) ports.items }
+        ensures finished { IfOk result (λ line. IsFinished K.good K.allows self.table.shared.key.label self.table.shared.key.terms (map (λ port. port.view) ports.items) line.bytes) }
+        ensures why { IfErr result (λ back. MayRefuse self.table.shared.key.label self.table.shared.key.terms.nodes (map (λ port. port.view) ports.items) back.why) }
+        ensures line { IfErr result (λ back. back.line ≡ self) }
+        ensures ports { IfErr result (λ back. back.ports.items ≡ ports.items) }
+    {
+        self.finish_in(alloc, ports)
+    }
+
+    ghost sound = { λ line port belongs. belongs.sound };
+}
+
+impl<K: Keep, Q: Discipline<K>, W: Waking> Line<K, Q, W> {
     /// The holder's turn is over: the line is laid for the next, closed where the holder shuts it or the lease is used up, and let go.
     #[inline(always)]
     fn let_go(&self, port: &mut Port<Q>, shut: bool)
@@ -203,10 +184,7 @@ impl<K: Keep, Q: Discipline<K>, W: Waking> Line<K, Q, W> {
         requires allowed { MayRelease K.allows port.old.view port.old.turn }
         ensures belongs { BelongsTo K.good K.allows self.now.table.shared.key self.now.table.shared.table_id port.new }
         ensures releases { Releases K.allows shut port.old.view port.new.view port.old.turn }
-        ensures taken { port.new.taken ≡ port.old.taken + port.new.steps }
-        ensures looks { port.new.looks ≡ port.old.looks }
-        ensures counted { Q.lets_go_in (length port.old.view.ends) (length port.new.view.ends) port.new.steps }
-        ensures bound { port.new.steps + 1 ≤ Q.most self.now.table.shared.key.terms.nodes }
+        ensures counts { Counts (takes Q.asks_in Q.lets_go_in (Q.most self.now.table.shared.key.terms.nodes)) (Q.most self.now.table.shared.key.terms.nodes + 3) call.releases (known port.old) (known port.new) }
     {
         let ground = &self.table.shared;
         let closed = port.parcel.closes(shut);
@@ -220,32 +198,5 @@ impl<K: Keep, Q: Discipline<K>, W: Waking> Line<K, Q, W> {
         port.steps = steps;
         port.state = state;
         self.wake(to_wake);
-    }
-
-    /// Two ports of the line tell each other what they know.
-    pub fn meet(&self, a: &mut Port<Q>, b: &mut Port<Q>)
-        requires belongs_a { BelongsTo K.good K.allows self.now.table.shared.key self.now.table.shared.table_id a.old }
-        requires belongs_b { BelongsTo K.good K.allows self.now.table.shared.key self.now.table.shared.table_id b.old }
-        ensures belongs_a { BelongsTo K.good K.allows self.now.table.shared.key self.now.table.shared.table_id a.new }
-        ensures belongs_b { BelongsTo K.good K.allows self.now.table.shared.key self.now.table.shared.table_id b.new }
-        ensures tell { TellEachOther K.allows a.old.view b.old.view a.new.view b.new.view }
-        ensures turn_a { a.new.turn ≡ a.old.turn }
-        ensures turn_b { b.new.turn ≡ b.old.turn }
-        ensures steps_a { (a.new.steps ≡ a.old.steps) × (a.new.taken ≡ a.old.taken) }
-        ensures steps_b { (b.new.steps ≡ b.old.steps) × (b.new.taken ≡ b.old.taken) }
-        ensures looks { (a.new.looks ≡ a.old.looks) × (b.new.looks ≡ b.old.looks) }
-    {
-        let ground = &self.table.shared;
-        if !b.holds() {
-            meet_seats(ground, &mut a.seat, &mut b.seat);
-        } else if !a.holds() {
-            meet_seats(ground, &mut b.seat, &mut a.seat);
-        } else {
-            // Not both hold, as the line is in one hand. But that is seen only where their entries are compared, in one seat, and a seat
-            // can be joined to another only without the slot: so this one gives it up first.
-            park(ground, &mut b.seat);
-            meet_seats(ground, &mut a.seat, &mut b.seat);
-            unreachable!()
-        }
     }
 }

@@ -14,7 +14,6 @@ mod queue;
 mod rule;
 mod sleeping;
 mod slot;
-mod sync;
 
 pub use line::{Line, Width};
 pub use port::Port;

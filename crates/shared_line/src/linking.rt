@@ -2,21 +2,19 @@
 ghost use Rattle.std.specs.Prelude.{◌≡◌, ◌≢◌, ◌⊎◌, ◌+◌, ◌≤◌, IsTrue};
 ghost use Rattle.qolb_model.specs.PortStates as states;
 ghost use Rattle.qolb_model.specs.Calls.{Prepends, LinksUp};
-ghost use Rattle.shared_line.specs.Ports.{BelongsTo};
 
-use crate::arriving::{Arrival, arrive};
 use crate::line::Line;
 use crate::port::Port;
-use crate::queue::{Asked, Linked, Released};
+use crate::queue::{Asked, Linked};
 use crate::sleeping::Waking;
-use qolb_model::{Enq, Keep, PortState, Prep};
+use qolb_model::{Enq, Keep, LineSync, PortState, Prep};
 
 impl<K: Keep, Q: Linked<K>, W: Waking> Line<K, Q, W> {
     /// The first half of `enqolb`: makes a request. Behind another it is `Linking`, still to be linked to that one.
     pub fn prepend(&self, port: &mut Port<Q>) -> Prep
-        requires belongs { BelongsTo K.good K.allows self.now.table.shared.key self.now.table.shared.table_id port.old }
+        requires belongs { ⟦<Line<K, Q, W> as LineSync<K>>⟧.belongs self.now port.old }
         requires state { IsTrue (states.may_ask port.old.view.state) }
-        ensures belongs { BelongsTo K.good K.allows self.now.table.shared.key self.now.table.shared.table_id port.new }
+        ensures belongs { ⟦<Line<K, Q, W> as LineSync<K>>⟧.belongs self.now port.new }
         ensures prepends { Prepends K.allows port.old.view port.new.view port.new.turn result }
         ensures taken { port.new.taken ≡ port.old.taken + port.new.steps }
         ensures looks { port.new.looks ≡ port.old.looks }
@@ -36,39 +34,25 @@ impl<K: Keep, Q: Linked<K>, W: Waking> Line<K, Q, W> {
             }
             Asked::Came => {
                 port.mark = made.mark;
-                let came = arrive(
-                    ground,
+                self.arrive(
                     &mut port.seat,
                     &mut port.parcel,
+                    &mut port.state,
+                    &mut port.steps,
                     port.node,
                     port.mark,
-                );
-                match came {
-                    Arrival::Held => {
-                        port.state = PortState::Holding;
-                        Prep::Granted
-                    }
-                    Arrival::PassedOn(gone) => {
-                        let Released {
-                            state,
-                            steps,
-                            to_wake,
-                        } = gone;
-                        port.steps += steps;
-                        port.state = state;
-                        self.wake(to_wake);
-                        Prep::Closed
-                    }
-                }
+                    Prep::Granted,
+                    Prep::Closed,
+                )
             }
         }
     }
 
     /// The second half of `enqolb`: links the request to the one before. It is never `Busy`.
     pub fn link(&self, port: &mut Port<Q>) -> Enq
-        requires belongs { BelongsTo K.good K.allows self.now.table.shared.key self.now.table.shared.table_id port.old }
+        requires belongs { ⟦<Line<K, Q, W> as LineSync<K>>⟧.belongs self.now port.old }
         requires state { port.old.view.state ≡ PortState.Linking }
-        ensures belongs { BelongsTo K.good K.allows self.now.table.shared.key self.now.table.shared.table_id port.new }
+        ensures belongs { ⟦<Line<K, Q, W> as LineSync<K>>⟧.belongs self.now port.new }
         ensures links_up { LinksUp K.allows port.old.view port.new.view port.new.turn result }
         ensures taken { port.new.taken ≡ port.old.taken + port.new.steps }
         ensures looks { port.new.looks ≡ port.old.looks }
@@ -81,29 +65,15 @@ impl<K: Keep, Q: Linked<K>, W: Waking> Line<K, Q, W> {
             port.state = PortState::Queued;
             return Enq::Queued;
         }
-        let came = arrive(
-            ground,
+        self.arrive(
             &mut port.seat,
             &mut port.parcel,
+            &mut port.state,
+            &mut port.steps,
             port.node,
             port.mark,
-        );
-        match came {
-            Arrival::Held => {
-                port.state = PortState::Holding;
-                Enq::Granted
-            }
-            Arrival::PassedOn(gone) => {
-                let Released {
-                    state,
-                    steps,
-                    to_wake,
-                } = gone;
-                port.steps = 1 + steps;
-                port.state = state;
-                self.wake(to_wake);
-                Enq::Closed
-            }
-        }
+            Enq::Granted,
+            Enq::Closed,
+        )
     }
 }

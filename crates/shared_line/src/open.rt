@@ -12,7 +12,7 @@ use crate::rule::{Ground, LineSeat, Parcel, Setup};
 use crate::sleeping::Waking;
 use atomic_table::Table;
 use line_lanes::{Line64, Mask};
-use qolb_model::{Keep, Looks, OpenError, PortState, Terms};
+use qolb_model::{Keep, Looks, OpenError, OpenLine, PortState, Terms};
 use std::alloc::{AllocError, Global};
 use std::marker::PhantomData;
 use std::mem;
@@ -120,6 +120,16 @@ impl<K: Keep, Q: Discipline<K>, W: Waking> Line<K, Q, W> {
             )),
             Err(_) => Err(AllocError),
         }
+    }
+}
+
+impl<K: Keep, Q: Discipline<K>, W: Waking> OpenLine<K> for Line<K, Q, W> {
+    fn open_with(
+        alloc: Global,
+        label: u64,
+        terms: Terms,
+    ) -> Result<(Line<K, Q, W>, Vec<Port<Q>>), OpenError> {
+        Line::<K, Q, W>::with_terms(alloc, label, terms)
     }
 }
 

@@ -1,6 +1,5 @@
 //! Waiters that sleep, and whoever wakes them. None of it is a step of the queue: the table stays as it is.
 ghost use Rattle.std.specs.Prelude.{◌≡◌, ℕ, ◌<◌, ◌%◌, ◌^◌, false};
-ghost use Rattle.shared_line.specs.Ports.{BelongsTo};
 ghost use Rattle.shared_line.specs.Steps.{IsSeatOf, IsOwnNode, Rests};
 
 use crate::line::Line;
@@ -8,7 +7,7 @@ use crate::port::Port;
 use crate::queue::Discipline;
 use crate::rule::{Ground, LineSeat};
 use crossbeam_utils::CachePadded;
-use qolb_model::{Keep, PortState};
+use qolb_model::{Keep, PortState, Sleeping};
 use std::sync::Wait;
 use std::sync::atomic::{AtomicU64, Ordering};
 use std::time::Duration;
@@ -94,24 +93,6 @@ impl<K: Keep, Q: Discipline<K>> Line<K, Q> {
         self.sleepers.count.load(Ordering::SeqCst)
     }
 
-    /// Sleeps until the request's turn may have come, or so much time is over. It may also return for no reason.
-    ///
-    /// It is counted before its sleep begins, and a release looks at the count after its grant. So either the sleep finds the grant, or the
-    /// release finds a sleeper; and as the sleep begins only where the word is what was seen, a wake between look and sleep is not slept over.
-    pub fn sleep<R: Wait>(&self, rt: &R, port: &Port<Q>, at_most: Duration)
-        requires belongs { BelongsTo K.good K.allows self.now.table.shared.key self.now.table.shared.table_id port.now }
-        requires state { port.now.view.state ≡ PortState.Queued }
-    {
-        let word = Q::awaited(port.node, port.mark);
-        self.sleepers.count.fetch_add(1, Ordering::SeqCst);
-        let seen = self.table.shared.peek(word);
-        if !Q::may_have_come(port.mark, seen) {
-            let low = (seen % (1 << 32)) as u32;
-            self.park(rt, &port.seat, port.node, port.mark, low, at_most);
-        }
-        self.sleepers.count.fetch_sub(1, Ordering::SeqCst);
-    }
-
     /// Sleeps at the word where the node waits, so long as its lower half is that of a word in which the node's turn has not come.
     fn park<R: Wait>(
         &self,
@@ -129,6 +110,21 @@ impl<K: Keep, Q: Discipline<K>> Line<K, Q> {
     {
         let word = Q::awaited(node, mark);
         self.table.shared.park_timeout(rt, word, low, at_most);
+    }
+}
+
+impl<K: Keep, Q: Discipline<K>> Sleeping<K> for Line<K, Q> {
+    /// It is counted before its sleep begins, and a release looks at the count after its grant. So either the sleep finds the grant, or the
+    /// release finds a sleeper; and as the sleep begins only where the word is what was seen, a wake between look and sleep is not slept over.
+    fn sleep<R: Wait>(&self, rt: &R, port: &Port<Q>, at_most: Duration) {
+        let word = Q::awaited(port.node, port.mark);
+        self.sleepers.count.fetch_add(1, Ordering::SeqCst);
+        let seen = self.table.shared.peek(word);
+        if !Q::may_have_come(port.mark, seen) {
+            let low = (seen % (1 << 32)) as u32;
+            self.park(rt, &port.seat, port.node, port.mark, low, at_most);
+        }
+        self.sleepers.count.fetch_sub(1, Ordering::SeqCst);
     }
 }
 

@@ -1,38 +1,22 @@
-use Rattle.std.proofs.Common.{arith, subst, ◌+◌, ◌≤◌, ◌∙◌}
+use Rattle.std.proofs.Common.{◌∙◌}
+use Rattle.qolb_model.proofs.Answering.{prepends_busy, prepends_linking, prepends_came}
 use Rattle.qolb_model.proofs.Going.{joined_goes}
-use Rattle.qolb_model.proofs.Answering.{prepends_busy, prepends_linking, prepends_granted, prepends_told}
 use Rattle.shared_line.specs.Steps.{entry_of}
-use Rattle.shared_line.proofs.Turning.{Went, then}
-use Rattle.shared_line.proofs.Calling.{came_asked, behind_asked, few_steps, call_continues, call_belongs, call_nodes, call_many, call_own, call_busy, call_asks, call_asks_on}
-use Rattle.shared_line.proofs.Arrived.{passed_port}
+use Rattle.shared_line.proofs.Turning.{then_to}
+use Rattle.shared_line.proofs.Calling.{came_asked, behind_asked, call_continues, call_belongs, call_seat, call_busy, call_asks, call_asks_on}
 use Rattle.shared_line.proofs.line.Line.prepend.Goals as goal
 
-pub arrive-came-requires-clause-alone : goal.arrive-came-requires-clause-alone
-arrive-came-requires-clause-alone g c = c.prepend-made.ensures.goes_on.alone
+pub arrive-requires-clause-seat : goal.arrive-requires-clause-seat
+arrive-requires-clause-seat g c = let q = c.port.inside in call_seat q.seat q.parcel q.steps q.looks.count c.requires.belongs c.port.view_is (record { same = c.prepend-made.ensures.same; goes = c.prepend-made.ensures.goes_on }) q.node c.port.invariant.node_is
 
-pub arrive-came-requires-clause-own : goal.arrive-came-requires-clause-own
-arrive-came-requires-clause-own g c = let q = c.port.inside in let l = c.args.self.now in
-    call_own q.seat q.parcel q.steps q.looks.count c.requires.belongs c.port.view_is (record { same = c.prepend-made.ensures.same; goes = c.prepend-made.ensures.goes_on }) l.nodes l.counted l.few_nodes q.node c.port.invariant.node_is
-
-pub arrive-came-requires-clause-nodes : goal.arrive-came-requires-clause-nodes
-arrive-came-requires-clause-nodes g c = let q = c.port.inside in let l = c.args.self.now in
-    call_many q.seat q.parcel q.steps q.looks.count c.requires.belongs c.port.view_is (record { same = c.prepend-made.ensures.same; goes = c.prepend-made.ensures.goes_on }) l.nodes l.counted l.few_nodes l.some_nodes
-
-pub arrive-came-requires-clause-comes : goal.arrive-came-requires-clause-comes
-arrive-came-requires-clause-comes g c = c.prepend-made.ensures.came c.in-Came.is
-
-pub invariant_of-port-in-PassedOn : goal.invariant_of-port-in-PassedOn
-invariant_of-port-in-PassedOn g c = let q = c.port.inside in
-    let went : Went g.K.Keep.allows g.Q.Shape.fresh c.prepend-made.new.seat c.arrive-came.new.seat c.in-PassedOn.gone.steps = record { same = c.in-PassedOn.ensures.same; goes = c.in-PassedOn.ensures.goes_on } in
-    passed_port q.label q.node c.prepend-made.result.mark c.arrive-came.new.parcel c.in-PassedOn.gone.state (c.prepend-made.ensures.goes_on.extends.label ∙ c.port.invariant.label_is) (c.prepend-made.ensures.goes_on.extends.node ∙ c.port.invariant.node_is) went c.in-PassedOn.ensures.arrived
+pub arrive-requires-clause-comes : goal.arrive-requires-clause-comes
+arrive-requires-clause-comes g c = c.prepend-made.ensures.came c.in-Came.is
 
 pub returns-in-Busy-clause-belongs : goal.returns-in-Busy-clause-belongs
-returns-in-Busy-clause-belongs g c = let q = c.port.inside in
-    call_belongs q.seat q.parcel q.steps q.looks.count c.requires.belongs c.port.view_is (record { same = c.prepend-made.ensures.same; goes = c.prepend-made.ensures.goes_on }) q.parcel c.prepend-made.result.steps
+returns-in-Busy-clause-belongs g c = let q = c.port.inside in call_belongs q.seat q.parcel q.steps q.looks.count c.requires.belongs c.port.view_is (record { same = c.prepend-made.ensures.same; goes = c.prepend-made.ensures.goes_on }) q.parcel c.prepend-made.result.steps
 
 pub returns-in-Behind-clause-belongs : goal.returns-in-Behind-clause-belongs
-returns-in-Behind-clause-belongs g c = let q = c.port.inside in
-    call_belongs q.seat q.parcel q.steps q.looks.count c.requires.belongs c.port.view_is (record { same = c.prepend-made.ensures.same; goes = c.prepend-made.ensures.goes_on }) q.parcel c.prepend-made.result.steps
+returns-in-Behind-clause-belongs g c = let q = c.port.inside in call_belongs q.seat q.parcel q.steps q.looks.count c.requires.belongs c.port.view_is (record { same = c.prepend-made.ensures.same; goes = c.prepend-made.ensures.goes_on }) q.parcel c.prepend-made.result.steps
 
 pub returns-in-Busy-clause-prepends : goal.returns-in-Busy-clause-prepends
 returns-in-Busy-clause-prepends g c = let q = c.port.inside in
@@ -43,34 +27,11 @@ returns-in-Behind-clause-prepends g c = let q = c.port.inside in
     prepends_linking (call_continues q.seat q.parcel q.steps q.looks.count c.requires.belongs c.port.view_is (record { same = c.prepend-made.ensures.same; goes = c.prepend-made.ensures.goes_on }))
     (call_asks g.Q.Shape.fresh q.seat q.parcel q.steps q.looks.count c.port.view_is (c.prepend-made.ensures.asks (behind_asked c.in-Behind.is))) (c.prepend-made.ensures.behind c.in-Behind.is).1.linking
 
-pub returns-in-Behind-clause-bound : goal.returns-in-Behind-clause-bound
-returns-in-Behind-clause-bound g c = few_steps 2 _ _ c.prepend-made.ensures.bound (g.Q.Shape.most_some _ (subst (λ n. 1 ≤ n) c.args.self.now.counted c.args.self.now.some_nodes))
+pub invariant_of-port-in-Came : goal.invariant_of-port-in-Came
+invariant_of-port-in-Came g c = c.arrive.ensures.port c.port.inside.label (c.prepend-made.ensures.goes_on.extends.label ∙ c.port.invariant.label_is)
 
-pub returns-in-Held-clause-belongs : goal.returns-in-Held-clause-belongs
-returns-in-Held-clause-belongs g c = let q = c.port.inside in
-    call_belongs q.seat q.parcel q.steps q.looks.count c.requires.belongs c.port.view_is {t = c.arrive-came.new.seat} (then (record { same = c.prepend-made.ensures.same; goes = c.prepend-made.ensures.goes_on }) (record { same = c.in-Held.ensures.same; goes = c.in-Held.ensures.goes_on })) c.arrive-came.new.parcel c.prepend-made.result.steps
-
-pub returns-in-Held-clause-prepends : goal.returns-in-Held-clause-prepends
-returns-in-Held-clause-prepends g c = let q = c.port.inside in
-    let more = c.in-Held.ensures.goes_on.extends in
-    prepends_granted (call_continues q.seat q.parcel q.steps q.looks.count c.requires.belongs c.port.view_is {t = c.arrive-came.new.seat} (then (record { same = c.prepend-made.ensures.same; goes = c.prepend-made.ensures.goes_on }) (record { same = c.in-Held.ensures.same; goes = c.in-Held.ensures.goes_on })))
-    (call_asks_on g.Q.Shape.fresh q.seat q.parcel q.steps q.looks.count c.port.view_is (c.prepend-made.ensures.asks (came_asked c.in-Came.is)) more c.in-Held.ensures.count)
-    (joined_goes (entry_of g.Q.Shape.fresh c.prepend-made.new.seat).view (entry_of g.Q.Shape.fresh c.arrive-came.new.seat).view (c.prepend-made.ensures.joined c.in-Came.is) more c.in-Held.ensures.count) c.in-Held.ensures.arrived.2
-
-pub returns-in-Held-clause-bound : goal.returns-in-Held-clause-bound
-returns-in-Held-clause-bound g c = few_steps 2 _ _ c.prepend-made.ensures.bound (g.Q.Shape.most_some _ (subst (λ n. 1 ≤ n) c.args.self.now.counted c.args.self.now.some_nodes))
-
-pub returns-in-PassedOn-clause-belongs : goal.returns-in-PassedOn-clause-belongs
-returns-in-PassedOn-clause-belongs g c = let q = c.port.inside in
-    call_belongs q.seat q.parcel q.steps q.looks.count c.requires.belongs c.port.view_is {t = c.arrive-came.new.seat} (then (record { same = c.prepend-made.ensures.same; goes = c.prepend-made.ensures.goes_on }) (record { same = c.in-PassedOn.ensures.same; goes = c.in-PassedOn.ensures.goes_on })) c.arrive-came.new.parcel (c.prepend-made.result.steps + c.in-PassedOn.gone.steps)
-
-pub returns-in-PassedOn-clause-prepends : goal.returns-in-PassedOn-clause-prepends
-returns-in-PassedOn-clause-prepends g c = let q = c.port.inside in
-    let more = c.in-PassedOn.ensures.goes_on.extends in
-    prepends_told (call_continues q.seat q.parcel q.steps q.looks.count c.requires.belongs c.port.view_is {t = c.arrive-came.new.seat} (then (record { same = c.prepend-made.ensures.same; goes = c.prepend-made.ensures.goes_on }) (record { same = c.in-PassedOn.ensures.same; goes = c.in-PassedOn.ensures.goes_on })))
-    (call_asks_on g.Q.Shape.fresh q.seat q.parcel q.steps q.looks.count c.port.view_is (c.prepend-made.ensures.asks (came_asked c.in-Came.is)) more c.in-PassedOn.ensures.count)
-    (joined_goes (entry_of g.Q.Shape.fresh c.prepend-made.new.seat).view (entry_of g.Q.Shape.fresh c.arrive-came.new.seat).view (c.prepend-made.ensures.joined c.in-Came.is) more c.in-PassedOn.ensures.count) c.in-PassedOn.ensures.arrived.0.1
-
-pub returns-in-PassedOn-clause-bound : goal.returns-in-PassedOn-clause-bound
-returns-in-PassedOn-clause-bound g c = let q = c.port.inside in
-    subst (λ n. c.prepend-made.result.steps + c.in-PassedOn.gone.steps ≤ g.Q.Shape.most n + 2) (call_nodes q.seat q.parcel q.steps q.looks.count c.requires.belongs c.port.view_is {t = c.prepend-made.new.seat} (record { same = c.prepend-made.ensures.same; goes = c.prepend-made.ensures.goes_on })) (omega (arith, c.prepend-made.ensures.bound, c.in-PassedOn.ensures.bound))
+pub returns-in-Came-clause-prepends : goal.returns-in-Came-clause-prepends
+returns-in-Came-clause-prepends g c = let q = c.port.inside in let more = c.arrive.ensures.went.goes.extends in
+    prepends_came (call_continues q.seat q.parcel q.steps q.looks.count c.requires.belongs c.port.view_is {t = c.arrive.new.seat} (then_to (record { same = c.prepend-made.ensures.same; goes = c.prepend-made.ensures.goes_on }) c.arrive.ensures.more c.arrive.ensures.went))
+    (call_asks_on g.Q.Shape.fresh q.seat q.parcel q.steps q.looks.count c.port.view_is (c.prepend-made.ensures.asks (came_asked c.in-Came.is)) more c.arrive.ensures.count)
+    (joined_goes (entry_of g.Q.Shape.fresh c.prepend-made.new.seat).view (entry_of g.Q.Shape.fresh c.arrive.new.seat).view (c.prepend-made.ensures.joined c.in-Came.is) more c.arrive.ensures.count) c.arrive.ensures.came
