@@ -1,19 +1,15 @@
--- A port as contracts see it, and what each of its calls counts.
+-- What a port counts of its calls.
 use Rattle.std.specs.Prelude.{◌≡◌, ◌+◌, ◌≤◌, ℕ}
 use Rattle.qolb_model.specs.declared.answer.Enq.{Enq}
 use Rattle.qolb_model.specs.declared.answer.Poll.{Poll}
 use Rattle.qolb_model.specs.declared.answer.Out.{Out}
 use Rattle.qolb_model.specs.declared.view.View.{View}
-use Rattle.qolb_model.specs.declared.write.Write.{Write}
 
--- what a port knows of its line; the line's bytes as they stand in the holder's hand, with the mask of what it has written in this turn;
--- how many word steps its last call took, and all its calls; and how often it was polled
-pub record Standing : Type 0 where
-  pub view : View
-  pub turn : Write
+-- word steps of a port's last call, word steps of all its calls, and how often it was polled
+pub record Counters : Type 0 where
   pub steps : ℕ
-  pub taken : ℕ
-  pub looks : ℕ
+  pub total_steps : ℕ
+  pub poll_count : ℕ
 
 -- a call of a port, with its answer
 pub data Call : Type 0 where
@@ -22,16 +18,17 @@ pub data Call : Type 0 where
   withdraws : (answer : Out) → Call
   releases : Call
 
--- how often a port has looked after a call, which had looked so often before
-abbrev pub looks_after : Call → ℕ → ℕ
-looks_after (asks answer) looked = looked
-looks_after (polls answer) looked = looked + 1
-looks_after (withdraws answer) looked = looked
-looks_after releases looked = looked
+-- how often a port was polled, after a call: each poll counts, and no other call
+abbrev pub polls_after : Call → ℕ → ℕ
+polls_after (asks answer) count = count
+polls_after (polls answer) count = count + 1
+polls_after (withdraws answer) count = count
+polls_after releases count = count
 
--- a call took as many word steps as the lock says, and no more than the most; and the port has counted them
-pub record Counts (takes : Call → View → View → ℕ → Type 0) (most : ℕ) (call : Call) (old new : Standing) : Type 0 where
-  pub taken : new.taken ≡ old.taken + new.steps
-  pub within : takes call old.view new.view new.steps
+-- a port's counters after a call: the call took as many word steps as the lock says, no more than the most, and they are counted
+pub record Counts (call_steps : Call → View → View → ℕ → Type 0) (most : ℕ) (call : Call) (before after : View) (old new : Counters)
+    : Type 0 where
+  pub within : call_steps call before after new.steps
   pub bound : new.steps ≤ most
-  pub looks : new.looks ≡ looks_after call old.looks
+  pub total_steps : new.total_steps ≡ old.total_steps + new.steps
+  pub poll_count : new.poll_count ≡ polls_after call old.poll_count

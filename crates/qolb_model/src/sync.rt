@@ -2,6 +2,7 @@ ghost use Rattle.std.specs.Prelude.{◌≡◌, ◌≢◌, ◌↔◌, ℕ, true, 
 ghost use Rattle.qolb_model.specs.declared.terms.Terms.{Terms};
 ghost use Rattle.qolb_model.specs.declared.answer.PortState.{PortState};
 ghost use Rattle.qolb_model.specs.declared.view.View.{View};
+ghost use Rattle.qolb_model.specs.declared.write.Write.{Write};
 ghost use Rattle.qolb_model.specs.OneOwner.{turn_after};
 ghost use Rattle.qolb_model.specs.PortStates.{may_ask};
 ghost use Rattle.qolb_model.specs.Leases.{turns_left};
@@ -9,7 +10,7 @@ ghost use Rattle.qolb_model.specs.Kept.{MayRelease};
 ghost use Rattle.qolb_model.specs.Turns.{IsTurn};
 ghost use Rattle.qolb_model.specs.Sound.{IsSound};
 ghost use Rattle.qolb_model.specs.Calls.{Enqueues, Polls, Withdraws, Releases, TellEachOther};
-ghost use Rattle.qolb_model.specs.Counting.{Standing, Call, Counts};
+ghost use Rattle.qolb_model.specs.Counting.{Counters, Call, Counts};
 ghost use Rattle.qolb_model.specs.Counting as call;
 ghost use Rattle.qolb_model.specs.Finishing.{MayRefuse, IsFinished};
 
@@ -29,14 +30,20 @@ pub trait LineSync<K: Keep> {
     /// A node's end of the line.
     type Port;
 
-    /// What a port knows, holds and has counted.
-    ghost knows: { Self.Port → Standing };
+    /// What a port knows of its line and of its own requests.
+    ghost view: { Self.Port → View };
+
+    /// The line's bytes in the holder's hand, with the mask of what it has written in this turn.
+    ghost turn: { Self.Port → Write };
+
+    /// The word steps and polls that a port has counted.
+    ghost counters: { Self.Port → Counters };
 
     /// A port may show this state.
-    ghost shows: { PortState → Type 0 };
+    ghost allowed_states: { PortState → Type 0 };
 
-    /// A call takes so many word steps, by what the port knew before it and knows after it.
-    ghost takes: { Self → Call → View → View → ℕ → Type 0 };
+    /// A call takes so many word steps, by the port's view before it and after it.
+    ghost call_steps: { Self → Call → View → View → ℕ → Type 0 };
 
     /// The most word steps of one call of a port, whatever other nodes do meanwhile.
     ghost most: { Self → ℕ };
@@ -60,77 +67,79 @@ pub trait LineSync<K: Keep> {
 
     /// The port's node.
     fn node(port: &Self::Port) -> u64
-        ensures { result ≡ (knows port.now).view.node };
+        ensures { result ≡ (view port.now).node };
 
     /// What the port's last call left.
     fn state(port: &Self::Port) -> PortState
-        ensures state { result ≡ (knows port.now).view.state }
-        ensures shown { shows result };
+        ensures state { result ≡ (view port.now).state }
+        ensures allowed { allowed_states result };
 
     /// Whether the port's label is the line's.
     fn owns(&self, port: &Self::Port) -> bool
-        ensures { IsTrue result ↔ ((knows port.now).view.label ≡ label_of self.now) };
+        ensures { IsTrue result ↔ ((view port.now).label ≡ label_of self.now) };
 
     /// The line's bytes as the holder sees them.
     fn bytes(port: &Self::Port) -> &Line64
-        requires { (knows port.now).view.state ≡ PortState.Holding }
-        ensures bytes { result.now ≡ (knows port.now).turn.bytes }
-        ensures turn { IsTurn (knows port.now).view (knows port.now).turn };
+        requires { (view port.now).state ≡ PortState.Holding }
+        ensures bytes { result.now ≡ (turn port.now).bytes }
+        ensures turn { IsTurn (view port.now) (turn port.now) };
 
     /// How many turns are left of the line's lease, with the holder's own: at least 1. `None` without a lease.
     fn turns_left(&self, port: &Self::Port) -> Option<u64>
         requires belongs { belongs self.now port.now }
-        requires state { (knows port.now).view.state ≡ PortState.Holding }
-        ensures left { result ≡ turns_left (terms_of self.now).lease (knows port.now).view.ends }
+        requires state { (view port.now).state ≡ PortState.Holding }
+        ensures left { result ≡ turns_left (terms_of self.now).lease (view port.now).ends }
         ensures some { result ≢ Some 0 };
 
     /// The holder writes the bytes of the mask.
     fn write(port: &mut Self::Port, mask: Mask, bytes: &Line64)
-        requires { (knows port.old).view.state ≡ PortState.Holding }
-        ensures writes { knows port.new ≡ record (knows port.old) { turn = turn_after (knows port.old).turn mask.0 bytes.now.bytes } }
+        requires { (view port.old).state ≡ PortState.Holding }
+        ensures view { view port.new ≡ view port.old }
+        ensures turn { turn port.new ≡ turn_after (turn port.old) mask.0 bytes.now.bytes }
+        ensures counters { counters port.new ≡ counters port.old }
         ensures belongs { (line : Self) → belongs line port.old → belongs line port.new };
 
     /// Asks for the line: the request is granted, or waits; or it is told that the line is closed. Busy, nothing is asked.
     fn enqolb(&self, port: &mut Self::Port) -> Enq
         requires belongs { belongs self.now port.old }
-        requires state { IsTrue (may_ask (knows port.old).view.state) }
+        requires state { IsTrue (may_ask (view port.old).state) }
         ensures belongs { belongs self.now port.new }
-        ensures enqueues { Enqueues K.allows (knows port.old).view (knows port.new).view (knows port.new).turn result }
-        ensures counts { Counts (takes self.now) (most self.now) (call.asks result) (knows port.old) (knows port.new) };
+        ensures enqueues { Enqueues K.allows (view port.old) (view port.new) (turn port.new) result }
+        ensures counts { Counts (call_steps self.now) (most self.now) (call.asks result) (view port.old) (view port.new) (counters port.old) (counters port.new) };
 
     /// Looks whether the request has come to its turn.
     fn poll(&self, port: &mut Self::Port) -> Poll
         requires belongs { belongs self.now port.old }
-        requires state { (knows port.old).view.state ≡ PortState.Queued }
+        requires state { (view port.old).state ≡ PortState.Queued }
         ensures belongs { belongs self.now port.new }
-        ensures polls { Polls K.allows (knows port.old).view (knows port.new).view (knows port.new).turn result }
-        ensures counts { Counts (takes self.now) (most self.now) (call.polls result) (knows port.old) (knows port.new) };
+        ensures polls { Polls K.allows (view port.old) (view port.new) (turn port.new) result }
+        ensures counts { Counts (call_steps self.now) (most self.now) (call.polls result) (view port.old) (view port.new) (counters port.old) (counters port.new) };
 
     /// Gives the request up, unless it has come to its turn.
     fn withdraw(&self, port: &mut Self::Port) -> Out
         requires belongs { belongs self.now port.old }
-        requires state { (knows port.old).view.state ≡ PortState.Queued }
+        requires state { (view port.old).state ≡ PortState.Queued }
         ensures belongs { belongs self.now port.new }
-        ensures withdraws { Withdraws K.allows (knows port.old).view (knows port.new).view (knows port.new).turn result }
-        ensures counts { Counts (takes self.now) (most self.now) (call.withdraws result) (knows port.old) (knows port.new) };
+        ensures withdraws { Withdraws K.allows (view port.old) (view port.new) (turn port.new) result }
+        ensures counts { Counts (call_steps self.now) (most self.now) (call.withdraws result) (view port.old) (view port.new) (counters port.old) (counters port.new) };
 
     /// Releases the line: the request has been served. The last turn of a lease closes the line, as `shut` does.
     fn deqolb(&self, port: &mut Self::Port)
         requires belongs { belongs self.now port.old }
-        requires state { (knows port.old).view.state ≡ PortState.Holding }
-        requires allowed { MayRelease K.allows (knows port.old).view (knows port.old).turn }
+        requires state { (view port.old).state ≡ PortState.Holding }
+        requires allowed { MayRelease K.allows (view port.old) (turn port.old) }
         ensures belongs { belongs self.now port.new }
-        ensures releases { Releases K.allows false (knows port.old).view (knows port.new).view (knows port.old).turn }
-        ensures counts { Counts (takes self.now) (most self.now) call.releases (knows port.old) (knows port.new) };
+        ensures releases { Releases K.allows false (view port.old) (view port.new) (turn port.old) }
+        ensures counts { Counts (call_steps self.now) (most self.now) call.releases (view port.old) (view port.new) (counters port.old) (counters port.new) };
 
     /// Releases the line and closes it: nobody will be served any more.
     fn shut(&self, port: &mut Self::Port)
         requires belongs { belongs self.now port.old }
-        requires state { (knows port.old).view.state ≡ PortState.Holding }
-        requires allowed { MayRelease K.allows (knows port.old).view (knows port.old).turn }
+        requires state { (view port.old).state ≡ PortState.Holding }
+        requires allowed { MayRelease K.allows (view port.old) (turn port.old) }
         ensures belongs { belongs self.now port.new }
-        ensures releases { Releases K.allows true (knows port.old).view (knows port.new).view (knows port.old).turn }
-        ensures counts { Counts (takes self.now) (most self.now) call.releases (knows port.old) (knows port.new) };
+        ensures releases { Releases K.allows true (view port.old) (view port.new) (turn port.old) }
+        ensures counts { Counts (call_steps self.now) (most self.now) call.releases (view port.old) (view port.new) (counters port.old) (counters port.new) };
 
     /// Two ports of the line tell each other what they know. They are of different nodes, and not both hold the line.
     fn meet(&self, a: &mut Self::Port, b: &mut Self::Port)
@@ -138,9 +147,11 @@ pub trait LineSync<K: Keep> {
         requires belongs_b { belongs self.now b.old }
         ensures belongs_a { belongs self.now a.new }
         ensures belongs_b { belongs self.now b.new }
-        ensures tell { TellEachOther K.allows (knows a.old).view (knows b.old).view (knows a.new).view (knows b.new).view }
-        ensures rest_a { knows a.new ≡ record (knows a.old) { view = (knows a.new).view } }
-        ensures rest_b { knows b.new ≡ record (knows b.old) { view = (knows b.new).view } };
+        ensures tell { TellEachOther K.allows (view a.old) (view b.old) (view a.new) (view b.new) }
+        ensures turn_a { turn a.new ≡ turn a.old }
+        ensures turn_b { turn b.new ≡ turn b.old }
+        ensures counters_a { counters a.new ≡ counters a.old }
+        ensures counters_b { counters b.new ≡ counters b.old };
 
     /// Takes the line apart, with the ports of all its nodes in any order. Refused, it hands both back.
     fn finish(
@@ -148,12 +159,12 @@ pub trait LineSync<K: Keep> {
         alloc: Global,
         ports: Vec<Self::Port>,
     ) -> Result<Line64, Unfinished<Self, Self::Port>>
-        requires belong { All (λ port. (knows port).view.label ≡ label_of self → belongs self port) ports.items }
-        ensures finished { IfOk result (λ line. IsFinished K.good K.allows (label_of self) (terms_of self) (map (λ port. (knows port).view) ports.items) line.bytes) }
-        ensures why { IfErr result (λ back. MayRefuse (label_of self) (terms_of self).nodes (map (λ port. (knows port).view) ports.items) back.why) }
+        requires belong { All (λ port. (view port).label ≡ label_of self → belongs self port) ports.items }
+        ensures finished { IfOk result (λ line. IsFinished K.good K.allows (label_of self) (terms_of self) (map view ports.items) line.bytes) }
+        ensures why { IfErr result (λ back. MayRefuse (label_of self) (terms_of self).nodes (map view ports.items) back.why) }
         ensures line { IfErr result (λ back. back.line ≡ self) }
         ensures ports { IfErr result (λ back. back.ports.items ≡ ports.items) };
 
     /// What is true of each port of the line.
-    ghost sound: { (line : Self) (port : Self.Port) → belongs line port → IsSound K.good K.allows (label_of line) (terms_of line) (knows port).view };
+    ghost sound: { (line : Self) (port : Self.Port) → belongs line port → IsSound K.good K.allows (label_of line) (terms_of line) (view port) };
 }
