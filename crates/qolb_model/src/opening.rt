@@ -21,7 +21,7 @@ pub trait OpenLine<K: Keep>: LineSync<K> {
         terms: Terms,
     ) -> Result<(Self, Vec<Self::Port>), OpenError>
         requires good { K.good terms.opening.bytes }
-        ensures opens { IfOk result (λ r. Opens (λ port. (Self.knows port).view) (Self.belongs r.0) (Self.label_of r.0) (Self.terms_of r.0) label terms r.1.items) }
+        ensures opens { IfOk result (λ r. Opens Self.view (Self.belongs r.0) (Self.label_of r.0) (Self.terms_of r.0) label terms r.1.items) }
         ensures may_open { IfOk result (λ r. MayOpen terms) }
         ensures why { IfErr result (λ error. MayNotOpen terms error) };
 }

@@ -28,11 +28,11 @@ pub fn acquire_patiently<K: Keep, L: LineSync<K>>(
     patience: u64,
 ) -> Asked
     requires belongs { L.belongs line.now port.old }
-    requires state { IsTrue (may_ask (L.knows port.old).view.state) }
+    requires state { IsTrue (may_ask (L.view port.old).state) }
     ensures belongs { L.belongs line.now port.new }
-    ensures acquires { AcquiresPatiently K.allows (L.knows port.old).view (L.knows port.new).view (L.knows port.new).turn result }
-    ensures patient { (L.knows port.new).looks ≤ (L.knows port.old).looks + patience }
-    ensures late { result ≡ Asked.Late → (L.knows port.new).looks ≡ (L.knows port.old).looks + patience }
+    ensures acquires { AcquiresPatiently K.allows (L.view port.old) (L.view port.new) (L.turn port.new) result }
+    ensures patient { (L.counters port.new).poll_count ≤ (L.counters port.old).poll_count + patience }
+    ensures late { result ≡ Asked.Late → (L.counters port.new).poll_count ≡ (L.counters port.old).poll_count + patience }
 {
     match line.enqolb(port) {
         Enq::Granted => Asked::Granted,
@@ -49,11 +49,11 @@ pub fn acquire_patiently<K: Keep, L: LineSync<K>>(
 /// Polls at most `patience` times while the request waits, and then withdraws it.
 fn wait_patiently<K: Keep, L: LineSync<K>>(line: &L, port: &mut L::Port, patience: u64) -> Out
     requires belongs { L.belongs line.now port.old }
-    requires state { (L.knows port.old).view.state ≡ PortState.Queued }
+    requires state { (L.view port.old).state ≡ PortState.Queued }
     ensures belongs { L.belongs line.now port.new }
-    ensures withdraws { Withdraws K.allows (L.knows port.old).view (L.knows port.new).view (L.knows port.new).turn result }
-    ensures patient { (L.knows port.new).looks ≤ (L.knows port.old).looks + patience }
-    ensures late { result ≡ Out.Withdrawn → (L.knows port.new).looks ≡ (L.knows port.old).looks + patience }
+    ensures withdraws { Withdraws K.allows (L.view port.old) (L.view port.new) (L.turn port.new) result }
+    ensures patient { (L.counters port.new).poll_count ≤ (L.counters port.old).poll_count + patience }
+    ensures late { result ≡ Out.Withdrawn → (L.counters port.new).poll_count ≡ (L.counters port.old).poll_count + patience }
 {
     for _ in 0..patience {
         match line.poll(port) {

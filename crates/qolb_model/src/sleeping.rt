@@ -15,5 +15,5 @@ pub trait Sleeping<K: Keep>: LineSync<K> {
     /// Sleeps until the request's turn may have come, or so much time is over. It may also return for no reason.
     fn sleep<R: Wait>(&self, rt: &R, port: &Self::Port, at_most: Duration)
         requires belongs { Self.belongs self.now port.now }
-        requires state { (Self.knows port.now).view.state ≡ PortState.Queued };
+        requires state { (Self.view port.now).state ≡ PortState.Queued };
 }

@@ -7,7 +7,7 @@ pub returns-in-Granted-clause-withdraws : goal.returns-in-Granted-clause-withdra
 returns-in-Granted-clause-withdraws g c = granted_by_look _ _ _ _ _ c.loop.invariant.extends c.loop.invariant.count c.in-Granted.ensures.polls
 
 pub returns-in-Granted-clause-patient : goal.returns-in-Granted-clause-patient
-returns-in-Granted-clause-patient g c = looks_allowed _ _ _ c.loop.invariant.looks _ _ c.in-Granted.ensures.counts.looks c.loop-test.true
+returns-in-Granted-clause-patient g c = looks_allowed _ _ _ c.loop.invariant.looks _ _ c.in-Granted.ensures.counts.poll_count c.loop-test.true
 
 pub returns-in-Granted-clause-late : goal.returns-in-Granted-clause-late
 returns-in-Granted-clause-late g c late = absurd (granted_in_time late)
@@ -16,7 +16,7 @@ pub returns-in-Closed-clause-withdraws : goal.returns-in-Closed-clause-withdraws
 returns-in-Closed-clause-withdraws g c = told_by_look _ _ _ _ _ c.loop.invariant.extends c.loop.invariant.count c.in-Closed.ensures.polls
 
 pub returns-in-Closed-clause-patient : goal.returns-in-Closed-clause-patient
-returns-in-Closed-clause-patient g c = looks_allowed _ _ _ c.loop.invariant.looks _ _ c.in-Closed.ensures.counts.looks c.loop-test.true
+returns-in-Closed-clause-patient g c = looks_allowed _ _ _ c.loop.invariant.looks _ _ c.in-Closed.ensures.counts.poll_count c.loop-test.true
 
 pub returns-in-Closed-clause-late : goal.returns-in-Closed-clause-late
 returns-in-Closed-clause-late g c late = absurd (told_in_time late)
@@ -28,7 +28,7 @@ loop-preserved g c =
       belongs = c.in-Waiting.ensures.belongs;
       state = (polls.waiting refl).state;
       extends = extends_trans _ _ _ c.loop.invariant.extends polls.continues.extends;
-      looks = one_look_more _ _ _ c.loop.invariant.looks _ c.in-Waiting.ensures.counts.looks;
+      looks = one_look_more _ _ _ c.loop.invariant.looks _ c.in-Waiting.ensures.counts.poll_count;
       count = polls.count ∙ c.loop.invariant.count;
     }
 

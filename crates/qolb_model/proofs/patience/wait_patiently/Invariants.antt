@@ -6,8 +6,8 @@ use Rattle.qolb_model.proofs.patience.wait_patiently.Given as goal
 abbrev pub invariant-loop : goal.invariant-loop
 invariant-loop g l = record {
   belongs : g.L.LineSync.belongs l.line l.port;
-  state : (g.L.LineSync.knows l.port).view.state ≡ Queued;
-  extends : Extends (g.L.LineSync.knows l.initial.port).view (g.L.LineSync.knows l.port).view;
-  looks : (g.L.LineSync.knows l.port).looks ≡ (g.L.LineSync.knows l.initial.port).looks + l.counter;
-  count : (g.L.LineSync.knows l.port).view.count ≡ (g.L.LineSync.knows l.initial.port).view.count;
+  state : (g.L.LineSync.view l.port).state ≡ Queued;
+  extends : Extends (g.L.LineSync.view l.initial.port) (g.L.LineSync.view l.port);
+  looks : (g.L.LineSync.counters l.port).poll_count ≡ (g.L.LineSync.counters l.initial.port).poll_count + l.counter;
+  count : (g.L.LineSync.view l.port).count ≡ (g.L.LineSync.view l.initial.port).count;
 }
