@@ -13,7 +13,7 @@ use Rattle.shared_line.specs.declared.rule.Parcel.{Parcel}
 use Rattle.shared_line.specs.Entries.{LineSeat, newcomer, newcomers_from}
 use Rattle.shared_line.specs.Slots.{Slots}
 use Rattle.shared_line.specs.Steps.{sole}
-use Rattle.shared_line.specs.Ports.{Standing, standing, IsPort, AreSplit, AreUnused, IsOpened, BelongsTo}
+use Rattle.shared_line.specs.Ports.{Standing, standing, IsPort, AreSplit, IsUnused, AreUnused, IsOpened, BelongsTo}
 use Rattle.qolb_model.specs.declared.answer.PortState.{PortState}
 
 module _ {O : Type 0} (fresh : O) (about : Setup) (n : ℕ) (old first rest : LineSeat O) (more : n < about.terms.nodes) (whole : old.me ≡ (newcomers_from fresh about n (about.terms.nodes - n), [])) where
@@ -37,7 +37,7 @@ pub one_more : {O : Type 0} (fresh : O) (table_id : TableId) (about : Setup) (n 
 one_more fresh table_id about n ports first y looks none d t is = record {
   many = length-append ports (standing fresh first y 0 looks ∷ []) ∙ ap (λ k. k + 1) d.many;
   each = λ k p at. ⊎_elim (λ z. d.each k p z.1)
-      (λ z. subst (λ (q : ℕ × Standing). (q.1.table ≡ table_id) × (q.1.view ≡ new_view about.label about.terms (q.0 + 1)) × (q.1.steps ≡ 0) × (q.1.taken ≡ 0) × (q.1.looks ≡ 0)) (λ i. (sym (z.0 ∙ d.many) i, sym z.1 i)) (t, ap (λ m. (sole fresh m.0).view) is, refl, ap (λ m. (sole fresh m.0).steps) is, none))
+      (λ z. subst (λ (q : ℕ × Standing). (q.1.table ≡ table_id) × (q.1.view ≡ new_view about.label about.terms (q.0 + 1)) × IsUnused q.1) (λ i. (sym (z.0 ∙ d.many) i, sym z.1 i)) (t, ap (λ m. (sole fresh m.0).view) is, λ i. record { steps = 0; total_steps = (sole fresh (is i).0).steps; poll_count = none i }))
       (push_cases ports (standing fresh first y 0 looks) k p at);
 }
 
@@ -46,12 +46,8 @@ module _ (good : List ℕ → Type 0) (allows : List ℕ → List ℕ → Type 0
   pub split_opens : MayOpen about.terms → good about.terms.opening.bytes → IsOpened good allows about table_id about.label about.terms ports
   split_opens = opens_new (λ (p : Standing). p.view) (BelongsTo good allows about table_id) about.label about.terms ports d.many (λ k p at. (d.each k p at).1) (λ k p at sound. record { table_is = (d.each k p at).0; sound = sound })
 
-  unused : (p : Standing) → Type 0
-  unused p = (p.steps ≡ 0) × (p.taken ≡ 0) × (p.looks ≡ 0)
-
   pub split_unused : AreUnused ports
-  unfolding unused
-  split_unused = λ k x l. let (p, at) = element_at ports k l in let e = d.each k p at in subst unused (sym (get_or_from_slice_get ports k p x at)) (e.2, e.3, e.4)
+  split_unused = λ k x l. let (p, at) = element_at ports k l in subst (λ (q : Standing). IsUnused q) (sym (get_or_from_slice_get ports k p x at)) (d.each k p at).2
 
 -- the same seat
 pub same_me : {O : Type 0} {a b : LineSeat O} → a ≡ b → a.me ≡ b.me

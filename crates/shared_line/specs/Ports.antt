@@ -8,7 +8,7 @@ use Rattle.qolb_model.specs.declared.answer.Enq.{Enq}
 use Rattle.qolb_model.specs.declared.answer.Enq.TheVariants as enq
 use Rattle.qolb_model.specs.declared.answer.Poll.TheVariants as poll
 use Rattle.qolb_model.specs.declared.answer.Out.TheVariants as out
-use Rattle.qolb_model.specs.Counting as port
+use Rattle.qolb_model.specs.Counting.{Counters, Call, asks, polls, withdraws, releases}
 use Rattle.qolb_model.specs.declared.terms.Terms.{Terms}
 use Rattle.qolb_model.specs.declared.view.View.{View}
 use Rattle.qolb_model.specs.declared.write.Write.{Write}
@@ -26,29 +26,28 @@ use Rattle.shared_line.specs.Entries.{LineSeat, newcomers_from}
 use Rattle.shared_line.specs.Slots.{Slots}
 use Rattle.shared_line.specs.Steps.{Alone, entry_of, HasNoSlot, write_of, Rests}
 
--- a port as contracts see it: its table, what it knows, the line's bytes where it holds it with the mask of the turn's writes,
--- how many word steps its last call took, how many it has taken in all its calls, and how often it was polled
+-- a port as contracts see it: its table, what it knows, the line's bytes where it holds it with the mask of the turn's writes, and what it
+-- has counted
 pub record Standing : Type 0 where
   pub table : TableId
   pub view : View
   pub turn : Write
-  pub steps : ℕ
-  pub taken : ℕ
-  pub looks : ℕ
+  pub counters : Counters
 
 abbrev pub standing : {O : Type 0} → O → LineSeat O → Parcel → ℕ → ℕ → Standing
-standing fresh s y steps looks = record { table = s.table_id; view = (entry_of fresh s).view; turn = write_of y; steps = steps; taken = (entry_of fresh s).steps; looks = looks }
-
--- and as any line's contracts see it
-abbrev pub known : Standing → port.Standing
-known p = record { view = p.view; turn = p.turn; steps = p.steps; taken = p.taken; looks = p.looks }
+standing fresh s y steps count = record {
+  table = s.table_id;
+  view = (entry_of fresh s).view;
+  turn = write_of y;
+  counters = record { steps = steps; total_steps = (entry_of fresh s).steps; poll_count = count };
+}
 
 -- how many word steps a call takes, by what its lock says of asking and of letting go, and of the most
-abbrev pub takes : (PortState → Enq → ℕ → Type 0) → (ℕ → ℕ → ℕ → Type 0) → ℕ → port.Call → View → View → ℕ → Type 0
-takes asks_in lets_go_in most (port.asks answer) old new n = (answer ≢ enq.Closed → asks_in old.state answer n) × (n ≤ most + 3)
-takes asks_in lets_go_in most (port.polls answer) old new n = (answer ≢ poll.Closed → n ≡ 1) × (n ≤ most)
-takes asks_in lets_go_in most (port.withdraws answer) old new n = (answer ≢ out.Closed → n ≡ 1) × (n ≤ most)
-takes asks_in lets_go_in most port.releases old new n = lets_go_in (length old.ends) (length new.ends) n × (n + 1 ≤ most)
+abbrev pub call_steps : (PortState → Enq → ℕ → Type 0) → (ℕ → ℕ → ℕ → Type 0) → ℕ → Call → View → View → ℕ → Type 0
+call_steps asks_in lets_go_in most (asks answer) old new n = (answer ≢ enq.Closed → asks_in old.state answer n) × (n ≤ most + 3)
+call_steps asks_in lets_go_in most (polls answer) old new n = (answer ≢ poll.Closed → n ≡ 1) × (n ≤ most)
+call_steps asks_in lets_go_in most (withdraws answer) old new n = (answer ≢ out.Closed → n ≡ 1) × (n ≤ most)
+call_steps asks_in lets_go_in most releases old new n = lets_go_in (length old.ends) (length new.ends) n × (n + 1 ≤ most)
 
 -- the turn's bytes are those of the earlier ends, changed under the mask
 abbrev pub IsMerged : View → Parcel → Type 0
@@ -98,10 +97,14 @@ pub record IsSeated {O : Type 0} (good : List ℕ → Type 0) (allows : List ℕ
   pub table_is : s.table_id ≡ table_id
   pub sound : IsSound good allows key.label key.terms (entry_of fresh s).view
 
+-- the port has taken no step, and was never polled
+abbrev pub IsUnused : Standing → Type 0
+IsUnused p = p.counters ≡ record { steps = 0; total_steps = 0; poll_count = 0 }
+
 -- the ports of the first n nodes, which never asked
 pub record AreSplit (table_id : TableId) (about : Setup) (n : ℕ) (ports : List Standing) : Type 0 where
   pub many : length ports ≡ n
-  pub each : (k : ℕ) (p : Standing) → slice_get ports k ≡ Some p → (p.table ≡ table_id) × (p.view ≡ new_view about.label about.terms (k + 1)) × (p.steps ≡ 0) × (p.taken ≡ 0) × (p.looks ≡ 0)
+  pub each : (k : ℕ) (p : Standing) → slice_get ports k ≡ Some p → (p.table ≡ table_id) × (p.view ≡ new_view about.label about.terms (k + 1)) × IsUnused p
 
 -- the ports of the first n nodes are there, and the seat `rest` has the others' entries
 pub record HasSplit {O : Type 0} (fresh : O) (table_id : TableId) (about : Setup) (n : ℕ) (rest : LineSeat O) (ports : List Standing) : Type 0 where
@@ -111,7 +114,7 @@ pub record HasSplit {O : Type 0} (fresh : O) (table_id : TableId) (about : Setup
 
 -- none of these ports has taken a step, or was polled
 abbrev pub AreUnused : List Standing → Type 0
-AreUnused ports = All (λ (p : Standing). (p.steps ≡ 0) × (p.taken ≡ 0) × (p.looks ≡ 0)) ports
+AreUnused ports = All IsUnused ports
 
 -- what an opened line gives
 abbrev pub IsOpened : (good : List ℕ → Type 0) (allows : List ℕ → List ℕ → Type 0) → Setup → TableId → ℕ → Terms → List Standing → Type 0

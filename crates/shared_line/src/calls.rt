@@ -1,11 +1,12 @@
 //! The line as one that many nodes share: the calls by which they queue at it.
 ghost use Rattle.std.specs.Prelude.{◌≡◌, ◌+◌, map, All, IfOk, IfErr};
+ghost use Rattle.qolb_model.specs.OneOwner.{turn_after};
 ghost use Rattle.qolb_model.specs.Kept.{MayRelease};
 ghost use Rattle.qolb_model.specs.Calls.{Releases};
 ghost use Rattle.qolb_model.specs.Counting.{Counts};
 ghost use Rattle.qolb_model.specs.Counting as call;
 ghost use Rattle.qolb_model.specs.Finishing.{MayRefuse, IsFinished};
-ghost use Rattle.shared_line.specs.Ports.{BelongsTo, known, takes};
+ghost use Rattle.shared_line.specs.Ports.{BelongsTo, call_steps};
 
 use crate::line::Line;
 use crate::meeting::meet_seats;
@@ -20,11 +21,15 @@ use std::alloc::Global;
 impl<K: Keep, Q: Discipline<K>, W: Waking> LineSync<K> for Line<K, Q, W> {
     type Port = Port<Q>;
 
-    ghost knows = { λ port. known port };
+    ghost view = { λ port. port.view };
 
-    ghost shows = { Q.may_show };
+    ghost turn = { λ port. port.turn };
 
-    ghost takes = { λ line. takes Q.asks_in Q.lets_go_in (Q.most line.table.shared.key.terms.nodes) };
+    ghost counters = { λ port. port.counters };
+
+    ghost allowed_states = { Q.may_show };
+
+    ghost call_steps = { λ line. call_steps Q.asks_in Q.lets_go_in (Q.most line.table.shared.key.terms.nodes) };
 
     ghost most = { λ line. Q.most line.table.shared.key.terms.nodes + 3 };
 
@@ -63,7 +68,13 @@ impl<K: Keep, Q: Discipline<K>, W: Waking> LineSync<K> for Line<K, Q, W> {
     }
 
     #[inline(always)]
-    fn write(port: &mut Port<Q>, mask: Mask, bytes: &Line64) {
+    fn write(port: &mut Port<Q>, mask: Mask, bytes: &Line64)
+        requires { port.old.view.state ≡ PortState.Holding }
+        ensures view { port.new.view ≡ port.old.view }
+        ensures turn { port.new.turn ≡ turn_after port.old.turn mask.0 bytes.now.bytes }
+        ensures counters { port.new.counters ≡ port.old.counters }
+        ensures table { port.new.table ≡ port.old.table }
+    {
         port.parcel.bytes = merge(&port.parcel.bytes, bytes, mask);
         port.parcel.mask = Mask(port.parcel.mask.0 | mask.0);
     }
@@ -184,7 +195,7 @@ impl<K: Keep, Q: Discipline<K>, W: Waking> Line<K, Q, W> {
         requires allowed { MayRelease K.allows port.old.view port.old.turn }
         ensures belongs { BelongsTo K.good K.allows self.now.table.shared.key self.now.table.shared.table_id port.new }
         ensures releases { Releases K.allows shut port.old.view port.new.view port.old.turn }
-        ensures counts { Counts (takes Q.asks_in Q.lets_go_in (Q.most self.now.table.shared.key.terms.nodes)) (Q.most self.now.table.shared.key.terms.nodes + 3) call.releases (known port.old) (known port.new) }
+        ensures counts { Counts (call_steps Q.asks_in Q.lets_go_in (Q.most self.now.table.shared.key.terms.nodes)) (Q.most self.now.table.shared.key.terms.nodes + 3) call.releases port.old.view port.new.view port.old.counters port.new.counters }
     {
         let ground = &self.table.shared;
         let closed = port.parcel.closes(shut);

@@ -16,11 +16,11 @@ impl<K: Keep, Q: Linked<K>, W: Waking> Line<K, Q, W> {
         requires state { IsTrue (states.may_ask port.old.view.state) }
         ensures belongs { ⟦<Line<K, Q, W> as LineSync<K>>⟧.belongs self.now port.new }
         ensures prepends { Prepends K.allows port.old.view port.new.view port.new.turn result }
-        ensures taken { port.new.taken ≡ port.old.taken + port.new.steps }
-        ensures looks { port.new.looks ≡ port.old.looks }
-        ensures counted_busy { result ≡ Prep.Busy → port.new.steps ≡ 1 }
-        ensures counted { (result ≡ Prep.Granted) ⊎ (result ≡ Prep.Linking) → port.new.steps ≡ Q.prepends_in port.old.view.state }
-        ensures bound { port.new.steps ≤ Q.most self.now.table.shared.key.terms.nodes + 2 }
+        ensures total_steps { port.new.counters.total_steps ≡ port.old.counters.total_steps + port.new.counters.steps }
+        ensures poll_count { port.new.counters.poll_count ≡ port.old.counters.poll_count }
+        ensures counted_busy { result ≡ Prep.Busy → port.new.counters.steps ≡ 1 }
+        ensures counted { (result ≡ Prep.Granted) ⊎ (result ≡ Prep.Linking) → port.new.counters.steps ≡ Q.prepends_in port.old.view.state }
+        ensures bound { port.new.counters.steps ≤ Q.most self.now.table.shared.key.terms.nodes + 2 }
     {
         let ground = &self.table.shared;
         let made = Q::prepend(ground, &mut port.seat, port.node, port.state);
@@ -54,10 +54,10 @@ impl<K: Keep, Q: Linked<K>, W: Waking> Line<K, Q, W> {
         requires state { port.old.view.state ≡ PortState.Linking }
         ensures belongs { ⟦<Line<K, Q, W> as LineSync<K>>⟧.belongs self.now port.new }
         ensures links_up { LinksUp K.allows port.old.view port.new.view port.new.turn result }
-        ensures taken { port.new.taken ≡ port.old.taken + port.new.steps }
-        ensures looks { port.new.looks ≡ port.old.looks }
-        ensures counted { result ≢ Enq.Closed → port.new.steps ≡ 1 }
-        ensures bound { port.new.steps ≤ Q.most self.now.table.shared.key.terms.nodes }
+        ensures total_steps { port.new.counters.total_steps ≡ port.old.counters.total_steps + port.new.counters.steps }
+        ensures poll_count { port.new.counters.poll_count ≡ port.old.counters.poll_count }
+        ensures counted { result ≢ Enq.Closed → port.new.counters.steps ≡ 1 }
+        ensures bound { port.new.counters.steps ≤ Q.most self.now.table.shared.key.terms.nodes }
     {
         let ground = &self.table.shared;
         port.steps = 1;
