@@ -25,9 +25,9 @@ pack e = GRANTED * one_if e.granted + ROLLED * one_if e.rolled + DONE * one_if e
 abbrev pub is_granted : ℕ → Bool
 is_granted w = (w % 2) == 1
 
--- whether the turn has come of whoever waits at its entry with this word, whatever its port's mark: a link to the entry is no grant
+-- whether the turn has come of whoever waits at its entry with this lower half, whatever its port's mark: a link to the entry is no grant
 abbrev pub may_come : ℕ → ℕ → Bool
-may_come mark w = is_granted w
+may_come mark low = is_granted low
 
 abbrev pub is_rolled : ℕ → Bool
 is_rolled w = (w / 2 % 2) == 1

@@ -13,10 +13,10 @@ use Rattle.ring_line.specs.declared.words.TheConstants.{WITHDRAWN}
 use Rattle.ring_line.specs.Ring.{RingCells}
 use Rattle.ring_line.specs.Steps.{is_blank, is_granted, seen, withdrawn_by}
 
--- a granted cell is not blank, and whoever takes the line may leave it as he likes
-pub takes : (place n : ℕ) (change : ℕ → ℕ) → Takes RingCells is_blank place n change
-takes place n change cleared marks says low free c = (
-  (λ z. let g = c.granted refl in absurd (omega arith)),
+-- a granted cell says 1, by which nobody waits, and whoever takes the line may leave it as he likes
+pub takes_by : (waits : ℕ → ℕ → Type 0) (place n : ℕ) (change : ℕ → ℕ) → (waits place 1 → ⊥) → Takes RingCells waits place n change
+takes_by waits place n change granted cleared marks says low free c = (
+  (λ w. granted (subst (waits place) (c.granted refl) w)),
   record {
     blank = λ e. absurd (cc e);
     granted = λ e. absurd (omega arith);
@@ -24,13 +24,19 @@ takes place n change cleared marks says low free c = (
   },
 )
 
+pub takes : (place n : ℕ) (change : ℕ → ℕ) → Takes RingCells is_blank place n change
+takes place n change = takes_by is_blank place n change (λ z. absurd (omega arith))
+
 -- behind the turn a cell with no mark is blank
 blank_behind : (ended hand place : ℕ) (cleared : Bool) (marks says : ℕ → ℕ) → ended < place → place < ended + CELLS → marks place ≡ 0 → RingCells ended hand cleared marks says → says (cell_of place) ≡ 0
 blank_behind ended hand place cleared marks says below near free c = let k : ended + (place - ended) ≡ place = omega arith in
     ap (λ q. says (cell_of q)) (sym k) ∙ c.later (place - ended) (omega arith) (omega arith) ∙ ap (λ q. WITHDRAWN * marks q) k ∙ ap (λ m. WITHDRAWN * m) free
 
+pub stays_by : (comes : ℕ → ℕ → Type 0) (place : ℕ) → (comes place 0 → ⊥) → StaysBehind RingCells comes place
+stays_by comes place blank ended hand cleared marks says below near free c some = blank (subst (comes place) (blank_behind ended hand place cleared marks says below near free c) some)
+
 pub stays : (place : ℕ) → StaysBehind RingCells is_granted place
-stays place ended hand cleared marks says below near free c some = some (blank_behind ended hand place cleared marks says below near free c)
+stays place = stays_by is_granted place (λ some. some refl)
 
 -- what a word becomes to which a number is added
 abbrev pub added : ℕ → ℕ → ℕ

@@ -1,5 +1,5 @@
 -- What each step of a port tells it, where a ring has a say in it.
-use Rattle.std.specs.Prelude.{◌≡◌, ◌≢◌, ℕ, ◌+◌, List, [], ◌∷◌, length}
+use Rattle.std.specs.Prelude.{◌≡◌, ◌≢◌, ℕ, ◌+◌, ◌%◌, ◌^◌, List, [], ◌∷◌, length}
 use Rattle.atomic_table.specs.Table.{Step}
 use Rattle.shared_line.specs.declared.rule.Parcel.{Parcel}
 use Rattle.array_line.specs.declared.own.Point.TheVariants.{Cleared}
@@ -40,6 +40,13 @@ is_blank place found = found ≡ 0
 
 abbrev pub is_granted : ℕ → ℕ → Type 0
 is_granted place found = found ≢ 0
+
+-- and the same by the lower half of its word
+abbrev pub is_blank_half : ℕ → ℕ → Type 0
+is_blank_half place found = found % 2 ^ 32 ≡ 0
+
+abbrev pub is_granted_half : ℕ → ℕ → Type 0
+is_granted_half place found = found % 2 ^ 32 ≢ 0
 
 -- and a next one is not withdrawn; another one has the number of the node that did
 abbrev pub seen : ℕ → ℕ → ℕ

@@ -7,9 +7,9 @@ use Rattle.ring_line.specs.declared.words.TheConstants.{WITHDRAWN}
 abbrev pub withdrawn_by : ℕ → ℕ
 withdrawn_by word = word / WITHDRAWN
 
--- whether the turn may have come of whoever waits at a cell with this word, by its port's mark
+-- whether the turn may have come of whoever waits at a cell with this lower half, by its port's mark
 abbrev pub may_come : ℕ → ℕ → Bool
-may_come mark word = not (word == 0)
+may_come mark low = not (low == 0)
 
 -- nobody has asked: the first cell is granted, and all else is blank
 abbrev pub AreFirst : List ℕ → Type 0

@@ -109,8 +109,8 @@ impl<K: Keep> Discipline<K> for Ring {
     }
 
     #[inline]
-    fn may_have_come(_mark: u64, word: u64) -> bool {
-        is_granted(word)
+    fn may_have_come(_mark: u64, low: u32) -> bool {
+        is_granted(u64::from(low))
     }
 
     ghost cuts = { seats.cuts RingCells one_slot K.good K.allows };

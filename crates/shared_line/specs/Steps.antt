@@ -1,5 +1,5 @@
 -- What each step of a port tells it.
-use Rattle.std.specs.Prelude.{◌≡◌, ◌≢◌, ℕ, ◌+◌, ◌<◌, ◌≤◌, List, [], ◌∷◌, ◌++◌, length, slice_get, Bool, true, false, Some}
+use Rattle.std.specs.Prelude.{◌%◌, ◌^◌, ◌≡◌, ◌≢◌, ℕ, ◌+◌, ◌<◌, ◌≤◌, List, [], ◌∷◌, ◌++◌, length, slice_get, Bool, true, false, Some}
 use Rattle.atomic_table.specs.Table.{Step}
 use Rattle.atomic_table.specs.Seated.{TableId}
 use Rattle.qolb_model.specs.declared.answer.PortState.{PortState}
@@ -139,8 +139,8 @@ met allows fresh st m n m' = let v = sole fresh m.0 in let u = sole fresh (behin
 abbrev pub parked : {O : Type 0} → Step Parcel → Contents O → ℕ → Contents O → Type 0
 parked st m n m' = (m'.0 ≡ m.0) × (m'.1 ≡ [])
 
--- What a look gives a node that waits with this mark, by the word that it finds: where that says that the turn may have come it has, with
--- the line; and else the node waits on.
+-- What a look gives a node that waits with this mark, by the lower half of the word that it finds, which is all that a sleep compares: where
+-- that says that the turn may have come it has, with the line; and else the node waits on.
 pub record Looked {O : Type 0} (fresh : O) (rests : PortState → ℕ → O → Type 0) (holding : ℕ → ℕ → O → Type 0) (refused : ℕ → View → O → Parcel → Type 0) (brings : ℕ → Parcel → Slots → Type 0) (may_come : ℕ → ℕ → Bool) (mark found : ℕ) (new : Contents O) : Type 0 where
-  pub waits : may_come mark found ≡ false → (new.1 ≡ []) × IsEarly rests mark (sole fresh new.0)
-  pub comes : may_come mark found ≡ true → (y : Parcel) × brings mark y new.1 × Comes holding refused mark (sole fresh new.0) y
+  pub waits : may_come mark (found % 2 ^ 32) ≡ false → (new.1 ≡ []) × IsEarly rests mark (sole fresh new.0)
+  pub comes : may_come mark (found % 2 ^ 32) ≡ true → (y : Parcel) × brings mark y new.1 × Comes holding refused mark (sole fresh new.0) y

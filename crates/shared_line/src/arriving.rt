@@ -77,6 +77,7 @@ fn pass_on<K: Keep, Q: Discipline<K>>(
     ensures told { IsPassedOn Q.fresh Q.rests seat.new result.state }
     ensures not_held { result.state ≢ PortState.Holding }
     ensures to_wake { result.to_wake.word < Q.word_count }
+    ensures wakes { result.to_wake.word ≡ Q.turn_word (entry_of Q.fresh seat.new).view }
     ensures bound { result.steps + 1 ≤ Q.most (entry_of Q.fresh seat.old).view.terms.nodes }
 {
     Q::release(ground, seat, node, mark, true)

@@ -93,7 +93,7 @@ pub trait Shape {
     /// The word at which that node waits whose request is at its turn, by what a port knows of the line. Where nobody waits for the turn, any word.
     ghost turn_word: { View → ℕ };
 
-    /// Whether the turn may have come of a node with this mark that waits at a word with this value.
+    /// Whether the turn may have come of a node with this mark that waits at a word with this lower half.
     ghost may_come: { ℕ → ℕ → Bool };
 
     /// A port may show this state.
@@ -264,16 +264,16 @@ pub trait Discipline<K: Keep>: Ruled<K> {
         ensures wakes { result.to_wake.word ≡ Self.turn_word (entry_of Self.fresh seat.new).view }
         ensures bound { result.steps + 1 ≤ Self.most (entry_of Self.fresh seat.old).view.terms.nodes };
 
-    /// The word at which a waiting node looks. When its turn comes, the lower 32 bits of this word change.
+    /// The word at which a waiting node looks.
     fn awaited(node: u64, mark: u64) -> usize
         requires { node ≤ MOST_NODES }
         ensures bound { result < word_count }
         ensures waits_at { result ≡ Self.waits_at node mark };
 
-    /// Whether the turn may have come of a node that waits, and finds this in its word. A look that finds so finds the turn, and one that
-    /// finds otherwise does not.
-    fn may_have_come(mark: u64, word: u64) -> bool
-        ensures result { result ≡ Self.may_come mark word }
+    /// Whether the turn may have come of a node that waits, by the lower half of its word. A look that finds so finds the turn, and one that
+    /// finds otherwise does not. So this half changes when the turn comes, and a node may sleep as long as the half stays.
+    fn may_have_come(mark: u64, low: u32) -> bool
+        ensures result { result ≡ Self.may_come mark low }
         ensures looks { (about : Setup) (id slots : ℕ) (v : Entry Self.Own) → Self.rests shows.Queued mark v.own → Allows (Self.holds about) slots id (v ∷ [], []) (Self.waits_at v.view.node mark) (λ n. n) (Looked Self.fresh Self.rests Self.holding Self.refused Self.brings Self.may_come mark) };
 
     /// A seat is cut behind its first entry; a new one has none; and one takes in those of another.

@@ -35,8 +35,8 @@ pub trait Waking: Drop {
     fn none() -> Self;
 
     /// Wakes who sleeps at the word that was granted.
-    fn wake<K: Keep, Q: Discipline<K>>(&self, ground: &Ground<K, Q>, to_wake: ToWake)
-        requires word { to_wake.word < ground.now.table_id.words };
+    fn wake<K: Keep, Q: Discipline<K>>(&self, ground: &Ground<K, Q>, word: usize)
+        requires word { word < ground.now.table_id.words };
 }
 
 /// Nobody sleeps at the line, and no release wakes: what a lock takes that may not call the system.
@@ -49,9 +49,7 @@ impl Waking for NoSleepers {
     }
 
     #[inline(always)]
-    fn wake<K: Keep, Q: Discipline<K>>(&self, _ground: &Ground<K, Q>, to_wake: ToWake) {
-        let ToWake { word: _ } = to_wake;
-    }
+    fn wake<K: Keep, Q: Discipline<K>>(&self, _ground: &Ground<K, Q>, _word: usize) {}
 }
 
 /// How many waiters of a line sleep, or are about to.
@@ -70,8 +68,7 @@ impl Waking for Sleepers {
     }
 
     #[inline(always)]
-    fn wake<K: Keep, Q: Discipline<K>>(&self, ground: &Ground<K, Q>, to_wake: ToWake) {
-        let ToWake { word } = to_wake;
+    fn wake<K: Keep, Q: Discipline<K>>(&self, ground: &Ground<K, Q>, word: usize) {
         if self.count.load(Ordering::SeqCst) != 0 {
             wake_at(ground, word);
         }
@@ -93,7 +90,7 @@ impl<K: Keep, Q: Discipline<K>> Line<K, Q> {
         self.sleepers.count.load(Ordering::SeqCst)
     }
 
-    /// Sleeps at the word where the node waits, so long as its lower half is that of a word in which the node's turn has not come.
+    /// Sleeps at the word where the node waits, so long as its lower half is this one, by which the node's turn has not come.
     fn park<R: Wait>(
         &self,
         rt: &R,
@@ -106,7 +103,7 @@ impl<K: Keep, Q: Discipline<K>> Line<K, Q> {
         requires table { IsSeatOf Q.word_count self.now.table.shared.table_id seat.now }
         requires rests { Rests Q.fresh Q.rests PortState.Queued mark seat.now }
         requires own { IsOwnNode Q.fresh node seat.now }
-        requires not_come { (seen : ℕ) × (Q.may_come mark seen ≡ false) × (low ≡ seen % 2 ^ 32) }
+        requires not_come { Q.may_come mark low ≡ false }
     {
         let word = Q::awaited(node, mark);
         self.table.shared.park_timeout(rt, word, low, at_most);
@@ -119,9 +116,8 @@ impl<K: Keep, Q: Discipline<K>> Sleeping<K> for Line<K, Q> {
     fn sleep<R: Wait>(&self, rt: &R, port: &Port<Q>, at_most: Duration) {
         let word = Q::awaited(port.node, port.mark);
         self.sleepers.count.fetch_add(1, Ordering::SeqCst);
-        let seen = self.table.shared.peek(word);
-        if !Q::may_have_come(port.mark, seen) {
-            let low = (seen % (1 << 32)) as u32;
+        let low = (self.table.shared.peek(word) % (1 << 32)) as u32;
+        if !Q::may_have_come(port.mark, low) {
             self.park(rt, &port.seat, port.node, port.mark, low, at_most);
         }
         self.sleepers.count.fetch_sub(1, Ordering::SeqCst);
@@ -134,6 +130,7 @@ impl<K: Keep, Q: Discipline<K>, W: Waking> Line<K, Q, W> {
     pub(crate) fn wake(&self, to_wake: ToWake)
         requires { to_wake.word < Q.word_count }
     {
-        self.sleepers.wake(&self.table.shared, to_wake);
+        let ToWake { word } = to_wake;
+        self.sleepers.wake(&self.table.shared, word);
     }
 }

@@ -1,5 +1,5 @@
 -- What the steps on cells leave them to say.
-use Rattle.std.proofs.Common.{◌≡◌, ◌≢◌, ℕ, ◌+◌, ◌-◌, ◌/◌, ◌%◌, ◌<◌, ◌≤◌, Bool, sym, refl, ap, ◌∙◌, subst, arith}
+use Rattle.std.proofs.Common.{◌≡◌, ◌≢◌, ℕ, ◌+◌, ◌-◌, ◌/◌, ◌%◌, ◌^◌, ◌<◌, ◌≤◌, Bool, sym, refl, ap, ◌∙◌, subst, arith}
 use mathlib.Core.Logic.{dite}
 use native.Mathlib.Decide.{ℕ_discrete, dec_le}
 use Rattle.atomic_table.proofs.Lists.{one_turn}
@@ -13,13 +13,14 @@ use Rattle.array_line.proofs.Grant.{GrantsNext}
 use Rattle.ticket_line.specs.declared.words.TheConstants.{UNIT, NUMBERS}
 use Rattle.ticket_line.specs.Words.{number, granted, withdrawn}
 use Rattle.ticket_line.specs.Ticket.{IsLater, TicketCells}
-use Rattle.ticket_line.specs.Steps.{is_other, is_granted, withdrawn_by}
-use Rattle.ticket_line.proofs.Numbers.{granted_ticket, withdrawn_ticket, not_granted, number_of_granted, number_of_withdrawn, by_nobody, by_node}
+use Rattle.ticket_line.specs.Steps.{is_other, is_granted, is_granted_half, withdrawn_by}
+use Rattle.ticket_line.proofs.Numbers.{granted_ticket, withdrawn_ticket, not_granted, not_granted_half, number_of_granted, number_of_withdrawn, by_nobody, by_node}
 
--- a granted cell has the own ticket, and whoever takes the line leaves it that number
-pub takes : (place n : ℕ) (change : ℕ → ℕ) → ((word : ℕ) → word ≡ granted place → change word / UNIT ≡ number place) → Takes TicketCells is_other place n change
-takes place n change keeps cleared marks says low free c = (
-  (λ other. other (c.granted refl ∙ sym (granted_ticket place))),
+-- a granted cell has the own ticket, by which nobody waits, and whoever takes the line leaves it that number
+pub takes_by : (waits : ℕ → ℕ → Type 0) (place n : ℕ) (change : ℕ → ℕ) → (waits place (granted place) → ⊥)
+    → ((word : ℕ) → word ≡ granted place → change word / UNIT ≡ number place) → Takes TicketCells waits place n change
+takes_by waits place n change own keeps cleared marks says low free c = (
+  (λ w. own (subst (waits place) (c.granted refl) w)),
   record {
     kept = refl;
     turn = ap (λ q. q / UNIT) (put_here says (cell_of place) (change (says (cell_of place)))) ∙ keeps (says (cell_of place)) (c.granted refl);
@@ -27,6 +28,9 @@ takes place n change keeps cleared marks says low free c = (
     later = λ k a b. subst (IsLater (place + k) (marks (place + k))) (sym (put_else says (cell_of place) (change (says (cell_of place))) (cell_of (place + k)) (cells_apart place k a b))) (c.later k a b);
   },
 )
+
+pub takes : (place n : ℕ) (change : ℕ → ℕ) → ((word : ℕ) → word ≡ granted place → change word / UNIT ≡ number place) → Takes TicketCells is_other place n change
+takes place n change = takes_by is_other place n change (λ other. other (sym (granted_ticket place)))
 
 -- as by a look, and by a withdrawal that comes too late
 pub looked : (place word : ℕ) → word ≡ granted place → word / UNIT ≡ number place
@@ -39,6 +43,10 @@ written place n new high e = number_of_withdrawn place n new high (e ∙ withdra
 later_at : (ended hand place : ℕ) (cleared : Bool) (marks says : ℕ → ℕ) → ended < place → place < ended + CELLS → TicketCells ended hand cleared marks says → IsLater place (marks place) (says (cell_of place))
 later_at ended hand place cleared marks says below near c = let k : ended + (place - ended) ≡ place = omega arith in
     subst (λ q. IsLater q (marks q) (says (cell_of q))) k (c.later (place - ended) (omega arith) (omega arith))
+
+-- so it does not say that the turn has come, nor does its lower half
+pub stays_half : (place : ℕ) → StaysBehind TicketCells is_granted_half place
+stays_half place ended hand cleared marks says below near free c e = not_granted_half place (marks place) (says (cell_of place)) (later_at ended hand place cleared marks says below near c) free (e ∙ ap (λ k. k % 2 ^ 32) (granted_ticket place))
 
 pub stays : (place : ℕ) → StaysBehind TicketCells is_granted place
 stays place ended hand cleared marks says below near free c e = not_granted place (marks place) (says (cell_of place)) (later_at ended hand place cleared marks says below near c) free (e ∙ granted_ticket place)

@@ -35,6 +35,10 @@ numbers_differ p e = let same = one_turn (p + 1 - CELLS) (p + 1) NUMBERS (omega 
 pub not_granted : (p mark word : ℕ) → IsLater p mark word → mark ≡ 0 → word ≢ granted p
 not_granted p mark word l none e = let b = l.before none in numbers_differ p (omega arith)
 
+-- nor is its lower half, in which the numbers differ too
+pub not_granted_half : (p mark word : ℕ) → IsLater p mark word → mark ≡ 0 → word % 2 ^ 32 ≢ granted p % 2 ^ 32
+not_granted_half p mark word l none e = let b = l.before none in absurd (omega arith)
+
 -- a cell that is granted to a place has its number, and one where a node withdrew
 pub number_of_granted : (p word : ℕ) → word ≡ granted p → word / UNIT ≡ number p
 number_of_granted p word e = omega arith

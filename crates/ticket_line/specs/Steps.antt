@@ -1,5 +1,5 @@
 -- What each step of a port tells it, where tickets have a say in it.
-use Rattle.std.specs.Prelude.{◌≡◌, ◌≢◌, ℕ, ◌+◌, List, length}
+use Rattle.std.specs.Prelude.{◌≡◌, ◌≢◌, ℕ, ◌+◌, ◌%◌, ◌^◌, List, length}
 use Rattle.atomic_table.specs.Table.{Step}
 use Rattle.shared_line.specs.declared.rule.Parcel.{Parcel}
 use Rattle.array_line.specs.Words.{ticket_of}
@@ -42,6 +42,13 @@ is_other place found = found ≢ layout.granted (ticket_of place)
 
 abbrev pub is_granted : ℕ → ℕ → Type 0
 is_granted place found = found ≡ layout.granted (ticket_of place)
+
+-- and by the lower half of its word
+abbrev pub is_other_half : ℕ → ℕ → Type 0
+is_other_half place found = found % 2 ^ 32 ≢ layout.granted (ticket_of place) % 2 ^ 32
+
+abbrev pub is_granted_half : ℕ → ℕ → Type 0
+is_granted_half place found = found % 2 ^ 32 ≡ layout.granted (ticket_of place) % 2 ^ 32
 
 -- who had withdrawn the ticket of the next place, or 0
 abbrev pub withdrawn_by : ℕ → ℕ → ℕ

@@ -1,5 +1,5 @@
 -- What the words of a ticket line say.
-use Rattle.std.specs.Prelude.{ℕ, ◌+◌, ◌-◌, ◌*◌, ◌/◌, ◌%◌, List, Bool, ◌==◌, if◌then◌else◌}
+use Rattle.std.specs.Prelude.{ℕ, ◌+◌, ◌-◌, ◌*◌, ◌/◌, ◌%◌, ◌^◌, List, Bool, ◌==◌, if◌then◌else◌}
 use Rattle.array_line.specs.declared.words.TheConstants.{CELLS}
 use Rattle.array_line.specs.Words as array
 use Rattle.array_line.specs.Words.{ticket_of}
@@ -24,9 +24,9 @@ withdrawn ticket node = UNIT * number ticket + node
 abbrev pub withdrawn_by : ℕ → ℕ → ℕ
 withdrawn_by ticket word = if word / UNIT == number ticket then word % UNIT else 0
 
--- whether the turn has come of whoever waits with this ticket at a cell with this word
+-- whether the turn has come of whoever waits with this ticket at a cell with this lower half
 abbrev pub may_come : ℕ → ℕ → Bool
-may_come ticket word = word == granted ticket
+may_come ticket low = low == granted ticket % 2 ^ 32
 
 -- the number of the place before that has the same cell, or 0 where there is none
 abbrev pub number_before : ℕ → ℕ

@@ -108,8 +108,8 @@ impl<K: Keep> Discipline<K> for Ticket {
     }
 
     #[inline]
-    fn may_have_come(mark: u64, word: u64) -> bool {
-        is_granted(word, mark)
+    fn may_have_come(mark: u64, low: u32) -> bool {
+        is_granted_half(low, mark)
     }
 
     ghost cuts = { seats.cuts TicketCells berths K.good K.allows };

@@ -77,6 +77,15 @@ pub(crate) fn is_granted(word: u64, ticket: u64) -> bool
     word == granted(ticket)
 }
 
+/// Whether a cell with this lower half is granted to a ticket that waits there: what the cell says before has another number, as their
+/// places differ by no more than the cells.
+#[inline]
+pub(crate) fn is_granted_half(low: u32, ticket: u64) -> bool
+    ensures { result ≡ layout.may_come ticket low }
+{
+    u64::from(low) == granted(ticket) % (1 << 32)
+}
+
 /// The node that had withdrawn a ticket at a cell with this word, or 0.
 #[inline]
 pub(crate) fn withdrawn_by(word: u64, ticket: u64) -> u64
