@@ -15,7 +15,7 @@ use crate::release::{release, renew};
 use crate::rule::{Ground, Ticket, TicketSeat};
 use crate::slots::{put, take, unlay};
 use crate::steps::{draw, load, roll};
-use crate::words::{SLOTS, cell_word, first_words, is_granted};
+use crate::words::{SLOTS, cell_word, first_words, is_granted_half};
 use array_line::WORDS;
 use atomic_table::Closed;
 use qolb_model::{Keep, PortState};
