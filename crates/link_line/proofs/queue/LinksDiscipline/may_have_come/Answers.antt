@@ -1,4 +1,4 @@
-use Rattle.std.proofs.Common.{◌≡◌, ℕ, ◌%◌, ◌^◌, slice_index, [], ◌∷◌, refl, arith, ap, sym, ◌∙◌, ◌==◌}
+use Rattle.std.proofs.Common.{◌≡◌, ℕ, ◌%◌, ◌^◌, slice_index, [], ◌∷◌, refl, arith, ap, ◌∙◌, ◌==◌}
 use Rattle.link_line.specs.Words.{is_granted}
 use Rattle.link_line.specs.Stances.{waits_at}
 use Rattle.link_line.proofs.Polling.{loads_next}
