@@ -36,6 +36,7 @@ pub fn placed(off: usize, bytes: &[u8]) -> Option<(Mask, Line64)>
     if off > 64 || bytes.len() > 64 - off {
         return None;
     }
+    // Bytes of unknown number come into a vector only by a copy, as `std::simd` has no load of a part. So they are copied to their place.
     let mut line = [0; 64];
     write_at(&mut line, off, bytes);
     Some((Mask(run_of_bits(off, bytes.len())), Line64 { bytes: line }))
