@@ -49,7 +49,8 @@ pub(crate) fn load<K: Keep>(ground: &Ground<K>, seat: &mut RingSeat, cell: u64) 
     is_granted(ground.load::<Load<K>>(seat, cell_word(cell)))
 }
 
-/// Withdraws the request, unless the own cell is granted: whether it is.
+/// Withdraws the request, unless the own cell is granted: whether it is. Then the number that was added is not read: the node clears the
+/// cell before it grants the next.
 pub(crate) fn roll<K: Keep>(ground: &Ground<K>, seat: &mut RingSeat, cell: u64, node: u64) -> bool
     requires table { IsSeatOf word_count ground.now.table_id seat.old }
     requires ready { IsAt Queued seat.old }
