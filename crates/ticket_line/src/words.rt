@@ -14,7 +14,8 @@ pub(crate) const UNIT: u64 = 256;
 /// How many numbers there are, 2^56: with the node below, a number fills its word. Then they begin again.
 pub(crate) const NUMBERS: u64 = 0x100_0000_0000_0000;
 
-/// How many slots lie between those of two cells. The one between them has no use but to keep their lines on cache lines of their own.
+/// How many slots lie between those of two cells. The one between them has no use but to keep their lines on cache lines of their own. (A
+/// field of padding would take a third less memory, and would be copied with each parcel.)
 pub(crate) const SLOT_STRIDE: usize = 2;
 
 /// All slots.
