@@ -1,0 +1,111 @@
+#!/usr/bin/env python3
+"""Counts what a reader of the contracts has to read, in the checkout or at a commit.
+
+    tools/clauses.py [COMMIT]
+
+It prints, in this order: the words of clauses and ghost members of a shared line's interface and its one body; the lines of contract, the
+functions and the files that a release of a ticket line goes through from the C call to the atomic step; the clauses in all, and those wider than
+100 columns; and by crate the lines of source, specs and proofs. Run it before and after a change that means to say a thing once.
+"""
+
+import re
+import subprocess
+import sys
+
+from crates import ROOT
+
+CLAUSE = re.compile(r"\s*(requires|ensures|ghost)\b(?! use)")
+CONTRACT = re.compile(r"\s*(requires|ensures)\b")
+WIDE = 100
+
+# The interface, and the body that all locks share.
+INTERFACE = ["crates/qolb_model/src/sync.rt"]
+BODY = "crates/shared_line/src/"
+
+# The functions from the C call to the atomic step, by file. A name that a commit has not got counts for nothing there.
+RELEASE = {
+    "crates/qolb_c/src/lib.rt": ["qolb_deqolb"],
+    "crates/qolb_c/src/handle.rt": ["take", "put", "of", "of_parts", "into_parts"],
+    "crates/qolb_c/src/handle/parts.rt": ["of", "into_box"],
+    "crates/qolb_c/src/any_node.rt": ["deqolb", "release"],
+    "crates/qolb_c/src/answer.rt": ["of_done", "number"],
+    "crates/qolb_c/src/node.rt": ["release", "deqolb", "state"],
+    "crates/qolb_model/src/sync.rt": ["deqolb", "state"],
+    "crates/shared_line/src/sync.rt": ["deqolb", "state"],
+    "crates/shared_line/src/calls.rt": ["deqolb", "let_go", "state"],
+    "crates/shared_line/src/line.rt": ["state"],
+    "crates/shared_line/src/rule.rt": ["closes"],
+    "crates/shared_line/src/sleeping.rt": ["at", "wake", "wake_at"],
+    "crates/shared_line/src/queue.rt": ["put", "release"],
+    "crates/ticket_line/src/queue.rt": ["put", "release", "left_by"],
+    "crates/ticket_line/src/slots.rt": ["put", "carry"],
+    "crates/ticket_line/src/release.rt": ["release", "walk", "free_passed"],
+    "crates/ticket_line/src/steps.rt": ["grant", "free"],
+    "crates/ticket_line/src/words.rt": ["slot_of", "cell_word", "ticket_after", "number", "granted", "withdrawn_by"],
+    "crates/array_line/src/words.rt": ["cell_word", "node_word"],
+}
+
+
+class Tree:
+    """The files of the checkout, or of a commit."""
+
+    def __init__(self, commit):
+        self.commit = commit
+        names = ["ls-files"] if commit is None else ["ls-tree", "-r", "--name-only", commit]
+        self.names = self.git(*names).splitlines()
+
+    def git(self, *words):
+        return subprocess.run(["git", *words], cwd=ROOT, check=True, capture_output=True, text=True).stdout
+
+    def text(self, name):
+        if name not in self.names:
+            return ""
+        return (ROOT / name).read_text() if self.commit is None else self.git("show", f"{self.commit}:{name}")
+
+    def under(self, folder, ending):
+        return [name for name in self.names if name.startswith(folder) and name.endswith(ending)]
+
+
+def contract_lines(text, name):
+    """The lines of contract of each function of this name, a list for each."""
+    found, lines = [], text.splitlines()
+    for at, line in enumerate(lines):
+        if re.search(rf"\bfn {name}\b", line) is None:
+            continue
+        own = []
+        for later in lines[at + 1 :]:
+            if CONTRACT.match(later):
+                own.append(later)
+            elif later.strip() == "{" or later.strip() == "}" or re.match(r"\s*(///|(pub )?(extern \S+ )?fn )", later):
+                break
+            elif later.rstrip().endswith("{") and not own and not later.rstrip().endswith(" -> {"):
+                break
+        found.append(own)
+    return found
+
+
+def main(commit):
+    tree = Tree(commit)
+    sources = tree.under("crates/", ".rt")
+
+    said = [line for name in INTERFACE + tree.under(BODY, ".rt") for line in tree.text(name).splitlines() if CLAUSE.match(line)]
+    print(f"interface and body: {sum(len(line.split()) for line in said):,} words in {len(said)} clauses and ghost members")
+
+    contracts = {name: [own for each in functions for own in contract_lines(tree.text(name), each)] for name, functions in RELEASE.items()}
+    passed = {name: found for name, found in contracts.items() if found}
+    clauses = [line for found in passed.values() for own in found for line in own]
+    words = sum(len(line.split()) for line in clauses)
+    print(f"a release from C: {len(clauses)} lines of contract ({words:,} words), {sum(map(len, passed.values()))} functions, {len(passed)} files")
+
+    every = [line for name in sources for line in tree.text(name).splitlines() if CONTRACT.match(line)]
+    print(f"clauses: {len(every):,}, of which {sum(len(line) > WIDE for line in every)} are wider than {WIDE} columns")
+
+    print(f"{'crate':16}{'source':>8}{'specs':>8}{'proofs':>8}")
+    for crate in sorted({name.split("/")[1] for name in sources}):
+        parts = [sum(len(tree.text(name).splitlines()) for name in tree.under(f"crates/{crate}/{part}/", ending))
+                 for part, ending in (("src", ".rt"), ("specs", ".antt"), ("proofs", ".antt"))]
+        print(f"{crate:16}" + "".join(f"{part:>8,}" for part in parts))
+
+
+if __name__ == "__main__":
+    main(*(sys.argv[1:] or [None]))
