@@ -307,3 +307,9 @@ fn sleepers_are_counted(rt: HostRuntime) -> Result<(), Fail> {
 fn whoever_is_busy_asks_again(rt: HostRuntime) -> Result<(), Fail> {
     over_each(&rt, rt.alloc(), Row::Busy)
 }
+
+#[test]
+fn late_linker_of_a_closed_list_wakes(rt: HostRuntime) -> Result<(), Fail> {
+    passing::late_linker_wakes(&rt, rt.alloc());
+    Ok(())
+}

@@ -5,7 +5,8 @@ ghost use Rattle.qolb_model.specs.PortStates.{may_ask};
 use crate::tests::held::for_nodes;
 use line_threads::together::{Work, together};
 use line_threads::{Got, acquire_asleep};
-use qolb_model::{Enq, Free, OpenLine, Out, Sleeping};
+use link_line::{LinkLine, Port};
+use qolb_model::{Enq, Free, LineSync, OpenLine, Out, Prep, Sleeping};
 use std::alloc::Global;
 use std::process::Abort;
 use std::rt::Clock;
@@ -139,4 +140,62 @@ where
     L::Port: Send + Drop,
 {
     assert_eq!(rt; pass::<R, L>(rt, alloc), Some([true, true, true]));
+}
+
+/// The first has a list, the second has asked and not linked, and the third sleeps behind both. The first closes the list, and then the second
+/// links, and so passes it on.
+#[derive(Drop)]
+struct LinkingLate {
+    passing: Passing,
+}
+
+impl LinkingLate {
+    /// The second node: whether it was told that the list is closed when it linked.
+    fn link<R: Wait>(&self, rt: &R, line: &LinkLine<Free>, port: &mut Port) -> bool
+        requires belongs { ⟦<LinkLine<Free> as LineSync<Free>>⟧.belongs line.now port.old }
+        requires state { IsTrue (may_ask port.old.view.state) }
+    {
+        self.passing.wait(rt, 1);
+        let Prep::Linking = line.prepend(port) else {
+            return false;
+        };
+        self.passing.go_on(2);
+        self.passing.wait(rt, 4);
+        line.link(port) == Enq::Closed
+    }
+}
+
+impl<R: Wait + Clock> Work<R, LinkLine<Free>, Port> for LinkingLate {
+    type Back = bool;
+
+    ghost fits = { λ _ line _ port. ⟦<LinkLine<Free> as LineSync<Free>>⟧.belongs line port × IsTrue (may_ask port.view.state) };
+
+    ghost done = { λ _ _ _ _. Unit {0} };
+
+    fn work(&self, rt: &R, line: &LinkLine<Free>, place: usize, port: Port) -> bool {
+        let mut port = port;
+        match place {
+            0 => self.passing.close(rt, line, &mut port),
+            1 => self.link(rt, line, &mut port),
+            _ => self.passing.sleep(rt, line, &mut port),
+        }
+    }
+}
+
+/// What each of the three saw at a new list.
+fn link_late<R: Threads + Wait + Clock + Sync>(rt: &R, alloc: Global) -> Option<[bool; 3]> {
+    let (line, ports) = LinkLine::<Free>::open_with(alloc, 1, for_nodes(3)).ok()?;
+    let linking = LinkingLate {
+        passing: Passing::new(),
+    };
+    let saw = together(rt, alloc, &linking, &line, ports)?;
+    match *saw.as_slice() {
+        [first, second, third] => Some([first, second, third]),
+        _ => None,
+    }
+}
+
+/// Whoever sleeps behind a late linker of a closed list is woken.
+pub(super) fn late_linker_wakes<R: Threads + Wait + Clock + Abort + Sync>(rt: &R, alloc: Global) {
+    assert_eq!(rt; link_late(rt, alloc), Some([true, true, true]));
 }
