@@ -1,5 +1,5 @@
 -- Waiting for a line: one request after tries that were busy.
-use Rattle.std.proofs.Common.{◌≡◌, ◌≢◌, ◌⊎◌, inl, inr, ℕ, ◌+◌, ◌<◌, ◌≤◌, true, List, length, refl, sym, ap, ◌∙◌, subst, arith}
+use Rattle.std.proofs.Common.{◌≡◌, ◌≢◌, ◌⊎◌, inl, inr, ℕ, ◌+◌, ◌<◌, ◌≤◌, true, List, length, refl, sym, ap, ◌∙◌, arith}
 use Rattle.qolb_model.specs.declared.answer.Enq.{Enq}
 use Rattle.qolb_model.specs.declared.answer.Enq.TheVariants as enq
 use Rattle.qolb_model.specs.declared.answer.PortState.TheVariants.{Left, Rolled}
@@ -13,6 +13,7 @@ use Rattle.qolb_model.specs.Asking.{IsBusy}
 use Rattle.qolb_model.specs.Turns.{IsGranted, IsWithdrawn}
 use Rattle.qolb_model.specs.LettingGo.{IsTold}
 use Rattle.qolb_model.specs.Calls.{Enqueues}
+use Rattle.qolb_model.specs.Counting.{Counters}
 use Rattle.qolb_model.proofs.Going.{continues_on, extends_self, asks_goes, asks_from, joined_goes}
 use Rattle.qolb_model.proofs.Nearness.{few_turns}
 use Rattle.line_threads.specs.declared.asleep.Within.{Within}
@@ -103,11 +104,12 @@ module _ (allows : List ℕ → List ℕ → Type 0) (old mid new : View) (turn 
   told_within q = acquired_at_once allows old mid new turn enq.Closed within.Closed e same q (λ is. cc is) (λ is. cc is) (λ _. refl) (λ is. cc is)
 
 -- the turn came soon
-module _ {Port : Type 0} (view : Port → View) (looks : Port → ℕ) (old mid asked : Port) (first : Write) (allows : List ℕ → List ℕ → Type 0)
-    (e : Extends (view old) (view mid)) (same : (view mid).count ≡ (view old).count) (unlooked : looks mid ≡ looks old) (still : looks asked ≡ looks mid) where
+module _ {Port : Type 0} (view : Port → View) (counters : Port → Counters) (old mid asked : Port) (first : Write) (allows : List ℕ → List ℕ → Type 0)
+    (e : Extends (view old) (view mid)) (same : (view mid).count ≡ (view old).count)
+    (unlooked : (counters mid).poll_count ≡ (counters old).poll_count) (still : (counters asked).poll_count ≡ (counters mid).poll_count) where
   -- granted at once: nothing ended in between
   pub soon_at_once : (good : List ℕ → Type 0) (label : ℕ) (terms : Terms) → Enqueues allows (view mid) (view asked) first enq.Granted
-      → IsSound good allows label terms (view asked) → ComesSoon view looks old asked
+      → IsSound good allows label terms (view asked) → ComesSoon view counters old asked
   soon_at_once good label terms q sound = record {
     asked = asked;
     unlooked = still ∙ unlooked;
@@ -118,7 +120,7 @@ module _ {Port : Type 0} (view : Port → View) (looks : Port → ℕ) (old mid 
 
   -- granted after a wait
   pub soon_waiting : (new : Port) (turn : Write) → Enqueues allows (view mid) (view asked) first enq.Queued
-      → Continues allows (view asked) (view new) → (view new).count ≡ (view asked).count → IsGranted (view new) turn → ComesSoon view looks old new
+      → Continues allows (view asked) (view new) → (view new).count ≡ (view asked).count → IsGranted (view new) turn → ComesSoon view counters old new
   soon_waiting new turn q c count granted = record {
     asked = asked;
     unlooked = still ∙ unlooked;

@@ -7,6 +7,7 @@ use Rattle.qolb_model.specs.Sound.{Continues}
 use Rattle.qolb_model.specs.Asking.{IsBusy, Asks, IsJoined}
 use Rattle.qolb_model.specs.Turns.{IsGranted, IsWithdrawn}
 use Rattle.qolb_model.specs.LettingGo.{IsTold}
+use Rattle.qolb_model.specs.Counting.{Counters}
 use Rattle.line_threads.specs.declared.asleep.Within.{Within}
 use Rattle.line_threads.specs.declared.asleep.Within.TheVariants as within
 use Rattle.line_threads.specs.declared.waiting.Got.{Got}
@@ -14,9 +15,9 @@ use Rattle.line_threads.specs.declared.waiting.Got.TheVariants.{Granted, Closed}
 
 -- The turn came soon: once the port had asked, and before it looked, fewer requests ended than the line has nodes until it had the line;
 -- so at most one turn of each other node came before its own.
-pub record ComesSoon {Port : Type 0} (view : Port → View) (looks : Port → ℕ) (old new : Port) : Type 0 where
+pub record ComesSoon {Port : Type 0} (view : Port → View) (counters : Port → Counters) (old new : Port) : Type 0 where
   pub asked : Port
-  pub unlooked : looks asked ≡ looks old
+  pub unlooked : (counters asked).poll_count ≡ (counters old).poll_count
   pub asks : Asks (view old) (view asked)
   pub goes_on : Extends (view asked) (view new)
   pub few : length (view new).ends < length (view asked).ends + (view asked).terms.nodes

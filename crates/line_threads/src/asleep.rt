@@ -132,7 +132,7 @@ pub fn acquire_asleep<R: Wait, K: Keep, L: Sleeping<K>>(rt: &R, line: &L, port: 
     requires state { IsTrue (may_ask (L.view port.old).state) }
     ensures belongs { L.belongs line.now port.new }
     ensures acquires { Acquires K.allows (L.view port.old) (L.view port.new) (L.turn port.new) result }
-    ensures soon { result ≡ Got.Granted → ComesSoon L.view L.looks port.old port.new }
+    ensures soon { result ≡ Got.Granted → ComesSoon L.view L.counters port.old port.new }
 {
     let mut patience = Patience::new();
     for _ in rt.forever() {
@@ -190,8 +190,8 @@ pub fn acquire_within<R: Wait + Clock, K: Keep, L: Sleeping<K>>(
     requires state { IsTrue (may_ask (L.view port.old).state) }
     ensures belongs { L.belongs line.now port.new }
     ensures acquires { AcquiresWithin K.allows (L.view port.old) (L.view port.new) (L.turn port.new) result }
-    ensures soon { result ≡ Within.Granted → ComesSoon L.view L.looks port.old port.new }
-    ensures looked { result ≡ Within.Late → IsBusy (L.view port.old) (L.view port.new) ⊎ (L.looks port.old + 1 ≤ L.looks port.new) }
+    ensures soon { result ≡ Within.Granted → ComesSoon L.view L.counters port.old port.new }
+    ensures looked { result ≡ Within.Late → IsBusy (L.view port.old) (L.view port.new) ⊎ ((L.counters port.old).poll_count + 1 ≤ (L.counters port.new).poll_count) }
 {
     let span = Span::begin(rt, at_most);
     let mut patience = Patience::new();
@@ -228,7 +228,7 @@ fn wait_within<R: Wait + Clock, K: Keep, L: Sleeping<K>>(
     ensures granted { result ≡ Within.Granted → IsGranted (L.view port.new) (L.turn port.new) }
     ensures told { result ≡ Within.Closed → IsTold (L.view port.new) }
     ensures late { result ≡ Within.Late → IsWithdrawn (L.view port.new) }
-    ensures looked { L.looks port.old + 1 ≤ L.looks port.new }
+    ensures looked { (L.counters port.old).poll_count + 1 ≤ (L.counters port.new).poll_count }
 {
     let mut patience = Patience::new();
     for _ in rt.forever() {
@@ -258,7 +258,7 @@ fn give_up<K: Keep, L: LineSync<K>>(line: &L, port: &mut L::Port) -> Within
     ensures granted { result ≡ Within.Granted → IsGranted (L.view port.new) (L.turn port.new) }
     ensures told { result ≡ Within.Closed → IsTold (L.view port.new) }
     ensures late { result ≡ Within.Late → IsWithdrawn (L.view port.new) }
-    ensures looks { L.looks port.new ≡ L.looks port.old }
+    ensures looks { (L.counters port.new).poll_count ≡ (L.counters port.old).poll_count }
 {
     match line.withdraw(port) {
         Out::Withdrawn => Within::Late,

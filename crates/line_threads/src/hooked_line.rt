@@ -27,7 +27,7 @@ pub trait Hooks {
     fn looked_in_vain<K: Keep, L: Sleeping<K>>(&self, line: &L, port: &L::Port)
         requires belongs { L.belongs line.now port.now }
         requires state { (L.view port.now).state ≡ PortState.Queued }
-        requires looked { 1 ≤ L.looks port.now }
+        requires looked { 1 ≤ (L.counters port.now).poll_count }
     {
         let _ = line;
         let _ = port;
@@ -80,9 +80,11 @@ impl<H: Hooks + Drop, K: Keep, L: Sleeping<K>> LineSync<K> for HookedLine<H, L> 
 
     ghost turn = { L.turn };
 
-    ghost looks = { L.looks };
+    ghost counters = { L.counters };
 
-    ghost taken = { L.taken };
+    ghost allowed_states = { L.allowed_states };
+
+    ghost call_steps = { λ hooked. L.call_steps hooked.line };
 
     ghost most = { λ hooked. L.most hooked.line };
 

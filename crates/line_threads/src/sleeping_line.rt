@@ -35,9 +35,11 @@ impl<'r, R: Wait, K: Keep, L: Sleeping<K>> LineSync<K> for SleepingLine<'r, R, L
 
     ghost turn = { L.turn };
 
-    ghost looks = { L.looks };
+    ghost counters = { L.counters };
 
-    ghost taken = { L.taken };
+    ghost allowed_states = { L.allowed_states };
+
+    ghost call_steps = { λ asleep. L.call_steps asleep.line };
 
     ghost most = { λ asleep. L.most asleep.line };
 

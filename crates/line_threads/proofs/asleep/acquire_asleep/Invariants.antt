@@ -9,5 +9,5 @@ invariant-loop g l = record {
   state : IsTrue (may_ask (g.L.LineSync.view l.port).state);
   extends : Extends (g.L.LineSync.view l.initial.port) (g.L.LineSync.view l.port);
   count : (g.L.LineSync.view l.port).count ≡ (g.L.LineSync.view l.initial.port).count;
-  looks : g.L.LineSync.looks l.port ≡ g.L.LineSync.looks l.initial.port;
+  looks : (g.L.LineSync.counters l.port).poll_count ≡ (g.L.LineSync.counters l.initial.port).poll_count;
 }

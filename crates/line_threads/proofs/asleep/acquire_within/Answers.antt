@@ -15,7 +15,7 @@ returns-in-Queued-clause-acquires g c =
 
 pub returns-in-Granted-clause-soon : goal.returns-in-Granted-clause-soon
 returns-in-Granted-clause-soon g c _ =
-    soon_at_once g.L.LineSync.view g.L.LineSync.looks c.args.port.now c.loop.port c.enqolb.new.port _ _ c.loop.invariant.extends c.loop.invariant.count c.loop.invariant.looks c.in-Granted.ensures.looks _ _ _
+    soon_at_once g.L.LineSync.view g.L.LineSync.counters c.args.port.now c.loop.port c.enqolb.new.port _ _ c.loop.invariant.extends c.loop.invariant.count c.loop.invariant.looks c.in-Granted.ensures.counts.poll_count _ _ _
     c.in-Granted.ensures.enqueues (g.met.L.LineSync.sound c.args.line.now c.enqolb.new.port c.in-Granted.ensures.belongs)
 
 pub returns-in-Closed-clause-soon : goal.returns-in-Closed-clause-soon
@@ -23,7 +23,7 @@ returns-in-Closed-clause-soon g c granted = absurd (closed_within granted)
 
 pub returns-in-Queued-clause-soon : goal.returns-in-Queued-clause-soon
 returns-in-Queued-clause-soon g c granted =
-    soon_waiting g.L.LineSync.view g.L.LineSync.looks c.args.port.now c.loop.port c.enqolb.new.port _ _ c.loop.invariant.extends c.loop.invariant.count c.loop.invariant.looks c.in-Queued.ensures.looks _ _
+    soon_waiting g.L.LineSync.view g.L.LineSync.counters c.args.port.now c.loop.port c.enqolb.new.port _ _ c.loop.invariant.extends c.loop.invariant.count c.loop.invariant.looks c.in-Queued.ensures.counts.poll_count _ _
     c.in-Queued.ensures.enqueues c.wait_within.ensures.continues c.wait_within.ensures.count (c.wait_within.ensures.granted granted)
 
 pub loop-preserved : goal.loop-preserved
@@ -32,7 +32,7 @@ loop-preserved g c = record {
   state = quiet_busy _ _ (c.in-Busy.ensures.enqueues.busy refl);
   extends = (continues_on _ _ _ _ c.loop.invariant.extends c.in-Busy.ensures.enqueues.continues).extends;
   count = (c.in-Busy.ensures.enqueues.busy refl).count ∙ c.loop.invariant.count;
-  looks = c.in-Busy.ensures.looks ∙ c.loop.invariant.looks;
+  looks = c.in-Busy.ensures.counts.poll_count ∙ c.loop.invariant.looks;
   same_state = (c.in-Busy.ensures.enqueues.busy refl).state ∙ c.loop.invariant.same_state;
 }
 
@@ -42,7 +42,7 @@ loop-preserved-then-not-pause g c = record {
   state = quiet_busy _ _ (c.in-Busy.ensures.enqueues.busy refl);
   extends = (continues_on _ _ _ _ c.loop.invariant.extends c.in-Busy.ensures.enqueues.continues).extends;
   count = (c.in-Busy.ensures.enqueues.busy refl).count ∙ c.loop.invariant.count;
-  looks = c.in-Busy.ensures.looks ∙ c.loop.invariant.looks;
+  looks = c.in-Busy.ensures.counts.poll_count ∙ c.loop.invariant.looks;
   same_state = (c.in-Busy.ensures.enqueues.busy refl).state ∙ c.loop.invariant.same_state;
 }
 
@@ -65,4 +65,4 @@ pub returns-in-Closed-clause-looked : goal.returns-in-Closed-clause-looked
 returns-in-Closed-clause-looked g c = λ late. absurd (closed_in_time late)
 
 pub returns-in-Queued-clause-looked : goal.returns-in-Queued-clause-looked
-returns-in-Queued-clause-looked g c = λ _. inr (looked_meanwhile _ _ _ _ c.loop.invariant.looks c.in-Queued.ensures.looks c.wait_within.ensures.looked)
+returns-in-Queued-clause-looked g c = λ _. inr (looked_meanwhile _ _ _ _ c.loop.invariant.looks c.in-Queued.ensures.counts.poll_count c.wait_within.ensures.looked)

@@ -19,7 +19,7 @@ pub returns-in-Granted-clause-late : goal.returns-in-Granted-clause-late
 returns-in-Granted-clause-late g c late = absurd (granted_in_time late)
 
 pub returns-in-Granted-clause-looked : goal.returns-in-Granted-clause-looked
-returns-in-Granted-clause-looked g c = looked_first _ _ _ c.loop.invariant.looks c.in-Granted.ensures.looks
+returns-in-Granted-clause-looked g c = looked_first _ _ _ c.loop.invariant.looks c.in-Granted.ensures.counts.poll_count
 
 pub returns-in-Closed-clause-continues : goal.returns-in-Closed-clause-continues
 returns-in-Closed-clause-continues g c = continues_on _ _ _ _ c.loop.invariant.extends c.in-Closed.ensures.polls.continues
@@ -37,7 +37,7 @@ pub returns-in-Closed-clause-late : goal.returns-in-Closed-clause-late
 returns-in-Closed-clause-late g c late = absurd (closed_in_time late)
 
 pub returns-in-Closed-clause-looked : goal.returns-in-Closed-clause-looked
-returns-in-Closed-clause-looked g c = looked_first _ _ _ c.loop.invariant.looks c.in-Closed.ensures.looks
+returns-in-Closed-clause-looked g c = looked_first _ _ _ c.loop.invariant.looks c.in-Closed.ensures.counts.poll_count
 
 pub returns-in_default-clause-belongs : goal.returns-in_default-clause-belongs
 returns-in_default-clause-belongs g c = c.give_up.ensures.belongs
@@ -58,14 +58,14 @@ pub returns-in_default-clause-late : goal.returns-in_default-clause-late
 returns-in_default-clause-late g c = c.give_up.ensures.late
 
 pub returns-in_default-clause-looked : goal.returns-in_default-clause-looked
-returns-in_default-clause-looked g c = looked_first _ _ _ c.loop.invariant.looks (c.give_up.ensures.looks ∙ c.in-Waiting.ensures.looks)
+returns-in_default-clause-looked g c = looked_first _ _ _ c.loop.invariant.looks (c.give_up.ensures.looks ∙ c.in-Waiting.ensures.counts.poll_count)
 
 pub loop-preserved-then-not-pause : goal.loop-preserved-then-not-pause
 loop-preserved-then-not-pause g c = record {
   belongs = c.in-Waiting.ensures.belongs;
   state = (c.in-Waiting.ensures.polls.waiting refl).state;
   extends = (continues_on _ _ _ _ c.loop.invariant.extends c.in-Waiting.ensures.polls.continues).extends;
-  looks = looked_more _ _ _ c.loop.invariant.looks c.in-Waiting.ensures.looks;
+  looks = looked_more _ _ _ c.loop.invariant.looks c.in-Waiting.ensures.counts.poll_count;
   count = c.in-Waiting.ensures.polls.count ∙ c.loop.invariant.count;
 }
 
@@ -74,7 +74,7 @@ loop-preserved g c = record {
   belongs = c.in-Waiting.ensures.belongs;
   state = (c.in-Waiting.ensures.polls.waiting refl).state;
   extends = (continues_on _ _ _ _ c.loop.invariant.extends c.in-Waiting.ensures.polls.continues).extends;
-  looks = looked_more _ _ _ c.loop.invariant.looks c.in-Waiting.ensures.looks;
+  looks = looked_more _ _ _ c.loop.invariant.looks c.in-Waiting.ensures.counts.poll_count;
   count = c.in-Waiting.ensures.polls.count ∙ c.loop.invariant.count;
 }
 

@@ -8,6 +8,6 @@ invariant-loop g l = record {
   belongs : g.L.LineSync.belongs l.line l.port;
   state : (g.L.LineSync.view l.port).state ≡ Queued;
   extends : Extends (g.L.LineSync.view l.initial.port) (g.L.LineSync.view l.port);
-  looks : g.L.LineSync.looks l.initial.port ≤ g.L.LineSync.looks l.port;
+  looks : (g.L.LineSync.counters l.initial.port).poll_count ≤ (g.L.LineSync.counters l.port).poll_count;
   count : (g.L.LineSync.view l.port).count ≡ (g.L.LineSync.view l.initial.port).count;
 }

@@ -15,7 +15,7 @@ returns-in-Queued-clause-acquires g c =
 
 pub returns-in-Granted-clause-soon : goal.returns-in-Granted-clause-soon
 returns-in-Granted-clause-soon g c _ =
-    soon_at_once g.L.LineSync.view g.L.LineSync.looks c.args.port.now c.loop.port c.enqolb.new.port _ _ c.loop.invariant.extends c.loop.invariant.count c.loop.invariant.looks c.in-Granted.ensures.looks _ _ _
+    soon_at_once g.L.LineSync.view g.L.LineSync.counters c.args.port.now c.loop.port c.enqolb.new.port _ _ c.loop.invariant.extends c.loop.invariant.count c.loop.invariant.looks c.in-Granted.ensures.counts.poll_count _ _ _
     c.in-Granted.ensures.enqueues (g.met.L.LineSync.sound c.args.line.now c.enqolb.new.port c.in-Granted.ensures.belongs)
 
 pub returns-in-Closed-clause-soon : goal.returns-in-Closed-clause-soon
@@ -23,7 +23,7 @@ returns-in-Closed-clause-soon g c granted = absurd (closed_ungranted granted)
 
 pub returns-in-Queued-clause-soon : goal.returns-in-Queued-clause-soon
 returns-in-Queued-clause-soon g c granted =
-    soon_waiting g.L.LineSync.view g.L.LineSync.looks c.args.port.now c.loop.port c.enqolb.new.port _ _ c.loop.invariant.extends c.loop.invariant.count c.loop.invariant.looks c.in-Queued.ensures.looks _ _
+    soon_waiting g.L.LineSync.view g.L.LineSync.counters c.args.port.now c.loop.port c.enqolb.new.port _ _ c.loop.invariant.extends c.loop.invariant.count c.loop.invariant.looks c.in-Queued.ensures.counts.poll_count _ _
     c.in-Queued.ensures.enqueues c.wait.ensures.continues c.wait.ensures.count (c.wait.ensures.granted granted)
 
 pub loop-preserved : goal.loop-preserved
@@ -32,5 +32,5 @@ loop-preserved g c = record {
   state = quiet_busy _ _ (c.in-Busy.ensures.enqueues.busy refl);
   extends = (continues_on _ _ _ _ c.loop.invariant.extends c.in-Busy.ensures.enqueues.continues).extends;
   count = (c.in-Busy.ensures.enqueues.busy refl).count ∙ c.loop.invariant.count;
-  looks = c.in-Busy.ensures.looks ∙ c.loop.invariant.looks;
+  looks = c.in-Busy.ensures.counts.poll_count ∙ c.loop.invariant.looks;
 }
