@@ -21,8 +21,8 @@ pub fn put<L: LineSync<BoardLaw>>(line: &L, port: &mut L::Port, task: u64, patie
     requires state { IsTrue (may_ask (L.view port.old).state) }
     ensures belongs { L.belongs line.now port.new }
     ensures puts { Puts task (L.view port.old) (L.view port.new) result }
-    ensures patient { L.looks port.new ≤ L.looks port.old + patience }
-    ensures late { result ≡ Put.Late → L.looks port.new ≡ L.looks port.old + patience }
+    ensures patient { (L.counters port.new).poll_count ≤ (L.counters port.old).poll_count + patience }
+    ensures late { result ≡ Put.Late → (L.counters port.new).poll_count ≡ (L.counters port.old).poll_count + patience }
 {
     match acquire_patiently(line, port, patience) {
         Asked::Granted => {
@@ -45,7 +45,7 @@ fn store<L: LineSync<BoardLaw>>(line: &L, port: &mut L::Port, task: u64) -> bool
     ensures belongs { L.belongs line.now port.new }
     ensures continues { Continues Changes (L.view port.old) (L.view port.new) }
     ensures count { (L.view port.new).count ≡ (L.view port.old).count }
-    ensures looks { L.looks port.new ≡ L.looks port.old }
+    ensures looks { (L.counters port.new).poll_count ≡ (L.counters port.old).poll_count }
     ensures state { IsTrue (may_ask (L.view port.new).state) }
     ensures stored { result ≡ true → HasPut task (L.view port.new) }
     ensures full { result ≡ false → HasFound MOST_TASKS (L.view port.new) }

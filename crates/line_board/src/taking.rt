@@ -21,8 +21,8 @@ pub fn take<L: LineSync<BoardLaw>>(line: &L, port: &mut L::Port, patience: u64) 
     requires state { IsTrue (may_ask (L.view port.old).state) }
     ensures belongs { L.belongs line.now port.new }
     ensures takes { Takes (L.view port.old) (L.view port.new) result }
-    ensures patient { L.looks port.new ≤ L.looks port.old + patience }
-    ensures late { result ≡ Take.Late → L.looks port.new ≡ L.looks port.old + patience }
+    ensures patient { (L.counters port.new).poll_count ≤ (L.counters port.old).poll_count + patience }
+    ensures late { result ≡ Take.Late → (L.counters port.new).poll_count ≡ (L.counters port.old).poll_count + patience }
 {
     match acquire_patiently(line, port, patience) {
         Asked::Granted => match remove(line, port) {
@@ -42,7 +42,7 @@ fn remove<L: LineSync<BoardLaw>>(line: &L, port: &mut L::Port) -> Option<u64>
     ensures belongs { L.belongs line.now port.new }
     ensures continues { Continues Changes (L.view port.old) (L.view port.new) }
     ensures count { (L.view port.new).count ≡ (L.view port.old).count }
-    ensures looks { L.looks port.new ≡ L.looks port.old }
+    ensures looks { (L.counters port.new).poll_count ≡ (L.counters port.old).poll_count }
     ensures state { IsTrue (may_ask (L.view port.new).state) }
     ensures taken { MatchOption result (HasFound 0 (L.view port.new)) (λ task. HasTaken task (L.view port.new)) }
 {

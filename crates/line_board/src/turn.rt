@@ -23,7 +23,7 @@ pub(crate) fn replace<L: LineSync<BoardLaw>>(line: &L, port: &mut L::Port, new: 
     ensures belongs { L.belongs line.now port.new }
     ensures continues { Continues Changes (L.view port.old) (L.view port.new) }
     ensures count { (L.view port.new).count ≡ (L.view port.old).count }
-    ensures looks { L.looks port.new ≡ L.looks port.old }
+    ensures looks { (L.counters port.new).poll_count ≡ (L.counters port.old).poll_count }
     ensures state { IsTrue (may_ask (L.view port.new).state) }
     ensures turn { (found left : List ℕ) → Stand (bytes_of (L.view port.old)) found → Stand new.bytes left → HadTurn found left (put_between found left) (taken_between found left) (L.view port.new) }
 {
@@ -40,7 +40,7 @@ pub(crate) fn keep<L: LineSync<BoardLaw>>(line: &L, port: &mut L::Port)
     ensures belongs { L.belongs line.now port.new }
     ensures continues { Continues Changes (L.view port.old) (L.view port.new) }
     ensures count { (L.view port.new).count ≡ (L.view port.old).count }
-    ensures looks { L.looks port.new ≡ L.looks port.old }
+    ensures looks { (L.counters port.new).poll_count ≡ (L.counters port.old).poll_count }
     ensures state { IsTrue (may_ask (L.view port.new).state) }
     ensures found { (tasks : List ℕ) → Stand (bytes_of (L.view port.old)) tasks → HasFound (length tasks) (L.view port.new) }
 {
@@ -53,7 +53,7 @@ fn release<L: LineSync<BoardLaw>>(line: &L, port: &mut L::Port)
     requires state { (L.view port.old).state ≡ PortState.Holding }
     requires allowed { MayRelease Changes (L.view port.old) (L.turn port.old) }
     ensures belongs { L.belongs line.now port.new }
-    ensures looks { L.looks port.new ≡ L.looks port.old }
+    ensures looks { (L.counters port.new).poll_count ≡ (L.counters port.old).poll_count }
     ensures releases { Releases Changes false (L.view port.old) (L.view port.new) (L.turn port.old) }
 {
     line.deqolb(port);

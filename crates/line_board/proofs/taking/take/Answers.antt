@@ -16,14 +16,14 @@ returns-in-None-clause-takes g c =
 
 pub returns-in-Some-clause-patient : goal.returns-in-Some-clause-patient
 returns-in-Some-clause-patient g c =
-    subst (λ (n : ℕ). n ≤ g.L.LineSync.looks c.args.port.now + c.args.patience) (sym c.in-Some.ensures.looks) c.in-Granted.ensures.patient
+    subst (λ (n : ℕ). n ≤ (g.L.LineSync.counters c.args.port.now).poll_count + c.args.patience) (sym c.in-Some.ensures.looks) c.in-Granted.ensures.patient
 
 pub returns-in-Some-clause-late : goal.returns-in-Some-clause-late
 returns-in-Some-clause-late g c = λ e. absurd (task_not_late _ e)
 
 pub returns-in-None-clause-patient : goal.returns-in-None-clause-patient
 returns-in-None-clause-patient g c =
-    subst (λ (n : ℕ). n ≤ g.L.LineSync.looks c.args.port.now + c.args.patience) (sym c.in-None.ensures.looks) c.in-Granted.ensures.patient
+    subst (λ (n : ℕ). n ≤ (g.L.LineSync.counters c.args.port.now).poll_count + c.args.patience) (sym c.in-None.ensures.looks) c.in-Granted.ensures.patient
 
 pub returns-in-None-clause-late : goal.returns-in-None-clause-late
 returns-in-None-clause-late g c = λ e. absurd (empty_not_late e)

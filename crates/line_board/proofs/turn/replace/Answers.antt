@@ -1,6 +1,7 @@
 use Rattle.std.proofs.Common.{◌≡◌, ap, sym, ◌∙◌, subst, refl, length, List, ℕ}
 use Rattle.line_lanes.specs.Mask.{changed_mask}
 use Rattle.qolb_model.specs.declared.view.View.{View}
+use Rattle.qolb_model.specs.Counting.{Counters}
 use Rattle.qolb_model.specs.Sound.{Continues}
 use Rattle.qolb_model.proofs.OwnTurns.{quiet_after, may_ask-left_by}
 use Rattle.line_board.specs.Board.{Stand}
@@ -46,7 +47,7 @@ pub returns-clause-count : goal.returns-clause-count
 returns-clause-count g c = c.release.ensures.releases.ends_turn.count ∙ ap (λ (v : View). v.count) c.write.ensures.view
 
 pub returns-clause-looks : goal.returns-clause-looks
-returns-clause-looks g c = c.release.ensures.looks ∙ c.write.ensures.looks
+returns-clause-looks g c = c.release.ensures.looks ∙ ap (λ (counters : Counters). counters.poll_count) c.write.ensures.counters
 
 pub returns-clause-state : goal.returns-clause-state
 returns-clause-state g c = quiet_after _ _ (g.L.LineSync.view c.release.new.port) (may_ask-left_by _) c.release.ensures.releases.ends_turn.lets_go
