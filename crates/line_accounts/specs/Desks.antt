@@ -4,6 +4,7 @@ use Rattle.std.specs.List.{sum_by}
 use Rattle.qolb_model.specs.declared.answer.PortState.TheVariants.{Rolled}
 use Rattle.qolb_model.specs.declared.view.View.{View}
 use Rattle.qolb_model.specs.PortStates.{may_ask}
+use Rattle.qolb_model.specs.Counting.{Counters}
 use Rattle.qolb_model.specs.Sums.{KnowsOwnPlaces}
 use Rattle.line_accounts.specs.Paid.{paid_by, drawn_by}
 
@@ -31,19 +32,19 @@ pub record IsDeskOver {Line Port : Type 0} (belongs : Line → Port → Type 0) 
   pub paid : sum_by (λ port. paid_by (view port)) desk.ports + desk.paid_out ≡ sum_by (λ port. drawn_by (view port)) desk.ports + desk.paid_in
 
 -- no port has polled more often than the patience since then
-pub record ArePatient {Port : Type 0} (looks : Port → ℕ) (patience : ℕ) (old new : List Port) : Type 0 where
-  pub each : (i : ℕ) (before after : Port) → slice_get old i ≡ Some before → slice_get new i ≡ Some after → looks after ≤ looks before + patience
+pub record ArePatient {Port : Type 0} (counters : Port → Counters) (patience : ℕ) (old new : List Port) : Type 0 where
+  pub each : (i : ℕ) (before after : Port) → slice_get old i ≡ Some before → slice_get new i ≡ Some after → (counters after).poll_count ≤ (counters before).poll_count + patience
 
 -- the port has polled just so often, and then its request was taken back
-pub record HasWaited {Port : Type 0} (looks : Port → ℕ) (view : Port → View) (patience : ℕ) (old new : Port) : Type 0 where
-  pub looked : looks new ≡ looks old + patience
+pub record HasWaited {Port : Type 0} (counters : Port → Counters) (view : Port → View) (patience : ℕ) (old new : Port) : Type 0 where
+  pub looked : (counters new).poll_count ≡ (counters old).poll_count + patience
   pub withdrawn : (view new).state ≡ Rolled
 
 -- one of the ports has
-pub record HasOneWaited {Port : Type 0} (looks : Port → ℕ) (view : Port → View) (patience : ℕ) (old new : List Port) : Type 0 where
+pub record HasOneWaited {Port : Type 0} (counters : Port → Counters) (view : Port → View) (patience : ℕ) (old new : List Port) : Type 0 where
   pub place : ℕ
   pub before : Port
   pub after : Port
   pub was : slice_get old place ≡ Some before
   pub is : slice_get new place ≡ Some after
-  pub waited : HasWaited looks view patience before after
+  pub waited : HasWaited counters view patience before after

@@ -29,9 +29,9 @@ fn ask_both<L: LineSync<AccountLaw>>(
     ensures holds_first { IfOk result (λ _. Holds (L.view first_port.old) (L.view first_port.new) (L.turn first_port.new)) }
     ensures holds_second { IfOk result (λ _. Holds (L.view second_port.old) (L.view second_port.new) (L.turn second_port.new)) }
     ensures refused { IfErr result (IsRefusedEither (L.view first_port.old) (L.view first_port.new) (L.view second_port.old) (L.view second_port.new)) }
-    ensures patient_first { L.looks first_port.new ≤ L.looks first_port.old + patience }
-    ensures patient_second { L.looks second_port.new ≤ L.looks second_port.old + patience }
-    ensures late { result ≡ Err Reply.Late → HasWaited L.looks L.view patience first_port.old first_port.new ⊎ HasWaited L.looks L.view patience second_port.old second_port.new }
+    ensures patient_first { (L.counters first_port.new).poll_count ≤ (L.counters first_port.old).poll_count + patience }
+    ensures patient_second { (L.counters second_port.new).poll_count ≤ (L.counters second_port.old).poll_count + patience }
+    ensures late { result ≡ Err Reply.Late → HasWaited L.counters L.view patience first_port.old first_port.new ⊎ HasWaited L.counters L.view patience second_port.old second_port.new }
 {
     ask(first, first_port, patience)?;
     if let Err(reply) = ask(second, second_port, patience) {
@@ -62,8 +62,8 @@ fn carry<L: LineSync<AccountLaw>>(
     ensures long_source { length (bytes_of (L.view source_port.old)) ≡ 64 }
     ensures long_target { length (bytes_of (L.view target_port.old)) ≡ 64 }
     ensures carries { Carries (L.view source_port.old) (L.view source_port.new) (L.view target_port.old) (L.view target_port.new) from to amount result }
-    ensures looks_source { L.looks source_port.new ≡ L.looks source_port.old }
-    ensures looks_target { L.looks target_port.new ≡ L.looks target_port.old }
+    ensures looks_source { (L.counters source_port.new).poll_count ≡ (L.counters source_port.old).poll_count }
+    ensures looks_target { (L.counters target_port.new).poll_count ≡ (L.counters target_port.old).poll_count }
     ensures not_late { result ≢ Reply.Late }
 {
     let paying = held::<L>(source_port);
@@ -104,9 +104,9 @@ pub fn move_up<L: LineSync<AccountLaw>>(
     ensures belongs_target { L.belongs target.now target_port.new }
     ensures moves { MovesAcross (IsRefusedEither (L.view source_port.old) (L.view source_port.new) (L.view target_port.old) (L.view target_port.new))
         (L.view source_port.old) (L.view source_port.new) (L.view target_port.old) (L.view target_port.new) from to amount result }
-    ensures patient_source { L.looks source_port.new ≤ L.looks source_port.old + patience }
-    ensures patient_target { L.looks target_port.new ≤ L.looks target_port.old + patience }
-    ensures late { result ≡ Reply.Late → HasWaited L.looks L.view patience source_port.old source_port.new ⊎ HasWaited L.looks L.view patience target_port.old target_port.new }
+    ensures patient_source { (L.counters source_port.new).poll_count ≤ (L.counters source_port.old).poll_count + patience }
+    ensures patient_target { (L.counters target_port.new).poll_count ≤ (L.counters target_port.old).poll_count + patience }
+    ensures late { result ≡ Reply.Late → HasWaited L.counters L.view patience source_port.old source_port.new ⊎ HasWaited L.counters L.view patience target_port.old target_port.new }
 {
     if let Err(reply) = ask_both(source, source_port, target, target_port, patience) {
         return reply;
@@ -135,9 +135,9 @@ pub fn move_down<L: LineSync<AccountLaw>>(
     ensures belongs_target { L.belongs target.now target_port.new }
     ensures moves { MovesAcross (IsRefusedEither (L.view target_port.old) (L.view target_port.new) (L.view source_port.old) (L.view source_port.new))
         (L.view source_port.old) (L.view source_port.new) (L.view target_port.old) (L.view target_port.new) from to amount result }
-    ensures patient_source { L.looks source_port.new ≤ L.looks source_port.old + patience }
-    ensures patient_target { L.looks target_port.new ≤ L.looks target_port.old + patience }
-    ensures late { result ≡ Reply.Late → HasWaited L.looks L.view patience source_port.old source_port.new ⊎ HasWaited L.looks L.view patience target_port.old target_port.new }
+    ensures patient_source { (L.counters source_port.new).poll_count ≤ (L.counters source_port.old).poll_count + patience }
+    ensures patient_target { (L.counters target_port.new).poll_count ≤ (L.counters target_port.old).poll_count + patience }
+    ensures late { result ≡ Reply.Late → HasWaited L.counters L.view patience source_port.old source_port.new ⊎ HasWaited L.counters L.view patience target_port.old target_port.new }
 {
     if let Err(reply) = ask_both(target, target_port, source, source_port, patience) {
         return reply;

@@ -85,8 +85,8 @@ pub fn deposit<L: LineSync<AccountLaw>>(
     requires over { IsDeskOver L.belongs L.view lines.now desk.old }
     ensures over { IsDeskOver L.belongs L.view lines.now desk.new }
     ensures deposits { Deposits L.view (length lines.now) account amount desk.old desk.new result }
-    ensures patient { ArePatient L.looks patience desk.old.ports desk.new.ports }
-    ensures late { result ≡ Reply.Late → HasOneWaited L.looks L.view patience desk.old.ports desk.new.ports }
+    ensures patient { ArePatient L.counters patience desk.old.ports desk.new.ports }
+    ensures late { result ≡ Reply.Late → HasOneWaited L.counters L.view patience desk.old.ports desk.new.ports }
 {
     let Some((i, lane)) = place_of(account, lines.len()) else {
         return Reply::NoAccount;
@@ -112,8 +112,8 @@ pub fn take_out<L: LineSync<AccountLaw>>(
     requires over { IsDeskOver L.belongs L.view lines.now desk.old }
     ensures over { IsDeskOver L.belongs L.view lines.now desk.new }
     ensures takes_out { TakesOut L.view (length lines.now) account amount desk.old desk.new result }
-    ensures patient { ArePatient L.looks patience desk.old.ports desk.new.ports }
-    ensures late { result ≡ Reply.Late → HasOneWaited L.looks L.view patience desk.old.ports desk.new.ports }
+    ensures patient { ArePatient L.counters patience desk.old.ports desk.new.ports }
+    ensures late { result ≡ Reply.Late → HasOneWaited L.counters L.view patience desk.old.ports desk.new.ports }
 {
     let Some((i, lane)) = place_of(account, lines.len()) else {
         return Reply::NoAccount;
@@ -141,8 +141,8 @@ pub fn transfer<L: LineSync<AccountLaw>>(
     requires over { IsDeskOver L.belongs L.view lines.now desk.old }
     ensures over { IsDeskOver L.belongs L.view lines.now desk.new }
     ensures transfers { Transfers L.view (length lines.now) from to amount desk.old desk.new result }
-    ensures patient { ArePatient L.looks patience desk.old.ports desk.new.ports }
-    ensures late { result ≡ Reply.Late → HasOneWaited L.looks L.view patience desk.old.ports desk.new.ports }
+    ensures patient { ArePatient L.counters patience desk.old.ports desk.new.ports }
+    ensures late { result ≡ Reply.Late → HasOneWaited L.counters L.view patience desk.old.ports desk.new.ports }
 {
     let Some((i, source)) = place_of(from, lines.len()) else {
         return Reply::NoAccount;

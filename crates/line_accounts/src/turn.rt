@@ -28,7 +28,7 @@ pub fn leave<L: LineSync<AccountLaw>>(line: &L, port: &mut L::Port)
     requires granted { IsGranted (L.view port.old) (L.turn port.old) }
     ensures belongs { L.belongs line.now port.new }
     ensures leaves { Leaves (L.view port.old) (L.view port.new) (bytes_of (L.view port.old)) }
-    ensures looks { L.looks port.new ≡ L.looks port.old }
+    ensures looks { (L.counters port.new).poll_count ≡ (L.counters port.old).poll_count }
 {
     line.deqolb(port);
 }
@@ -41,7 +41,7 @@ pub fn leave_with<L: LineSync<AccountLaw>>(line: &L, port: &mut L::Port, next: &
     requires allowed { StayBalances (bytes_of (L.view port.old)) next.now.bytes }
     ensures belongs { L.belongs line.now port.new }
     ensures leaves { Leaves (L.view port.old) (L.view port.new) next.now.bytes }
-    ensures looks { L.looks port.new ≡ L.looks port.old }
+    ensures looks { (L.counters port.new).poll_count ≡ (L.counters port.old).poll_count }
 {
     L::write(port, Mask(u64::MAX), next);
     line.deqolb(port);
@@ -61,8 +61,8 @@ pub fn pay_in<L: LineSync<AccountLaw>>(
     requires lane { k < 8 }
     ensures belongs { L.belongs line.now port.new }
     ensures pays { PaysIn (L.view port.old) (L.view port.new) k amount paid_in.old paid_in.new result }
-    ensures patient { L.looks port.new ≤ L.looks port.old + patience }
-    ensures late { result ≡ Reply.Late → HasWaited L.looks L.view patience port.old port.new }
+    ensures patient { (L.counters port.new).poll_count ≤ (L.counters port.old).poll_count + patience }
+    ensures late { result ≡ Reply.Late → HasWaited L.counters L.view patience port.old port.new }
 {
     if let Err(reply) = ask(line, port, patience) {
         return reply;
@@ -95,8 +95,8 @@ pub fn pay_out<L: LineSync<AccountLaw>>(
     requires lane { k < 8 }
     ensures belongs { L.belongs line.now port.new }
     ensures pays { PaysOut (L.view port.old) (L.view port.new) k amount paid_out.old paid_out.new result }
-    ensures patient { L.looks port.new ≤ L.looks port.old + patience }
-    ensures late { result ≡ Reply.Late → HasWaited L.looks L.view patience port.old port.new }
+    ensures patient { (L.counters port.new).poll_count ≤ (L.counters port.old).poll_count + patience }
+    ensures late { result ≡ Reply.Late → HasWaited L.counters L.view patience port.old port.new }
 {
     if let Err(reply) = ask(line, port, patience) {
         return reply;
@@ -131,8 +131,8 @@ pub fn move_within<L: LineSync<AccountLaw>>(
     requires apart { from ≢ to }
     ensures belongs { L.belongs line.now port.new }
     ensures moves { MovesWithin (L.view port.old) (L.view port.new) from to amount result }
-    ensures patient { L.looks port.new ≤ L.looks port.old + patience }
-    ensures late { result ≡ Reply.Late → HasWaited L.looks L.view patience port.old port.new }
+    ensures patient { (L.counters port.new).poll_count ≤ (L.counters port.old).poll_count + patience }
+    ensures late { result ≡ Reply.Late → HasWaited L.counters L.view patience port.old port.new }
 {
     if let Err(reply) = ask(line, port, patience) {
         return reply;

@@ -42,16 +42,16 @@ returns-clause-patient g c =
     let over = subst (λ (d : DeskOf g.row.L-Port.Denot). IsDeskOver g.L.LineSync.belongs g.L.LineSync.view c.args.lines.now d) (sym c.desk.view_is) c.requires.over in
     let there : c.in-Some.i < length c.args.lines.now = omega (arith, c.in-Some.ensures.0, c.in-Some.ensures.1) in
     let at = at_place g.L.LineSync.belongs g.L.LineSync.view c.args.lines.now _ c.in-Some.i c.index-lines-i.result c.index_mut.result.now over there c.index-lines-i.is c.index_mut.ensures.value in
-    subst (λ (d : DeskOf g.row.L-Port.Denot). ArePatient g.L.LineSync.looks c.args.patience d.ports (set c.desk.inside.ports.items c.in-Some.i c.pay_out.new.port)) c.desk.view_is
-    (patient_one g.L.LineSync.looks c.args.patience c.desk.inside.ports.items c.in-Some.i c.index_mut.result.now c.pay_out.new.port at.1 c.pay_out.ensures.patient)
+    subst (λ (d : DeskOf g.row.L-Port.Denot). ArePatient g.L.LineSync.counters c.args.patience d.ports (set c.desk.inside.ports.items c.in-Some.i c.pay_out.new.port)) c.desk.view_is
+    (patient_one g.L.LineSync.counters c.args.patience c.desk.inside.ports.items c.in-Some.i c.index_mut.result.now c.pay_out.new.port at.1 c.pay_out.ensures.patient)
 
 pub returns-clause-late : goal.returns-clause-late
 returns-clause-late g c late =
     let over = subst (λ (d : DeskOf g.row.L-Port.Denot). IsDeskOver g.L.LineSync.belongs g.L.LineSync.view c.args.lines.now d) (sym c.desk.view_is) c.requires.over in
     let there : c.in-Some.i < length c.args.lines.now = omega (arith, c.in-Some.ensures.0, c.in-Some.ensures.1) in
     let at = at_place g.L.LineSync.belongs g.L.LineSync.view c.args.lines.now _ c.in-Some.i c.index-lines-i.result c.index_mut.result.now over there c.index-lines-i.is c.index_mut.ensures.value in
-    subst (λ (d : DeskOf g.row.L-Port.Denot). HasOneWaited g.L.LineSync.looks g.L.LineSync.view c.args.patience d.ports (set c.desk.inside.ports.items c.in-Some.i c.pay_out.new.port)) c.desk.view_is
-    (waited_one g.L.LineSync.looks c.args.patience c.desk.inside.ports.items c.in-Some.i c.index_mut.result.now c.pay_out.new.port at.1 g.L.LineSync.view (c.pay_out.ensures.late late))
+    subst (λ (d : DeskOf g.row.L-Port.Denot). HasOneWaited g.L.LineSync.counters g.L.LineSync.view c.args.patience d.ports (set c.desk.inside.ports.items c.in-Some.i c.pay_out.new.port)) c.desk.view_is
+    (waited_one g.L.LineSync.counters c.args.patience c.desk.inside.ports.items c.in-Some.i c.index_mut.result.now c.pay_out.new.port at.1 g.L.LineSync.view (c.pay_out.ensures.late late))
 
 pub returns-in_default-clause-takes_out : goal.returns-in_default-clause-takes_out
 returns-in_default-clause-takes_out g c = takes_out_none g.L.LineSync.view (length c.args.lines.now) c.args.account c.args.amount _ c.in_default.ensures

@@ -127,9 +127,9 @@ returns-then-i-j-2-clause-late g c late =
     let at_j = sym (ap (λ l. slice_get l c.in-Some-place_of.j) c.deref_mut.ensures.value) ∙ c.pair_of-paying.ensures.second in
     let ports = with_items c.desk.inside.ports (slice_set (slice_set c.deref_mut.result.now c.in-Some.i c.move_up.new.source_port) c.in-Some-place_of.j c.move_up.new.target_port) in
     let whole = both_set c.desk.inside.ports c.deref_mut.result.now c.in-Some.i c.in-Some-place_of.j c.move_up.new.source_port c.move_up.new.target_port c.deref_mut.ensures.value in
-    subst (λ (d : DeskOf g.row.L-Port.Denot). HasOneWaited g.L.LineSync.looks g.L.LineSync.view c.args.patience d.ports ports.items) c.desk.view_is
-    (subst (λ (l : List g.row.L-Port.Denot). HasOneWaited g.L.LineSync.looks g.L.LineSync.view c.args.patience c.desk.inside.ports.items l) (sym whole)
-    (waited_two g.L.LineSync.looks c.args.patience c.desk.inside.ports.items c.in-Some.i c.pair_of-paying.result.0.now c.move_up.new.source_port at_i c.in-Some-place_of.j c.pair_of-paying.result.1.now c.move_up.new.target_port c.if-i-j.false at_j g.L.LineSync.view (c.move_up.ensures.late late)))
+    subst (λ (d : DeskOf g.row.L-Port.Denot). HasOneWaited g.L.LineSync.counters g.L.LineSync.view c.args.patience d.ports ports.items) c.desk.view_is
+    (subst (λ (l : List g.row.L-Port.Denot). HasOneWaited g.L.LineSync.counters g.L.LineSync.view c.args.patience c.desk.inside.ports.items l) (sym whole)
+    (waited_two g.L.LineSync.counters c.args.patience c.desk.inside.ports.items c.in-Some.i c.pair_of-paying.result.0.now c.move_up.new.source_port at_i c.in-Some-place_of.j c.pair_of-paying.result.1.now c.move_up.new.target_port c.if-i-j.false at_j g.L.LineSync.view (c.move_up.ensures.late late)))
 
 pub returns-clause-patient : goal.returns-clause-patient
 returns-clause-patient g c =
@@ -137,9 +137,9 @@ returns-clause-patient g c =
     let at_j = sym (ap (λ l. slice_get l c.in-Some-place_of.j) c.deref_mut.ensures.value) ∙ c.pair_of-paying.ensures.second in
     let ports = with_items c.desk.inside.ports (slice_set (slice_set c.deref_mut.result.now c.in-Some.i c.move_down.new.source_port) c.in-Some-place_of.j c.move_down.new.target_port) in
     let whole = both_set c.desk.inside.ports c.deref_mut.result.now c.in-Some.i c.in-Some-place_of.j c.move_down.new.source_port c.move_down.new.target_port c.deref_mut.ensures.value in
-    subst (λ (d : DeskOf g.row.L-Port.Denot). ArePatient g.L.LineSync.looks c.args.patience d.ports ports.items) c.desk.view_is
-    (subst (λ (l : List g.row.L-Port.Denot). ArePatient g.L.LineSync.looks c.args.patience c.desk.inside.ports.items l) (sym whole)
-    (patient_two g.L.LineSync.looks c.args.patience c.desk.inside.ports.items c.in-Some.i c.pair_of-paying.result.0.now c.move_down.new.source_port at_i c.in-Some-place_of.j c.pair_of-paying.result.1.now c.move_down.new.target_port c.if-i-j.false at_j c.move_down.ensures.patient_source c.move_down.ensures.patient_target))
+    subst (λ (d : DeskOf g.row.L-Port.Denot). ArePatient g.L.LineSync.counters c.args.patience d.ports ports.items) c.desk.view_is
+    (subst (λ (l : List g.row.L-Port.Denot). ArePatient g.L.LineSync.counters c.args.patience c.desk.inside.ports.items l) (sym whole)
+    (patient_two g.L.LineSync.counters c.args.patience c.desk.inside.ports.items c.in-Some.i c.pair_of-paying.result.0.now c.move_down.new.source_port at_i c.in-Some-place_of.j c.pair_of-paying.result.1.now c.move_down.new.target_port c.if-i-j.false at_j c.move_down.ensures.patient_source c.move_down.ensures.patient_target))
 
 pub returns-clause-late : goal.returns-clause-late
 returns-clause-late g c late =
@@ -147,9 +147,9 @@ returns-clause-late g c late =
     let at_j = sym (ap (λ l. slice_get l c.in-Some-place_of.j) c.deref_mut.ensures.value) ∙ c.pair_of-paying.ensures.second in
     let ports = with_items c.desk.inside.ports (slice_set (slice_set c.deref_mut.result.now c.in-Some.i c.move_down.new.source_port) c.in-Some-place_of.j c.move_down.new.target_port) in
     let whole = both_set c.desk.inside.ports c.deref_mut.result.now c.in-Some.i c.in-Some-place_of.j c.move_down.new.source_port c.move_down.new.target_port c.deref_mut.ensures.value in
-    subst (λ (d : DeskOf g.row.L-Port.Denot). HasOneWaited g.L.LineSync.looks g.L.LineSync.view c.args.patience d.ports ports.items) c.desk.view_is
-    (subst (λ (l : List g.row.L-Port.Denot). HasOneWaited g.L.LineSync.looks g.L.LineSync.view c.args.patience c.desk.inside.ports.items l) (sym whole)
-    (waited_two g.L.LineSync.looks c.args.patience c.desk.inside.ports.items c.in-Some.i c.pair_of-paying.result.0.now c.move_down.new.source_port at_i c.in-Some-place_of.j c.pair_of-paying.result.1.now c.move_down.new.target_port c.if-i-j.false at_j g.L.LineSync.view (c.move_down.ensures.late late)))
+    subst (λ (d : DeskOf g.row.L-Port.Denot). HasOneWaited g.L.LineSync.counters g.L.LineSync.view c.args.patience d.ports ports.items) c.desk.view_is
+    (subst (λ (l : List g.row.L-Port.Denot). HasOneWaited g.L.LineSync.counters g.L.LineSync.view c.args.patience c.desk.inside.ports.items l) (sym whole)
+    (waited_two g.L.LineSync.counters c.args.patience c.desk.inside.ports.items c.in-Some.i c.pair_of-paying.result.0.now c.move_down.new.source_port at_i c.in-Some-place_of.j c.pair_of-paying.result.1.now c.move_down.new.target_port c.if-i-j.false at_j g.L.LineSync.view (c.move_down.ensures.late late)))
 
 pub returns-then-i-j-2-clause-patient : goal.returns-then-i-j-2-clause-patient
 returns-then-i-j-2-clause-patient g c =
@@ -157,9 +157,9 @@ returns-then-i-j-2-clause-patient g c =
     let at_j = sym (ap (λ l. slice_get l c.in-Some-place_of.j) c.deref_mut.ensures.value) ∙ c.pair_of-paying.ensures.second in
     let ports = with_items c.desk.inside.ports (slice_set (slice_set c.deref_mut.result.now c.in-Some.i c.move_up.new.source_port) c.in-Some-place_of.j c.move_up.new.target_port) in
     let whole = both_set c.desk.inside.ports c.deref_mut.result.now c.in-Some.i c.in-Some-place_of.j c.move_up.new.source_port c.move_up.new.target_port c.deref_mut.ensures.value in
-    subst (λ (d : DeskOf g.row.L-Port.Denot). ArePatient g.L.LineSync.looks c.args.patience d.ports ports.items) c.desk.view_is
-    (subst (λ (l : List g.row.L-Port.Denot). ArePatient g.L.LineSync.looks c.args.patience c.desk.inside.ports.items l) (sym whole)
-    (patient_two g.L.LineSync.looks c.args.patience c.desk.inside.ports.items c.in-Some.i c.pair_of-paying.result.0.now c.move_up.new.source_port at_i c.in-Some-place_of.j c.pair_of-paying.result.1.now c.move_up.new.target_port c.if-i-j.false at_j c.move_up.ensures.patient_source c.move_up.ensures.patient_target))
+    subst (λ (d : DeskOf g.row.L-Port.Denot). ArePatient g.L.LineSync.counters c.args.patience d.ports ports.items) c.desk.view_is
+    (subst (λ (l : List g.row.L-Port.Denot). ArePatient g.L.LineSync.counters c.args.patience c.desk.inside.ports.items l) (sym whole)
+    (patient_two g.L.LineSync.counters c.args.patience c.desk.inside.ports.items c.in-Some.i c.pair_of-paying.result.0.now c.move_up.new.source_port at_i c.in-Some-place_of.j c.pair_of-paying.result.1.now c.move_up.new.target_port c.if-i-j.false at_j c.move_up.ensures.patient_source c.move_up.ensures.patient_target))
 
 pub move_up-requires-clause-belongs_source : goal.move_up-requires-clause-belongs_source
 move_up-requires-clause-belongs_source g c =
@@ -187,16 +187,16 @@ returns-then-i-j-clause-patient g c =
     let over = subst (λ (d : DeskOf g.row.L-Port.Denot). IsDeskOver g.L.LineSync.belongs g.L.LineSync.view c.args.lines.now d) (sym c.desk.view_is) c.requires.over in
     let there_i : c.in-Some.i < length c.args.lines.now = omega (arith, c.in-Some.ensures.0, c.in-Some.ensures.1) in
     let at = at_place g.L.LineSync.belongs g.L.LineSync.view c.args.lines.now _ c.in-Some.i c.index-lines-i.result c.index_mut.result.now over there_i c.index-lines-i.is c.index_mut.ensures.value in
-    subst (λ (d : DeskOf g.row.L-Port.Denot). ArePatient g.L.LineSync.looks c.args.patience d.ports (set c.desk.inside.ports.items c.in-Some.i c.move_within.new.port)) c.desk.view_is
-    (patient_one g.L.LineSync.looks c.args.patience c.desk.inside.ports.items c.in-Some.i c.index_mut.result.now c.move_within.new.port at.1 c.move_within.ensures.patient)
+    subst (λ (d : DeskOf g.row.L-Port.Denot). ArePatient g.L.LineSync.counters c.args.patience d.ports (set c.desk.inside.ports.items c.in-Some.i c.move_within.new.port)) c.desk.view_is
+    (patient_one g.L.LineSync.counters c.args.patience c.desk.inside.ports.items c.in-Some.i c.index_mut.result.now c.move_within.new.port at.1 c.move_within.ensures.patient)
 
 pub returns-then-i-j-clause-late : goal.returns-then-i-j-clause-late
 returns-then-i-j-clause-late g c late =
     let over = subst (λ (d : DeskOf g.row.L-Port.Denot). IsDeskOver g.L.LineSync.belongs g.L.LineSync.view c.args.lines.now d) (sym c.desk.view_is) c.requires.over in
     let there_i : c.in-Some.i < length c.args.lines.now = omega (arith, c.in-Some.ensures.0, c.in-Some.ensures.1) in
     let at = at_place g.L.LineSync.belongs g.L.LineSync.view c.args.lines.now _ c.in-Some.i c.index-lines-i.result c.index_mut.result.now over there_i c.index-lines-i.is c.index_mut.ensures.value in
-    subst (λ (d : DeskOf g.row.L-Port.Denot). HasOneWaited g.L.LineSync.looks g.L.LineSync.view c.args.patience d.ports (set c.desk.inside.ports.items c.in-Some.i c.move_within.new.port)) c.desk.view_is
-    (waited_one g.L.LineSync.looks c.args.patience c.desk.inside.ports.items c.in-Some.i c.index_mut.result.now c.move_within.new.port at.1 g.L.LineSync.view (c.move_within.ensures.late late))
+    subst (λ (d : DeskOf g.row.L-Port.Denot). HasOneWaited g.L.LineSync.counters g.L.LineSync.view c.args.patience d.ports (set c.desk.inside.ports.items c.in-Some.i c.move_within.new.port)) c.desk.view_is
+    (waited_one g.L.LineSync.counters c.args.patience c.desk.inside.ports.items c.in-Some.i c.index_mut.result.now c.move_within.new.port at.1 g.L.LineSync.view (c.move_within.ensures.late late))
 
 pub returns-in_default-clause-transfers : goal.returns-in_default-clause-transfers
 returns-in_default-clause-transfers g c = transfers_none g.L.LineSync.view (length c.args.lines.now) c.args.from c.args.to c.args.amount _ (inl c.in_default.ensures)
