@@ -42,8 +42,8 @@ pub fn ask<L: LineSync<Free>>(line: &L, port: &mut L::Port, patience: u64) -> As
     ensures told { result ≡ Asked.Closed → IsTold (L.view port.new) }
     ensures ended { result ≢ Asked.Granted → IsTrue (may_ask (L.view port.new).state) }
     ensures once { IsBusy (L.view port.old) (L.view port.new) ⊎ ((L.view port.new).count ≡ (L.view port.old).count + 1) }
-    ensures patient { L.looks port.new ≤ L.looks port.old + patience }
-    ensures in_time { result ≡ Asked.Late → IsBusy (L.view port.old) (L.view port.new) ⊎ (L.looks port.new ≡ L.looks port.old + patience) }
+    ensures patient { (L.counters port.new).poll_count ≤ (L.counters port.old).poll_count + patience }
+    ensures in_time { result ≡ Asked.Late → IsBusy (L.view port.old) (L.view port.new) ⊎ ((L.counters port.new).poll_count ≡ (L.counters port.old).poll_count + patience) }
 {
     match line.enqolb(port) {
         Enq::Granted => return Asked::Granted,
@@ -74,7 +74,7 @@ pub fn put_down<L: LineSync<Free>>(line: &L, port: &mut L::Port, value: u64) -> 
     ensures state { IsTrue (may_ask (L.view port.new).state) }
     ensures put { IsTrue result → HadTurn 0 value (L.view port.new) }
     ensures once { (L.view port.new).count ≤ (L.view port.old).count + 1 }
-    ensures patient { L.looks port.new ≤ L.looks port.old + PATIENCE }
+    ensures patient { (L.counters port.new).poll_count ≤ (L.counters port.old).poll_count + PATIENCE }
     ensures full { result ≡ false → HadNoTurn (L.view port.old) (L.view port.new) ⊎ WasFull (L.view port.new) }
 {
     if ask(line, port, PATIENCE) != Asked::Granted {
@@ -98,7 +98,7 @@ pub fn take_up<L: LineSync<Free>>(line: &L, port: &mut L::Port) -> Option<u64>
     ensures value { IfSome result (λ value. value ≢ 0) }
     ensures taken { IfSome result (λ value. HadTurn value 0 (L.view port.new)) }
     ensures once { (L.view port.new).count ≤ (L.view port.old).count + 1 }
-    ensures patient { L.looks port.new ≤ L.looks port.old + PATIENCE }
+    ensures patient { (L.counters port.new).poll_count ≤ (L.counters port.old).poll_count + PATIENCE }
     ensures empty { IfNone result (HadNoTurn (L.view port.old) (L.view port.new) ⊎ HadTurn 0 0 (L.view port.new)) }
 {
     if ask(line, port, PATIENCE) != Asked::Granted {

@@ -7,5 +7,5 @@ invariant-loop g l = record {
   belongs : g.L.LineSync.belongs l.line l.port;
   state : (g.L.LineSync.view l.port).state ≡ Queued;
   count : (g.L.LineSync.view l.port).count ≡ (g.L.LineSync.view l.fn.port).count + 1;
-  looks : g.L.LineSync.looks l.port ≡ g.L.LineSync.looks l.fn.port + l.counter;
+  looks : (g.L.LineSync.counters l.port).poll_count ≡ (g.L.LineSync.counters l.fn.port).poll_count + l.counter;
 }
