@@ -38,10 +38,10 @@ turn_of (kind.List node) = node.port.turn
 turn_of (kind.Ticket node) = node.port.turn
 
 -- how often the node has polled
-abbrev pub looks_of : AnyNode → ℕ
-looks_of (kind.Ring node) = node.port.looks
-looks_of (kind.List node) = node.port.looks
-looks_of (kind.Ticket node) = node.port.looks
+abbrev pub poll_count_of : AnyNode → ℕ
+poll_count_of (kind.Ring node) = node.port.counters.poll_count
+poll_count_of (kind.List node) = node.port.counters.poll_count
+poll_count_of (kind.Ticket node) = node.port.counters.poll_count
 
 abbrev pub state_of : AnyNode → PortState
 state_of node = (view_of node).state
@@ -95,27 +95,27 @@ IsDone Allowed Promise was now a = IsCall Allowed (λ (made : Unit {0}). answer.
 
 -- `enqolb`: where the node neither waits nor holds. It does not poll
 abbrev pub Enqolbs : AnyNode → AnyNode → Answer → Type 0
-Enqolbs was now a = IsCall (may_ask (state_of was) ≡ true) enq_told (λ made. line.Enqueues anything (view_of was) (view_of now) (turn_of now) made × (looks_of now ≡ looks_of was)) was now a
+Enqolbs was now a = IsCall (may_ask (state_of was) ≡ true) enq_told (λ made. line.Enqueues anything (view_of was) (view_of now) (turn_of now) made × (poll_count_of now ≡ poll_count_of was)) was now a
 
 -- `poll`: where it waits. It polls once
 abbrev pub Polls : AnyNode → AnyNode → Answer → Type 0
-Polls was now a = IsCall (state_of was ≡ Queued) poll_told (λ made. line.Polls anything (view_of was) (view_of now) (turn_of now) made × (looks_of now ≡ looks_of was + 1)) was now a
+Polls was now a = IsCall (state_of was ≡ Queued) poll_told (λ made. line.Polls anything (view_of was) (view_of now) (turn_of now) made × (poll_count_of now ≡ poll_count_of was + 1)) was now a
 
 -- `wait`: where it waits, and may poll at least once; it promises what `poll` does, and how often it polls
 abbrev pub Waits : ℕ → AnyNode → AnyNode → Answer → Type 0
 Waits polls was now a =
-    IsCall ((state_of was ≡ Queued) × (0 < polls)) poll_told (λ made. line.Polls anything (view_of was) (view_of now) (turn_of now) made × PollsWithin polls (looks_of was) (looks_of now) made) was now a
+    IsCall ((state_of was ≡ Queued) × (0 < polls)) poll_told (λ made. line.Polls anything (view_of was) (view_of now) (turn_of now) made × PollsWithin polls (poll_count_of was) (poll_count_of now) made) was now a
 
 -- `prepend` and `link`, of a list: where the node neither waits nor holds, and where it is linking. Neither polls
 abbrev pub Prepends : AnyNode → AnyNode → Answer → Type 0
-Prepends was now a = IsCall ((kind_of was ≡ 1) × (may_ask (state_of was) ≡ true)) prep_told (λ made. line.Prepends anything (view_of was) (view_of now) (turn_of now) made × (looks_of now ≡ looks_of was)) was now a
+Prepends was now a = IsCall ((kind_of was ≡ 1) × (may_ask (state_of was) ≡ true)) prep_told (λ made. line.Prepends anything (view_of was) (view_of now) (turn_of now) made × (poll_count_of now ≡ poll_count_of was)) was now a
 
 abbrev pub LinksUp : AnyNode → AnyNode → Answer → Type 0
-LinksUp was now a = IsCall ((kind_of was ≡ 1) × (state_of was ≡ Linking)) enq_told (λ made. line.LinksUp anything (view_of was) (view_of now) (turn_of now) made × (looks_of now ≡ looks_of was)) was now a
+LinksUp was now a = IsCall ((kind_of was ≡ 1) × (state_of was ≡ Linking)) enq_told (λ made. line.LinksUp anything (view_of was) (view_of now) (turn_of now) made × (poll_count_of now ≡ poll_count_of was)) was now a
 
 -- `withdraw`: where it waits. It does not poll
 abbrev pub Withdraws : AnyNode → AnyNode → Answer → Type 0
-Withdraws was now a = IsCall (state_of was ≡ Queued) out_told (λ made. line.Withdraws anything (view_of was) (view_of now) (turn_of now) made × (looks_of now ≡ looks_of was)) was now a
+Withdraws was now a = IsCall (state_of was ≡ Queued) out_told (λ made. line.Withdraws anything (view_of was) (view_of now) (turn_of now) made × (poll_count_of now ≡ poll_count_of was)) was now a
 
 -- `read`: where it holds, its bytes are written to `out`, and nothing else changes
 abbrev pub Reads : List ℕ → List ℕ → AnyNode → AnyNode → Answer → Type 0

@@ -89,7 +89,7 @@ impl<L: LineSync<Free>> Node<L> {
     /// `Misuse` where the node waits or holds.
     pub fn enqolb(&mut self) -> Result<Enq, Misuse>
         ensures line { self.new.line ≡ self.old.line }
-        ensures enqueues { MatchResult result (λ answer. (may_ask (L.view self.old.port).state ≡ true) × Enqueues anything (L.view self.old.port) (L.view self.new.port) (L.turn self.new.port) answer × (L.looks self.new.port ≡ L.looks self.old.port)) (λ _. (may_ask (L.view self.old.port).state ≢ true) × (self.new ≡ self.old)) }
+        ensures enqueues { MatchResult result (λ answer. (may_ask (L.view self.old.port).state ≡ true) × Enqueues anything (L.view self.old.port) (L.view self.new.port) (L.turn self.new.port) answer × ((L.counters self.new.port).poll_count ≡ (L.counters self.old.port).poll_count)) (λ _. (may_ask (L.view self.old.port).state ≢ true) × (self.new ≡ self.old)) }
     {
         if self.state().may_ask() {
             Ok(self.line.enqolb(&mut self.port))
@@ -106,7 +106,7 @@ impl<L: LineSync<Free>> Node<L> {
     #[inline(always)]
     pub fn wait(&mut self, polls: u64) -> Result<Poll, Misuse>
         ensures line { self.new.line ≡ self.old.line }
-        ensures polls { MatchResult result (λ answer. ((L.view self.old.port).state ≡ PortState.Queued) × (0 < polls) × Polls anything (L.view self.old.port) (L.view self.new.port) (L.turn self.new.port) answer × PollsWithin polls (L.looks self.old.port) (L.looks self.new.port) answer) (λ _. (((L.view self.old.port).state ≡ PortState.Queued) × (0 < polls) → ⊥) × (self.new ≡ self.old)) }
+        ensures polls { MatchResult result (λ answer. ((L.view self.old.port).state ≡ PortState.Queued) × (0 < polls) × Polls anything (L.view self.old.port) (L.view self.new.port) (L.turn self.new.port) answer × PollsWithin polls (L.counters self.old.port).poll_count (L.counters self.new.port).poll_count answer) (λ _. (((L.view self.old.port).state ≡ PortState.Queued) × (0 < polls) → ⊥) × (self.new ≡ self.old)) }
     {
         if polls == 0 || self.state() != PortState::Queued {
             return Err(Misuse);
@@ -121,7 +121,7 @@ impl<L: LineSync<Free>> Node<L> {
     /// `Misuse` where the node does not wait.
     pub fn withdraw(&mut self) -> Result<Out, Misuse>
         ensures line { self.new.line ≡ self.old.line }
-        ensures withdraws { MatchResult result (λ answer. ((L.view self.old.port).state ≡ PortState.Queued) × Withdraws anything (L.view self.old.port) (L.view self.new.port) (L.turn self.new.port) answer × (L.looks self.new.port ≡ L.looks self.old.port)) (λ _. ((L.view self.old.port).state ≢ PortState.Queued) × (self.new ≡ self.old)) }
+        ensures withdraws { MatchResult result (λ answer. ((L.view self.old.port).state ≡ PortState.Queued) × Withdraws anything (L.view self.old.port) (L.view self.new.port) (L.turn self.new.port) answer × ((L.counters self.new.port).poll_count ≡ (L.counters self.old.port).poll_count)) (λ _. ((L.view self.old.port).state ≢ PortState.Queued) × (self.new ≡ self.old)) }
     {
         if self.state() != PortState::Queued {
             return Err(Misuse);
@@ -216,7 +216,7 @@ impl Node<List> {
     /// `Misuse` where the node waits or holds.
     pub fn prepend(&mut self) -> Result<Prep, Misuse>
         ensures line { self.new.line ≡ self.old.line }
-        ensures prepends { MatchResult result (λ answer. (may_ask self.old.port.view.state ≡ true) × Prepends anything self.old.port.view self.new.port.view self.new.port.turn answer × (self.new.port.looks ≡ self.old.port.looks)) (λ _. (may_ask self.old.port.view.state ≢ true) × (self.new ≡ self.old)) }
+        ensures prepends { MatchResult result (λ answer. (may_ask self.old.port.view.state ≡ true) × Prepends anything self.old.port.view self.new.port.view self.new.port.turn answer × (self.new.port.counters.poll_count ≡ self.old.port.counters.poll_count)) (λ _. (may_ask self.old.port.view.state ≢ true) × (self.new ≡ self.old)) }
     {
         if !self.state().may_ask() {
             return Err(Misuse);
@@ -231,7 +231,7 @@ impl Node<List> {
     /// `Misuse` where the node has no request to link.
     pub fn link(&mut self) -> Result<Enq, Misuse>
         ensures line { self.new.line ≡ self.old.line }
-        ensures links { MatchResult result (λ answer. (self.old.port.view.state ≡ PortState.Linking) × LinksUp anything self.old.port.view self.new.port.view self.new.port.turn answer × (self.new.port.looks ≡ self.old.port.looks)) (λ _. (self.old.port.view.state ≢ PortState.Linking) × (self.new ≡ self.old)) }
+        ensures links { MatchResult result (λ answer. (self.old.port.view.state ≡ PortState.Linking) × LinksUp anything self.old.port.view self.new.port.view self.new.port.turn answer × (self.new.port.counters.poll_count ≡ self.old.port.counters.poll_count)) (λ _. (self.old.port.view.state ≢ PortState.Linking) × (self.new ≡ self.old)) }
     {
         if self.state() != PortState::Linking {
             return Err(Misuse);
@@ -247,7 +247,7 @@ fn poll_on<L: LineSync<Free>>(line: &L, port: &mut L::Port, polls: u64) -> Poll
     requires some { 0 < polls }
     ensures belongs { L.belongs line.now port.new }
     ensures polls { Polls anything (L.view port.old) (L.view port.new) (L.turn port.new) result }
-    ensures within { PollsWithin polls (L.looks port.old) (L.looks port.new) result }
+    ensures within { PollsWithin polls (L.counters port.old).poll_count (L.counters port.new).poll_count result }
 {
     for _look in 1..polls {
         match line.poll(port) {

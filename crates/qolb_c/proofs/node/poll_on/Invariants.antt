@@ -9,5 +9,5 @@ invariant-loop-look g l = record {
   state : (g.L.LineSync.view l.port).state ≡ Queued;
   extends : Extends (g.L.LineSync.view l.initial.port) (g.L.LineSync.view l.port);
   count : (g.L.LineSync.view l.port).count ≡ (g.L.LineSync.view l.initial.port).count;
-  looks : g.L.LineSync.looks l.port + 1 ≡ g.L.LineSync.looks l.initial.port + l._look;
+  looks : (g.L.LineSync.counters l.port).poll_count + 1 ≡ (g.L.LineSync.counters l.initial.port).poll_count + l._look;
 }
