@@ -48,7 +48,7 @@ impl<Q: Discipline<Free>> Counted for Line<Free, Q> {
         ensures line { IfErr result (λ back. back.line ≡ self) }
         ensures ports { IfErr result (λ back. back.ports.items ≡ ports.items) }
     {
-        Line::<Free, Q>::finish(self, alloc, ports)
+        Line::<Free, Q>::finish_in(self, alloc, ports)
     }
 }
 

@@ -2,7 +2,7 @@
 
 use line_lanes::Line64;
 use link_line::Links;
-use qolb_model::{Free, OpenError, PortState};
+use qolb_model::{Free, LineSync, OpenError, PortState};
 use ring_line::Ring;
 use shared_line::{Discipline, Line};
 use std::alloc::Global;
