@@ -11,5 +11,5 @@ returns g c = λ s whole.
     let many : length (map (stance_of g.L.LineSync.view g.L.LineSync.turn) c.self.inside.ports.items) ≡ length c.self.inside.ports.items = length-map c.self.inside.ports.items (stance_of g.L.LineSync.view g.L.LineSync.turn) in
     let line : length (map (stance_of g.L.LineSync.view g.L.LineSync.turn) c.self.inside.ports.items) ≡ length c.args.self.now = ap length c.self.view_is in
     let lt : c.args.node - 1 < length c.self.inside.ports.items = omega (arith, many, line, c.requires.first, c.requires.last) in
-    ap seen c.state.ensures ∙ ap (λ p. seen (g.L.LineSync.view p).state) c.index.ensures
+    ap seen c.state.ensures.state ∙ ap (λ p. seen (g.L.LineSync.view p).state) c.index.ensures
     ∙ state_seen g.L.LineSync.view g.L.LineSync.turn s c.args.self.now c.self.inside.ports.items c.self.view_is whole (c.args.node - 1) c.index.result.now lt c.args.node n
