@@ -12,7 +12,36 @@ fn expect_run(
     script: &[(Event, Result<Told, NotEnabled>)],
 ) -> Result<Core, Fail> {
     let core = Core::start(nodes, Line64::zero()).ok_or("1 to 200 nodes")?;
-    expect_told(rt, core, script)
+    let core = expect_told(rt, core, script)?;
+    expect_replay(rt, &core, script);
+    Ok(core)
+}
+
+/// The most events of a run that is replayed.
+const MOST_EVENTS: usize = 26;
+
+/// A replay of the run reaches this core, or names the first event that was refused.
+fn expect_replay(rt: &impl Abort, core: &Core, script: &[(Event, Result<Told, NotEnabled>)]) {
+    let mut events = [Event::Reset(1); MOST_EVENTS];
+    let mut wanted = None;
+    for (at, (place, (event, want))) in events.iter_mut().zip(script).enumerate() {
+        *place = *event;
+        if let (None, Err(why)) = (wanted, want) {
+            wanted = Some((at, *why));
+        }
+    }
+    let made = &events[..script.len().min(MOST_EVENTS)];
+    match replay(core.nodes(), Line64::zero(), made) {
+        Err(refused) => assert_eq!(rt; Some(refused), wanted),
+        Ok(again) => {
+            assert_eq!(rt; wanted, None);
+            let words = (again.home(), again.place(), again.rank());
+            assert_eq!(rt; words, (core.home(), core.place(), core.rank()));
+            for node in 1..core.nodes().saturating_add(1) {
+                assert_eq!(rt; node_of(&again, node), node_of(core, node), "node {node}");
+            }
+        }
+    }
 }
 
 /// A run of events from this core on.
