@@ -94,7 +94,7 @@ fn refuses_more_bytes_than_a_line(rt: HostRuntime) -> Result<(), Fail> {
 
 /// Each kind of command but a write.
 static COMMANDS: [Command; 6] = [
-    Command::Enq { node: 2, line: 7 },
+    Command::Enq { node: 1, line: 7 },
     Command::Poll { node: 1, line: 0 },
     Command::Show { node: 2, line: 1 },
     Command::Deq { node: 1, line: 2 },
@@ -105,7 +105,7 @@ static COMMANDS: [Command; 6] = [
 #[test]
 fn reads_every_command(rt: HostRuntime) -> Result<(), Fail> {
     let text =
-        b" nodes 2  lines 8 \n\nenq 00000000000000000002 7\npoll 1 0\nshow 2 1\n  deq 1 2\nout 1 3 \nshut 1 4\n";
+        b" nodes 2  lines 8 \n\nenq 00000000000000000001 7\npoll 1 0\nshow 2 1\n  deq 1 2\nout 1 3 \nshut 1 4\n";
     let schedule = read_schedule(rt.alloc(), text)?;
     expect(&rt, "nodes", schedule.nodes(), 2);
     expect(&rt, "lines", schedule.lines(), 8);

@@ -89,7 +89,13 @@ impl Write for SlowWriter {
 static INTERRUPTIONS: [u64; 4] = [0, 1, 2, 1_000];
 
 /// Errors that are no interruption.
-static FAULTS: [ErrorKind; 3] = [ErrorKind::Other, ErrorKind::WouldBlock, ErrorKind::TimedOut];
+static FAULTS: [ErrorKind; 5] = [
+    ErrorKind::Other,
+    ErrorKind::WouldBlock,
+    ErrorKind::TimedOut,
+    ErrorKind::UnexpectedEof,
+    ErrorKind::ConnectionReset,
+];
 
 #[test]
 fn a_failed_read_is_remembered(rt: HostRuntime) {
@@ -149,8 +155,11 @@ fn a_failed_write_is_remembered(rt: HostRuntime) {
 fn bytes_are_read_and_written(rt: HostRuntime) -> Result<(), Fail> {
     let mut reader = Watched::new(b"enq 1 0".as_slice());
     let mut part = [0; 4];
+    let (none, some) = part.split_at_mut(0);
     for read in [4, 3, 0] {
-        assert_eq!(rt; reader.read(&mut part), Ok(read));
+        // where there is no room, nothing is read, and that is no fault
+        assert_eq!(rt; (reader.read(none), reader.failed()), (Ok(0), false));
+        assert_eq!(rt; reader.read(some), Ok(read));
     }
     expect(&rt, "the reader", reader.failed(), false);
     let mut writer = Watched::new(Vec::new(rt.alloc()));

@@ -1,6 +1,7 @@
 //! Scripts of boards and banks.
 use crate::rows::{expect, expect_refusals};
 use qolb_script::{Job, ScriptError, WorkKind, read_work};
+use std::alloc::{AllocError, Global};
 use std::test::Fail;
 
 /// The board scripts that are refused, and why.
@@ -127,6 +128,27 @@ fn reads_every_job_of_a_bank(rt: HostRuntime) -> Result<(), Fail> {
     expect(&rt, "workers", work.workers(), 3);
     expect(&rt, "lines", work.lines(), 8);
     assert_eq!(rt; work.jobs(), BANK_JOBS.as_slice());
+    Ok(())
+}
+
+/// A script of so many jobs, with this header and this job.
+fn many(alloc: Global, header: &str, job: &str, count: u64) -> Result<Vec<u8>, AllocError> {
+    let mut text = Vec::from_slice(alloc, header.as_bytes())?;
+    for _ in 0..count {
+        text.extend_from_slice(job.as_bytes())?;
+    }
+    Ok(text)
+}
+
+#[test]
+fn takes_no_more_than_the_most_jobs(rt: HostRuntime) -> Result<(), Fail> {
+    let alloc = rt.alloc();
+    let board = many(alloc, "board workers 1\n", "1 take\n", 100_000)?;
+    let work = read_work(alloc, &board, WorkKind::Board)?;
+    assert_eq!(rt; work.jobs().len(), 100_000);
+    let bank = many(alloc, "bank workers 1 lines 1\n", "1 in 0 1\n", 100_001)?;
+    let error = read_work(alloc, &bank, WorkKind::Bank).err();
+    assert_eq!(rt; error, Some(ScriptError::TooMany(100_002)));
     Ok(())
 }
 
