@@ -63,38 +63,40 @@ fn command<'a>(alloc: Global) -> Result<Command<'a>, AllocError> {
         alloc,
         command,
         "seconds",
+        "SECONDS",
         "How long the threads go on asking: a second, where the words name no time",
     )?;
     let command = with_number(
         alloc,
         command,
         "threads",
+        "THREADS",
         "How many threads take turns: 4, where the words name no number",
     )?;
     with_sleep(alloc, command)
 }
 
+/// The command with an option that names the kind of line.
 fn with_kind<'a>(alloc: Global, command: Command<'a>) -> Result<Command<'a>, AllocError> {
     let help = "The kind of line: a ring, where the words name none, a list, or a ticket line";
     command.arg(argument(alloc, "kind", "KIND", help)?.value_parser(KINDS.as_slice()))
 }
 
+/// The command with an option that takes a number of at least 1.
 fn with_number<'a>(
     alloc: Global,
     command: Command<'a>,
     name: &'a str,
+    value: &'a str,
     help: &'a str,
 ) -> Result<Command<'a>, AllocError> {
-    let value = if name == "seconds" {
-        "SECONDS"
-    } else {
-        "THREADS"
-    };
-    command.arg(argument(alloc, name, value, help)?.value_parser(clap::value_parser!(u64).range(
+    let number = argument(alloc, name, value, help)?.value_parser(clap::value_parser!(u64).range(
         1..,
-    )))
+    ));
+    command.arg(number)
 }
 
+/// The command with the option to sleep.
 fn with_sleep<'a>(alloc: Global, command: Command<'a>) -> Result<Command<'a>, AllocError> {
     let sleep = Arg::new(alloc, "sleep")
         .long("sleep")
