@@ -57,7 +57,7 @@ where
     match row {
         Row::Additions => no_addition_is_lost::<R, L>(rt, alloc),
         Row::Turns => kept::each_addition_is_a_turn::<R, L>(rt, alloc)?,
-        Row::Mailbox => each_value_is_taken_up::<R, L>(rt, alloc),
+        Row::Mailbox => kept::each_value_is_taken_up::<R, L>(rt, alloc),
         Row::Lanes => {
             kept::a_value_lies_in_its_lane::<R, L>(rt, alloc, false)?;
             kept::a_value_lies_in_its_lane::<R, L>(rt, alloc, true)?;
@@ -85,7 +85,7 @@ where
         }
         Row::Sleepers => {
             counted::sleepers_are_counted::<R, L>(rt, alloc);
-            parked::two_sleep_at_the_same_time::<R, L>(rt, alloc);
+            parked::all_sleep_at_the_same_time::<R, L>(rt, alloc);
         }
         Row::Busy => again::each_manner::<R, L>(rt, alloc),
     }
@@ -139,18 +139,6 @@ where
         let counted = counter::count::<R, L>(rt, alloc, nodes, rounds);
         assert_eq!(rt; counted, wanted, "by {nodes} nodes");
     }
-}
-
-/// 1 to 1,000 add up to 500,500.
-fn each_value_is_taken_up<R: Threads + Wait + Abort + Sync, L: OpenLine<Free> + Sync + Drop>(
-    rt: &R,
-    alloc: Global,
-)
-where
-    L::Port: Send + Drop,
-{
-    let sum = mailbox::hand_over::<R, L>(rt, alloc, 1_000);
-    assert_eq!(rt; sum, Some(500_500));
 }
 
 /// Four times 40 customers want 100 seats; four times 20 leave 20 of them free.

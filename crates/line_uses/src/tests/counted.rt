@@ -20,8 +20,8 @@ impl<Q: Discipline<Free>> Counting for Line<Free, Q> {
     }
 }
 
-/// How many nodes a line has.
-const NODES: u64 = 4;
+/// How many nodes a line has: the most that there may be.
+const NODES: u64 = 200;
 
 /// One node has the line until all others, which wait for it, are counted as sleepers. Then each has it.
 struct Counted;
@@ -45,7 +45,7 @@ impl<R: Wait, L: Counting> Scene<R, L> for Counted {
     }
 }
 
-/// Whether each node of a new line had it, one of them until the others were counted; and how many are counted when all are done.
+/// Whether each node of a new line had it, one of them until the others were counted, which are woken one after another; and how many are counted when all are done.
 fn count_sleepers<R: Threads + Wait + Sync, L: Counting + Sync + Drop>(
     rt: &R,
     alloc: Global,

@@ -42,6 +42,9 @@ pub(super) trait Scene<R: Wait, L: Sleeping<Free>> {
         false
     }
 
+    /// It has let go, and its call has ended. Nothing, unless it is said what.
+    fn let_go(&self) {}
+
     /// What each other node does, from when the line is held on: whether it saw what it had to.
     fn behind(&self, rt: &R, line: &L, port: &mut L::Port) -> bool
         requires belongs { L.belongs line.now port.old }
@@ -81,6 +84,7 @@ where
         } else {
             line.deqolb(&mut port);
         }
+        self.scene.let_go();
         true
     }
 }

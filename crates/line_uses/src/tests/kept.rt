@@ -1,11 +1,14 @@
-//! What a use leaves of the other lanes, and that each addition is a turn.
+//! What a use leaves of the other lanes, that each addition is a turn, and that values come in their order.
 use crate::{counter, mailbox};
-use line_lanes::{Line64, with_lane};
-use qolb_model::{Free, OpenLine, Terms};
+use line_lanes::{Line64, lane, with_lane};
+use line_threads::{HookedLine, Hooks};
+use qolb_model::{Free, Keep, OpenLine, Sleeping, Terms};
 use std::alloc::Global;
 use std::process::Abort;
 use std::sync::Wait;
+use std::sync::atomic::{AtomicU64, Ordering};
 use std::test::Fail;
+use std::thread::{Threads, yield_now};
 
 /// A line for one node, of sevens but for its first lane, which is 0.
 fn opening() -> Line64 {
@@ -72,4 +75,47 @@ where
     let lies = if takes { 0 } else { 5 };
     assert_eq!(rt; last, with_lane(&opening(), 0, lies));
     Ok(())
+}
+
+/// Nobody lets a line go in which a value lies that is neither the last nor one more. So threads that share it do not end then.
+#[derive(Drop)]
+struct InOrder {
+    last: AtomicU64,
+}
+
+impl Default for InOrder {
+    fn default() -> InOrder {
+        InOrder {
+            last: AtomicU64::new(0),
+        }
+    }
+}
+
+impl Hooks for InOrder {
+    fn lets_go<K: Keep, L: Sleeping<K>>(&self, _line: &L, port: &L::Port) {
+        let value = lane(L::bytes(port), 0);
+        let last = self.last.load(Ordering::SeqCst);
+        if value == 0 || value == last {
+            return;
+        }
+        if value == last.wrapping_add(1) {
+            self.last.store(value, Ordering::SeqCst);
+            return;
+        }
+        for _ in 0..u64::MAX {
+            yield_now();
+        }
+    }
+}
+
+/// The values from 1 to 1,000 are handed over in their order, and add up to 500,500.
+pub(super) fn each_value_is_taken_up<
+    R: Threads + Wait + Abort + Sync,
+    L: OpenLine<Free> + Sleeping<Free> + Sync + Drop,
+>(rt: &R, alloc: Global)
+where
+    L::Port: Send + Drop,
+{
+    let sum = mailbox::hand_over::<R, HookedLine<InOrder, L>>(rt, alloc, 1_000);
+    assert_eq!(rt; sum, Some(500_500));
 }

@@ -3,6 +3,7 @@ ghost use Rattle.std.specs.Prelude.{IfSome, IsTrue};
 ghost use Rattle.qolb_model.specs.PortStates.{may_ask};
 
 use crate::tests::held::{Scene, all_see, for_nodes, wait_until};
+use crate::timed::add_within;
 use line_threads::{Got, HookedLine, Hooks, SleepingLine, Within, acquire_asleep, acquire_within};
 use qolb_model::{Enq, Free, Keep, LineSync, OpenError, OpenLine, Out, Poll, Sleeping};
 use std::alloc::Global;
@@ -14,10 +15,11 @@ use std::sync::atomic::{AtomicU64, Ordering};
 use std::thread::{Threads, yield_now};
 use std::time::Duration;
 
-/// What is noted at a line: how many looks were in vain, and how many of these before the first sleep; how many sleeps there were, how many
-/// nanoseconds the last and the longest were to take at most, and how often a holder let go.
+/// What is noted at a line: how often a node was to ask and was busy; how many looks were in vain, and how many of these before the first
+/// sleep; how many sleeps there were, how many nanoseconds the last and the longest were to take at most, and how often a holder let go.
 #[derive(Drop)]
 struct Notes {
+    busy: AtomicU64,
     looks: AtomicU64,
     looks_before: AtomicU64,
     sleeps: AtomicU64,
@@ -29,6 +31,7 @@ struct Notes {
 impl Notes {
     fn none() -> Notes {
         Notes {
+            busy: AtomicU64::new(0),
             looks: AtomicU64::new(0),
             looks_before: AtomicU64::new(0),
             sleeps: AtomicU64::new(0),
@@ -45,6 +48,10 @@ impl Notes {
         if self.sleeps.fetch_add(1, Ordering::SeqCst) == 0 {
             self.looks_before.store(self.looks(), Ordering::SeqCst);
         }
+    }
+
+    fn busy(&self) -> u64 {
+        self.busy.load(Ordering::SeqCst)
     }
 
     fn looks(&self) -> u64 {
@@ -76,6 +83,10 @@ impl Notes {
 type NotedLine<'n, L> = HookedLine<&'n Notes, L>;
 
 impl Hooks for &Notes {
+    fn asked_in_vain<K: Keep, L: Sleeping<K>>(&self, _line: &L, _port: &L::Port) {
+        self.busy.fetch_add(1, Ordering::SeqCst);
+    }
+
     fn looked_in_vain<K: Keep, L: Sleeping<K>>(&self, _line: &L, _port: &L::Port) {
         self.looks.fetch_add(1, Ordering::SeqCst);
     }
@@ -120,6 +131,9 @@ impl<'r, R> Ticking<'r, R> {
 
 /// A long tick and the shortest that there is, in nanoseconds.
 static TICKS: [u64; 2] = [1_000_000, 1];
+
+/// How many ticks a wait may take.
+const AT_MOST: u64 = 200;
 
 impl<R: Wait> Wait for Ticking<'_, R> {}
 
@@ -175,12 +189,13 @@ where
     Some((NotedLine::with(notes, line), one, two))
 }
 
-/// What node 2 is answered that waits so long by this clock while node 1 has the line; and how often it read that.
+/// What node 2 is answered that waits so long by this clock while node 1 has the line, to add to it if it `adds`; and how often it read that.
 fn wait_by<R: Wait, L: OpenLine<Free> + Sleeping<Free> + Drop>(
     alloc: Global,
     notes: &Notes,
     clock: &Ticking<R>,
     at_most: Duration,
+    adds: bool,
 ) -> Option<(Within, u64)>
 where
     L::Port: Drop,
@@ -189,13 +204,17 @@ where
     let Enq::Granted = line.enqolb(&mut one) else {
         return None;
     };
-    let got = acquire_within(clock, &line, &mut two, at_most);
+    let got = if adds {
+        add_within(clock, &line, &mut two, at_most)
+    } else {
+        acquire_within(clock, &line, &mut two, at_most)
+    };
     Some((got, clock.readings()))
 }
 
 /// A wait of 200 ticks begins at the first reading, reads the clock between its looks, and is late where it reads the limit. After 72 of
 /// its 199 looks before that it stays awake, 64 times for a moment and 8 times while others have the processor; after each other one it
-/// sleeps. No sleep is to take longer than what is left.
+/// sleeps. No sleep is to take longer than what is left. So it is for a turn that is waited for, and for an addition.
 fn a_wait_keeps_to_its_time<R: Wait + Abort, L: OpenLine<Free> + Sleeping<Free> + Drop>(
     rt: &R,
     alloc: Global,
@@ -203,14 +222,14 @@ fn a_wait_keeps_to_its_time<R: Wait + Abort, L: OpenLine<Free> + Sleeping<Free> 
 where
     L::Port: Drop,
 {
-    for tick in &TICKS {
+    for (tick, adds) in [(1_000_000u64, false), (1, false), (1_000_000, true)] {
         let notes = Notes::none();
-        let clock = Ticking::new(rt, Some(*tick));
-        let at_most = Duration::from_nanos(tick.wrapping_mul(200));
-        let found = wait_by::<R, L>(alloc, &notes, &clock, at_most);
+        let clock = Ticking::new(rt, Some(tick));
+        let at_most = Duration::from_nanos(tick.wrapping_mul(AT_MOST));
+        let found = wait_by::<R, L>(alloc, &notes, &clock, at_most, adds);
         assert_eq!(rt; found, Some((Within::Late, 201)), "of {tick} ns");
         let noted = (notes.looks_before(), notes.sleeps(), notes.last());
-        assert_eq!(rt; noted, (73, 127, *tick), "of {tick} ns");
+        assert_eq!(rt; noted, (73, 127, tick), "of {tick} ns");
         assert_eq!(rt; notes.longest(), tick.wrapping_mul(127), "of {tick} ns");
     }
 }
@@ -225,10 +244,10 @@ where
 {
     let notes = Notes::none();
     let clock = Ticking::new(rt, Some(1_000_000));
-    let found = wait_by::<R, L>(alloc, &notes, &clock, Duration::ZERO);
+    let found = wait_by::<R, L>(alloc, &notes, &clock, Duration::ZERO, false);
     assert_eq!(rt; found, Some((Within::Late, 2)));
     let clock = Ticking::new(rt, None);
-    let found = wait_by::<R, L>(alloc, &notes, &clock, Duration::from_millis(200));
+    let found = wait_by::<R, L>(alloc, &notes, &clock, Duration::from_millis(200), false);
     assert_eq!(rt; found.map(|found| found.0), Some(Within::Late));
     assert_eq!(rt; notes.sleeps(), 0);
 }
@@ -256,7 +275,7 @@ where
     Some(acquire_within(clock, &line, &mut two, at_most))
 }
 
-/// A node that may not ask again yet reads the clock between its tries, and is late where it reads the limit.
+/// A node that may not ask again yet reads the clock once after each try, and is late where it reads the limit.
 fn a_busy_node_keeps_to_its_time<R: Wait + Abort, L: OpenLine<Free> + Sleeping<Free> + Drop>(
     rt: &R,
     alloc: Global,
@@ -267,11 +286,125 @@ where
     for tick in &TICKS {
         let notes = Notes::none();
         let clock = Ticking::new(rt, Some(*tick));
-        let at_most = Duration::from_nanos(tick.wrapping_mul(200));
+        let at_most = Duration::from_nanos(tick.wrapping_mul(AT_MOST));
         let got = ask_in_vain::<_, _, L>(rt, &clock, alloc, &notes, at_most);
-        let found = (got, clock.readings());
-        assert_eq!(rt; found, (Some(Within::Late), 201), "of {tick} ns");
+        let found = (got, clock.readings(), notes.busy());
+        assert_eq!(rt; found, (Some(Within::Late), 201, 200), "of {tick} ns");
     }
+}
+
+/// Waits until the count is no longer 0, where nothing says that a wait is allowed.
+fn wait_for(count: &AtomicU64) {
+    for _ in 0..u64::MAX {
+        if count.load(Ordering::SeqCst) > 0 {
+            return;
+        }
+        yield_now();
+    }
+}
+
+/// How often node 2 is busy before node 1 lets go.
+const BUSY: u64 = 50;
+
+/// A clock that ticks by a nanosecond, and after so many readings waits until the holder has let go.
+#[derive(Drop)]
+struct Pausing<'r, R> {
+    clock: Ticking<'r, R>,
+    let_go: &'r AtomicU64,
+}
+
+impl<R: Wait> Wait for Pausing<'_, R> {}
+
+impl<R> Clock for Pausing<'_, R> {
+    fn monotonic(&self) -> io::Result<Duration> {
+        let reading = self.clock.monotonic();
+        if self.clock.readings() > BUSY {
+            wait_for(self.let_go);
+        }
+        reading
+    }
+
+    fn since_1970(&self) -> io::Result<Duration> {
+        self.monotonic()
+    }
+}
+
+/// Node 1 has the line, node 2 has given its request up behind it, and node 3 waits. Node 2 asks again and is busy until node 1 lets go; then
+/// it waits behind node 3, which does nothing with the line.
+#[derive(Drop)]
+struct Renewing<'n> {
+    notes: &'n Notes,
+    late: AtomicU64,
+    waits: AtomicU64,
+    let_go: AtomicU64,
+    readings: AtomicU64,
+}
+
+impl<R: Wait + Clock, L: Sleeping<Free>> Scene<R, L> for Renewing<'_> {
+    fn keep(&self, rt: &R, _line: &L) {
+        wait_until(rt, &self.notes.busy, BUSY);
+    }
+
+    fn let_go(&self) {
+        self.let_go.store(1, Ordering::SeqCst);
+    }
+
+    fn behind(&self, rt: &R, line: &L, port: &mut L::Port) -> bool {
+        if L::node(port) == 3 {
+            wait_until(rt, &self.late, 1);
+            let is_queued = line.enqolb(port) == Enq::Queued;
+            self.waits.store(1, Ordering::SeqCst);
+            return is_queued;
+        }
+        let Within::Late = acquire_within(rt, line, port, Duration::ZERO) else {
+            return false;
+        };
+        self.late.store(1, Ordering::SeqCst);
+        wait_until(rt, &self.waits, 1);
+        let clock = Pausing {
+            clock: Ticking::new(rt, Some(1)),
+            let_go: &self.let_go,
+        };
+        let got = acquire_within(&clock, line, port, Duration::from_nanos(AT_MOST));
+        self.readings
+            .store(clock.clock.readings(), Ordering::SeqCst);
+        got == Within::Late
+    }
+}
+
+/// Whether all went so at a new line; and how often node 2 read its clock.
+fn renew<R: Threads + Wait + Clock + Sync, L: OpenLine<Free> + Sleeping<Free> + Sync + Drop>(
+    rt: &R,
+    alloc: Global,
+    notes: &Notes,
+) -> Result<(bool, u64), OpenError>
+where
+    L::Port: Send + Drop,
+{
+    let renewing = Renewing {
+        notes,
+        late: AtomicU64::new(0),
+        waits: AtomicU64::new(0),
+        let_go: AtomicU64::new(0),
+        readings: AtomicU64::new(0),
+    };
+    let (line, ports) = L::open_with(alloc, 1, for_nodes(3))?;
+    let line = NotedLine::with(notes, line);
+    let saw = all_see(rt, alloc, &line, ports, &renewing);
+    Ok((saw, renewing.readings.load(Ordering::SeqCst)))
+}
+
+/// The tries and the wait have one time limit: after 50 tries there are 150 looks, beside the one before.
+fn a_limit_does_not_begin_again<
+    R: Threads + Wait + Clock + Abort + Sync,
+    L: OpenLine<Free> + Sleeping<Free> + Sync + Drop,
+>(rt: &R, alloc: Global)
+where
+    L::Port: Send + Drop,
+{
+    let notes = Notes::none();
+    assert_eq!(rt; renew::<R, L>(rt, alloc, &notes), Ok((true, AT_MOST + 1)));
+    assert_eq!(rt; (notes.busy(), notes.looks()), (BUSY, 151));
 }
 
 /// It naps between its tries: in 50 milliseconds it reads the clock some hundred times, and without a nap some hundred thousand times.
@@ -413,12 +546,7 @@ struct LooksBefore {
 impl Hooks for &LooksBefore {
     fn lets_go<K: Keep, L: Sleeping<K>>(&self, _line: &L, _port: &L::Port) {
         self.letting_go.store(1, Ordering::SeqCst);
-        for _ in 0..u64::MAX {
-            if self.looked.load(Ordering::SeqCst) > 0 {
-                return;
-            }
-            yield_now();
-        }
+        wait_for(&self.looked);
     }
 }
 
@@ -543,6 +671,7 @@ where
     a_wait_keeps_to_its_time::<R, L>(rt, alloc);
     no_time_is_over_at_once::<R, L>(rt, alloc);
     a_busy_node_keeps_to_its_time::<R, L>(rt, alloc);
+    a_limit_does_not_begin_again::<R, L>(rt, alloc);
     a_busy_node_naps::<R, L>(rt, alloc);
     each_look_in_vain_sleeps_once::<R, L>(rt, alloc);
     no_withdrawal_sleeps::<R, L>(rt, alloc);

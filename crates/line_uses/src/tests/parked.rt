@@ -106,10 +106,16 @@ where
     })
 }
 
-/// How often node 2 sleeps, and for how many milliseconds.
-static SLEEPS: [(u32, u64); 3] = [(10, 4), (10, 20), (1, 1_100)];
+/// How often node 2 sleeps, for how many microseconds, and less than how many the shortest of these sleeps takes. The system wakes who sleeps
+/// for very short some 60 microseconds late.
+static SLEEPS: [(u32, u64, u64); 4] = [
+    (10, 200, 1_000),
+    (10, 4_000, 8_000),
+    (10, 20_000, 40_000),
+    (1, 1_100_000, 2_200_000),
+];
 
-/// Of some sleeps one takes as long as it may, and one not twice as long. Once the turn has come none is left.
+/// Of some sleeps one takes as long as it may, and one hardly longer. Once the turn has come none is left.
 pub(super) fn a_sleep_lasts_as_long_as_it_may<
     R: Wait + Clock + Abort,
     L: OpenLine<Free> + Sleeping<Free> + Drop,
@@ -117,19 +123,22 @@ pub(super) fn a_sleep_lasts_as_long_as_it_may<
 where
     L::Port: Drop,
 {
-    for (times, millis) in &SLEEPS {
-        let at_most = Duration::from_millis(*millis);
+    for (times, micros, less) in &SLEEPS {
+        let at_most = Duration::from_micros(*micros);
         let took = sleep_behind_another::<R, L>(rt, alloc, *times, at_most);
         let held = took.is_some_and(|took| {
             took.longest >= at_most
-                && took.shortest < at_most.saturating_mul(2)
+                && took.shortest < Duration::from_micros(*less)
                 && took.after < at_most.saturating_mul(500)
         });
-        assert!(rt; held, "{times} times {millis} ms: {took:?}");
+        assert!(rt; held, "{times} times {micros} us: {took:?}");
     }
 }
 
-/// One node has the line until the two others have slept behind it, ten times each for so long, and tell whether one of these sleeps was as long.
+/// How many nodes a line has at which all but one sleep.
+const NODES: u64 = 200;
+
+/// One node has the line until all others have slept behind it, ten times each for so long, and tell whether one of these sleeps was as long.
 #[derive(Drop)]
 struct Dozing {
     at_most: Duration,
@@ -153,7 +162,7 @@ impl Dozing {
 
 impl<R: Wait + Clock, L: Sleeping<Free>> Scene<R, L> for Dozing {
     fn keep(&self, rt: &R, _line: &L) {
-        wait_until(rt, &self.slept, 2);
+        wait_until(rt, &self.slept, NODES - 1);
     }
 
     fn behind(&self, rt: &R, line: &L, port: &mut L::Port) -> bool {
@@ -166,7 +175,7 @@ impl<R: Wait + Clock, L: Sleeping<Free>> Scene<R, L> for Dozing {
     }
 }
 
-/// Whether both of two nodes of a new line have slept long that sleep at the same time behind a third.
+/// Whether each node of a new line has slept long that sleeps at the same time as the others, behind one.
 fn doze_together<
     R: Threads + Wait + Clock + Sync,
     L: OpenLine<Free> + Sleeping<Free> + Sync + Drop,
@@ -178,12 +187,12 @@ where
         at_most: Duration::from_millis(20),
         slept: AtomicU64::new(0),
     };
-    let (line, ports) = L::open_with(alloc, 1, for_nodes(3))?;
+    let (line, ports) = L::open_with(alloc, 1, for_nodes(NODES))?;
     Ok(all_see(rt, alloc, &line, ports, &dozing))
 }
 
-/// Two sleep at the same time: neither only looks while the other sleeps.
-pub(super) fn two_sleep_at_the_same_time<
+/// 199 sleep at the same time: none only looks while others sleep.
+pub(super) fn all_sleep_at_the_same_time<
     R: Threads + Wait + Clock + Abort + Sync,
     L: OpenLine<Free> + Sleeping<Free> + Sync + Drop,
 >(rt: &R, alloc: Global)
