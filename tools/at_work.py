@@ -1,12 +1,13 @@
 #!/usr/bin/env python3
-"""Runs the built program where its streams are closed, full or gone, and with 200 workers on one and on two processors.
+"""Runs the built program where its streams are closed, full or gone, on scripts as long as may be, and with 200 workers on one and on two
+processors.
 
     tools/at_work.py [PROGRAM]
 
 A failed read must end with status 4, `read fault` and nothing on standard output; a failed write with 4 and `write fault`; a refused script
 or command line with its own status whatever becomes of standard output and error; no run by a signal. Words that are no text are refused.
-Workers sleep while they wait where that is asked for, and else not: by how often they give their processor up of their own. Work says how far
-it is where that is asked for. Needs Linux.
+Scripts of 100,000 commands, events and jobs, and pictures of 20 million letters, are answered whole. Workers sleep while they wait where that
+is asked for, and else not: by how often they give their processor up of their own. Work says how far it is where that is asked for. Needs Linux.
 """
 
 import os
@@ -157,6 +158,75 @@ def words_that_are_no_text(program):
     expect("words that are no text", (2, "", complaint), ended(spawned(program, [b"replay", b"\xff"], pipe, pipe, pipe), b""))
 
 
+# The most commands, events or jobs of a script, and the most nodes or workers.
+MOST = 100_000
+MOST_NODES = 200
+
+
+def longest_schedule():
+    """200 nodes ask for each of eight lines. Then the holder of one line after another lets it go, the next one looks, and the holder asks again."""
+    lines = [f"nodes {MOST_NODES} lines 8"]
+    lines += [f"enq {node} {line}" for line in range(8) for node in range(1, MOST_NODES + 1)]
+    for turn in range(MOST // 3):
+        line, holder = turn % 8, turn // 8 % MOST_NODES + 1
+        lines += [f"deq {holder} {line}", f"poll {holder % MOST_NODES + 1} {line}", f"enq {holder} {line}"]
+    return "\n".join(lines[: MOST + 1]).encode()
+
+
+def longest_steps():
+    """200 nodes hand the line on in turn: the next one asks, the holder grants, and the next one finds that."""
+    lines = [f"nodes {MOST_NODES}", "reset 1", "prepend 1"]
+    for turn in range(MOST // 7):
+        holder, after = turn % MOST_NODES + 1, (turn + 1) % MOST_NODES + 1
+        lines += [f"{event} {after}" for event in ("reset", "prepend", "link")]
+        lines += [f"{event} {holder}" for event in ("home", "done", "grant")]
+        lines.append(f"load {after}")
+    return "\n".join([*lines, *[f"load {MOST_NODES}"] * 7][: MOST + 1]).encode()
+
+
+def longest_work(task):
+    """200 workers with 500 jobs each, at a board or at eight lines of a bank."""
+    lines = [f"{task} workers {MOST_NODES}" + (" lines 8" if task == "bank" else "")]
+    for turn in range(MOST // MOST_NODES):
+        for worker in range(1, MOST_NODES + 1):
+            job = f"in {(worker + turn) % 64} 1" if task == "bank" else "take" if (worker + turn) % 2 else f"put {worker}"
+            lines.append(f"{worker} {job}")
+    return "\n".join(lines).encode()
+
+
+def longest_scripts(program):
+    """Scripts with as much in them as may be, by each kind of lines, awake and asleep."""
+    runs = [("replay", ["--kind", kind], longest_schedule()) for kind in ("plain", *LOCKS)]
+    runs.append(("steps", [], longest_steps()))
+    for task in ("board", "bank"):
+        runs += [(task, ["--kind", kind, "--sleep"], longest_work(task)) for kind in LOCKS]
+    for task, words, script in runs:
+        if script.count(b"\n") != MOST:
+            raise Wrong(f"the longest script of {task} has {script.count(10)} lines behind its header")
+        status, out, err = found = run(program, [task, *words], script)
+        if not is_right(answer_to(task, script), found):
+            raise Wrong(f"the longest script of {task} {words}: {status}, {len(out)} bytes, {err!r}")
+    print(f"scripts of {MOST} commands, events and jobs are answered, by each kind", flush=True)
+
+
+def largest_picture(program):
+    """100,000 commands of 200 nodes: the first holds, each other one waits from its first command on."""
+    lines = [f"nodes {MOST_NODES} lines 1"] + [f"enq {node} 0" for node in range(1, MOST_NODES + 1)]
+    lines += [f"poll {MOST_NODES} 0"] * (MOST - MOST_NODES)
+    script = "\n".join(lines).encode()
+    status, out, err = run(program, ["draw"], script)
+    if (status, err) != (0, ""):
+        raise Wrong(f"the largest picture: {status}, {err!r}")
+    letters = {node: [] for node in range(1, MOST_NODES + 1)}
+    for node, row in re.findall(r"^node +(\d+) (.*)$", out, re.M):
+        letters[int(node)].append(row)
+    for node, rows in letters.items():
+        expect(f"row of node {node}", "." * (node - 1) + ("H" if node == 1 else "w") * (MOST + 1 - node), "".join(rows))
+    status, out, err = run(program, ["draw", "--svg"], script)
+    expect("the largest picture as an SVG", (0, True, ""), (status, out.endswith("</svg>\n"), err))
+    print(f"a picture of {MOST * MOST_NODES} letters is drawn, as text and as an SVG of {len(out)} bytes", flush=True)
+
+
 # Jobs of so many workers at one line, a turn of the line each. Whoever waits awake gives the processor up a hundred times at most, other than to
 # who wants it; whoever sleeps, for each wait that is long.
 CROWD = 8
@@ -251,6 +321,8 @@ def main():
         print(f"{' '.join(words):20}  {inputs:16}  {outputs:17}  {refusals:28}", flush=True)
     try:
         words_that_are_no_text(program)
+        longest_scripts(program)
+        largest_picture(program)
         sleepers(program)
         progress_is_told(program)
         many_workers(program)
