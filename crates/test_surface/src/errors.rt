@@ -124,8 +124,31 @@ fn errors_of_runs_say_their_numbers(rt: HostRuntime) {
     }
 }
 
+/// Errors of scripts, and what they say.
+static OF_SCRIPTS: [(ScriptError, &str); 4] = [
+    (ScriptError::Memory, "out of memory"),
+    (ScriptError::BadLine(3), "bad line 3"),
+    (ScriptError::Number(4), "bad line 4"),
+    (ScriptError::TooMany(100_002), "bad line 100002"),
+];
+
+/// Errors of replays, and what they say.
+static OF_REPLAYS: [(ReplayError, &str); 5] = [
+    (ReplayError::Memory, "out of memory"),
+    (ReplayError::Read, "read fault"),
+    (ReplayError::Long, "script too long"),
+    (ReplayError::Script(ScriptError::Number(5)), "bad line 5"),
+    (ReplayError::Write, "write fault"),
+];
+
 #[test]
-fn errors_of_work_say_what_they_are(rt: HostRuntime) -> Result<(), Fail> {
+fn errors_say_what_they_are(rt: HostRuntime) -> Result<(), Fail> {
+    for (error, text) in &OF_SCRIPTS {
+        assert_eq!(rt; error.to_string(rt.alloc())?.as_str(), *text);
+    }
+    for (error, text) in &OF_REPLAYS {
+        assert_eq!(rt; error.to_string(rt.alloc())?.as_str(), *text);
+    }
     for (error, text) in [
         (RunError::Memory, "out of memory"),
         (RunError::Stalled(7), "stalled 7"),
