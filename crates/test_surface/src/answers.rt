@@ -168,40 +168,8 @@ fn expect<R: Abort, T: Listed + Debug>(rt: &R, all: &[T]) {
 }
 
 #[test]
-fn a_line_answers_so(rt: HostRuntime) {
-    expect(&rt, &[Enq::Granted, Enq::Queued, Enq::Closed, Enq::Busy]);
-    expect(
-        &rt,
-        &[Prep::Granted, Prep::Closed, Prep::Busy, Prep::Linking],
-    );
-    expect(&rt, &[Poll::Granted, Poll::Waiting, Poll::Closed]);
-    expect(&rt, &[Out::Withdrawn, Out::Granted, Out::Closed]);
-    expect(&rt, &[Got::Granted, Got::Closed]);
-}
-
-#[test]
-fn nodes_and_lines_stand_so(rt: HostRuntime) {
-    expect(
-        &rt,
-        &[
-            PortState::Idle,
-            PortState::Linking,
-            PortState::Queued,
-            PortState::Holding,
-            PortState::Left,
-            PortState::Rolled,
-            PortState::Shut,
-        ],
-    );
+fn variants_with_fields_stand_so(rt: HostRuntime) {
     expect(&rt, &[Place::Home, Place::Mailbox(1), Place::Hand(1)]);
-    expect(&rt, &[Lines::Ring, Lines::Link, Lines::Ticket]);
-    expect(&rt, &[Kind::Plain, Kind::Ring, Kind::Link, Kind::Ticket]);
-}
-
-#[test]
-fn boards_and_desks_answer_so(rt: HostRuntime) {
-    let puts = [Put::Stored, Put::Full, Put::Late, Put::Closed, Put::Busy];
-    expect(&rt, &puts);
     expect(
         &rt,
         &[
@@ -212,20 +180,6 @@ fn boards_and_desks_answer_so(rt: HostRuntime) {
             Take::Busy,
         ],
     );
-    expect(
-        &rt,
-        &[
-            Reply::Done,
-            Reply::Short,
-            Reply::Over,
-            Reply::Late,
-            Reply::Closed,
-            Reply::Busy,
-            Reply::NoAccount,
-            Reply::SameAccount,
-        ],
-    );
-    expect(&rt, &[WorkKind::Board, WorkKind::Bank]);
 }
 
 #[test]
