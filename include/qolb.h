@@ -96,6 +96,9 @@
  * has, which is the last step of that node's qolb_enqolb. So ask again later. It can last as long as those before the withdrawn request keep the
  * line; if one never releases it, for ever. qolb_acquire and qolb_acquire_within ask again by themselves.
  *
+ * While its node is busy a thread stands in no queue. So one that is handed a node which was late may be overtaken: all who ask by other nodes before
+ * that one is clear come first. If threads take nodes from a pool, let them take one that was not late, where there is one.
+ *
  * THREADS THAT END
  *
  * A line knows nodes and not threads. A thread that ends while its node holds the line, or waits for it, releases and withdraws nothing: the line
