@@ -1,10 +1,11 @@
 //! Workers sleep that are to, and others do not, over lines that a holder keeps until somebody has waited so.
+use crate::gates::Closed;
 use line_accounts::AccountLaw;
 use line_board::BoardLaw;
 use line_threads::{HookedLine, Hooks};
 use locks::RingLine;
 use qolb_model::{Keep, OpenLine, Sleeping};
-use qolb_run::{AlwaysOpen, RunError, Waits, run_work_over};
+use qolb_run::{AlwaysOpen, Gate, RunError, Waits, run_work_over};
 use qolb_script::{Report, Work, WorkKind, read_work};
 use std::alloc::Global;
 use std::process::Abort;
@@ -92,24 +93,49 @@ impl Hooks for UntilLooked {
     }
 }
 
-/// The work over lines with these hooks.
+/// A turn of such a line does not end: nobody lets it go. So work at it ends only where no job is done.
+#[derive(Drop)]
+struct Kept;
+
+impl Default for Kept {
+    fn default() -> Kept {
+        Kept
+    }
+}
+
+impl Hooks for Kept {
+    fn lets_go<K: Keep, L: Sleeping<K>>(&self, _line: &L, _port: &L::Port) {
+        for _ in 0..u64::MAX {
+            yield_now();
+        }
+    }
+}
+
+/// The work behind this gate over lines with these hooks.
 fn work_hooked<
     R: Threads + Wait + Sync,
+    G: Gate + Sync,
     H: Hooks + Default + Sync + Drop,
     B: OpenLine<BoardLaw> + Sleeping<BoardLaw> + Sync + Drop,
     A: OpenLine<AccountLaw> + Sleeping<AccountLaw> + Sync + Drop,
->(rt: &R, alloc: Global, work: &Work, waits: Waits) -> Result<Report, RunError>
+>(rt: &R, alloc: Global, gate: &G, work: &Work, waits: Waits) -> Result<Report, RunError>
 where
     B::Port: Send + Drop,
     A::Port: Send + Drop,
 {
-    run_work_over::<R, AlwaysOpen, HookedLine<H, B>, HookedLine<H, A>>(
-        rt,
-        alloc,
-        &AlwaysOpen,
-        work,
-        waits,
-    )
+    run_work_over::<R, G, HookedLine<H, B>, HookedLine<H, A>>(rt, alloc, gate, work, waits)
+}
+
+/// The same over rings: how a worker waits is not a lock's matter, and it takes the prover a minute to see of each lock that it is a line with
+/// hooks.
+fn work_over_rings<R: Threads + Wait + Sync, G: Gate + Sync, H: Hooks + Default + Sync + Drop>(
+    rt: &R,
+    alloc: Global,
+    gate: &G,
+    work: &Work,
+    waits: Waits,
+) -> Result<Report, RunError> {
+    work_hooked::<R, G, H, RingLine<BoardLaw>, RingLine<AccountLaw>>(rt, alloc, gate, work, waits)
 }
 
 /// What two jobs come to that store, and two that find nothing.
@@ -180,8 +206,7 @@ static JOBS_OF_EACH_KIND: [(WorkKind, &str, Report); 7] = [
     ),
 ];
 
-/// Workers do a job of each kind over rings with these hooks: how a worker waits is not a lock's matter, and it takes the prover a minute to
-/// see of each lock that it is a line with hooks.
+/// Workers do a job of each kind over lines with these hooks.
 fn expect_hooked<R: Threads + Wait + Abort + Sync, H: Hooks + Default + Sync + Drop>(
     rt: &R,
     alloc: Global,
@@ -189,9 +214,7 @@ fn expect_hooked<R: Threads + Wait + Abort + Sync, H: Hooks + Default + Sync + D
 ) -> Result<(), Fail> {
     for (kind, script, report) in &JOBS_OF_EACH_KIND {
         let work = read_work(alloc, script.as_bytes(), *kind)?;
-        let found = work_hooked::<R, H, RingLine<BoardLaw>, RingLine<AccountLaw>>(
-            rt, alloc, &work, waits,
-        );
+        let found = work_over_rings::<R, AlwaysOpen, H>(rt, alloc, &AlwaysOpen, &work, waits);
         assert_eq!(rt; found, Ok(*report), "{script}");
     }
     Ok(())
@@ -205,4 +228,12 @@ fn workers_sleep_that_are_to(rt: HostRuntime) -> Result<(), Fail> {
 #[test]
 fn workers_stay_awake_that_are_to(rt: HostRuntime) -> Result<(), Fail> {
     expect_hooked::<HostRuntime, UntilLooked>(&rt, rt.alloc(), Waits::Awake)
+}
+
+#[test]
+fn who_gives_up_before_a_closed_gate_does_no_job(rt: HostRuntime) -> Result<(), Fail> {
+    let work = read_work(rt.alloc(), b"board workers 1\n1 put 5\n", WorkKind::Board)?;
+    let found = work_over_rings::<_, Closed, Kept>(&rt, rt.alloc(), &Closed, &work, Waits::Awake);
+    assert_eq!(rt; found, Err(RunError::Stalled(1)));
+    Ok(())
 }

@@ -1,7 +1,7 @@
 //! Workers before a gate.
 use crate::work::{EITHER, expect};
 use locks::{ALL, Lines};
-use qolb_run::{Gate, RunError, Waits, report_work, run_work, run_work_with};
+use qolb_run::{Gate, RunError, TaskError, Waits, report_work, run_work, run_work_with};
 use qolb_script::{Report, Watched, WorkKind, read_work};
 use std::alloc::Global;
 use std::process::Abort;
@@ -11,7 +11,7 @@ use std::test::Fail;
 use std::thread::{Threads, yield_now};
 
 /// A gate that never opens.
-struct Closed;
+pub(crate) struct Closed;
 
 impl Gate for Closed {
     ghost may_refuse = { λ gate worker. Unit {0} };
@@ -32,6 +32,24 @@ fn a_worker_gives_up_before_a_closed_gate(rt: HostRuntime) -> Result<(), Fail> {
         WorkKind::Board,
         Err(RunError::Stalled(2)),
     )
+}
+
+#[test]
+fn a_report_of_work_says_who_gave_up(rt: HostRuntime) {
+    let mut reader = Watched::new(b"board workers 2\n2 put 5\n".as_slice());
+    let mut writer = Watched::new(Vec::new(rt.alloc()));
+    let done = report_work(
+        &rt,
+        rt.alloc(),
+        &Closed,
+        &mut reader,
+        &mut writer,
+        WorkKind::Board,
+        Lines::Ring,
+        Waits::Awake,
+    );
+    let written = writer.into_inner();
+    assert_eq!(rt; (done, written.len()), (Err(TaskError::Stalled(2)), 0));
 }
 
 #[test]
@@ -325,20 +343,21 @@ fn work_that_is_reported_is_done_once(rt: HostRuntime) -> Result<(), Fail> {
 }
 
 #[test]
-fn a_worker_waits_for_the_millionth_ask(rt: HostRuntime) -> Result<(), Fail> {
-    let work = read_work(rt.alloc(), b"board workers 1\n1 put 5\n", WorkKind::Board)?;
+fn a_worker_waits_for_the_millionth_ask_for_each_job(rt: HostRuntime) -> Result<(), Fail> {
+    let script = b"board workers 1\n1 put 5\n1 take\n";
+    let work = read_work(rt.alloc(), script, WorkKind::Board)?;
     let report = Report::Board {
         stored: 1,
         full: 0,
-        taken: 0,
+        taken: 1,
         empty: 0,
-        left: 1,
+        left: 0,
     };
     let gate = Counting::new(1_000_000);
     let found = run_work(&rt, rt.alloc(), &gate, &work, Lines::Ring);
     assert_eq!(rt; found, Ok(report));
-    assert_eq!(rt; gate.asks_for(0), 1_000_000);
-    assert_eq!(rt; gate.asks_for(1), 1);
+    let asks = (gate.asks_for(0), gate.asks_for(1), gate.asks_for(2));
+    assert_eq!(rt; asks, (1_000_000, 1_000_000, 1));
     Ok(())
 }
 
@@ -354,7 +373,7 @@ fn a_worker_gives_up_at_the_millionth_refusal(rt: HostRuntime) -> Result<(), Fai
 }
 
 #[test]
-fn a_gate_is_told_of_work_without_jobs(rt: HostRuntime) -> Result<(), Fail> {
+fn a_gate_is_told_of_work_without_jobs_and_asked_once(rt: HostRuntime) -> Result<(), Fail> {
     let work = read_work(rt.alloc(), b"board workers 2\n", WorkKind::Board)?;
     let gate = Counting::new(1);
     assert!(rt; run_work(&rt, rt.alloc(), &gate, &work, Lines::Ring).is_ok());
@@ -362,8 +381,9 @@ fn a_gate_is_told_of_work_without_jobs(rt: HostRuntime) -> Result<(), Fail> {
         gate.begun.load(Ordering::SeqCst),
         gate.jobs.load(Ordering::SeqCst),
         gate.early.load(Ordering::SeqCst),
+        gate.asks_for(0),
     );
-    assert_eq!(rt; told, (1, 0, 0));
+    assert_eq!(rt; told, (1, 0, 0, 1));
     Ok(())
 }
 
