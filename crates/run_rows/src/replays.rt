@@ -47,6 +47,34 @@ fn the_longest_reply_is_whole(rt: HostRuntime) -> Result<(), Fail> {
     Ok(())
 }
 
+/// So many times the same text, and then another.
+pub(crate) fn repeated(
+    alloc: Global,
+    first: &str,
+    times: u32,
+    same: &str,
+    last: &str,
+) -> Result<String, Fail> {
+    let mut text = first.to_string(alloc)?;
+    for _ in 0..times {
+        text.push_str(same)?;
+    }
+    text.push_str(last)?;
+    Ok(text)
+}
+
+#[test]
+fn the_longest_script_is_replayed_by_shared_lines(rt: HostRuntime) -> Result<(), Fail> {
+    let alloc = rt.alloc();
+    let turn = "enq 1 0\ndeq 1 0\n";
+    let script = repeated(alloc, "nodes 1 lines 1\n", 50_000, turn, "")?;
+    let summary = "line 0 served 50000 withdrawn 0 told 0 left 0\n";
+    let wanted = repeated(alloc, "", 50_000, "granted\nreleased\n", summary)?;
+    let reply = reply_to(alloc, script.as_str(), Kind::Ring)?;
+    assert!(rt; reply == wanted);
+    Ok(())
+}
+
 const HAND_OVER: &str =
     "nodes 2 lines 1\nenq 1 0\nwrite 1 0 0 a1b2\nenq 2 0\npoll 2 0\ndeq 1 0\npoll 2 0\nshow 2 0\ndeq 2 0\n";
 
@@ -394,17 +422,29 @@ fn each_growth_of_an_input_is_refused(rt: HostRuntime) -> Result<(), Fail> {
     Ok(())
 }
 
+/// So many newlines, how many of them are read or why not, and how many are left to the reader: of two parts of 4,096 bytes past the limit the
+/// second.
+static LENGTHS: [(u64, Result<usize, ReplayError>, u64); 3] = [
+    (16_777_216, Ok(16_777_216), 0),
+    (16_777_217, Err(ReplayError::Long), 0),
+    (16_777_216 + 8_192, Err(ReplayError::Long), 4_096),
+];
+
 #[test]
-fn an_input_past_the_limit_is_read_no_further(rt: HostRuntime) {
-    // two parts of 4,096 bytes past the limit, of which the second is left to the reader
-    let mut reader = Watched::new(Newlines {
-        left: 16_777_216 + 8_192,
-        part: 65_536,
-        fails: false,
-    });
-    let refused = read_all(rt.alloc(), &mut reader).err();
-    assert_eq!(rt; refused, Some(ReplayError::Long));
-    assert_eq!(rt; reader.into_inner().left, 4_096);
+fn an_input_is_read_up_to_the_limit_and_no_further(rt: HostRuntime) {
+    for (newlines, wanted, left) in &LENGTHS {
+        let mut reader = Watched::new(Newlines {
+            left: *newlines,
+            part: 65_536,
+            fails: false,
+        });
+        let read = read_all(rt.alloc(), &mut reader).map(|input| input.len());
+        assert_eq!(rt;
+            (read, reader.into_inner().left),
+            (*wanted, *left),
+            "of {newlines}"
+        );
+    }
 }
 
 /// Gives all its bytes at once, says once that it is at its end, and then fails.

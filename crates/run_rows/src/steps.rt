@@ -1,4 +1,5 @@
 //! Replays of step scripts.
+use crate::replays::repeated;
 use linked_list_allocator::LocalHeap;
 use qolb_run::{Detail, ReplayError, run_steps, run_steps_with};
 use qolb_script::{ScriptError, Watched};
@@ -27,6 +28,25 @@ fn ranks_are_written(rt: HostRuntime) -> Result<(), Fail> {
     );
     assert_eq!(rt; done, Ok(()));
     assert_eq!(rt; text.as_slice(), RANKED.as_bytes());
+    Ok(())
+}
+
+#[test]
+fn the_longest_step_script_is_answered(rt: HostRuntime) -> Result<(), Fail> {
+    let alloc = rt.alloc();
+    let turn = "reset 1\nprepend 1\nhome 1\n";
+    let script = repeated(alloc, "nodes 1\n", 33_333, turn, "reset 1\n")?;
+    let mut text: Vec<u8> = Vec::new(alloc);
+    let done = run_steps_with(
+        alloc,
+        &mut Watched::new(script.as_bytes()),
+        &mut Watched::new(&mut text),
+        Detail::Ranks,
+    );
+    assert_eq!(rt; done, Ok(()));
+    let last = "went 0\nline 0 served 33333 withdrawn 0 told 0 left 0\n";
+    let wanted = repeated(alloc, "", 33_333, "went 0\ngranted 1\nreleased 0\n", last)?;
+    assert!(rt; text.as_slice() == wanted.as_bytes());
     Ok(())
 }
 
@@ -59,10 +79,11 @@ fn each_allocation_is_refused(rt: HostRuntime) -> Result<(), Fail> {
 }
 
 /// Step scripts that are refused.
-static FAULTS: [(&str, ScriptError); 3] = [
+static FAULTS: [(&str, ScriptError); 4] = [
     ("", ScriptError::BadLine(1)),
     ("nodes 201", ScriptError::Number(1)),
     ("nodes 2\nreset 3\n", ScriptError::Number(2)),
+    ("nodes 2\nreset\n", ScriptError::BadLine(2)),
 ];
 
 #[test]

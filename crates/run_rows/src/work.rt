@@ -1,6 +1,9 @@
 //! Workers that share lines, over lines of each kind, awake and asleep.
+ghost use Rattle.std.specs.Prelude.{◌<◌};
+
+use crate::replays::repeated;
 use locks::{ALL, Lines};
-use qolb_run::{AlwaysOpen, Gate, RunError, Waits, run_work_with};
+use qolb_run::{AlwaysOpen, Gate, RunError, Waits, run_work, run_work_with};
 use qolb_script::{Report, WorkKind, read_work};
 use std::alloc::Global;
 use std::process::Abort;
@@ -131,18 +134,22 @@ fn two_workers_do_theirs_in_any_order(rt: HostRuntime) -> Result<(), Fail> {
     Ok(())
 }
 
-/// A bank of so many workers who pay in 1 so often each, into one account after another; in all this much.
+/// A bank of so many workers and accounts, eight to a line; each worker pays in 1 so often, into one account after another; in all this much.
 fn expect_payments<R: Threads + Wait + Abort + Sync>(
     rt: &R,
     alloc: Global,
     workers: u64,
+    accounts: u64,
     times: u64,
     paid: u128,
-) -> Result<(), Fail> {
-    let mut script = format!(in alloc; "bank workers {workers} lines 1\n")?;
+) -> Result<(), Fail>
+    requires { 0 < accounts }
+{
+    let lines = accounts / 8;
+    let mut script = format!(in alloc; "bank workers {workers} lines {lines}\n")?;
     for worker in 1..workers.saturating_add(1) {
         for turn in 0..times {
-            let account = turn % 8;
+            let account = worker.wrapping_add(turn) % accounts;
             script.push_str(format!(in alloc; "{worker} in {account} 1\n")?.as_str())?;
         }
     }
@@ -163,6 +170,61 @@ fn expect_payments<R: Threads + Wait + Abort + Sync>(
 
 #[test]
 fn no_payment_of_many_workers_is_lost(rt: HostRuntime) -> Result<(), Fail> {
-    expect_payments(&rt, rt.alloc(), 4, 100, 400)?;
-    expect_payments(&rt, rt.alloc(), 200, 1, 200)
+    expect_payments(&rt, rt.alloc(), 4, 8, 100, 400)?;
+    expect_payments(&rt, rt.alloc(), 200, 8, 1, 200)?;
+    expect_payments(&rt, rt.alloc(), 200, 64, 1, 200)
+}
+
+/// One worker does these two jobs 50,000 times over rings, with this report.
+fn expect_longest<R: Threads + Wait + Abort + Sync>(
+    rt: &R,
+    alloc: Global,
+    header: &str,
+    jobs: &str,
+    kind: WorkKind,
+    report: Report,
+) -> Result<(), Fail> {
+    let script = repeated(alloc, header, 50_000, jobs, "")?;
+    let work = read_work(alloc, script.as_bytes(), kind)?;
+    let found = run_work(rt, alloc, &AlwaysOpen, &work, Lines::Ring);
+    assert_eq!(rt; found, Ok(report));
+    Ok(())
+}
+
+#[test]
+fn the_longest_work_of_a_board_is_done(rt: HostRuntime) -> Result<(), Fail> {
+    let report = Report::Board {
+        stored: 50_000,
+        full: 0,
+        taken: 50_000,
+        empty: 0,
+        left: 0,
+    };
+    let jobs = "1 put 5\n1 take\n";
+    expect_longest(
+        &rt,
+        rt.alloc(),
+        "board workers 1\n",
+        jobs,
+        WorkKind::Board,
+        report,
+    )
+}
+
+#[test]
+fn the_longest_work_of_a_bank_is_done(rt: HostRuntime) -> Result<(), Fail> {
+    let report = Report::Bank {
+        paid_in: 50_000,
+        paid_out: 0,
+        total: 50_000,
+    };
+    let jobs = "1 in 0 1\n1 move 0 63 1\n";
+    expect_longest(
+        &rt,
+        rt.alloc(),
+        "bank workers 1 lines 8\n",
+        jobs,
+        WorkKind::Bank,
+        report,
+    )
 }
