@@ -92,7 +92,7 @@ fn replays_and_refuses_scripts(rt: HostRuntime) -> Result<(), Fail> {
 }
 
 /// Words that are not taken, and what the complaint names.
-static NOT_TAKEN: [(&[&str], &str); 23] = [
+static NOT_TAKEN: [(&[&str], &str); 28] = [
     (&[], "subcommand"),
     (&["replay"], "--kind"),
     (&["replay", "--kind"], "--kind"),
@@ -114,6 +114,14 @@ static NOT_TAKEN: [(&[&str], &str); 23] = [
     (&["bank", "ring"], "ring"),
     (&["work"], "work"),
     (&["--help"], "draw"),
+    (&["--help"], "\n  0  done\n"),
+    (&["--help"], "\n  1  the script was refused: "),
+    (&["--help"], "\n  2  the command line was refused"),
+    (
+        &["--help"],
+        "\n  3  want of memory: `out of memory`; or worker W gave up",
+    ),
+    (&["--help"], "\n  4  a failed read or write: "),
     (&["replay", "--help"], "--kind"),
     (&["--version"], "--version"),
 ];
@@ -285,6 +293,20 @@ fn runs_work(rt: HostRuntime) -> Result<(), Fail> {
     Ok(())
 }
 
+#[test]
+fn no_payment_of_four_workers_is_lost(rt: HostRuntime) -> Result<(), Fail> {
+    let alloc = rt.alloc();
+    let mut script = String::from_str(alloc, "bank workers 4 lines 1\n")?;
+    for account in 0..100u64 {
+        for worker in 1..5u64 {
+            let account = account % 8;
+            script.push_str(format!(in alloc; "{worker} in {account} 1\n")?.as_str())?;
+        }
+    }
+    let report = "in 400\nout 0\ntotal 400\n";
+    expect_work(&rt, alloc, "bank", script.as_str(), (0, report, ""))
+}
+
 /// Scripts that are none of this work, with the complaint.
 static NO_WORK: [(&str, &str, &str); 11] = [
     ("board", "", "bad line 1\n"),
@@ -346,11 +368,20 @@ fn draws_schedules_as_an_svg(rt: HostRuntime) -> Result<(), Fail> {
     Ok(())
 }
 
+/// Scripts that neither a drawing nor the core of reversed links takes, as their second line is bad or has a number out of range.
+static FAULTY: [(&[&str], &str); 4] = [
+    (&["draw"], "nodes 2 lines 1\nenq 3 0"),
+    (&["draw"], "nodes 2 lines 1\nenq 1"),
+    (&["steps"], "nodes 2\nreset 3\n"),
+    (&["steps"], "nodes 2\nreset\n"),
+];
+
 #[test]
-fn refuses_to_draw(rt: HostRuntime) -> Result<(), Fail> {
+fn refuses_to_draw_and_to_step(rt: HostRuntime) -> Result<(), Fail> {
     let refused = (1, "", "bad line 2\n");
-    let script = "nodes 2 lines 1\nenq 3 0";
-    expect(&rt, rt.alloc(), &["draw"], script, refused)?;
+    for (words, script) in &FAULTY {
+        expect(&rt, rt.alloc(), *words, *script, refused)?;
+    }
     for words in &NO_DRAWING {
         let (status, out, _) = told(&rt, rt.alloc(), *words, DRAWN)?;
         assert_eq!(rt; (status, out.as_str()), (2, ""), "of {words:?}");
@@ -519,7 +550,5 @@ fn ranks_are_told(rt: HostRuntime) -> Result<(), Fail> {
     let ranked =
         "went 0\ngranted 1\nreleased 0\nrefused 0\nline 0 served 1 withdrawn 0 told 0 left 0\n";
     let words = ["steps", "--rank"];
-    expect(&rt, rt.alloc(), words.as_slice(), script, (0, ranked, ""))?;
-    let refused = (1, "", "bad line 2\n");
-    expect(&rt, rt.alloc(), &["steps"], "nodes 2\nreset 3\n", refused)
+    expect(&rt, rt.alloc(), words.as_slice(), script, (0, ranked, ""))
 }
