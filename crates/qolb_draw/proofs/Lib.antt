@@ -1,7 +1,9 @@
 pub mod WorkedPictures
 pub mod Rows
+pub mod Shapes
 pub mod Turns
 pub mod Drawn
 pub mod Outs
+pub mod Lines
 pub mod Refusing
 pub mod SameRuns

@@ -276,6 +276,6 @@ asked_behind b xs ys n m e same push = push ∙ ap (λ k. xs ++ k ∷ []) same �
 pub none_behind : (b : Bool) (xs ys : List ℕ) (m : ℕ) → b ≡ false → ys ≡ xs → ys ≡ xs ++ cond b (m ∷ []) []
 none_behind b xs ys m e same = same ∙ sym (append-nil xs) ∙ ap (λ v. xs ++ cond v (m ∷ []) []) (sym e)
 
-pub same_change : (a b : ℕ) (t u : Bool) (x y z w : Option ℕ) → a ≡ b → t ≡ u → x ≡ y → z ≡ w
-    → let r : Change = record { node = a; told = t; before = x; after = z } in let q : Change = record { node = b; told = u; before = y; after = w } in r ≡ q
-same_change a b t u x y z w p q r v = cc
+pub same_change : (a b : ℕ) (k l : Said) (t u : Bool) (x y z w : Option ℕ) → a ≡ b → k ≡ l → t ≡ u → x ≡ y → z ≡ w
+    → let r : Change = record { node = a; said = k; told = t; before = x; after = z } in let q : Change = record { node = b; said = l; told = u; before = y; after = w } in r ≡ q
+same_change a b k l t u x y z w p j q r v = cc

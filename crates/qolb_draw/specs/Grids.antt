@@ -8,7 +8,12 @@ use Rattle.qolb_draw.specs.declared.mark.Mark.TheVariants as mark
 use Rattle.qolb_draw.specs.declared.mark.Change.{Change}
 use Rattle.qolb_draw.specs.Marks.{mark_of}
 use Rattle.qolb_draw.specs.declared.text.TheConstants.{COLUMNS}
-use Rattle.qolb_draw.specs.LineRuns.{Step, mark_at}
+use Rattle.qolb_draw.specs.LineRuns.{Step, mark_at, event_of}
+use Rattle.qolb_draw.specs.declared.event.Event.{Event}
+use Rattle.qolb_draw.specs.declared.bar.Stand.{Stand}
+use Rattle.qolb_draw.specs.declared.bar.Stand.TheVariants as stand
+use Rattle.qolb_draw.specs.Svg.{line_begin, texts}
+use Rattle.qolb_draw.specs.Timelines.{Shape, bars_from, columns_of, row_shapes, stand_of}
 use Rattle.qolb_draw.specs.Pictures.{letter_of, label_of, heads_text, block_count}
 
 -- the marks of nodes 1 to `nodes` after each step, and the step's number and node
@@ -22,10 +27,11 @@ abbrev pub nodes_of : List Step → List ℕ
 nodes_of steps = map (λ step. node_of step.command) steps
 
 -- what is kept of some steps
-pub record IsGrid (nodes : ℕ) (steps : List Step) (rows : ℕ) (numbers callers : List ℕ) (marks : List Mark) : Type 0 where
+pub record IsGrid (nodes : ℕ) (steps : List Step) (rows : ℕ) (numbers callers : List ℕ) (events : List Event) (marks : List Mark) : Type 0 where
   pub rows_are : rows ≡ nodes
   pub numbers_are : numbers ≡ numbers_of steps
   pub callers_are : callers ≡ nodes_of steps
+  pub events_are : events ≡ map event_of steps
   pub marks_are : marks ≡ marks_of nodes steps
 
 -- the marks of all nodes after a command that made this change and left the line so
@@ -54,3 +60,22 @@ shown_out_of nodes called = filter (λ n. list_any (λ m. m == n) called) (range
 -- the picture of a line
 abbrev pub line_out_of : ℕ → ℕ → List ℕ → List ℕ → List Mark → List ℕ
 line_out_of line nodes numbers callers marks = codes "line " ++ (48 + line) ∷ 10 ∷ [] ++ blocks_out_of nodes marks numbers (shown_out_of nodes callers) ++ 10 ∷ []
+
+-- how a node stands after each of some commands, from one on
+abbrev pub stands_out_of : ℕ → List Mark → ℕ → ℕ → ℕ → List Stand
+stands_out_of nodes marks n start count = map (λ k. stand_of (mark_out_of nodes marks n k)) (range_with_len start count)
+
+-- its bars, and its row
+abbrev pub bars_out_of : ℕ → List Mark → ℕ → ℕ → ℕ → List Shape
+bars_out_of nodes marks columns row n = bars_from row n stand.Away 0 0 (stands_out_of nodes marks n 0 columns)
+
+abbrev pub row_shapes_out_of : List ℕ → ℕ → List Mark → ℕ → ℕ → List Shape
+row_shapes_out_of shown nodes marks columns n = row_shapes shown columns (stands_out_of nodes marks n 0 columns) n
+
+-- the timeline of a line
+abbrev pub shapes_out_of : List ℕ → ℕ → List Mark → ℕ → List Event → List Shape
+shapes_out_of shown nodes marks columns events = flat_map (row_shapes_out_of shown nodes marks columns) shown ++ columns_of shown events
+
+abbrev pub line_svg_out_of : ℕ → ℕ → ℕ → ℕ → List ℕ → List Event → List Mark → List ℕ
+line_svg_out_of top line nodes columns callers events marks =
+    line_begin top line ++ texts (shapes_out_of (shown_out_of nodes callers) nodes marks columns events) ++ codes "</g>\n"

@@ -1,6 +1,7 @@
 pub mod Marks
 pub mod LineRuns
 pub mod Pictures
+pub mod Timelines
 pub mod Following
 pub mod Grids
 pub mod Svg

@@ -1,11 +1,13 @@
 -- The commands of a script on one line, one after another. (Of this project.)
-use Rattle.std.specs.Prelude.{ℕ, ◌+◌, ◌==◌, if◌then◌else◌, List, [], ◌∷◌, ◌++◌, fold}
+use Rattle.std.specs.Prelude.{ℕ, ◌+◌, ◌==◌, if◌then◌else◌, List, [], ◌∷◌, ◌++◌, filter, fold}
+use Rattle.std.specs.List.{list_any, range_with_len}
 use Rattle.qolb_model.specs.declared.terms.Terms.{Terms}
 use Rattle.qolb_model.specs.OneOwner.{LineState, opened, state_of}
 use Rattle.qolb_script.specs.declared.command.Command.{Command}
-use Rattle.qolb_script.specs.Commands.{line_of}
+use Rattle.qolb_script.specs.Commands.{node_of, line_of}
 use Rattle.qolb_script.specs.Script.{Script}
 use Rattle.qolb_script.specs.Reply.{terms_of, after_command}
+use Rattle.qolb_draw.specs.declared.event.Event.{Event}
 use Rattle.qolb_draw.specs.declared.mark.Mark.{Mark}
 use Rattle.qolb_draw.specs.Marks.{change_of, mark_of}
 
@@ -18,6 +20,10 @@ pub record Step : Type 0 where
 -- the mark of a node after the command
 abbrev pub mark_at : Step → ℕ → Mark
 mark_at step n = mark_of (change_of step.before step.command) (state_of (after_command step.before step.command) n) n
+
+-- the command, with what it changes
+abbrev pub event_of : Step → Event
+event_of step = record { number = step.number; command = step.command; change = change_of step.before step.command }
 
 -- how many commands of the script were done, the state of the line, and what was done on it
 pub record LineRun : Type 0 where
@@ -40,3 +46,7 @@ run_of line script = fold (run_step line) (run_start (terms_of script)) script.c
 
 abbrev pub steps_on : ℕ → Script → List Step
 steps_on line script = (run_of line script).steps
+
+-- the nodes that call on the line
+abbrev pub callers : ℕ → List Step → List ℕ
+callers nodes steps = filter (λ n. list_any (λ step. node_of step.command == n) steps) (range_with_len 1 nodes)

@@ -19,10 +19,11 @@ waiting_nodes s = map (λ r. r.node) (open_of s.queue.order s.queue.ends)
 abbrev pub turn_node : LineState → Option ℕ
 turn_node s = slice_get (waiting_nodes s) 0
 
--- what a command changes: whether its node is told that the line is closed, and whose turn it was before and is after it
+-- what a command changes: what its node is answered, whether it is told that the line is closed, and whose turn it was before and is after it
 abbrev pub change_of : LineState → Command → Change
 change_of s c = record {
   node = node_of c;
+  said = said_of s c;
   told = is_told (said_of s c);
   before = turn_node s;
   after = turn_node (after_command s c);

@@ -1,10 +1,9 @@
--- The picture of a schedule as plain text: for each line, in blocks of commands, a row of marks for each node that calls on it.
+-- The picture of a schedule as plain text, for each line, in blocks of commands, a row of marks for each node that calls on it; and in either form.
 -- (Of this project.)
 use Rattle.std.specs.Prelude.{◌≡◌, ℕ, ◌+◌, ◌-◌, ◌≤◌, ◌*◌, ◌/◌, ◌%◌, ◌==◌, nat_lt, nat_le, if◌then◌else◌, List, [], ◌∷◌, ◌++◌, length, map, filter, flat_map, take, drop, replicate, codes, Result, Ok, Err}
-use Rattle.std.specs.List.{list_any, range_with_len, slice_index_or}
+use Rattle.std.specs.List.{range_with_len, slice_index_or}
 use Rattle.qolb_run.specs.declared.input.TheConstants.{MOST_BYTES}
 use Rattle.qolb_script.specs.declared.error.ScriptError.{ScriptError}
-use Rattle.qolb_script.specs.Commands.{node_of}
 use Rattle.qolb_script.specs.Script.{Script, script_of}
 use Rattle.qolb_draw.specs.declared.draw.Form.{Form}
 use Rattle.qolb_draw.specs.declared.draw.Form.TheVariants as form
@@ -12,7 +11,7 @@ use Rattle.qolb_draw.specs.declared.mark.Mark.{Mark}
 use Rattle.qolb_draw.specs.declared.mark.Mark.TheVariants as mark
 use Rattle.qolb_draw.specs.declared.text.TheConstants.{COLUMNS}
 use Rattle.qolb_draw.specs.Svg.{svg_of}
-use Rattle.qolb_draw.specs.LineRuns.{Step, mark_at, steps_on}
+use Rattle.qolb_draw.specs.LineRuns.{Step, mark_at, steps_on, callers}
 
 -- the letter of each mark
 abbrev pub letter_of : Mark → ℕ
@@ -53,10 +52,6 @@ row_text steps n = label_of n ++ map (λ step. letter_of (mark_at step n)) steps
 abbrev pub block_text : List ℕ → List Step → List ℕ
 block_text nodes steps = 10 ∷ [] ++ heads_text (map (λ step. step.number) steps) ++ flat_map (row_text steps) nodes
 
--- the nodes that call on the line
-abbrev pub callers : ℕ → List Step → List ℕ
-callers nodes steps = filter (λ n. list_any (λ step. node_of step.command == n) steps) (range_with_len 1 nodes)
-
 -- the steps of block k, and how many blocks there are
 abbrev pub block_at : List Step → ℕ → List Step
 block_at steps k = take COLUMNS (drop (COLUMNS * k) steps)
@@ -79,14 +74,14 @@ legend = codes ". idle   w waits   t its turn has come   H holds   > hands over 
 abbrev pub picture_of : Script → List ℕ
 picture_of script = flat_map (line_text script) (range_with_len 0 script.lines) ++ legend
 
--- the same in a form
-abbrev pub in_form : Form → List ℕ → List ℕ
-in_form form.Text text = text
-in_form form.Svg text = svg_of text
+-- a schedule in a form
+abbrev pub in_form : Form → Script → List ℕ
+in_form form.Text script = picture_of script
+in_form form.Svg script = svg_of script
 
 -- the picture of some bytes, or the first fault in them
 abbrev pub drawn : Form → Result Script ScriptError → Result (List ℕ) ScriptError
-drawn form (Ok script) = Ok (in_form form (picture_of script))
+drawn form (Ok script) = Ok (in_form form script)
 drawn form (Err error) = Err error
 
 abbrev pub picture_to : Form → List ℕ → Result (List ℕ) ScriptError

@@ -1,15 +1,17 @@
 //! Pictures of schedules: what a reader gives is drawn, and the picture written.
-ghost use Rattle.std.specs.Prelude.{◌≡◌, ◌≢◌, ◌↔◌, ℕ, List, true, false, Ok, Err, OnOk, IfOk, IfErr, IfSome};
+ghost use Rattle.std.specs.Prelude.{◌≡◌, ◌≢◌, ◌↔◌, ℕ, List, true, false, Ok, Err, OnOk, IfOk, IfErr, IfSome, max};
 ghost use Rattle.std.specs.Io.KnownBytes.{Appends};
 ghost use Rattle.qolb_script.specs.Watched.{inner_of, has_failed};
 ghost use Rattle.qolb_run.specs.Outcome.{MayFail};
 ghost use Rattle.qolb_run.specs.declared.task.Task.TheVariants as task;
 ghost use Rattle.qolb_run.specs.declared.replay.Kind.TheVariants as kind;
 ghost use Rattle.qolb_draw.specs.Pictures.{picture_of, in_form, IsPicture};
+ghost use Rattle.qolb_draw.specs.Svg.{svg_of};
 
 use crate::grid::draw_line;
-use crate::svg::svg;
+use crate::svg;
 use crate::text::{LEGEND, push_line};
+use crate::timeline::push_timeline;
 use qolb_run::{ReplayError, read_input};
 use qolb_script::{Schedule, ScriptError, Watched, read_schedule};
 use std::alloc::{AllocError, Allocator};
@@ -20,7 +22,7 @@ use std::io::{Read, Write};
 pub enum Form {
     /// Plain text, of at most 79 characters a line.
     Text,
-    /// The same as an SVG.
+    /// A timeline as an SVG.
     Svg,
 }
 
@@ -55,12 +57,11 @@ fn picture_in<A: Allocator + Copy>(
     schedule: &Schedule<A>,
     form: Form,
 ) -> Result<Vec<u8, A>, AllocError>
-    ensures { IfOk result (λ text. text.items ≡ in_form form (picture_of schedule.now)) }
+    ensures { IfOk result (λ text. text.items ≡ in_form form schedule.now) }
 {
-    let text = picture(alloc, schedule)?;
     match form {
-        Form::Text => Ok(text),
-        Form::Svg => svg(alloc, &text),
+        Form::Text => picture(alloc, schedule),
+        Form::Svg => timeline(alloc, schedule),
     }
 }
 
@@ -75,4 +76,28 @@ fn picture<A: Allocator + Copy>(alloc: A, schedule: &Schedule<A>) -> Result<Vec<
     }
     text.extend_from_slice(LEGEND)?;
     Ok(text)
+}
+
+/// The timeline of a schedule, as an SVG.
+fn timeline<A: Allocator + Copy>(alloc: A, schedule: &Schedule<A>) -> Result<Vec<u8, A>, AllocError>
+    ensures { IfOk result (λ svg. svg.items ≡ svg_of schedule.now) }
+{
+    let mut lines = Vec::new(alloc);
+    let mut top = 64;
+    let mut width = 640;
+    for number in 0..schedule.lines() {
+        let grid = draw_line(alloc, schedule, number)?;
+        let rows = push_timeline(alloc, &mut lines, &grid, number, top)?;
+        top += 60 + 40 * rows;
+        width = wider(width, 128 + 32 * grid.numbers.len() as u64);
+    }
+    let svg = svg::svg_of(alloc, width, top, lines.as_slice())?;
+    Ok(svg)
+}
+
+/// The larger of two widths.
+fn wider(one: u64, other: u64) -> u64
+    ensures { result ≡ max one other }
+{
+    if one < other { other } else { one }
 }

@@ -53,6 +53,7 @@ impl<A: Allocator> FollowedLine<A> {
         pass(&mut self.waiting, &self.line);
         Ok(Change {
             node: command.node(),
+            said,
             told: is_told(&said),
             before,
             after: self.waiting.first().copied(),

@@ -5,6 +5,7 @@ ghost use Rattle.qolb_script.specs.declared.schedule.TheConstants.{MOST_COMMANDS
 ghost use Rattle.qolb_draw.specs.LineRuns.{steps_on};
 ghost use Rattle.qolb_draw.specs.Grids.{IsGrid, column_out_of};
 
+use crate::event::Event;
 use crate::follow::FollowedLine;
 use crate::mark::{Change, Mark};
 use line_lanes::Line64;
@@ -20,6 +21,8 @@ pub struct Grid<A: Allocator> {
     pub numbers: Vec<u64, A>,
     /// The node of each command.
     pub callers: Vec<u64, A>,
+    /// Each command, with what it changed.
+    pub events: Vec<Event, A>,
     /// The marks of all nodes after each command, one command behind another.
     pub marks: Vec<Mark, A>,
 }
@@ -30,27 +33,31 @@ impl<A: Allocator + Copy> Grid<A> {
         ensures nodes { result.nodes ≡ nodes }
         ensures numbers { result.numbers.items ≡ [] }
         ensures callers { result.callers.items ≡ [] }
+        ensures events { result.events.items ≡ [] }
         ensures marks { result.marks.items ≡ [] }
     {
         Grid {
             nodes,
             numbers: Vec::new(alloc),
             callers: Vec::new(alloc),
+            events: Vec::new(alloc),
             marks: Vec::new(alloc),
         }
     }
 
-    /// Adds the command of this number, which made this change and left the line so.
-    fn push(&mut self, number: u64, change: &Change, line: &PlainLine) -> Result<(), AllocError>
+    /// Adds the command of this event, which left the line so.
+    fn push(&mut self, event: &Event, line: &PlainLine) -> Result<(), AllocError>
         requires { self.old.nodes ≤ MOST_NODES }
         ensures nodes { self.new.nodes ≡ self.old.nodes }
-        ensures numbers { OnOk result (self.new.numbers.items ≡ self.old.numbers.items ++ number ∷ []) }
-        ensures callers { OnOk result (self.new.callers.items ≡ self.old.callers.items ++ change.now.node ∷ []) }
-        ensures marks { OnOk result (self.new.marks.items ≡ self.old.marks.items ++ column_out_of line.now change.now self.old.nodes) }
+        ensures numbers { OnOk result (self.new.numbers.items ≡ self.old.numbers.items ++ event.now.number ∷ []) }
+        ensures callers { OnOk result (self.new.callers.items ≡ self.old.callers.items ++ event.now.change.node ∷ []) }
+        ensures events { OnOk result (self.new.events.items ≡ self.old.events.items ++ event.now ∷ []) }
+        ensures marks { OnOk result (self.new.marks.items ≡ self.old.marks.items ++ column_out_of line.now event.now.change self.old.nodes) }
     {
-        self.numbers.push(number)?;
-        self.callers.push(change.node)?;
-        push_column(&mut self.marks, change, line, self.nodes)?;
+        self.numbers.push(event.number)?;
+        self.callers.push(event.change.node)?;
+        self.events.push(*event)?;
+        push_column(&mut self.marks, &event.change, line, self.nodes)?;
         Ok(())
     }
 }
@@ -79,7 +86,7 @@ pub fn draw_line<A: Allocator + Copy>(
     number: u64,
 ) -> Result<Grid<A>, AllocError>
     requires { number < schedule.now.lines }
-    ensures grid { IfOk result (λ grid. IsGrid schedule.now.nodes (steps_on number schedule.now) grid.nodes grid.numbers.items grid.callers.items grid.marks.items) }
+    ensures grid { IfOk result (λ grid. IsGrid schedule.now.nodes (steps_on number schedule.now) grid.nodes grid.numbers.items grid.callers.items grid.events.items grid.marks.items) }
     ensures nodes { IfOk result (λ grid. grid.nodes ≤ MOST_NODES) }
     ensures size { IfOk result (λ grid. length grid.marks.items ≡ length grid.numbers.items * grid.nodes) }
     ensures few { IfOk result (λ grid. length grid.numbers.items ≤ MOST_COMMANDS) }
@@ -98,7 +105,12 @@ pub fn draw_line<A: Allocator + Copy>(
         done += 1;
         if command.line() == number {
             let change = line.take(command)?;
-            grid.push(done, &change, &line.line)?;
+            let event = Event {
+                number: done,
+                command: *command,
+                change,
+            };
+            grid.push(&event, &line.line)?;
         }
     }
     Ok(grid)

@@ -3,6 +3,7 @@ ghost use Rattle.std.specs.Prelude.{◌≡◌};
 ghost use Rattle.qolb_draw.specs.Marks as spec;
 
 use qolb_model::PortState;
+use qolb_script::Said;
 
 /// How a node stands at a line after a command, or what the command did to it.
 #[derive(Clone, Copy, Debug, PartialEq, Eq)]
@@ -32,6 +33,8 @@ pub enum Mark {
 pub struct Change {
     /// The node that made it.
     pub node: u64,
+    /// What it was answered.
+    pub said: Said,
     /// Whether it was told that the line is closed.
     pub told: bool,
     /// The node whose turn it was before.

@@ -158,7 +158,7 @@ fn push_blocks<A: Allocator>(
 }
 
 /// The nodes that called, in order.
-fn shown<A: Allocator + Copy>(alloc: A, grid: &Grid<A>) -> Result<Vec<u64, A>, AllocError>
+pub fn shown<A: Allocator + Copy>(alloc: A, grid: &Grid<A>) -> Result<Vec<u64, A>, AllocError>
     requires { grid.now.nodes ≤ MOST_NODES }
     ensures { IfOk result (λ nodes. nodes.items ≡ shown_out_of grid.now.nodes grid.now.callers.items) }
 {

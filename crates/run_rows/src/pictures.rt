@@ -113,7 +113,7 @@ fn draws_the_last_of_200_nodes(rt: HostRuntime) -> Result<(), Fail> {
 fn longest_script(alloc: Global) -> Result<String, Fail> {
     let mut script = String::from_str(alloc, "nodes 2 lines 8\nenq 2 7\n")?;
     for _ in 2..100_000 {
-        script.push_str("show 2 7\n")?;
+        script.push_str("poll 2 7\n")?;
     }
     script.push_str("poll 1 7\n")?;
     Ok(script)
@@ -145,8 +145,13 @@ fn draws_the_longest_script(rt: HostRuntime) -> Result<(), Fail> {
 fn draws_the_longest_script_as_an_svg(rt: HostRuntime) -> Result<(), Fail> {
     let script = longest_script(rt.alloc())?;
     let svg = drawn(rt.alloc(), script.as_str(), Form::Svg)?;
-    // 1,429 blocks of two rows and an empty line, in which 6,989 rows of digits; 16 rows for the names of lines, two of the legend, and two.
-    assert!(rt; svg.contains("height='11296em'"));
+    // Seven lines without rows, and one with two.
+    assert!(rt; svg.contains(" width='3200128' height='624' "));
+    assert!(rt;
+        svg.contains(
+            "<rect class='holds' x='96' y='100' width='3200000' height='16'><title>node 2 holds the line</title></rect>\n"
+        )
+    );
     assert!(rt; svg.ends_with("</svg>\n"));
     Ok(())
 }
@@ -252,7 +257,7 @@ fn each_allocation_is_refused(rt: HostRuntime) -> Result<(), Fail> {
         used: 0,
     };
     let mut refusals = 0usize;
-    for step in 1..400usize {
+    for step in 1..1600usize {
         let found = drawn_within(rt.alloc(), 32 * step, whole.as_str()).ok_or("a heap")?;
         if refusals.saturating_add(1) == step && found == refused {
             refusals = step;
@@ -260,33 +265,117 @@ fn each_allocation_is_refused(rt: HostRuntime) -> Result<(), Fail> {
             assert_eq!(rt; found, served, "at {step}");
         }
     }
-    assert!(rt; refusals > 5 && refusals < 399);
+    assert!(rt; refusals > 5 && refusals < 1599);
     Ok(())
 }
 
+/// What a timeline has behind its legend.
+fn body_of(svg: &str) -> Option<&str> {
+    svg.split_once("may not</text>\n").map(|parts| parts.1)
+}
+
 #[test]
-fn draws_the_same_as_an_svg(rt: HostRuntime) -> Result<(), Fail> {
-    let picture = drawn(
-        rt.alloc(),
-        "nodes 2 lines 1\nenq 1 0\nenq 2 0\ndeq 1 0\n",
-        Form::Svg,
-    )?;
-    let want =
-        "<svg xmlns='http://www.w3.org/2000/svg' font-family='monospace' font-size='14' width='52em' height='10em'>
-<rect width='100%' height='100%' fill='white'/>
-<text xml:space='preserve'>
-<tspan x='1em' dy='1em'> line 0</tspan>
-<tspan x='1em' dy='1em'> </tspan>
-<tspan x='1em' dy='1em'>          123</tspan>
-<tspan x='1em' dy='1em'> node   1 <tspan fill='green' font-weight='bold'>H</tspan><tspan fill='green' font-weight='bold'>H</tspan><tspan fill='red'>&gt;</tspan></tspan>
-<tspan x='1em' dy='1em'> node   2 .w<tspan fill='red'>&lt;</tspan></tspan>
-<tspan x='1em' dy='1em'> </tspan>
-<tspan x='1em' dy='1em'> . idle   w waits   t its turn has come   <tspan fill='green' font-weight='bold'>H</tspan> holds   <tspan fill='red'>&gt;</tspan> hands over to <tspan fill='red'>&lt;</tspan></tspan>
-<tspan x='1em' dy='1em'> x withdrawn   c told that the line is closed   - closed</tspan>
-<tspan x='1em' dy='1em'> </tspan>
-</text>
+fn draws_a_timeline(rt: HostRuntime) -> Result<(), Fail> {
+    let script = "nodes 2 lines 1\nenq 1 0\nenq 2 0\ndeq 1 0\n";
+    let svg = drawn(rt.alloc(), script, Form::Svg)?;
+    // At least as wide as the legend. A line takes 60 pixels and each of its rows 40, below the legend of 64.
+    assert!(rt;
+        svg.starts_with("<svg xmlns='http://www.w3.org/2000/svg' width='640' height='204' ")
+    );
+    let want = "<g transform='translate(0,64)'><text x='8' y='16'>line 0</text>
+<path class='lane' d='M96 68H192'/>
+<rect class='holds' x='96' y='60' width='64' height='16'><title>node 1 holds the line</title></rect>
+<text class='name' x='8' y='72'>node 1</text>
+<path class='lane' d='M96 108H192'/>
+<rect class='waits' x='128' y='100' width='32' height='16'><title>node 2 waits</title></rect>
+<rect class='turn' x='160' y='100' width='32' height='16'><title>node 2 may take its turn</title></rect>
+<text class='name' x='8' y='112'>node 2</text>
+<text class='small' x='96' y='36'>1</text>
+<use href='#call' x='96' y='68'><title>1: enq 1 0: granted</title></use>
+<text class='small' x='128' y='36'>2</text>
+<use href='#call' x='128' y='108'><title>2: enq 2 0: queued</title></use>
+<text class='small' x='160' y='36'>3</text>
+<path class='arrow' d='M160 68V108'><title>3: node 1 hands over to node 2</title></path>
+<use href='#call' x='160' y='68'><title>3: deq 1 0: released</title></use>
+</g>
 </svg>
 ";
-    assert_eq!(rt; picture.as_str(), want);
+    assert_eq!(rt; body_of(svg.as_str()), Some(want));
+    Ok(())
+}
+
+/// Scripts, and a line of their timelines.
+static SHAPES: [(&str, &str); 9] = [
+    // two bytes from place 63 back, as they were written, and the first two of three
+    (
+        "nodes 1 lines 1\nenq 1 0\nwrite 1 0 62 0aF0\n",
+        "<text class='small' x='128' y='55'>0af0</text>\n<use href='#call' x='128' y='68'><title>2: write 1 0 62 0af0: ok</title></use>\n",
+    ),
+    (
+        "nodes 1 lines 1\nenq 1 0\nwrite 1 0 5 010203\n",
+        "<text class='small' x='128' y='55'>0102&#8230;</text>\n<use href='#call' x='128' y='68'><title>2: write 1 0 5 010203: ok</title></use>\n",
+    ),
+    // what was not written is not shown beside the bar
+    (
+        "nodes 1 lines 1\nwrite 1 0 0 01\n",
+        "<text class='small' x='96' y='36'>1</text>\n<use href='#misuse' x='96' y='68'><title>1: write 1 0 0 01: misuse</title></use>\n",
+    ),
+    // a withdrawn node has its bar until it is passed
+    (
+        "nodes 2 lines 1\nenq 1 0\nenq 2 0\nout 2 0\npoll 1 0\ndeq 1 0\n",
+        "<rect class='withdrawn' x='160' y='100' width='64' height='16'><title>node 2 has withdrawn</title></rect>\n",
+    ),
+    (
+        "nodes 2 lines 1\nenq 1 0\nenq 2 0\nout 2 0\n",
+        "<use href='#out' x='160' y='108'><title>3: out 2 0: withdrawn</title></use>\n",
+    ),
+    // who is told that the line is closed
+    (
+        "nodes 2 lines 1\nenq 1 0\nshut 1 0\nenq 2 0\n",
+        "<use href='#told' x='160' y='108'><title>3: enq 2 0: closed</title></use>\n",
+    ),
+    // rows are of those that call; the second line is below the first, which has one row
+    (
+        "nodes 9 lines 2\nenq 7 0\nenq 9 1\nenq 8 1\n",
+        "<g transform='translate(0,164)'><text x='8' y='16'>line 1</text>\n<path class='lane' d='M96 68H160'/>\n<rect class='waits' x='128' y='60' width='32' height='16'><title>node 8 waits</title></rect>\n<text class='name' x='8' y='72'>node 8</text>\n<path class='lane' d='M96 108H160'/>\n<rect class='holds' x='96' y='100' width='64' height='16'><title>node 9 holds the line</title></rect>\n<text class='name' x='8' y='112'>node 9</text>\n<text class='small' x='96' y='36'>2</text>\n",
+    ),
+    // an arrow upwards
+    (
+        "nodes 2 lines 1\nenq 2 0\nenq 1 0\nshut 2 0\n",
+        "<path class='arrow' d='M160 108V68'><title>3: node 2 hands over to node 1</title></path>\n<use href='#call' x='160' y='108'><title>3: shut 2 0: shut</title></use>\n",
+    ),
+    // the bytes of a line
+    (
+        "nodes 1 lines 1\nenq 1 0\nwrite 1 0 1 0a\nshow 1 0\n",
+        "<title>3: show 1 0: 000a0000000000000000000000000000000000000000000000000000000000000000000000000000000000000000000000000000000000000000000000000000</title></use>\n",
+    ),
+];
+
+#[test]
+fn timelines_have_their_shapes(rt: HostRuntime) -> Result<(), Fail> {
+    for (script, shape) in &SHAPES {
+        let svg = drawn(rt.alloc(), script, Form::Svg)?;
+        assert!(rt; svg.contains(*shape), "{shape} of {script}");
+    }
+    Ok(())
+}
+
+/// The name stands at the first column and at each twentieth behind it.
+#[test]
+fn names_stand_again(rt: HostRuntime) -> Result<(), Fail> {
+    let mut script = String::from_str(rt.alloc(), "nodes 1 lines 1\nenq 1 0\n")?;
+    for _ in 1..20 {
+        script.push_str("show 1 0\n")?;
+    }
+    let names = "<text class='name' x='8' y='72'>node 1</text>\n<text class='small'";
+    let svg = drawn(rt.alloc(), script.as_str(), Form::Svg)?;
+    assert!(rt; svg.contains(names));
+    script.push_str("show 1 0\n")?;
+    let names =
+        "<text class='name' x='8' y='72'>node 1</text>\n<text class='name' x='648' y='87'>node 1</text>\n<text class='small'";
+    let svg = drawn(rt.alloc(), script.as_str(), Form::Svg)?;
+    assert!(rt; svg.contains(names));
+    // 21 columns, and a margin on both sides
+    assert!(rt; svg.contains(" width='800' height='164' "));
     Ok(())
 }

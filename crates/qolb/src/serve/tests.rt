@@ -364,7 +364,9 @@ fn draws_schedules(rt: HostRuntime) -> Result<(), Fail> {
 fn draws_schedules_as_an_svg(rt: HostRuntime) -> Result<(), Fail> {
     let (status, out, err) = told(&rt, rt.alloc(), &["draw", "--svg"], DRAWN)?;
     assert_eq!(rt; (status, err.as_str()), (0, ""));
-    assert!(rt; out.starts_with("<svg ") && out.contains(".w<tspan fill='red'>&lt;</tspan>"));
+    let arrow =
+        "<path class='arrow' d='M160 68V108'><title>3: node 1 hands over to node 2</title></path>";
+    assert!(rt; out.starts_with("<svg ") && out.contains(arrow));
     Ok(())
 }
 

@@ -29,6 +29,6 @@ returns-clause-follows g c s f =
 pub returns-clause-change : goal.returns-clause-change
 returns-clause-change g c s f =
     let now = returns-clause-follows g c s f in
-    same_change _ _ _ _ _ _ _ _ c.node-2.ensures (c.is_told.ensures ∙ ap reply.is_told (c.answer-said.ensures.said s f.agrees))
+    same_change _ _ _ _ _ _ _ _ _ _ c.node-2.ensures (c.answer-said.ensures.said s f.agrees) (c.is_told.ensures ∙ ap reply.is_told (c.answer-said.ensures.said s f.agrees))
     (c.copied-before.ensures ∙ c.first.ensures.value ∙ ap (λ (xs : List ℕ). slice_get xs 0) (c.deref.ensures.value ∙ f.waiting_are))
     (c.copied.ensures ∙ c.first-2.ensures.value ∙ ap (λ (xs : List ℕ). slice_get xs 0) (c.deref-2.ensures.value ∙ now.waiting_are))

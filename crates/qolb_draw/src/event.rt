@@ -1,0 +1,11 @@
+//! A command that was done, as a timeline shows it.
+use crate::mark::Change;
+use qolb_script::Command;
+
+/// A command, with its number in the script, counted from 1, and what it changed.
+#[derive(Clone, Copy)]
+pub struct Event {
+    pub number: u64,
+    pub command: Command,
+    pub change: Change,
+}
