@@ -60,9 +60,38 @@ static int forks(uint32_t kind) {
     return goes_on(n, 5, 7) || closes(n);
 }
 
+/* So it is with a lock, which is held at the fork. */
+static int lock_goes_on(qolb_lock *lock, uint64_t was, uint64_t leaves) {
+    uint64_t lane;
+    WANT(qolb_lock_try(lock), QOLB_BUSY);
+    WANT(qolb_read_lane(qolb_lock_turn(lock), 0, &lane), QOLB_DONE);
+    WANT(lane, was);
+    WANT(qolb_write_lane(qolb_lock_turn(lock), 0, leaves), QOLB_DONE);
+    WANT(qolb_lock_leave(lock), QOLB_DONE);
+    WANT(qolb_lock_enter(lock), QOLB_GRANTED);
+    WANT(qolb_read_lane(qolb_lock_turn(lock), 0, &lane), QOLB_DONE);
+    WANT(lane, leaves);
+    WANT(qolb_lock_leave(lock), QOLB_DONE);
+    WANT(qolb_lock_close(lock), QOLB_DONE);
+    return 0;
+}
+
+static int forks_a_lock(uint32_t kind) {
+    qolb_lock lock = {NULL, kind, 3};
+    int ended;
+    WANT(qolb_lock_enter(&lock), QOLB_GRANTED);
+    WANT(qolb_write_lane(qolb_lock_turn(&lock), 0, 5), QOLB_DONE);
+    pid_t child = fork();
+    if (child < 0) return perror("fork"), 1;
+    if (child == 0) exit(lock_goes_on(&lock, 5, 6));
+    WANT(waitpid(child, &ended, 0) == child, 1);
+    WANT(WIFEXITED(ended) && WEXITSTATUS(ended) == 0, 1);
+    return lock_goes_on(&lock, 5, 7);
+}
+
 int main(void) {
     alarm(300);
     for (uint32_t kind = QOLB_RING; kind <= QOLB_TICKET; kind++)
-        if (forks(kind)) return 1;
+        if (forks(kind) || forks_a_lock(kind)) return 1;
     return 0;
 }

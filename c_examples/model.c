@@ -1,4 +1,4 @@
-/* Random calls on lines by one thread, each compared with a model of the calls in plain C: every answer, state, byte, count and name.
+/* Random calls on lines and locks by one thread, each compared with a model of the calls in plain C: every answer, state, byte, count and name.
  *
  *   build/model [CALLS [SEED]]        300,000 calls, seed 1
  *
@@ -256,9 +256,110 @@ static void one_line(void) {
     }
 }
 
+/* ---- Locks ----
+ *
+ * By one thread, which either holds the lock or does not. Where it would wait it does so for a moment, and is late; and it never enters what it holds. */
+
+static struct {
+    qolb_lock lock;
+    qolb_cond cond;
+    int open, shut, held;
+    uint64_t label, seats;
+    uint8_t byte[64];
+} locked;
+
+static void lock_opens(uint64_t label) {
+    locked.open = 1;
+    locked.shut = 0;
+    locked.label = label;
+    memset(locked.byte, 0, 64);
+}
+
+static uint32_t lock_enters(uint32_t if_held) {
+    if (!locked.open) lock_opens(0);
+    if (locked.shut) return QOLB_CLOSED;
+    if (locked.held) return if_held;
+    locked.held = 1;
+    return QOLB_GRANTED;
+}
+
+static uint32_t lock_leaves(int shut) {
+    if (!locked.held) return QOLB_MISUSE;
+    locked.held = 0;
+    locked.shut = shut;
+    return QOLB_DONE;
+}
+
+static void lock_is_opened(void) {
+    qolb_bytes opening;
+    uint32_t kind = (uint32_t)draw(4);
+    uint64_t seats = draw(8) ? draw(6) : draw(2) * 201, label = draw(9);
+    for (int k = 0; k < 64; k++) opening.byte[k] = (uint8_t)draw(256);
+    uint32_t wanted = kind > QOLB_TICKET                ? QOLB_BAD_KIND
+                      : seats == 0 || seats > MOST ? QOLB_BAD_NODES
+                      : locked.open                     ? QOLB_OCCUPIED
+                                                        : QOLB_DONE;
+    SAME(qolb_lock_open(&locked.lock, kind, label, seats, &opening), 0, wanted);
+    if (wanted != QOLB_DONE) return;
+    lock_opens(label);
+    locked.seats = seats;
+    memcpy(locked.byte, opening.byte, 64);
+}
+
+static void lock_is_read_and_written(void) {
+    qolb_node *turn = qolb_lock_turn(&locked.lock);
+    uint64_t lane = draw(8), value = draw(UINT64_MAX), out = 0;
+    SAME(turn != NULL, 0, (uint64_t)locked.held);
+    if (!turn) return;
+    SAME(qolb_read_lane(turn, lane, &out), 0, QOLB_DONE);
+    for (int k = 0; k < 8; k++) SAME(out >> 8 * k & 0xff, 0, locked.byte[8 * lane + k]);
+    SAME(qolb_write_lane(turn, lane, value), 0, QOLB_DONE);
+    for (int k = 0; k < 8; k++) locked.byte[8 * lane + k] = (uint8_t)(value >> 8 * k);
+    SAME(qolb_label(turn), 0, locked.label);
+    SAME(qolb_deqolb(turn), 0, QOLB_MISUSE);
+    SAME(qolb_withdraw(turn), 0, QOLB_MISUSE);
+}
+
+static void lock_call(void) {
+    switch (draw(12)) {
+    case 0:
+        if (!locked.held) SAME(qolb_lock_enter(&locked.lock), 0, lock_enters(0));
+        break;
+    case 1: SAME(qolb_lock_try(&locked.lock), 0, lock_enters(QOLB_BUSY)); break;
+    case 2: SAME(qolb_lock_enter_within(&locked.lock, draw(2) * 300), 0, lock_enters(QOLB_LATE)); break;
+    case 3:
+    case 4: SAME(qolb_lock_leave(&locked.lock), 0, lock_leaves(0)); break;
+    case 5:
+        if (draw(8) == 0) SAME(qolb_lock_shut(&locked.lock), 0, lock_leaves(1));
+        break;
+    case 6: SAME(qolb_cond_wait_within(&locked.cond, &locked.lock, draw(2) * 300), 0, locked.held ? QOLB_LATE : QOLB_MISUSE); break;
+    case 7: SAME(draw(2) ? qolb_cond_signal(&locked.cond) : qolb_cond_broadcast(&locked.cond), 0, QOLB_DONE); break;
+    case 8:
+        SAME(qolb_lock_close(&locked.lock), 0, locked.held ? QOLB_MISUSE : QOLB_DONE);
+        if (!locked.held) locked.open = locked.shut = 0;
+        break;
+    case 9: lock_is_opened(); break;
+    default: lock_is_read_and_written();
+    }
+    SAME(qolb_lock_holder(&locked.lock) != 0, 0, (uint64_t)locked.held);
+    SAME(locked.lock.own != NULL, 0, (uint64_t)locked.open);
+    SAME(locked.lock.seats, 0, locked.seats);
+    done++;
+}
+
+static void one_lock(void) {
+    memset(&locked, 0, sizeof locked);
+    locked.seats = draw(10) ? 1 + draw(6) : 1 + draw(MOST);
+    locked.lock = (qolb_lock){NULL, (uint32_t)draw(QOLB_TICKET + 1), (uint32_t)locked.seats};
+    for (uint64_t end = done + 1 + draw(1000); done < end && done < calls;) lock_call();
+    lock_leaves(0);
+    qolb_lock_leave(&locked.lock);
+    SAME(qolb_lock_close(&locked.lock), 0, QOLB_DONE);
+}
+
 int main(int argc, char **argv) {
     calls = argc > 1 ? strtoull(argv[1], NULL, 10) : 300000;
     seed = argc > 2 ? strtoull(argv[2], NULL, 10) : 1;
-    while (done < calls) one_line();
+    while (done < calls) draw(4) ? one_line() : one_lock();
     return 0;
 }

@@ -1,5 +1,5 @@
 /* Each allocation of an opening is refused in turn: the opening is then refused, the handles stay empty, and what it took is given back. No call
- * but opening and closing takes memory or gives any back.
+ * but opening and closing takes memory or gives any back. So it is with a lock, which its first use may open.
  * Linked with --wrap for malloc, realloc and free. Prints nothing but what went wrong. */
 #include <qolb.h>
 #include <stdio.h>
@@ -80,6 +80,42 @@ static int calls_take_none(uint32_t kind) {
     return 0;
 }
 
-static int tried(uint32_t kind) { return refused_in_turn(kind) || calls_take_none(kind); }
+/* Each allocation of a lock's first use, or of its opening, is refused in turn: then the lock is closed as before, and keeps nothing. The next use opens
+ * it. Entering, leaving and waiting take nothing. */
+static uint32_t used_first(qolb_lock *lock, uint32_t kind, unsigned way) {
+    qolb_bytes zeros = {{0}};
+    switch (way) {
+    case 0: return qolb_lock_enter(lock);
+    case 1: return qolb_lock_try(lock);
+    case 2: return qolb_lock_enter_within(lock, 1000);
+    default: return qolb_lock_open(lock, kind, 1, NODES, &zeros);
+    }
+}
+
+static int lock_refused_in_turn(uint32_t kind, unsigned way) {
+    for (unsigned long n = 1;; n++) {
+        qolb_lock lock = {NULL, kind, NODES};
+        qolb_cond cond = QOLB_COND_INIT;
+        taken = given_back = 0;
+        refuse_at = n;
+        uint32_t got = used_first(&lock, kind, way);
+        int refused = refuse_at == 0;
+        refuse_at = 0;
+        if (got != (refused ? QOLB_NO_MEMORY : way == 3 ? QOLB_DONE : QOLB_GRANTED)) return printf("lock, allocation %lu: answer %u\n", n, got), 1;
+        if (refused && (lock.own || taken != given_back)) return printf("lock, allocation %lu: %lu taken, %lu given back\n", n, taken, given_back), 1;
+        if ((refused || way == 3) && qolb_lock_enter(&lock) != QOLB_GRANTED) return puts("lock: not opened later"), 1;
+        unsigned long before = taken;
+        if (qolb_lock_enter_within(&lock, 0) != QOLB_LATE || qolb_cond_wait_within(&cond, &lock, 0) != QOLB_LATE) return puts("lock: not late"), 1;
+        if (qolb_lock_leave(&lock) != QOLB_DONE || taken != before) return puts("lock: calls took memory"), 1;
+        if (qolb_lock_close(&lock) != QOLB_DONE || taken != given_back) return printf("lock: %lu taken, %lu given back\n", taken, given_back), 1;
+        if (!refused) return n < 5 ? puts("lock: too few allocations"), 1 : 0;
+    }
+}
+
+static int tried(uint32_t kind) {
+    for (unsigned way = 0; way < 4; way++)
+        if (lock_refused_in_turn(kind, way)) return 1;
+    return refused_in_turn(kind) || calls_take_none(kind);
+}
 
 int main(void) { return tried(QOLB_RING) || tried(QOLB_LIST) || tried(QOLB_TICKET); }

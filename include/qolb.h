@@ -30,6 +30,36 @@
  *
  *     cc prog.c $(pkg-config --cflags --libs qolb)
  *
+ * LOCKS
+ *
+ * Where threads come and go, take a lock in place of nodes. It is a line and its nodes in one object, which any thread may enter and leave:
+ *
+ *     static qolb_lock lock = QOLB_LOCK_INIT(64);          // at most 64 threads hold it or stand in its queue at one time
+ *
+ *     if (qolb_lock_enter(&lock) != QOLB_GRANTED) abort(); // waits; QOLB_NO_MEMORY at the first use, QOLB_CLOSED after a shut
+ *     table[key % SIZE] = value;
+ *     qolb_lock_leave(&lock);
+ *
+ * So a pthread_mutex_t becomes a qolb_lock by its type, its initialiser and the names of its calls. A condition, qolb_cond, is for it what a
+ * pthread_cond_t is for a mutex.
+ *
+ * A lock has a seat for each of its line's nodes. A thread that enters takes a free seat and asks at once, so those that have a seat are served first
+ * come, first served. A thread that finds no free seat waits for one, asleep, and others that come later may find one before it: give a lock as many
+ * seats as threads use it at a time. A seat takes 128 bytes, beside what its node takes. A thread whose time was over leaves its seat's node
+ * busy (BUSY, below): that seat is passed over until the line has come to it.
+ *
+ * Only the thread that entered may leave. A thread that enters a lock which it holds waits for itself.
+ * A thread that ends while it holds a lock releases nothing, and all others wait; qolb_lock_holder tells its number, which on Linux is that
+ * of the system (gettid), as a debugger shows it.
+ *
+ * A static lock is opened at its first use, by whichever thread comes first; if there is no memory, that use and all until there is some answer
+ * QOLB_NO_MEMORY and keep nothing. Do not move or copy a lock or a condition once it is used.
+ *
+ * The holder may use the line's 64 bytes too: qolb_lock_turn lends it the node, to read and to write the line with. To every other call that node is
+ * misuse, and so it is after the holder has left.
+ *
+ * How a lock gives out its seats and how its threads sleep is tested, and not proved; every step on its line is a proved call.
+ *
  * WORDS
  *
  * node: one of those that share a line. They are numbered from 1. A thread that uses a line has a node of its own.
@@ -61,6 +91,7 @@
  * - Pass no null pointer, no freed one, and no two arguments that overlap.
  * - One call at a time for a handle. Different handles, of one line too, may be called by different threads at the same time.
  * - Hand a handle to another thread by a lock, a thread's start or join, or a sequentially consistent atomic.
+ * - Start a lock by QOLB_LOCK_INIT, a condition by QOLB_COND_INIT. Close a lock only where no thread is about to call it.
  * - Call nothing from a signal handler, nor in the forked child of a process with threads (PROCESSES, below).
  * - The program's malloc, realloc and free are of one allocator, which aligns as C asks.
  *
@@ -77,7 +108,10 @@
  *
  * WAITING
  *
- * No call of the library waits for another thread. Those that wait are in this header: qolb_acquire and qolb_acquire_within. They look 64 times,
+ * A thread that waits for a lock looks 64 times, gives the processor away 8 times, and then sleeps (on Linux by a futex) until somebody leaves the lock;
+ * then it looks anew. One that waits at a condition sleeps at once.
+ *
+ * No call on a node waits for another thread, but two that are in this header: qolb_acquire and qolb_acquire_within. They look 64 times,
  * with one pause of the processor between two looks (the instruction `pause`, some 10 to 140 cycles), and then give the processor away between
  * looks (sched_yield); qolb_acquire_within does so 16 times, and then sleeps between looks, first for 1 us and in the end for 200 us. So with much
  * work elsewhere it may see its turn up to 200 us late, and all who stand behind it wait that long too: when the line comes to a node, it is that
@@ -119,13 +153,14 @@
  *
  *     struct worker { _Alignas(QOLB_NODE_ALIGN) qolb_node node; };
  *
- * No call but qolb_open and qolb_close uses the heap.
+ * No call but qolb_open, qolb_close, qolb_lock_open, qolb_lock_close and the first use of a lock uses the heap.
  *
  * SANITIZERS AND DEBUGGERS
  *
  * The sanitizers of addresses, leaks and undefined behaviour see the program and the heap, and nothing inside the library. With the thread sanitizer
  * (-fsanitize=thread) the calls below tell it of each grant and release, so data that a line guards is not reported, and data that none guards is.
- * Lines of one label are one to it, and so are a few of different labels: between these it may miss a race.
+ * Lines of one label are one to it, and so are a few of different labels: between these it may miss a race. Each lock is one of its own, whatever its
+ * label.
  *
  * The library has no tables for unwinding, so a backtrace that begins inside one of its calls may end there.
  *
@@ -142,7 +177,7 @@
 /* The version of this header. QOLB_VERSION is one number, 10000 for each major version, 100 for each minor one; qolb_version() is that of the
  * library that the program runs with. */
 #define QOLB_VERSION_MAJOR 1
-#define QOLB_VERSION_MINOR 2
+#define QOLB_VERSION_MINOR 3
 #define QOLB_VERSION_PATCH 0
 #define QOLB_VERSION (QOLB_VERSION_MAJOR * 10000 + QOLB_VERSION_MINOR * 100 + QOLB_VERSION_PATCH)
 
@@ -187,7 +222,7 @@ typedef struct qolb_bytes {
 
 /* How the nodes of a line wait: at cells that they draw by tickets, in a list that they link, or at numbered cells that they draw by tickets. Take a
  * ticket line, unless memory is short or you want the two halves of asking: then take a list. */
-enum qolb_kind { QOLB_RING = 0, QOLB_LIST = 1, QOLB_TICKET = 2 };
+enum qolb_kind { QOLB_RING = 0, QOLB_LIST = 1, QOLB_TICKET = 2, QOLB_DEFAULT = QOLB_TICKET };
 
 /* What a call answers. */
 enum qolb_answer {
@@ -198,15 +233,15 @@ enum qolb_answer {
     QOLB_LINKING = 4,    /* its request stands behind another: link it */
     QOLB_WITHDRAWN = 5,  /* its request is withdrawn */
     QOLB_CLOSED = 6,     /* the line is closed, and the request has ended */
-    QOLB_BUSY = 7,       /* its last request is not cleared away yet: ask again later. Of qolb_try also: others have the line */
+    QOLB_BUSY = 7,       /* its last request is not cleared away yet: ask again later. Of qolb_try and qolb_lock_try also: others have it */
     QOLB_MISUSE = 8,     /* the handle or its node does not allow the call; nothing changed */
-    QOLB_NO_MEMORY = 9,  /* of qolb_open alone, as the next five; nothing changed */
+    QOLB_NO_MEMORY = 9,  /* of an opening alone, as the next five; nothing changed. A lock's first use opens it */
     QOLB_BAD_NODES = 10, /* not 1 to 200 nodes */
     QOLB_BAD_LEASE = 11, /* a lease of no turn */
     QOLB_BAD_KIND = 12,  /* no such kind */
     QOLB_TOO_FEW = 13,   /* fewer handles than nodes */
     QOLB_OCCUPIED = 14,  /* one of the handles has a node */
-    QOLB_LATE = 15       /* of qolb_acquire_within alone: its time is over, and the request is withdrawn */
+    QOLB_LATE = 15       /* the time is over. Of the node: its request is withdrawn */
 };
 
 /* Where a node stands. In the states IDLE, LEFT, ROLLED and SHUT it may ask. */
@@ -276,6 +311,64 @@ uint64_t qolb_label(qolb_node *node);
 /* What the node's last call left: a `qolb_node_state`. */
 uint32_t qolb_state(qolb_node *node);
 
+/* A lock. It is closed, if it is as its initialiser makes it: of so many seats, which must be a constant of 1 to 200, and of the kind QOLB_DEFAULT, with
+ * 64 bytes of zeros. Only these calls read or change what is in it. */
+typedef struct qolb_lock {
+    void *own;
+    uint32_t kind, seats;
+} qolb_lock;
+#define QOLB_LOCK_INIT(seats) {QOLB_NULL_, QOLB_DEFAULT, (seats)}
+
+/* A condition: where holders of a lock leave it and wait until another says that there is news. Nothing has to be freed. */
+typedef struct qolb_cond {
+    void *own;
+} qolb_cond;
+#define QOLB_COND_INIT {QOLB_NULL_}
+
+/* Opens a lock that is closed, of this kind, with this label, so many seats and these bytes: who needs none of that leaves it to the first use.
+ * DONE; else, the first that stands of BAD_KIND, BAD_NODES (not 1 to 200 seats), NO_MEMORY, and OCCUPIED: it is open. */
+uint32_t qolb_lock_open(qolb_lock *lock, uint32_t kind, uint64_t label, uint64_t seats, const qolb_bytes *opening) QOLB_LOOK;
+
+/* Enters the lock, and waits as long as it takes: GRANTED, CLOSED. At the first use also NO_MEMORY, BAD_NODES (of a lock of no seats), BAD_KIND. */
+uint32_t qolb_lock_enter(qolb_lock *lock) QOLB_LOOK;
+
+/* Enters the lock if nobody has it: GRANTED, BUSY, CLOSED; at the first use also what qolb_lock_enter answers then. */
+uint32_t qolb_lock_try(qolb_lock *lock) QOLB_LOOK;
+
+/* Enters the lock, and waits at most so many nanoseconds: GRANTED, LATE, CLOSED; at the first use also what qolb_lock_enter answers then. */
+uint32_t qolb_lock_enter_within(qolb_lock *lock, uint64_t nanoseconds) QOLB_LOOK;
+
+/* The holder leaves, and the lock goes to the thread that has waited longest. DONE; MISUSE where the calling thread does not hold it. */
+uint32_t qolb_lock_leave(qolb_lock *lock);
+
+/* The holder leaves, and nobody enters any more: all that wait, at a condition too, and all that come are told CLOSED. DONE; MISUSE where the calling
+ * thread does not hold it. */
+uint32_t qolb_lock_shut(qolb_lock *lock);
+
+/* Frees what the lock has: it is closed then, and its next use opens it again, of the kind and the seats that it had, with zeros. DONE, also where it
+ * was closed; MISUSE, and nothing changed, where a thread holds it, or waits for it or at a condition of its. */
+uint32_t qolb_lock_close(qolb_lock *lock);
+
+/* The holder's node, lent until it leaves, for qolb_read, qolb_write, qolb_read_lane, qolb_write_lane, qolb_turns_left, qolb_number, qolb_label and
+ * qolb_state. To every other call, and to any other thread, it is MISUSE. NULL where the calling thread does not hold the lock. */
+qolb_node *qolb_lock_turn(qolb_lock *lock);
+
+/* A number of the thread that holds the lock; 0 where nobody does, and for the moment in which it goes from one to the next. */
+uint64_t qolb_lock_holder(const qolb_lock *lock);
+
+/* The holder leaves the lock, waits at the condition until a signal or a broadcast tells it, and enters the lock again; nothing that happens after it
+ * has left is missed. It is told for no other reason, but what it waits for may be gone again: look, and wait in a loop.
+ * GRANTED, and it holds the lock; CLOSED, and it does not. MISUSE where the calling thread does not hold it. */
+uint32_t qolb_cond_wait(qolb_cond *cond, qolb_lock *lock) QOLB_LOOK;
+
+/* The same, told at the latest after so many nanoseconds; then it enters the lock again, as long as that takes. GRANTED or LATE, and it holds the lock;
+ * CLOSED, and it does not; MISUSE. */
+uint32_t qolb_cond_wait_within(qolb_cond *cond, qolb_lock *lock, uint64_t nanoseconds) QOLB_LOOK;
+
+/* Tells the one that has waited longest at the condition; and all. Whether the caller holds the lock or not. DONE, also where nobody waits. */
+uint32_t qolb_cond_signal(qolb_cond *cond);
+uint32_t qolb_cond_broadcast(qolb_cond *cond);
+
 /* The version of the library, as QOLB_VERSION is that of the header. */
 uint32_t qolb_version(void);
 
@@ -320,6 +413,38 @@ QOLB_LOOK static inline uint32_t qolb_prepend_(qolb_node *node) { return qolb_to
 QOLB_LOOK static inline uint32_t qolb_link_(qolb_node *node) { return qolb_took_(node, qolb_link(node)); }
 static inline uint32_t qolb_deqolb_(qolb_node *node) { return qolb_gives_(node), qolb_deqolb(node); }
 static inline uint32_t qolb_shut_(qolb_node *node) { return qolb_gives_(node), qolb_shut(node); }
+
+/* Of a lock, its own address. */
+static inline uint32_t qolb_entered_(qolb_lock *lock, uint32_t got) {
+    if (got == QOLB_GRANTED || got == QOLB_CLOSED || got == QOLB_LATE) __tsan_acquire(lock);
+    return got;
+}
+
+static inline void qolb_leaves_(qolb_lock *lock) {
+    if (qolb_lock_turn(lock)) __tsan_release(lock);
+}
+
+QOLB_LOOK static inline uint32_t qolb_lock_enter_(qolb_lock *lock) { return qolb_entered_(lock, qolb_lock_enter(lock)); }
+QOLB_LOOK static inline uint32_t qolb_lock_try_(qolb_lock *lock) { return qolb_entered_(lock, qolb_lock_try(lock)); }
+QOLB_LOOK static inline uint32_t qolb_lock_enter_within_(qolb_lock *lock, uint64_t nanoseconds) {
+    uint32_t got = qolb_lock_enter_within(lock, nanoseconds);
+    return got == QOLB_LATE ? got : qolb_entered_(lock, got);
+}
+static inline uint32_t qolb_lock_leave_(qolb_lock *lock) { return qolb_leaves_(lock), qolb_lock_leave(lock); }
+static inline uint32_t qolb_lock_shut_(qolb_lock *lock) { return qolb_leaves_(lock), qolb_lock_shut(lock); }
+QOLB_LOOK static inline uint32_t qolb_cond_wait_(qolb_cond *cond, qolb_lock *lock) {
+    return qolb_leaves_(lock), qolb_entered_(lock, qolb_cond_wait(cond, lock));
+}
+QOLB_LOOK static inline uint32_t qolb_cond_wait_within_(qolb_cond *cond, qolb_lock *lock, uint64_t nanoseconds) {
+    return qolb_leaves_(lock), qolb_entered_(lock, qolb_cond_wait_within(cond, lock, nanoseconds));
+}
+#define qolb_lock_enter qolb_lock_enter_
+#define qolb_lock_try qolb_lock_try_
+#define qolb_lock_enter_within qolb_lock_enter_within_
+#define qolb_lock_leave qolb_lock_leave_
+#define qolb_lock_shut qolb_lock_shut_
+#define qolb_cond_wait qolb_cond_wait_
+#define qolb_cond_wait_within qolb_cond_wait_within_
 #define qolb_enqolb qolb_enqolb_
 #define qolb_poll qolb_poll_
 #define qolb_wait qolb_wait_

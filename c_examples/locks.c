@@ -1,0 +1,598 @@
+/* Locks for threads that come and go: what each call answers, who is served first, conditions, and much use by many threads.
+ *
+ *   build/locks [SECONDS]     300: where a turn is lost, who waits for it does not end, and the program is ended after so many
+ *
+ * Prints nothing but what went wrong. The thread sanitizer sees the data, and must be quiet. */
+#define _GNU_SOURCE
+#include <pthread.h>
+#include <qolb.h>
+#include <sched.h>
+#include <stdatomic.h>
+#include <stdio.h>
+#include <stdlib.h>
+#include <string.h>
+#include <time.h>
+#include <unistd.h>
+
+enum { MOST = 200, MS = 1000000 };
+
+#define WANT(call, wanted)                                                                     \
+    do {                                                                                       \
+        unsigned long long got_ = (unsigned long long)(call);                                  \
+        if (got_ != (unsigned long long)(wanted)) {                                            \
+            printf("line %d: %s gave %llu\n", __LINE__, #call, got_);                          \
+            return 1;                                                                          \
+        }                                                                                      \
+    } while (0)
+
+/* For a thread that cannot answer. */
+#define MUST(call, wanted)                                                                     \
+    do {                                                                                       \
+        unsigned long long got_ = (unsigned long long)(call);                                  \
+        if (got_ != (unsigned long long)(wanted)) {                                            \
+            printf("line %d: %s gave %llu\n", __LINE__, #call, got_);                          \
+            exit(1);                                                                           \
+        }                                                                                      \
+    } while (0)
+
+static double seconds(clockid_t clock) {
+    struct timespec time;
+    clock_gettime(clock, &time);
+    return (double)time.tv_sec + (double)time.tv_nsec / 1e9;
+}
+
+/* A thread that a test starts: its number, which it says itself right before it waits. */
+struct helper {
+    pthread_t id;
+    atomic_int number;
+    int self;
+    qolb_lock *lock;
+    qolb_cond *cond;
+    uint64_t nanoseconds;
+    uint32_t got;
+    double processor;
+};
+
+static void about_to_wait(struct helper *me) { atomic_store(&me->number, gettid()); }
+
+/* Until the thread sleeps, or has ended: then it has asked, as it sleeps nowhere else after it has said its number. */
+static void until_asleep(struct helper *it) {
+    char name[64], state = 'R';
+    while (atomic_load(&it->number) == 0) sched_yield();
+    snprintf(name, sizeof name, "/proc/self/task/%d/stat", atomic_load(&it->number));
+    while (state != 'S') {
+        FILE *stat = fopen(name, "r");
+        if (!stat) return;
+        if (fscanf(stat, "%*d (%*[^)]) %c", &state) != 1) state = 'R';
+        fclose(stat);
+        usleep(200);
+    }
+}
+
+static void start(struct helper *it, void *(*work)(void *)) { MUST(pthread_create(&it->id, NULL, work, it), 0); }
+
+/* ---- What each call answers ---- */
+
+static int of_a_closed_one(void) {
+    qolb_bytes zeros = {{0}};
+    qolb_lock lock = QOLB_LOCK_INIT(2), none = QOLB_LOCK_INIT(0), many = QOLB_LOCK_INIT(201), odd = {NULL, 3, 2};
+    qolb_cond cond = QOLB_COND_INIT;
+    WANT(qolb_lock_leave(&lock), QOLB_MISUSE);
+    WANT(qolb_lock_shut(&lock), QOLB_MISUSE);
+    WANT(qolb_cond_wait(&cond, &lock), QOLB_MISUSE);
+    WANT(qolb_cond_wait_within(&cond, &lock, 0), QOLB_MISUSE);
+    WANT(qolb_cond_signal(&cond), QOLB_DONE);
+    WANT(qolb_cond_broadcast(&cond), QOLB_DONE);
+    WANT(qolb_lock_holder(&lock), 0);
+    WANT(qolb_lock_turn(&lock) == NULL, 1);
+    WANT(qolb_lock_close(&lock), QOLB_DONE);
+    WANT(lock.own == NULL, 1);
+    WANT(qolb_lock_enter(&none), QOLB_BAD_NODES);
+    WANT(qolb_lock_try(&many), QOLB_BAD_NODES);
+    WANT(qolb_lock_enter_within(&odd, 1), QOLB_BAD_KIND);
+    WANT(qolb_lock_open(&lock, 3, 1, 2, &zeros), QOLB_BAD_KIND);
+    WANT(qolb_lock_open(&lock, QOLB_RING, 1, 0, &zeros), QOLB_BAD_NODES);
+    WANT(qolb_lock_open(&lock, QOLB_RING, 1, 201, &zeros), QOLB_BAD_NODES);
+    WANT(lock.own == NULL && none.own == NULL && many.own == NULL && odd.own == NULL, 1);
+    return 0;
+}
+
+/* What another thread is answered by a holder's lock and by the node that it was lent. */
+static void *of_another(void *argument) {
+    struct helper *me = argument;
+    qolb_node *lent = qolb_lock_turn(me->lock);
+    MUST(lent == NULL, 1);
+    MUST(qolb_lock_leave(me->lock), QOLB_MISUSE);
+    MUST(qolb_lock_shut(me->lock), QOLB_MISUSE);
+    MUST(qolb_cond_wait(me->cond, me->lock), QOLB_MISUSE);
+    MUST(qolb_lock_try(me->lock), QOLB_BUSY);
+    MUST(qolb_lock_enter_within(me->lock, 0), QOLB_LATE);
+    MUST(qolb_lock_close(me->lock), QOLB_MISUSE);
+    return NULL;
+}
+
+static qolb_node *lent_node;
+
+static void *by_lent_node(void *argument) {
+    uint64_t lane = 77;
+    (void)argument;
+    MUST(qolb_read_lane(lent_node, 0, &lane), QOLB_MISUSE);
+    MUST(lane, 77);
+    MUST(qolb_write_lane(lent_node, 0, 1), QOLB_MISUSE);
+    MUST(qolb_state(lent_node), QOLB_STATE_EMPTY);
+    MUST(qolb_number(lent_node), 0);
+    MUST(qolb_deqolb(lent_node), QOLB_MISUSE);
+    return NULL;
+}
+
+static int refuses_to_move(qolb_node *lent) {
+    WANT(qolb_enqolb(lent), QOLB_MISUSE);
+    WANT(qolb_poll(lent), QOLB_MISUSE);
+    WANT(qolb_wait(lent, 1), QOLB_MISUSE);
+    WANT(qolb_withdraw(lent), QOLB_MISUSE);
+    WANT(qolb_prepend(lent), QOLB_MISUSE);
+    WANT(qolb_link(lent), QOLB_MISUSE);
+    WANT(qolb_deqolb(lent), QOLB_MISUSE);
+    WANT(qolb_shut(lent), QOLB_MISUSE);
+    WANT(qolb_close(lent), QOLB_MISUSE);
+    WANT(qolb_acquire(lent), QOLB_MISUSE);
+    WANT(qolb_acquire_within(lent, 0), QOLB_MISUSE);
+    WANT(qolb_try(lent), QOLB_MISUSE);
+    return 0;
+}
+
+/* The holder reads and writes by the node that it was lent, in a lock that was opened with the label 9 and three seats. */
+static int reads_and_writes(qolb_node *lent, const qolb_bytes *opening) {
+    qolb_bytes seen;
+    uint64_t lane;
+    WANT(qolb_read(lent, &seen), QOLB_DONE);
+    WANT(memcmp(&seen, opening, sizeof seen), 0);
+    WANT(qolb_write_lane(lent, 7, 5), QOLB_DONE);
+    WANT(qolb_write(lent, 1, &(qolb_bytes){{3}}), QOLB_DONE);
+    WANT(qolb_read_lane(lent, 8, &lane), QOLB_MISUSE);
+    WANT(qolb_read_lane(lent, 0, &lane), QOLB_DONE);
+    WANT(lane, 0x203);
+    WANT(qolb_state(lent), QOLB_STATE_HOLDING);
+    WANT(qolb_label(lent), 9);
+    WANT(qolb_turns_left(lent), QOLB_NO_LEASE);
+    WANT(qolb_number(lent) >= 1 && qolb_number(lent) <= 3, 1);
+    return refuses_to_move(lent);
+}
+
+static int of_others(qolb_lock *lock) {
+    qolb_cond cond = QOLB_COND_INIT;
+    struct helper other = {.lock = lock, .cond = &cond};
+    start(&other, of_another);
+    pthread_join(other.id, NULL);
+    start(&other, by_lent_node);
+    pthread_join(other.id, NULL);
+    double since = seconds(CLOCK_MONOTONIC);
+    WANT(qolb_lock_enter_within(lock, 20 * MS), QOLB_LATE);
+    WANT(qolb_cond_wait_within(&cond, lock, 20 * MS), QOLB_LATE);
+    WANT(seconds(CLOCK_MONOTONIC) - since >= 0.04, 1);
+    return 0;
+}
+
+/* Shut, it tells all that come; closed and used again it is as after its initialiser, of the kind and the seats that it had. */
+static int of_a_shut_one(qolb_lock *lock) {
+    uint32_t kind = lock->kind, seats = lock->seats;
+    uint64_t lane;
+    WANT(qolb_lock_shut(lock), QOLB_DONE);
+    WANT(qolb_lock_shut(lock), QOLB_MISUSE);
+    for (int k = 0; k < 5; k++) {
+        WANT(qolb_lock_enter(lock), QOLB_CLOSED);
+        WANT(qolb_lock_try(lock), QOLB_CLOSED);
+        WANT(qolb_lock_enter_within(lock, MS), QOLB_CLOSED);
+    }
+    WANT(qolb_lock_close(lock), QOLB_DONE);
+    WANT(lock->kind, kind);
+    WANT(lock->seats, seats);
+    WANT(qolb_lock_enter(lock), QOLB_GRANTED);
+    WANT(qolb_read_lane(qolb_lock_turn(lock), 7, &lane), QOLB_DONE);
+    WANT(lane, 0);
+    WANT(qolb_lock_leave(lock), QOLB_DONE);
+    WANT(qolb_lock_close(lock), QOLB_DONE);
+    return 0;
+}
+
+static int of_the_holder(uint32_t kind) {
+    qolb_bytes opening = {{1, 2}};
+    qolb_lock lock = QOLB_LOCK_INIT(1);
+    uint64_t lane;
+    WANT(qolb_lock_open(&lock, kind, 9, 3, &opening), QOLB_DONE);
+    WANT(qolb_lock_open(&lock, kind, 9, 3, &opening), QOLB_OCCUPIED);
+    WANT(lock.seats, 3);
+    WANT(qolb_lock_enter(&lock), QOLB_GRANTED);
+    WANT(qolb_lock_holder(&lock), gettid());
+    qolb_node *lent = lent_node = qolb_lock_turn(&lock);
+    if (reads_and_writes(lent, &opening)) return 1;
+    WANT(qolb_lock_try(&lock), QOLB_BUSY);
+    WANT(qolb_lock_close(&lock), QOLB_MISUSE);
+    if (of_others(&lock)) return 1;
+    WANT(qolb_lock_holder(&lock), gettid());
+    WANT(qolb_lock_leave(&lock), QOLB_DONE);
+    WANT(qolb_lock_leave(&lock), QOLB_MISUSE);
+    WANT(qolb_lock_holder(&lock), 0);
+    WANT(qolb_state(lent), QOLB_STATE_EMPTY);
+    if (refuses_to_move(lent)) return 1;
+    WANT(qolb_lock_try(&lock), QOLB_GRANTED);
+    WANT(qolb_read_lane(qolb_lock_turn(&lock), 7, &lane), QOLB_DONE);
+    WANT(lane, 5);
+    return of_a_shut_one(&lock);
+}
+
+static void *enters_once(void *argument) {
+    struct helper *me = argument;
+    about_to_wait(me);
+    me->got = me->nanoseconds ? qolb_lock_enter_within(me->lock, me->nanoseconds) : qolb_lock_enter(me->lock);
+    if (me->got == QOLB_GRANTED) MUST(qolb_lock_leave(me->lock), QOLB_DONE);
+    return NULL;
+}
+
+/* ---- First come, first served ---- */
+
+static struct {
+    int order[MOST], served;
+} guarded;
+
+static void *notes_its_turn(void *argument) {
+    struct helper *me = argument;
+    about_to_wait(me);
+    double since = seconds(CLOCK_THREAD_CPUTIME_ID);
+    MUST(qolb_lock_enter(me->lock), QOLB_GRANTED);
+    me->processor = seconds(CLOCK_THREAD_CPUTIME_ID) - since;
+    guarded.order[guarded.served++] = me->self;
+    MUST(qolb_lock_leave(me->lock), QOLB_DONE);
+    return NULL;
+}
+
+/* Some threads were late before, so that their seats are busy; and a thread tried. Who waits takes no processor. */
+static int in_order(uint32_t kind) {
+    enum { THREADS = 8, LATE = 3 };
+    static qolb_lock lock = QOLB_LOCK_INIT(1 + LATE + LATE + THREADS); /* the holder, those that were late, and those that wait */
+    struct helper late[LATE] = {{0}}, threads[THREADS] = {{0}};
+    lock.kind = kind;
+    guarded.served = 0;
+    WANT(qolb_lock_enter(&lock), QOLB_GRANTED);
+    for (int k = 0; k < LATE; k++) {
+        late[k].lock = &lock;
+        late[k].nanoseconds = 3 * MS;
+        start(&late[k], enters_once);
+        pthread_join(late[k].id, NULL);
+        WANT(late[k].got, QOLB_LATE);
+        WANT(qolb_lock_enter_within(&lock, 0), QOLB_LATE);
+        WANT(qolb_lock_try(&lock), QOLB_BUSY);
+    }
+    for (int k = 0; k < THREADS; k++) {
+        threads[k].lock = &lock;
+        threads[k].self = k;
+        start(&threads[k], notes_its_turn);
+        until_asleep(&threads[k]);
+    }
+    usleep(300000);
+    WANT(qolb_lock_leave(&lock), QOLB_DONE);
+    for (int k = 0; k < THREADS; k++) pthread_join(threads[k].id, NULL);
+    for (int k = 0; k < THREADS; k++) {
+        WANT(guarded.order[k], k);
+        WANT(threads[k].processor < 0.1, 1);
+    }
+    WANT(qolb_lock_close(&lock), QOLB_DONE);
+    return 0;
+}
+
+/* More threads than seats: each is served, also where every seat is busy for a while, and a late one for want of a seat is late. */
+static int without_a_seat(uint32_t kind) {
+    enum { THREADS = 6 };
+    static qolb_lock lock = QOLB_LOCK_INIT(2);
+    struct helper threads[THREADS] = {{0}};
+    lock.kind = kind;
+    guarded.served = 0;
+    WANT(qolb_lock_enter(&lock), QOLB_GRANTED);
+    WANT(qolb_lock_enter_within(&lock, MS), QOLB_LATE); /* the second seat is busy now */
+    double since = seconds(CLOCK_MONOTONIC);
+    WANT(qolb_lock_enter_within(&lock, 20 * MS), QOLB_LATE);
+    WANT(seconds(CLOCK_MONOTONIC) - since >= 0.02, 1);
+    for (int k = 0; k < THREADS; k++) {
+        threads[k].lock = &lock;
+        threads[k].self = k;
+        start(&threads[k], notes_its_turn);
+        until_asleep(&threads[k]);
+    }
+    WANT(qolb_lock_close(&lock), QOLB_MISUSE);
+    WANT(qolb_lock_leave(&lock), QOLB_DONE);
+    for (int k = 0; k < THREADS; k++) pthread_join(threads[k].id, NULL);
+    WANT(guarded.served, THREADS);
+    WANT(qolb_lock_close(&lock), QOLB_DONE);
+    return 0;
+}
+
+/* A thread that is cancelled while it sleeps waits on, has its turn, and ends at its next cancellation point. */
+static void *is_cancelled(void *argument) {
+    struct helper *me = argument;
+    about_to_wait(me);
+    MUST(qolb_lock_enter(me->lock), QOLB_GRANTED);
+    MUST(qolb_lock_leave(me->lock), QOLB_DONE);
+    me->self = 1;
+    pthread_testcancel();
+    return NULL;
+}
+
+static int cancelled(void) {
+    static qolb_lock lock = QOLB_LOCK_INIT(2);
+    struct helper thread = {.lock = &lock};
+    void *ended;
+    WANT(qolb_lock_enter(&lock), QOLB_GRANTED);
+    start(&thread, is_cancelled);
+    until_asleep(&thread);
+    pthread_cancel(thread.id);
+    usleep(20000);
+    WANT(qolb_lock_leave(&lock), QOLB_DONE);
+    pthread_join(thread.id, &ended);
+    WANT(ended == PTHREAD_CANCELED, 1);
+    WANT(thread.self, 1);
+    WANT(qolb_lock_close(&lock), QOLB_DONE);
+    return 0;
+}
+
+/* All that wait when the lock is shut are told: for a turn, for a seat, and at a condition. */
+static void *waits_at_condition(void *argument) {
+    struct helper *me = argument;
+    MUST(qolb_lock_enter(me->lock), QOLB_GRANTED);
+    about_to_wait(me);
+    me->got = qolb_cond_wait_within(me->cond, me->lock, me->nanoseconds ? me->nanoseconds : UINT64_MAX);
+    if (me->got == QOLB_CLOSED) return NULL;
+    guarded.order[guarded.served++] = me->self;
+    MUST(qolb_lock_leave(me->lock), QOLB_DONE);
+    return NULL;
+}
+
+static int shut_tells_all(uint32_t kind) {
+    enum { THREADS = 9 };
+    static qolb_lock lock = QOLB_LOCK_INIT(4);
+    qolb_cond cond = QOLB_COND_INIT;
+    struct helper threads[THREADS] = {{0}};
+    lock.kind = kind;
+    for (int k = 0; k < THREADS; k++) {
+        threads[k].lock = &lock;
+        threads[k].cond = &cond;
+        if (k == 3) WANT(qolb_lock_enter(&lock), QOLB_GRANTED);
+        start(&threads[k], k < 3 ? waits_at_condition : enters_once);
+        until_asleep(&threads[k]);
+    }
+    WANT(qolb_lock_shut(&lock), QOLB_DONE);
+    for (int k = 0; k < THREADS; k++) {
+        pthread_join(threads[k].id, NULL);
+        WANT(threads[k].got, QOLB_CLOSED);
+    }
+    WANT(cond.own == NULL, 1);
+    WANT(qolb_lock_close(&lock), QOLB_DONE);
+    return 0;
+}
+
+/* ---- Conditions ---- */
+
+static int served_by(qolb_lock *lock, int less) {
+    MUST(qolb_lock_enter(lock), QOLB_GRANTED);
+    int served = guarded.served -= less;
+    MUST(qolb_lock_leave(lock), QOLB_DONE);
+    return served;
+}
+
+/* A signal tells the one that has waited longest and no other; who is late stands there no more; a broadcast tells all. */
+static int told_in_order(uint32_t kind) {
+    enum { THREADS = 7 };
+    static qolb_lock lock = QOLB_LOCK_INIT(THREADS + 1);
+    static qolb_cond cond = QOLB_COND_INIT;
+    static const int told[] = {0, 2, 3, 4, 5, 6};
+    struct helper threads[THREADS] = {{0}};
+    lock.kind = kind;
+    guarded.served = 0;
+    for (int k = 0; k < THREADS; k++) {
+        threads[k] = (struct helper){.lock = &lock, .cond = &cond, .self = k, .nanoseconds = k == 1 ? 30 * MS : 0};
+        start(&threads[k], waits_at_condition);
+        until_asleep(&threads[k]);
+    }
+    pthread_join(threads[1].id, NULL);
+    WANT(threads[1].got, QOLB_LATE);
+    WANT(served_by(&lock, 1), 0);
+    WANT(qolb_lock_close(&lock), QOLB_MISUSE);
+    for (int k = 0; k < 3; k++) {
+        WANT(qolb_cond_signal(&cond), QOLB_DONE);
+        pthread_join(threads[told[k]].id, NULL);
+        WANT(served_by(&lock, 0), k + 1);
+    }
+    usleep(10000);
+    WANT(qolb_lock_enter(&lock), QOLB_GRANTED);
+    WANT(guarded.served, 3);
+    WANT(qolb_cond_broadcast(&cond), QOLB_DONE);
+    WANT(qolb_lock_leave(&lock), QOLB_DONE);
+    for (int k = 4; k < THREADS; k++) pthread_join(threads[k].id, NULL);
+    for (int k = 0; k < 3; k++) WANT(guarded.order[k], told[k]);
+    for (int k = 0; k < THREADS; k++) WANT(threads[k].got, k == 1 ? QOLB_LATE : QOLB_GRANTED);
+    WANT(cond.own == NULL, 1);
+    WANT(qolb_lock_close(&lock), QOLB_DONE);
+    return 0;
+}
+
+/* A box of one place between makers and takers, some of whom wait at most so long. */
+static struct {
+    qolb_lock lock;
+    qolb_cond full, empty;
+    int has, value;
+    long made, taken, sum;
+} box = {QOLB_LOCK_INIT(6), QOLB_COND_INIT, QOLB_COND_INIT, 0, 0, 0, 0, 0};
+
+enum { MAKERS = 3, TAKERS = 3, THINGS = 600 };
+
+static void *makes(void *argument) {
+    struct helper *me = argument;
+    for (int k = 0; k < THINGS; k++) {
+        MUST(qolb_lock_enter(&box.lock), QOLB_GRANTED);
+        while (box.has) {
+            uint32_t got = me->self ? qolb_cond_wait(&box.empty, &box.lock) : qolb_cond_wait_within(&box.empty, &box.lock, 50000);
+            if (got != QOLB_LATE) MUST(got, QOLB_GRANTED);
+        }
+        box.has = 1;
+        box.value = k;
+        box.made++;
+        qolb_cond_signal(&box.full);
+        MUST(qolb_lock_leave(&box.lock), QOLB_DONE);
+    }
+    return NULL;
+}
+
+static void *takes(void *argument) {
+    struct helper *me = argument;
+    for (int k = 0; k < THINGS; k++) {
+        MUST(qolb_lock_enter(&box.lock), QOLB_GRANTED);
+        while (!box.has) {
+            uint32_t got = me->self ? qolb_cond_wait(&box.full, &box.lock) : qolb_cond_wait_within(&box.full, &box.lock, 50000);
+            if (got != QOLB_LATE) MUST(got, QOLB_GRANTED);
+        }
+        box.has = 0;
+        box.sum += box.value;
+        box.taken++;
+        MUST(qolb_lock_leave(&box.lock), QOLB_DONE);
+        qolb_cond_signal(&box.empty);
+    }
+    return NULL;
+}
+
+static int makers_and_takers(void) {
+    struct helper threads[MAKERS + TAKERS] = {{0}};
+    for (int k = 0; k < MAKERS + TAKERS; k++) {
+        threads[k].self = k % MAKERS;
+        start(&threads[k], k < MAKERS ? makes : takes);
+    }
+    for (int k = 0; k < MAKERS + TAKERS; k++) pthread_join(threads[k].id, NULL);
+    WANT(box.made, MAKERS * THINGS);
+    WANT(box.taken, MAKERS * THINGS);
+    WANT(box.sum, MAKERS * (THINGS * (THINGS - 1) / 2));
+    WANT(qolb_lock_close(&box.lock), QOLB_DONE);
+    return 0;
+}
+
+/* ---- Much use ---- */
+
+static struct {
+    qolb_lock lock;
+    qolb_cond cond;
+    long turns;
+    int inside, ends_by_shut, rounds;
+    char last[200];
+} shared;
+
+static void has_a_turn(int self) {
+    MUST(shared.inside++, 0);
+    shared.turns++;
+    memset(shared.last, 'a' + self % 26, sizeof shared.last);
+    MUST(shared.inside--, 1);
+}
+
+static uint32_t enters_somehow(unsigned way) {
+    switch (way) {
+    case 0: return qolb_lock_try(&shared.lock);
+    case 1: return qolb_lock_enter_within(&shared.lock, 0);
+    case 2: return qolb_lock_enter_within(&shared.lock, 100000);
+    default: return qolb_lock_enter(&shared.lock);
+    }
+}
+
+static void *uses(void *argument) {
+    struct helper *me = argument;
+    unsigned drawn = (unsigned)me->self * 2654435761u + 1;
+    long had = 0;
+    for (int round = 0; round < shared.rounds; round++) {
+        drawn = drawn * 1664525 + 1013904223;
+        uint32_t got = enters_somehow(drawn >> 29);
+        if (got == QOLB_BUSY || got == QOLB_LATE) continue;
+        if (got == QOLB_CLOSED && shared.ends_by_shut) break;
+        MUST(got, QOLB_GRANTED);
+        has_a_turn(me->self);
+        had++;
+        if (drawn >> 20 & 15) {
+            MUST(qolb_lock_leave(&shared.lock), QOLB_DONE);
+            continue;
+        }
+        qolb_cond_signal(&shared.cond);
+        got = qolb_cond_wait_within(&shared.cond, &shared.lock, 200000);
+        if (got == QOLB_CLOSED && shared.ends_by_shut) break;
+        if (got != QOLB_LATE) MUST(got, QOLB_GRANTED);
+        has_a_turn(me->self);
+        had++;
+        MUST(shared.ends_by_shut && me->self == 0 && round > shared.rounds / 2 ? qolb_lock_shut(&shared.lock) : qolb_lock_leave(&shared.lock), QOLB_DONE);
+    }
+    me->nanoseconds = (uint64_t)had;
+    return NULL;
+}
+
+/* Threads come and go: each wave is joined, and another comes, before the next line of kinds, seats and ends. */
+static int much_use(uint32_t kind, unsigned threads, unsigned seats, int ends_by_shut) {
+    static struct helper helpers[MOST];
+    long had = 0;
+    memset(&shared, 0, sizeof shared);
+    memset(helpers, 0, sizeof helpers);
+    shared.lock = (qolb_lock){NULL, kind, seats};
+    shared.ends_by_shut = ends_by_shut;
+    shared.rounds = threads > 32 ? 30 : 3000 / (int)threads;
+    for (unsigned k = 0; k < threads; k++) {
+        helpers[k].self = (int)k;
+        start(&helpers[k], uses);
+    }
+    for (unsigned k = 0; k < threads; k++) {
+        pthread_join(helpers[k].id, NULL);
+        had += (long)helpers[k].nanoseconds;
+    }
+    WANT(shared.turns == had && had > 0, 1);
+    for (size_t k = 1; k < sizeof shared.last; k++) WANT(shared.last[k] == shared.last[0], 1);
+    WANT(shared.cond.own == NULL, 1);
+    WANT(qolb_lock_close(&shared.lock), QOLB_DONE);
+    return 0;
+}
+
+/* The last that uses a lock may free it as soon as it has left, though the one before is still in its last call. */
+struct owned {
+    qolb_lock lock;
+    int users;
+};
+
+static void *lets_go(void *argument) {
+    struct owned *it = argument;
+    MUST(qolb_lock_enter(&it->lock), QOLB_GRANTED);
+    int last = --it->users == 0;
+    MUST(qolb_lock_leave(&it->lock), QOLB_DONE);
+    if (last) {
+        MUST(qolb_lock_close(&it->lock), QOLB_DONE);
+        free(it);
+    }
+    return NULL;
+}
+
+static int freed_by_the_last(uint32_t kind) {
+    for (int round = 0; round < 200; round++) {
+        struct owned *it = malloc(sizeof *it);
+        pthread_t ids[2];
+        if (!it) return 1;
+        *it = (struct owned){{NULL, kind, 2}, 2};
+        for (int k = 0; k < 2; k++) MUST(pthread_create(&ids[k], NULL, lets_go, it), 0);
+        for (int k = 0; k < 2; k++) pthread_join(ids[k], NULL);
+    }
+    return 0;
+}
+
+static int of_kind(uint32_t kind) {
+    if (of_the_holder(kind) || in_order(kind) || without_a_seat(kind) || shut_tells_all(kind) || told_in_order(kind) || freed_by_the_last(kind)) return 1;
+    static const unsigned uses_of[][2] = {{2, 1}, {2, 2}, {8, 3}, {8, 20}, {32, 5}, {32, 32}, {200, 200}, {200, 16}};
+    for (size_t k = 0; k < sizeof uses_of / sizeof uses_of[0]; k++)
+        for (int shut = 0; shut < 2; shut++)
+            if (much_use(kind, uses_of[k][0], uses_of[k][1], shut)) return 1;
+    return 0;
+}
+
+int main(int argc, char **argv) {
+    alarm(argc > 1 ? (unsigned)atoi(argv[1]) : 300);
+    if (of_a_closed_one() || cancelled() || makers_and_takers()) return 1;
+    for (uint32_t kind = QOLB_RING; kind <= QOLB_TICKET; kind++)
+        if (of_kind(kind)) return 1;
+    return 0;
+}

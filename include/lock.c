@@ -1,0 +1,556 @@
+/* The lock for threads that come and go, and its conditions (qolb.h, LOCKS). Tested, not proved; each step on the line is a proved call.
+ *
+ * A lock has a hall: a line, and for each of its nodes a seat. A thread that enters takes a free seat, asks with its node, and waits for its turn; it
+ * gives the seat back when it leaves. All who wait for a turn or for a seat of a lock sleep at one bell, which is rung whenever a seat is given
+ * back. The bells lie in the library and not in the hall, so that who rings touches nothing that the next holder may have freed. */
+#define _GNU_SOURCE
+#include "proved.h"
+#include <sched.h>
+#include <stdatomic.h>
+#include <stdlib.h>
+#include <time.h>
+#include <unistd.h>
+#ifdef __linux__
+#include <sys/syscall.h>
+#endif
+
+/* How often a waiter looks, with a pause between two looks, and how often it then gives the processor away, before it sleeps. */
+enum { LOOKS = 64, YIELDS = 8 };
+enum { BELLS = 256, GUARDS = 64, MOST_SEATS = 200, LINE = 64 };
+
+#define FOR_EVER UINT64_MAX
+
+/* In a program that can be opened at run time by the GNU C library there is room for so few bytes; others may have none. */
+#ifdef __GLIBC__
+#define BY_THREAD static _Thread_local __attribute__((tls_model("initial-exec")))
+#else
+#define BY_THREAD static _Thread_local
+#endif
+
+/* ---- Time, and sleeping at a word ---- */
+
+struct limit {
+    uint64_t since, nanoseconds;
+};
+
+static uint64_t now(void) {
+    struct timespec time;
+    clock_gettime(CLOCK_MONOTONIC, &time);
+    return (uint64_t)time.tv_sec * 1000000000 + (uint64_t)time.tv_nsec;
+}
+
+static struct limit from_now(uint64_t nanoseconds) {
+    return (struct limit){nanoseconds == FOR_EVER ? 0 : now(), nanoseconds};
+}
+
+static uint64_t left(const struct limit *limit) {
+    if (limit->nanoseconds == FOR_EVER) return FOR_EVER;
+    uint64_t spent = now() - limit->since;
+    return spent < limit->nanoseconds ? limit->nanoseconds - spent : 0;
+}
+
+/* Sleeps while the word has this value, at most so long; it may end for no reason. No cancellation point. */
+static void sleep_at(atomic_uint *word, unsigned value, uint64_t nanoseconds) {
+#ifdef __linux__
+    struct timespec most = {(time_t)(nanoseconds / 1000000000), (long)(nanoseconds % 1000000000)};
+    syscall(SYS_futex, word, 128 /* FUTEX_WAIT_PRIVATE */, value, nanoseconds == FOR_EVER ? NULL : &most, NULL, 0);
+#else
+    if (atomic_load(word) == value) qolb_sleep_(nanoseconds < QOLB_LONGEST_SLEEP_ ? nanoseconds : QOLB_LONGEST_SLEEP_);
+#endif
+}
+
+/* Wakes at most so many that sleep at the word, which need not be there any more. */
+static void wake_at(atomic_uint *word, int most) {
+#ifdef __linux__
+    syscall(SYS_futex, word, 129 /* FUTEX_WAKE_PRIVATE */, most, NULL, NULL, 0);
+#else
+    (void)word, (void)most;
+#endif
+}
+
+/* ---- Bells ----
+ *
+ * Who is about to sleep adds itself to the bell's sleepers, reads the bell's word, looks once more at what it waits for, and sleeps while the word is
+ * that. Who has something to tell does it first, and then looks at the sleepers. Each step is sequentially consistent, but for one (leave_hall), so
+ * one of the two sees the other. tools/bells.py goes through all orders of these steps, and through those of ten protocols that differ by one. */
+
+struct bell {
+    _Alignas(LINE) atomic_uint sleepers, word;
+};
+
+static struct bell bells[BELLS];
+static atomic_uint opened_halls;
+
+static void toll(struct bell *bell) {
+    atomic_fetch_add(&bell->word, 1);
+    wake_at(&bell->word, INT32_MAX);
+}
+
+static inline void ring(struct bell *bell) {
+    if (atomic_load(&bell->sleepers)) toll(bell);
+}
+
+/* ---- Halls and seats ---- */
+
+enum seat_state {
+    FREE,
+    TAKEN,  /* its node asks, waits, or holds the line */
+    LEAVING /* for a moment: its node releases the line */
+};
+
+struct seat {
+    _Alignas(QOLB_NODE_ALIGN) qolb_node node;
+    atomic_uint state;
+};
+
+struct hall {
+    _Alignas(QOLB_NODE_ALIGN) void *block; /* what malloc gave */
+    struct bell *bell;
+    unsigned seats;
+    qolb_node lent;
+    /* What the holder writes. */
+    _Alignas(QOLB_NODE_ALIGN) _Atomic uint64_t holder;
+    struct seat *held_by;
+    struct waiter *waits;
+    /* Threads that use the hall and have no seat. */
+    _Alignas(QOLB_NODE_ALIGN) atomic_uint guests;
+    struct seat seat[];
+};
+
+/* The thread's number, and the seat that it had last. */
+BY_THREAD uint64_t self;
+BY_THREAD unsigned last_seat;
+
+static uint64_t draw_number(void) {
+#ifdef __linux__
+    self = (uint64_t)syscall(SYS_gettid);
+#else
+    static _Atomic uint64_t threads;
+    self = ++threads;
+#endif
+    last_seat = (unsigned)self;
+    return self;
+}
+
+static inline uint64_t own_number(void) { return self ? self : draw_number(); }
+
+static struct hall *hall_of(const qolb_lock *lock) { return __atomic_load_n(&lock->own, __ATOMIC_ACQUIRE); }
+
+static int holds(struct hall *hall) { return hall && atomic_load_explicit(&hall->holder, memory_order_relaxed) == own_number(); }
+
+static void free_hall(struct hall *hall) {
+    for (unsigned k = 0; k < hall->seats; k++) qolb_close_proved_(&hall->seat[k].node);
+    free(hall->block);
+}
+
+static struct hall *made_of(qolb_node *nodes, unsigned seats) {
+    void *block = malloc(sizeof(struct hall) + seats * sizeof(struct seat) + QOLB_NODE_ALIGN);
+    if (!block) return NULL;
+    struct hall *hall = (struct hall *)(((uintptr_t)block + QOLB_NODE_ALIGN - 1) / QOLB_NODE_ALIGN * QOLB_NODE_ALIGN);
+    hall->block = block;
+    hall->bell = &bells[atomic_fetch_add(&opened_halls, 1) % BELLS];
+    hall->seats = seats;
+    hall->lent.own = (void *)((uintptr_t)hall | 1);
+    atomic_init(&hall->holder, 0);
+    hall->held_by = NULL;
+    hall->waits = NULL;
+    atomic_init(&hall->guests, 0);
+    for (unsigned k = 0; k < seats; k++) {
+        hall->seat[k].node = qolb_move(&nodes[k]);
+        atomic_init(&hall->seat[k].state, FREE);
+    }
+    return hall;
+}
+
+uint32_t qolb_lock_open(qolb_lock *lock, uint32_t kind, uint64_t label, uint64_t seats, const qolb_bytes *opening) {
+    qolb_node nodes[MOST_SEATS] = {{0}};
+    uint32_t got = qolb_open(kind, label, seats, QOLB_NO_LEASE, opening, nodes, MOST_SEATS);
+    if (got != QOLB_DONE) return got;
+    struct hall *hall = made_of(nodes, (unsigned)seats);
+    if (!hall) {
+        for (unsigned k = 0; k < seats; k++) qolb_close_proved_(&nodes[k]);
+        return QOLB_NO_MEMORY;
+    }
+    void *none = NULL;
+    if (!__atomic_compare_exchange_n(&lock->own, &none, hall, 0, __ATOMIC_SEQ_CST, __ATOMIC_SEQ_CST)) {
+        free_hall(hall);
+        return QOLB_OCCUPIED;
+    }
+    __atomic_store_n(&lock->kind, kind, __ATOMIC_RELAXED);
+    __atomic_store_n(&lock->seats, (uint32_t)seats, __ATOMIC_RELAXED);
+    return QOLB_DONE;
+}
+
+/* The lock's hall, which is opened where there is none. */
+static uint32_t hall_opened(qolb_lock *lock, struct hall **hall) {
+    static const qolb_bytes zeros;
+    while (!(*hall = hall_of(lock))) {
+        uint32_t kind = __atomic_load_n(&lock->kind, __ATOMIC_RELAXED), seats = __atomic_load_n(&lock->seats, __ATOMIC_RELAXED);
+        uint32_t got = qolb_lock_open(lock, kind, 0, seats, &zeros);
+        if (got != QOLB_DONE && got != QOLB_OCCUPIED) return got;
+    }
+    return QOLB_DONE;
+}
+
+/* The last step on the hall of who has no more to do there. */
+static inline void give_back(struct hall *hall, struct seat *seat) {
+    struct bell *bell = hall->bell;
+    atomic_exchange(&seat->state, FREE);
+    ring(bell);
+}
+
+/* ---- Entering ---- */
+
+struct asking {
+    struct hall *hall;
+    struct seat *seat; /* NULL while it has none */
+    int met;           /* while it looked for a seat it met one that is about to be free */
+};
+
+/* What runs in each call of a lock that nobody else uses is inline.
+ *
+ * Asks with this seat's node: GRANTED, QUEUED or CLOSED, with the seat taken; else BUSY. A seat that is found busy is given back without a ring: while
+ * any is busy there is a thread before it in the queue, which will ring. */
+static inline uint32_t ask_at(struct asking *me, struct seat *seat) {
+    unsigned state = atomic_load_explicit(&seat->state, memory_order_relaxed);
+    if (state != FREE || !atomic_compare_exchange_strong(&seat->state, &state, TAKEN)) {
+        me->met |= state == LEAVING;
+        return QOLB_BUSY;
+    }
+    uint32_t got = qolb_enqolb_proved_(&seat->node);
+    if (got == QOLB_BUSY) {
+        atomic_store(&seat->state, FREE);
+    } else {
+        me->seat = seat;
+    }
+    return got;
+}
+
+/* Asks with the seat that the thread had last, or the next that is free and not busy: GRANTED, CLOSED or WAITING, for a turn or for a seat. */
+static uint32_t take_seat(struct asking *me) {
+    struct hall *hall = me->hall;
+    own_number();
+    me->met = 0;
+    unsigned at = last_seat < hall->seats ? last_seat : last_seat % hall->seats;
+    for (unsigned k = 0; k < hall->seats; k++, at = at + 1 == hall->seats ? 0 : at + 1) {
+        uint32_t got = ask_at(me, &hall->seat[at]);
+        if (got == QOLB_BUSY) continue;
+        last_seat = at;
+        return got == QOLB_QUEUED ? (uint32_t)QOLB_WAITING : got;
+    }
+    return QOLB_WAITING;
+}
+
+static uint32_t look(struct asking *me) { return me->seat ? qolb_poll_proved_(&me->seat->node) : take_seat(me); }
+
+static uint32_t look_a_while(struct asking *me) {
+    uint32_t got = me->seat ? qolb_wait_proved_(&me->seat->node, LOOKS) : take_seat(me);
+    for (int k = 0; got == QOLB_WAITING && k < YIELDS; k++) {
+        sched_yield();
+        got = look(me);
+    }
+    return got;
+}
+
+static uint32_t sleep_at_bell(struct asking *me, const struct limit *limit) {
+    struct bell *bell = me->hall->bell;
+    atomic_fetch_add(&bell->sleepers, 1);
+    unsigned word = atomic_load(&bell->word);
+    uint32_t got = look(me);
+    uint64_t time = got == QOLB_WAITING && (me->seat || !me->met) ? left(limit) : 0;
+    if (time) sleep_at(&bell->word, word, time);
+    atomic_fetch_sub(&bell->sleepers, 1);
+    return got;
+}
+
+static uint32_t give_up(struct asking *me) {
+    if (!me->seat) return QOLB_LATE;
+    uint32_t got = qolb_withdraw_proved_(&me->seat->node);
+    return got == QOLB_WITHDRAWN ? (uint32_t)QOLB_LATE : got;
+}
+
+/* Waits for a seat, if it has none, and for its turn: GRANTED, CLOSED, LATE. */
+static uint32_t await(struct asking *me, uint64_t nanoseconds) {
+    struct limit limit = from_now(nanoseconds);
+    struct hall *hall = me->hall;
+    int guest = !me->seat;
+    uint32_t got = QOLB_WAITING;
+    if (guest) atomic_fetch_add(&hall->guests, 1);
+    while (got == QOLB_WAITING) {
+        if (left(&limit) == 0) {
+            got = give_up(me);
+        } else {
+            got = look_a_while(me);
+            if (got == QOLB_WAITING) got = sleep_at_bell(me, &limit);
+        }
+    }
+    if (guest) atomic_fetch_sub(&hall->guests, 1);
+    return got;
+}
+
+/* What asking gave: the holder is known from here on, and any other gives back the seat that it has. */
+static inline uint32_t settle(struct asking *me, uint32_t got) {
+    struct hall *hall = me->hall;
+    if (got == QOLB_GRANTED) {
+        hall->held_by = me->seat;
+        atomic_store_explicit(&hall->holder, own_number(), memory_order_release);
+    } else if (me->seat) {
+        give_back(hall, me->seat);
+    }
+    return got;
+}
+
+/* The first seat is that which the thread had last, and mostly that does. */
+static inline uint32_t enter_hall(struct hall *hall, uint64_t nanoseconds) {
+    struct asking me = {hall, NULL, 0};
+    own_number();
+    uint32_t got = last_seat < hall->seats ? ask_at(&me, &hall->seat[last_seat]) : (uint32_t)QOLB_BUSY;
+    if (got == QOLB_BUSY) got = take_seat(&me);
+    return settle(&me, got == QOLB_WAITING || got == QOLB_QUEUED ? await(&me, nanoseconds) : got);
+}
+
+static uint32_t first_use(qolb_lock *lock, uint64_t nanoseconds) {
+    struct hall *hall;
+    uint32_t got = hall_opened(lock, &hall);
+    return got == QOLB_DONE ? enter_hall(hall, nanoseconds) : got;
+}
+
+uint32_t qolb_lock_enter_within(qolb_lock *lock, uint64_t nanoseconds) {
+    struct hall *hall = hall_of(lock);
+    return hall ? enter_hall(hall, nanoseconds) : first_use(lock, nanoseconds);
+}
+
+uint32_t qolb_lock_enter(qolb_lock *lock) {
+    struct hall *hall = hall_of(lock);
+    return hall ? enter_hall(hall, FOR_EVER) : first_use(lock, FOR_EVER);
+}
+
+/* With the last seat alone, so that those who try again and again keep no more seats busy than that one. If it is taken or busy, others have the lock. */
+uint32_t qolb_lock_try(qolb_lock *lock) {
+    struct hall *hall;
+    uint32_t got = hall_opened(lock, &hall);
+    if (got != QOLB_DONE) return got;
+    if (atomic_load(&hall->holder)) return QOLB_BUSY;
+    struct asking me = {hall, NULL, 0};
+    got = ask_at(&me, &hall->seat[hall->seats - 1]);
+    got = settle(&me, got == QOLB_QUEUED ? give_up(&me) : got);
+    return got == QOLB_LATE ? (uint32_t)QOLB_BUSY : got;
+}
+
+/* ---- Leaving ---- */
+
+/* The holder releases the line, or shuts it. Once the seat is free the hall may be freed by another.
+ *
+ * A release steps on the line's words by instructions that let no load pass a store before them. So who looks for a seat sees that this one is about to
+ * be free, and does not sleep; or it has been counted, and the bell is rung. The seat's last store needs no such instruction. */
+static inline void leave_hall(struct hall *hall, uint32_t (*release)(qolb_node *)) {
+    struct seat *seat = hall->held_by;
+    struct bell *bell = hall->bell;
+    atomic_store_explicit(&hall->holder, 0, memory_order_release);
+    atomic_store_explicit(&seat->state, LEAVING, memory_order_release);
+    release(&seat->node);
+    atomic_store_explicit(&seat->state, FREE, memory_order_release);
+    ring(bell);
+}
+
+uint32_t qolb_lock_leave(qolb_lock *lock) {
+    struct hall *hall = hall_of(lock);
+    if (!holds(hall)) return QOLB_MISUSE;
+    leave_hall(hall, qolb_deqolb_proved_);
+    return QOLB_DONE;
+}
+
+/* Takes all seats: false where one is taken. A seat whose thread is about to go is waited for. */
+static int take_all(struct hall *hall) {
+    for (unsigned k = 0; k < hall->seats; k++) {
+        unsigned state = FREE;
+        while (!atomic_compare_exchange_strong(&hall->seat[k].state, &state, TAKEN)) {
+            if (state != LEAVING) {
+                while (k-- > 0) atomic_store(&hall->seat[k].state, FREE);
+                return 0;
+            }
+            sched_yield();
+            state = FREE;
+        }
+    }
+    return 1;
+}
+
+uint32_t qolb_lock_close(qolb_lock *lock) {
+    struct hall *hall = hall_of(lock);
+    if (!hall) return QOLB_DONE;
+    int alone = take_all(hall);
+    if (alone && atomic_load(&hall->guests)) {
+        for (unsigned k = 0; k < hall->seats; k++) atomic_store(&hall->seat[k].state, FREE);
+        alone = 0;
+    }
+    if (!alone) {
+        ring(hall->bell);
+        return QOLB_MISUSE;
+    }
+    __atomic_store_n(&lock->own, NULL, __ATOMIC_SEQ_CST);
+    free_hall(hall);
+    return QOLB_DONE;
+}
+
+qolb_node *qolb_lock_turn(qolb_lock *lock) {
+    struct hall *hall = hall_of(lock);
+    return holds(hall) ? &hall->lent : NULL;
+}
+
+uint64_t qolb_lock_holder(const qolb_lock *lock) {
+    struct hall *hall = hall_of(lock);
+    return hall ? atomic_load(&hall->holder) : 0;
+}
+
+qolb_node *qolb_lent_(const qolb_node *node) {
+    struct hall *hall = (struct hall *)((uintptr_t)node->own & ~(uintptr_t)1);
+    return holds(hall) ? &hall->held_by->node : NULL;
+}
+
+/* ---- Conditions ----
+ *
+ * Who waits stands in two lists, by an entry on its stack: that of the condition, under a guard, from whose front a signal takes one; and that of
+ * the lock, under the lock itself, by which a shut tells all. It sleeps at a word of its entry, which is told once. */
+
+enum { NOTHING, SIGNALLED, SHUT };
+
+struct waiter {
+    struct waiter *next;    /* behind it at the condition; of the last, the first */
+    struct waiter *beside;  /* the next of the lock's, in any order */
+    struct waiter **before; /* what points at it there */
+    int stands;             /* whether it is in the condition's list */
+    atomic_uint told;
+};
+
+/* A mutex of three values: free, taken, taken with sleepers. */
+struct guard {
+    _Alignas(LINE) atomic_uint word;
+};
+
+static struct guard guards[GUARDS];
+
+static struct guard *guard_of(const qolb_cond *cond) {
+    struct guard *guard = &guards[(uintptr_t)cond / sizeof *cond * 0x9e3779b97f4a7c15 >> 32 & (GUARDS - 1)];
+    unsigned was = 0;
+    if (!atomic_compare_exchange_strong(&guard->word, &was, 1))
+        while (atomic_exchange(&guard->word, 2)) sleep_at(&guard->word, 2, FOR_EVER);
+    return guard;
+}
+
+static void unguard(struct guard *guard) {
+    if (atomic_exchange(&guard->word, 0) == 2) wake_at(&guard->word, 1);
+}
+
+/* The condition's last waiter; written under its guard. */
+static struct waiter *last_of(const qolb_cond *cond) { return __atomic_load_n(&cond->own, __ATOMIC_SEQ_CST); }
+
+static void set_last(qolb_cond *cond, struct waiter *last) { __atomic_store_n(&cond->own, last, __ATOMIC_SEQ_CST); }
+
+static void stand(qolb_cond *cond, struct hall *hall, struct waiter *me) {
+    me->beside = hall->waits;
+    me->before = &hall->waits;
+    if (me->beside) me->beside->before = &me->beside;
+    hall->waits = me;
+    struct guard *guard = guard_of(cond);
+    struct waiter *last = last_of(cond);
+    me->next = last ? last->next : me;
+    if (last) last->next = me;
+    set_last(cond, me);
+    me->stands = 1;
+    unguard(guard);
+}
+
+/* Takes the one behind this one out of the condition's list. Under its guard. */
+static struct waiter *taken_behind(qolb_cond *cond, struct waiter *it) {
+    struct waiter *out = it->next;
+    it->next = out->next;
+    out->stands = 0;
+    if (out == it) set_last(cond, NULL);
+    else if (out == last_of(cond)) set_last(cond, it);
+    return out;
+}
+
+/* Goes from the condition's list; false where it had been taken out. */
+static int stand_no_more(qolb_cond *cond, struct waiter *me) {
+    struct guard *guard = guard_of(cond);
+    int stood = me->stands;
+    if (stood) {
+        struct waiter *it = me;
+        while (it->next != me) it = it->next;
+        taken_behind(cond, it);
+    }
+    unguard(guard);
+    return stood;
+}
+
+static int tell(struct waiter *waiter, unsigned what) {
+    unsigned nothing = NOTHING;
+    atomic_uint *word = &waiter->told;
+    if (!atomic_compare_exchange_strong(word, &nothing, what)) return 0;
+    wake_at(word, 1); /* the waiter may be gone */
+    return 1;
+}
+
+static unsigned await_word(struct waiter *me, uint64_t nanoseconds) {
+    struct limit limit = from_now(nanoseconds);
+    for (;;) {
+        unsigned told = atomic_load(&me->told);
+        uint64_t time = told ? 0 : left(&limit);
+        if (time == 0) return told;
+        sleep_at(&me->told, NOTHING, time);
+    }
+}
+
+/* The holder again. The lock's list is empty where the lock was shut meanwhile. */
+static void stand_no_more_in(struct waiter *me) {
+    *me->before = me->beside;
+    if (me->beside) me->beside->before = me->before;
+}
+
+uint32_t qolb_cond_wait_within(qolb_cond *cond, qolb_lock *lock, uint64_t nanoseconds) {
+    struct hall *hall = hall_of(lock);
+    if (!holds(hall)) return QOLB_MISUSE;
+    struct waiter me = {0};
+    stand(cond, hall, &me);
+    atomic_fetch_add(&hall->guests, 1);
+    leave_hall(hall, qolb_deqolb_proved_);
+    unsigned told = await_word(&me, nanoseconds);
+    int stood = told != SIGNALLED && stand_no_more(cond, &me);
+    uint32_t got = told == SHUT ? (uint32_t)QOLB_CLOSED : enter_hall(hall, FOR_EVER);
+    if (got == QOLB_GRANTED) {
+        stand_no_more_in(&me);
+        if (stood) got = QOLB_LATE;
+    }
+    atomic_fetch_sub(&hall->guests, 1);
+    return got;
+}
+
+uint32_t qolb_cond_wait(qolb_cond *cond, qolb_lock *lock) { return qolb_cond_wait_within(cond, lock, FOR_EVER); }
+
+static uint32_t signal_some(qolb_cond *cond, int all) {
+    if (!last_of(cond)) return QOLB_DONE;
+    struct guard *guard = guard_of(cond);
+    struct waiter *last;
+    int told = 0;
+    while ((all || !told) && (last = last_of(cond))) told |= tell(taken_behind(cond, last), SIGNALLED);
+    unguard(guard);
+    return QOLB_DONE;
+}
+
+uint32_t qolb_cond_signal(qolb_cond *cond) { return signal_some(cond, 0); }
+
+uint32_t qolb_cond_broadcast(qolb_cond *cond) { return signal_some(cond, 1); }
+
+/* Tells those that wait at a condition too. A waiter that is told may be gone at once: what is behind it is read before. */
+uint32_t qolb_lock_shut(qolb_lock *lock) {
+    struct hall *hall = hall_of(lock);
+    if (!holds(hall)) return QOLB_MISUSE;
+    for (struct waiter *it = hall->waits, *beside; it; it = beside) {
+        beside = it->beside;
+        tell(it, SHUT);
+    }
+    hall->waits = NULL;
+    leave_hall(hall, qolb_shut_proved_);
+    return QOLB_DONE;
+}

@@ -1,0 +1,32 @@
+/* Of the library's own files alone: the proved calls by the names that the archive has them under beside lock.c and calls.c (Makefile, proved.syms). */
+#ifndef QOLB_PROVED_H
+#define QOLB_PROVED_H
+
+#include "qolb.h"
+
+uint32_t qolb_enqolb_proved_(qolb_node *node);
+uint32_t qolb_poll_proved_(qolb_node *node);
+uint32_t qolb_wait_proved_(qolb_node *node, uint64_t polls);
+uint32_t qolb_withdraw_proved_(qolb_node *node);
+uint32_t qolb_prepend_proved_(qolb_node *node);
+uint32_t qolb_link_proved_(qolb_node *node);
+uint32_t qolb_read_proved_(qolb_node *node, qolb_bytes *out);
+uint32_t qolb_write_proved_(qolb_node *node, uint64_t mask, const qolb_bytes *bytes);
+uint32_t qolb_read_lane_proved_(qolb_node *node, uint64_t lane, uint64_t *out);
+uint32_t qolb_write_lane_proved_(qolb_node *node, uint64_t lane, uint64_t value);
+uint64_t qolb_turns_left_proved_(qolb_node *node);
+uint32_t qolb_deqolb_proved_(qolb_node *node);
+uint32_t qolb_shut_proved_(qolb_node *node);
+uint32_t qolb_close_proved_(qolb_node *node);
+uint64_t qolb_number_proved_(qolb_node *node);
+uint64_t qolb_label_proved_(qolb_node *node);
+uint32_t qolb_state_proved_(qolb_node *node);
+uint32_t qolb_version_proved_(void);
+
+/* A lent node is a handle whose lowest bit is set: with it off, it is the address of a lock's hall. No node of the library's lies at an odd address.
+ * The node by which the calling thread holds that lock; NULL where it does not. */
+__attribute__((visibility("hidden"))) qolb_node *qolb_lent_(const qolb_node *node);
+
+static inline int qolb_is_lent_(const qolb_node *node) { return (int)((uintptr_t)node->own & 1); }
+
+#endif
