@@ -7,6 +7,13 @@
 //     }                                                  // releases, also where an exception leaves the scope
 //     std::unique_lock<qolb::Node> lock(nodes[1], std::chrono::milliseconds(1));
 //     if (lock) ...                                      // a timed lock, as of any std::timed_mutex
+//
+// For threads that come and go, with no node for each:
+//
+//     qolb::lock lock;                                   // as a std::timed_mutex, first come, first served
+//     std::lock_guard<qolb::lock> turn(lock);
+//     qolb::guarded<Count> count;                        // a value that lies in the line
+//     count.with([](Count &it) { it.hits++; });
 #ifndef QOLB_HPP
 #define QOLB_HPP
 
@@ -16,8 +23,11 @@
 #include <chrono>
 #include <cstdint>
 #include <cstdlib>
+#include <cstring>
 #include <mutex>
+#include <new>
 #include <stdexcept>
+#include <type_traits>
 #include <utility>
 #include <vector>
 
@@ -59,6 +69,19 @@ class Misuse : public std::logic_error {
   public:
     Misuse() : std::logic_error("qolb: the node does not allow the call") {}
 };
+
+namespace detail {
+
+// Never below the time, and as long as a number can say. By a number with a fraction, which no period overflows and which has all 64 bits.
+template <class Rep, class Period> std::uint64_t nanoseconds(const std::chrono::duration<Rep, Period> &time) {
+    long double exact = std::chrono::duration<long double, std::nano>(time).count();
+    if (!(exact > 0)) return 0;
+    if (exact >= static_cast<long double>(UINT64_MAX)) return UINT64_MAX;
+    auto count = static_cast<std::uint64_t>(exact);
+    return static_cast<long double>(count) < exact ? count + 1 : count;
+}
+
+} // namespace detail
 
 // A node of a line, or none. A node that is destroyed withdraws its request, or releases the line that it holds.
 //
@@ -106,7 +129,7 @@ class Node {
 
     // Asks, and waits at most so long: granted, late, closed, misuse.
     template <class Rep, class Period> QOLB_NODISCARD Got acquire_for(const std::chrono::duration<Rep, Period> &time) {
-        return got(qolb_acquire_within(&node_, nanoseconds(time)));
+        return got(qolb_acquire_within(&node_, detail::nanoseconds(time)));
     }
 
     // The same as locks: they throw Closed where the line is closed, so that a loop around them ends, and Misuse.
@@ -160,15 +183,6 @@ class Node {
         if (got == Got::closed) QOLB_THROW(Closed());
         if (got == Got::misuse) QOLB_THROW(Misuse());
         return got == Got::granted;
-    }
-
-    // Never below the time, and as long as a number can say. By a number with a fraction, which no period overflows and which has all 64 bits.
-    template <class Rep, class Period> static std::uint64_t nanoseconds(const std::chrono::duration<Rep, Period> &time) {
-        long double exact = std::chrono::duration<long double, std::nano>(time).count();
-        if (!(exact > 0)) return 0;
-        if (exact >= static_cast<long double>(UINT64_MAX)) return UINT64_MAX;
-        auto count = static_cast<std::uint64_t>(exact);
-        return static_cast<long double>(count) < exact ? count + 1 : count;
     }
 
     qolb_node node_{};
@@ -237,6 +251,173 @@ template <class Change> Got Node::with(Change change) {
     turn.write(UINT64_MAX, bytes);
     return got;
 }
+
+// A lock that any thread may enter, with no node for each (qolb.h, LOCKS). It opens at its first use, so a static one needs no constructor at run time.
+//
+// It is a timed lock as the standard library means it: std::lock_guard, std::unique_lock, std::scoped_lock and std::condition_variable_any take it. The
+// thread that entered leaves. It may be destroyed where no thread holds it or waits for it; else what it has stays.
+class Lock {
+  public:
+    // At most so many threads hold it or stand in its queue at one time, of 1 to 200; more wait for a seat.
+    explicit constexpr Lock(std::uint32_t seats = 64) noexcept : lock_{nullptr, QOLB_DEFAULT, seats} {}
+    Lock(const Lock &) = delete;
+    Lock &operator=(const Lock &) = delete;
+    ~Lock() { qolb_lock_close(&lock_); }
+
+    // As in qolb.h: granted; closed; late or busy; and at the first use no memory, or bad nodes where it has not 1 to 200 seats.
+    QOLB_NODISCARD qolb_answer enter() { return answer(qolb_lock_enter(&lock_)); }
+    QOLB_NODISCARD qolb_answer try_enter() { return answer(qolb_lock_try(&lock_)); }
+    template <class Rep, class Period> QOLB_NODISCARD qolb_answer enter_for(const std::chrono::duration<Rep, Period> &time) {
+        return answer(qolb_lock_enter_within(&lock_, detail::nanoseconds(time)));
+    }
+    qolb_answer leave() { return answer(qolb_lock_leave(&lock_)); }
+    qolb_answer shut() { return answer(qolb_lock_shut(&lock_)); }
+    std::uint64_t holder() const { return qolb_lock_holder(&lock_); }
+
+    // The same as locks: they throw Closed where the lock was shut, std::bad_alloc, and Misuse.
+    void lock() { entered(enter()); }
+    QOLB_NODISCARD bool try_lock() { return entered(try_enter()); }
+    template <class Rep, class Period> QOLB_NODISCARD bool try_lock_for(const std::chrono::duration<Rep, Period> &time) {
+        return entered(enter_for(time));
+    }
+    template <class Clock, class Duration> QOLB_NODISCARD bool try_lock_until(const std::chrono::time_point<Clock, Duration> &end) {
+        return try_lock_for(end - Clock::now());
+    }
+    void unlock() {
+        if (leave() != QOLB_DONE) QOLB_THROW(Misuse());
+    }
+
+    // For the calls of qolb.h.
+    qolb_lock *native_handle() { return &lock_; }
+
+  private:
+    static qolb_answer answer(std::uint32_t number) { return static_cast<qolb_answer>(number); }
+
+    static bool entered(qolb_answer got) {
+        if (got == QOLB_CLOSED) QOLB_THROW(Closed());
+        if (got == QOLB_NO_MEMORY) QOLB_THROW(std::bad_alloc());
+        if (got == QOLB_GRANTED) return true;
+        if (got != QOLB_BUSY && got != QOLB_LATE) QOLB_THROW(Misuse());
+        return false;
+    }
+
+    qolb_lock lock_;
+};
+
+using lock = Lock;
+
+// A condition of holders of a Lock. It wakes nobody for nothing, and the one that has waited longest first. Where the lock is shut meanwhile a wait throws
+// Closed, and its unique_lock owns nothing.
+class Condition {
+  public:
+    constexpr Condition() noexcept : cond_{nullptr} {}
+    Condition(const Condition &) = delete;
+    Condition &operator=(const Condition &) = delete;
+
+    void notify_one() noexcept { qolb_cond_signal(&cond_); }
+    void notify_all() noexcept { qolb_cond_broadcast(&cond_); }
+
+    void wait(std::unique_lock<Lock> &held) { told(held, qolb_cond_wait(&cond_, held.mutex()->native_handle())); }
+    template <class Predicate> void wait(std::unique_lock<Lock> &held, Predicate is_so) {
+        while (!is_so()) wait(held);
+    }
+
+    // Whether it was told in time.
+    template <class Rep, class Period> bool wait_for(std::unique_lock<Lock> &held, const std::chrono::duration<Rep, Period> &time) {
+        return told(held, qolb_cond_wait_within(&cond_, held.mutex()->native_handle(), detail::nanoseconds(time)));
+    }
+    // Whether it is so at the end.
+    template <class Rep, class Period, class Predicate>
+    bool wait_for(std::unique_lock<Lock> &held, const std::chrono::duration<Rep, Period> &time, Predicate is_so) {
+        auto end = std::chrono::steady_clock::now() + time;
+        while (!is_so())
+            if (!wait_for(held, end - std::chrono::steady_clock::now())) return is_so();
+        return true;
+    }
+
+  private:
+    static bool told(std::unique_lock<Lock> &held, std::uint32_t got) {
+        if (got == QOLB_MISUSE) QOLB_THROW(Misuse());
+        if (got == QOLB_CLOSED) {
+            held.release();
+            QOLB_THROW(Closed());
+        }
+        return got == QOLB_GRANTED;
+    }
+
+    qolb_cond cond_;
+};
+
+// A value of at most 64 bytes that lies in a lock's line and goes with it from thread to thread. It is opened where it is made.
+template <class T> class Guarded {
+    static_assert(std::is_trivially_copyable<T>::value, "its bytes are copied into the line and out");
+    static_assert(sizeof(T) <= sizeof(qolb_bytes), "a line has 64 bytes");
+
+  public:
+    // Throws std::bad_alloc, and Misuse where it has not 1 to 200 seats.
+    explicit Guarded(const T &value = T(), std::uint32_t seats = 64) : lock_(seats) {
+        qolb_bytes bytes{};
+        std::memcpy(bytes.byte, &value, sizeof value);
+        std::uint32_t got = qolb_lock_open(lock_.native_handle(), QOLB_DEFAULT, 0, seats, &bytes);
+        if (got == QOLB_NO_MEMORY) QOLB_THROW(std::bad_alloc());
+        if (got != QOLB_DONE) QOLB_THROW(Misuse());
+    }
+
+    // Enters, lets `change` change the value, writes it and leaves; gives back what `change` gives. Where `change` throws, nothing is written. Throws
+    // Closed where the line was shut.
+    template <class Change> auto with(Change change) -> decltype(change(std::declval<T &>())) {
+        std::lock_guard<Lock> held(lock_);
+        Copy copy(qolb_lock_turn(lock_.native_handle()));
+        return copy.changed(change, std::is_void<decltype(change(std::declval<T &>()))>());
+    }
+
+    QOLB_NODISCARD T load() {
+        return with([](T &value) { return value; });
+    }
+    void store(const T &value) {
+        with([&value](T &it) { std::memcpy(&it, &value, sizeof value); });
+    }
+
+    // Closes the line: who comes is told by Closed. False where it was closed.
+    bool shut() { return lock_.enter() == QOLB_GRANTED && lock_.shut() == QOLB_DONE; }
+
+  private:
+    // The value while a turn lasts. There may be no way to make a T of nothing, so it lies in bytes.
+    class Copy {
+      public:
+        explicit Copy(qolb_node *turn) : turn_(turn) {
+            qolb_bytes bytes{};
+            qolb_read(turn_, &bytes);
+            std::memcpy(place_, bytes.byte, sizeof(T));
+        }
+
+        template <class Change> void changed(Change &change, std::true_type) {
+            change(value());
+            write();
+        }
+        template <class Change> auto changed(Change &change, std::false_type) -> decltype(change(std::declval<T &>())) {
+            decltype(change(std::declval<T &>())) told = change(value());
+            write();
+            return told;
+        }
+
+      private:
+        T &value() { return *reinterpret_cast<T *>(place_); }
+
+        void write() {
+            qolb_bytes bytes{};
+            std::memcpy(bytes.byte, place_, sizeof(T));
+            qolb_write(turn_, UINT64_MAX, &bytes);
+        }
+
+        qolb_node *turn_;
+        alignas(T) unsigned char place_[sizeof(T)];
+    };
+
+    Lock lock_;
+};
+
+template <class T> using guarded = Guarded<T>;
 
 } // namespace qolb
 

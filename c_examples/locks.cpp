@@ -1,0 +1,195 @@
+// The lock, its condition and the guarded value of qolb.hpp: with the guards and the condition of the standard library, by threads that come and go,
+// with time limits, shut, and misused. Prints nothing but what went wrong.
+#include <qolb.hpp>
+
+#include <chrono>
+#include <condition_variable>
+#include <cstdint>
+#include <cstdio>
+#include <functional>
+#include <mutex>
+#include <thread>
+#include <unistd.h>
+#include <vector>
+
+namespace {
+
+using namespace std::chrono_literals;
+
+#define WANT(fact)                                         \
+    do {                                                   \
+        if (!(fact)) {                                     \
+            std::printf("line %d: %s\n", __LINE__, #fact); \
+            return false;                                  \
+        }                                                  \
+    } while (0)
+
+// Whether the work throws this.
+template <class Thrown, class Work> bool throws(Work work) {
+    try {
+        work();
+    } catch (const Thrown &) {
+        return true;
+    }
+    return false;
+}
+
+void together(int count, const std::function<void(int)> &work) {
+    std::vector<std::thread> threads;
+    for (int k = 0; k < count; k++) threads.emplace_back(work, k);
+    for (std::thread &thread : threads) thread.join();
+}
+
+constexpr int threads = 8, rounds = 500;
+
+qolb::lock of_few_seats(3);
+long turns;
+
+bool counts() {
+    qolb::lock other;
+    for (int wave = 0; wave < 3; wave++) {
+        together(threads, [&](int self) {
+            for (int k = 0; k < rounds; k++) {
+                if (self % 3 == 0) {
+                    std::lock_guard<qolb::lock> turn(of_few_seats);
+                    turns++;
+                } else if (self % 3 == 1) {
+                    std::scoped_lock turn(of_few_seats, other);
+                    turns++;
+                } else {
+                    std::unique_lock<qolb::lock> turn(of_few_seats, std::defer_lock);
+                    while (!turn.try_lock_for(100us) && !turn.try_lock()) {
+                    }
+                    turns++;
+                }
+            }
+        });
+    }
+    WANT(turns == 3 * threads * rounds);
+    return true;
+}
+
+bool answers() {
+    qolb::lock lock(2), none(0);
+    WANT(lock.holder() == 0);
+    WANT(throws<qolb::Misuse>([&] { lock.unlock(); }));
+    WANT(throws<qolb::Misuse>([&] { none.lock(); }));
+    WANT(none.enter() == QOLB_BAD_NODES);
+    lock.lock();
+    WANT(lock.holder() == static_cast<std::uint64_t>(gettid()));
+    WANT(!lock.try_lock());
+    auto since = std::chrono::steady_clock::now();
+    WANT(!lock.try_lock_for(20ms));
+    WANT(!lock.try_lock_until(std::chrono::steady_clock::now() + 20ms));
+    WANT(std::chrono::steady_clock::now() - since >= 40ms);
+    WANT(lock.enter_for(0ns) == QOLB_LATE);
+    lock.unlock();
+    WANT(lock.try_lock());
+    WANT(lock.shut() == QOLB_DONE);
+    WANT(throws<qolb::Closed>([&] { lock.lock(); }));
+    WANT(throws<qolb::Closed>([&] { (void)lock.try_lock(); }));
+    WANT(throws<qolb::Closed>([&] { (void)lock.try_lock_for(1ms); }));
+    return true;
+}
+
+// A box of one place, by this condition and by the standard library's.
+template <class Cond> bool hands_over() {
+    qolb::lock lock;
+    Cond changed;
+    int has = 0;
+    long sum = 0;
+    together(2, [&](int self) {
+        for (int k = 1; k <= rounds; k++) {
+            std::unique_lock<qolb::lock> held(lock);
+            if (self == 0) {
+                changed.wait(held, [&] { return has == 0; });
+                has = k;
+            } else {
+                while (!changed.wait_for(held, 1ms, [&] { return has != 0; })) {
+                }
+                sum += has;
+                has = 0;
+            }
+            changed.notify_one();
+        }
+    });
+    WANT(sum == rounds * (rounds + 1L) / 2);
+    return true;
+}
+
+bool condition_ends() {
+    qolb::lock lock;
+    qolb::Condition cond;
+    bool closed = false;
+    std::unique_lock<qolb::lock> held(lock);
+    auto since = std::chrono::steady_clock::now();
+    WANT(!cond.wait_for(held, 10ms));
+    WANT(!cond.wait_for(held, 10ms, [] { return false; }));
+    WANT(std::chrono::steady_clock::now() - since >= 20ms);
+    WANT(held.owns_lock());
+    std::thread waits([&] {
+        std::unique_lock<qolb::lock> mine(lock);
+        closed = throws<qolb::Closed>([&] {
+            for (;;) cond.wait(mine);
+        }) && !mine.owns_lock();
+    });
+    held.unlock();
+    std::this_thread::sleep_for(20ms);
+    held.lock();
+    WANT(lock.shut() == QOLB_DONE);
+    held.release();
+    waits.join();
+    WANT(closed);
+    return true;
+}
+
+struct Count {
+    long hits;
+    double sum;
+    char last;
+};
+
+struct Whole {
+    explicit Whole(int it) : bytes{} { bytes[63] = static_cast<char>(it); }
+    char bytes[64];
+};
+
+bool guards() {
+    qolb::guarded<Count> count(Count{5, 0.5, 'a'}, 4);
+    together(threads, [&](int self) {
+        for (int k = 0; k < rounds; k++) {
+            count.with([&](Count &it) {
+                it.hits++;
+                it.sum += 1;
+                it.last = static_cast<char>('b' + self);
+            });
+        }
+    });
+    Count seen = count.load();
+    WANT(seen.hits == 5 + threads * rounds);
+    WANT(seen.sum == 0.5 + threads * rounds);
+    WANT(seen.last >= 'b' && seen.last < 'b' + threads);
+    WANT(throws<int>([&] {
+        count.with([](Count &it) {
+            it.hits = 0;
+            throw 7;
+        });
+    }));
+    WANT(count.with([](Count &it) { return it.hits; }) == seen.hits);
+    count.store(Count{1, 2, 'c'});
+    WANT(count.load().sum == 2);
+    WANT(count.shut());
+    WANT(throws<qolb::Closed>([&] { (void)count.load(); }));
+    WANT(throws<qolb::Misuse>([] { qolb::guarded<int> none(0, 0); }));
+    qolb::guarded<Whole> whole(Whole(9));
+    WANT(whole.load().bytes[63] == 9);
+    return true;
+}
+
+} // namespace
+
+int main() {
+    alarm(300);
+    bool right = counts() && answers() && hands_over<qolb::Condition>() && hands_over<std::condition_variable_any>() && condition_ends() && guards();
+    return right ? 0 : 1;
+}
