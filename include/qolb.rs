@@ -12,18 +12,30 @@
 //! if let Some(turn) = nodes[1].try_lock_for(Duration::from_millis(1))? { .. }
 //! ```
 //!
+//! For threads that come and go, with no node for each: `Mutex` guards a value beside the line, `Lock` has one of at most 64 bytes in the line, and in
+//! a crate that takes this file as a module, and has the crate `lock_api` and a feature of that name, `lock_api::Mutex<RawQolb, T>` is a mutex as those
+//! of `parking_lot`.
+//!
+//! ```ignore
+//! static TABLE: Mutex<Table> = Mutex::new(Table::new());
+//! TABLE.lock()?.insert(key, value);                // first come, first served
+//! ```
+//!
 //! # A panic while a line is held
 //!
 //! The guard is dropped while the thread unwinds, and a node whose guard was leaked when the node is: so the line is released. What the holder
 //! had written until then stands, and the next holder is granted the line as ever: nothing is poisoned, and nobody is told. Where a half-made
 //! change must not be seen, read the line, change the copy and write it as the last thing. With `panic = "abort"` the process ends, and its lines
 //! with it.
-#![allow(dead_code)]
+#![allow(dead_code, unexpected_cfgs)]
 
 use std::cell::UnsafeCell;
 use std::ffi::c_void;
 use std::fmt;
-use std::ptr::null_mut;
+use std::marker::PhantomData;
+use std::mem::MaybeUninit;
+use std::ops::{Deref, DerefMut};
+use std::ptr::{NonNull, null_mut};
 use std::thread;
 use std::time::{Duration, Instant};
 
@@ -58,7 +70,7 @@ pub enum Answer {
     BadKind,
     TooFew,
     Occupied,
-    /// Of `Node::acquire_for` alone: the time is over, and the request is withdrawn.
+    /// The time is over, and the request is withdrawn.
     Late,
 }
 
@@ -139,8 +151,8 @@ unsafe extern "C" {
     fn qolb_withdraw(node: &mut Handle) -> u32;
     fn qolb_prepend(node: &mut Handle) -> u32;
     fn qolb_link(node: &mut Handle) -> u32;
-    fn qolb_read(node: &mut Handle, out: &mut Bytes) -> u32;
-    fn qolb_write(node: &mut Handle, mask: u64, bytes: &Bytes) -> u32;
+    fn qolb_read(node: &mut Handle, out: *mut Bytes) -> u32;
+    fn qolb_write(node: &mut Handle, mask: u64, bytes: *const Bytes) -> u32;
     fn qolb_read_lane(node: &mut Handle, lane: u64, out: &mut u64) -> u32;
     fn qolb_write_lane(node: &mut Handle, lane: u64, value: u64) -> u32;
     fn qolb_turns_left(node: &mut Handle) -> u64;
@@ -151,6 +163,19 @@ unsafe extern "C" {
     fn qolb_label(node: &mut Handle) -> u64;
     fn qolb_state(node: &mut Handle) -> u32;
     safe fn qolb_version() -> u32;
+    fn qolb_lock_open(lock: *mut RawLock, kind: u32, label: u64, seats: u64, opening: *const LineBytes) -> u32;
+    fn qolb_lock_enter(lock: *mut RawLock) -> u32;
+    fn qolb_lock_try(lock: *mut RawLock) -> u32;
+    fn qolb_lock_enter_within(lock: *mut RawLock, nanoseconds: u64) -> u32;
+    fn qolb_lock_leave(lock: *mut RawLock) -> u32;
+    fn qolb_lock_shut(lock: *mut RawLock) -> u32;
+    fn qolb_lock_close(lock: *mut RawLock) -> u32;
+    fn qolb_lock_turn(lock: *mut RawLock) -> Option<NonNull<Handle>>;
+    fn qolb_lock_holder(lock: *const RawLock) -> u64;
+    fn qolb_cond_wait(cond: *mut RawCond, lock: *mut RawLock) -> u32;
+    fn qolb_cond_wait_within(cond: *mut RawCond, lock: *mut RawLock, nanoseconds: u64) -> u32;
+    fn qolb_cond_signal(cond: *mut RawCond) -> u32;
+    fn qolb_cond_broadcast(cond: *mut RawCond) -> u32;
     fn pthread_setcancelstate(state: i32, old: &mut i32) -> i32;
 }
 
@@ -501,6 +526,7 @@ fn told(answer: u32) -> Answer {
         12 => Answer::BadKind,
         13 => Answer::TooFew,
         14 => Answer::Occupied,
+        15 => Answer::Late,
         _ => Answer::Misuse,
     }
 }
@@ -515,5 +541,413 @@ fn state_told(state: u32) -> State {
         6 => State::Rolled,
         7 => State::Shut,
         _ => State::Empty,
+    }
+}
+
+// ---- Locks for threads that come and go ----
+
+#[repr(C)]
+struct RawLock {
+    own: *mut c_void,
+    kind: u32,
+    seats: u32,
+}
+
+#[repr(C)]
+struct RawCond {
+    own: *mut c_void,
+}
+
+/// The bytes of a line that has a value of some type in it, of which not all bytes need be set.
+#[repr(C)]
+struct LineBytes([MaybeUninit<u8>; 64]);
+
+/// How many threads hold a lock or stand in its queue at one time, where nothing else is said; more wait for a seat.
+pub const SEATS: u32 = 64;
+
+fn nanoseconds(time: Duration) -> u64 {
+    u64::try_from(time.as_nanos()).unwrap_or(u64::MAX)
+}
+
+/// A lock that guards nothing by itself, as a `RawMutex` of `lock_api`: `Mutex` and `Lock` stand on it. It opens at its first use. The thread that
+/// entered leaves.
+///
+/// Dropped while a thread holds it or waits for it, which a leaked guard may bring about, it keeps what it has.
+pub struct RawQolb(UnsafeCell<RawLock>);
+
+// SAFETY: the library lets any threads call for one lock at the same time, and only it reads or changes what is in it.
+unsafe impl Sync for RawQolb {}
+unsafe impl Send for RawQolb {}
+
+impl RawQolb {
+    /// # Panics
+    ///
+    /// Where `seats` is not 1 to 200.
+    pub const fn new(seats: u32) -> RawQolb {
+        assert!(seats >= 1 && seats <= 200, "a lock has 1 to 200 seats");
+        RawQolb(UnsafeCell::new(RawLock { own: null_mut(), kind: Kind::Ticket as u32, seats }))
+    }
+
+    /// Enters, and waits as long as it takes: `Granted`, `Closed`; `NoMemory` at the first use.
+    #[must_use]
+    pub fn enter(&self) -> Answer {
+        told(unsafe { qolb_lock_enter(self.0.get()) })
+    }
+
+    /// Enters if nobody has it: `Granted`, `Busy`, `Closed`; `NoMemory` at the first use.
+    #[must_use]
+    pub fn try_enter(&self) -> Answer {
+        told(unsafe { qolb_lock_try(self.0.get()) })
+    }
+
+    /// Enters, and waits at most so long: `Granted`, `Late`, `Closed`; `NoMemory` at the first use.
+    #[must_use]
+    pub fn enter_for(&self, time: Duration) -> Answer {
+        told(unsafe { qolb_lock_enter_within(self.0.get(), nanoseconds(time)) })
+    }
+
+    /// `Done`; `Misuse` where the calling thread does not hold it.
+    pub fn leave(&self) -> Answer {
+        told(unsafe { qolb_lock_leave(self.0.get()) })
+    }
+
+    /// Leaves, and nobody enters any more. `Done`; `Misuse` where the calling thread does not hold it.
+    pub fn shut(&self) -> Answer {
+        told(unsafe { qolb_lock_shut(self.0.get()) })
+    }
+
+    /// A number of the holding thread (`gettid` on Linux); `None` where nobody holds it.
+    pub fn holder(&self) -> Option<u64> {
+        Some(unsafe { qolb_lock_holder(self.0.get()) }).filter(|number| *number != 0)
+    }
+}
+
+impl fmt::Debug for RawQolb {
+    fn fmt(&self, f: &mut fmt::Formatter<'_>) -> fmt::Result {
+        f.debug_struct("RawQolb").field("holder", &self.holder()).finish()
+    }
+}
+
+impl Drop for RawQolb {
+    fn drop(&mut self) {
+        unsafe { qolb_lock_close(self.0.get()) };
+    }
+}
+
+/// Whether it was entered. Without memory the program ends, as by any value that finds none.
+fn entered(answer: Answer) -> Result<bool, Stopped> {
+    match answer {
+        Answer::Granted => Ok(true),
+        Answer::Busy | Answer::Late => Ok(false),
+        Answer::NoMemory => std::alloc::handle_alloc_error(std::alloc::Layout::new::<[Handle; 200]>()),
+        answer => Err(stopped(answer)),
+    }
+}
+
+/// A mutex that is first come, first served. Nothing is poisoned: a panic while it is held leaves it, with what was written until then.
+pub struct Mutex<T: ?Sized> {
+    raw: RawQolb,
+    value: UnsafeCell<T>,
+}
+
+// SAFETY: one thread at a time has the value.
+unsafe impl<T: ?Sized + Send> Send for Mutex<T> {}
+unsafe impl<T: ?Sized + Send> Sync for Mutex<T> {}
+
+impl<T> Mutex<T> {
+    pub const fn new(value: T) -> Mutex<T> {
+        Mutex::with_seats(value, SEATS)
+    }
+
+    /// # Panics
+    ///
+    /// Where `seats` is not 1 to 200.
+    pub const fn with_seats(value: T, seats: u32) -> Mutex<T> {
+        Mutex { raw: RawQolb::new(seats), value: UnsafeCell::new(value) }
+    }
+
+    pub fn into_inner(self) -> T {
+        self.value.into_inner()
+    }
+}
+
+impl<T: ?Sized> Mutex<T> {
+    /// Waits as long as it takes.
+    pub fn lock(&self) -> Result<MutexGuard<'_, T>, Stopped> {
+        entered(self.raw.enter()).map(|_| self.guard())
+    }
+
+    /// A guard, if nobody has it.
+    pub fn try_lock(&self) -> Result<Option<MutexGuard<'_, T>>, Stopped> {
+        entered(self.raw.try_enter()).map(|had| had.then(|| self.guard()))
+    }
+
+    /// A guard, if it is had within this time.
+    pub fn try_lock_for(&self, time: Duration) -> Result<Option<MutexGuard<'_, T>>, Stopped> {
+        entered(self.raw.enter_for(time)).map(|had| had.then(|| self.guard()))
+    }
+
+    pub fn get_mut(&mut self) -> &mut T {
+        self.value.get_mut()
+    }
+
+    pub fn raw(&self) -> &RawQolb {
+        &self.raw
+    }
+
+    fn guard(&self) -> MutexGuard<'_, T> {
+        MutexGuard { mutex: self, stays: PhantomData }
+    }
+}
+
+/// A turn of a mutex, which ends where it is dropped. It stays with its thread, which alone may leave.
+#[must_use]
+pub struct MutexGuard<'a, T: ?Sized> {
+    mutex: &'a Mutex<T>,
+    stays: PhantomData<*mut ()>,
+}
+
+// SAFETY: a shared guard gives shared values alone.
+unsafe impl<T: ?Sized + Sync> Sync for MutexGuard<'_, T> {}
+
+impl<T: ?Sized> MutexGuard<'_, T> {
+    /// Leaves, and nobody enters any more.
+    pub fn shut(self) {
+        // The drop that follows finds nothing to leave.
+        self.mutex.raw.shut();
+    }
+}
+
+// SAFETY of both: the guard's thread holds the lock.
+impl<T: ?Sized> Deref for MutexGuard<'_, T> {
+    type Target = T;
+    fn deref(&self) -> &T {
+        unsafe { &*self.mutex.value.get() }
+    }
+}
+
+impl<T: ?Sized> DerefMut for MutexGuard<'_, T> {
+    fn deref_mut(&mut self) -> &mut T {
+        unsafe { &mut *self.mutex.value.get() }
+    }
+}
+
+impl<T: ?Sized> Drop for MutexGuard<'_, T> {
+    fn drop(&mut self) {
+        self.mutex.raw.leave();
+    }
+}
+
+/// A condition of a `Mutex`. It wakes nobody for nothing, and the one that has waited longest first.
+pub struct Condition(UnsafeCell<RawCond>);
+
+// SAFETY: as of `RawQolb`.
+unsafe impl Sync for Condition {}
+unsafe impl Send for Condition {}
+
+impl Default for Condition {
+    fn default() -> Condition {
+        Condition::new()
+    }
+}
+
+impl Condition {
+    pub const fn new() -> Condition {
+        Condition(UnsafeCell::new(RawCond { own: null_mut() }))
+    }
+
+    pub fn notify_one(&self) {
+        unsafe { qolb_cond_signal(self.0.get()) };
+    }
+
+    pub fn notify_all(&self) {
+        unsafe { qolb_cond_broadcast(self.0.get()) };
+    }
+
+    /// Waits until it is told. `Stopped::Closed` where the mutex was shut meanwhile.
+    pub fn wait<'a, T: ?Sized>(&self, guard: MutexGuard<'a, T>) -> Result<MutexGuard<'a, T>, Stopped> {
+        self.waited(guard, None).map(|(guard, _)| guard)
+    }
+
+    /// Waits until it is told, at most so long, and says whether it was told.
+    pub fn wait_for<'a, T: ?Sized>(&self, guard: MutexGuard<'a, T>, time: Duration) -> Result<(MutexGuard<'a, T>, bool), Stopped> {
+        self.waited(guard, Some(time))
+    }
+
+    fn waited<'a, T: ?Sized>(&self, guard: MutexGuard<'a, T>, time: Option<Duration>) -> Result<(MutexGuard<'a, T>, bool), Stopped> {
+        let mutex = guard.mutex;
+        std::mem::forget(guard);
+        let (cond, lock) = (self.0.get(), mutex.raw.0.get());
+        let answer = match time {
+            None => unsafe { qolb_cond_wait(cond, lock) },
+            Some(time) => unsafe { qolb_cond_wait_within(cond, lock, nanoseconds(time)) },
+        };
+        match told(answer) {
+            Answer::Granted => Ok((mutex.guard(), true)),
+            Answer::Late => Ok((mutex.guard(), false)),
+            answer => Err(stopped(answer)),
+        }
+    }
+}
+
+/// A value of at most 64 bytes that lies in the line of a lock, and goes with it from thread to thread.
+pub struct Lock<T: Copy + Send + 'static> {
+    raw: RawQolb,
+    value: PhantomData<UnsafeCell<T>>,
+}
+
+// SAFETY: one thread at a time has the value.
+unsafe impl<T: Copy + Send + 'static> Sync for Lock<T> {}
+
+impl<T: Copy + Send + 'static> Lock<T> {
+    const FITS: () = assert!(size_of::<T>() <= 64, "a line has 64 bytes");
+
+    pub fn new(value: T) -> Result<Lock<T>, Answer> {
+        Lock::with_seats(value, SEATS)
+    }
+
+    /// # Panics
+    ///
+    /// Where `seats` is not 1 to 200.
+    pub fn with_seats(value: T, seats: u32) -> Result<Lock<T>, Answer> {
+        let lock = Lock { raw: RawQolb::new(seats), value: PhantomData };
+        let opening = bytes_of(value);
+        // SAFETY: nobody else has the lock yet, and the bytes are there for the call.
+        match told(unsafe { qolb_lock_open(lock.raw.0.get(), Kind::Ticket as u32, 0, seats.into(), &opening) }) {
+            Answer::Done => Ok(lock),
+            refused => Err(refused),
+        }
+    }
+
+    /// Waits as long as it takes.
+    pub fn lock(&self) -> Result<LockGuard<'_, T>, Stopped> {
+        entered(self.raw.enter()).map(|_| self.guard())
+    }
+
+    /// A guard, if nobody has it.
+    pub fn try_lock(&self) -> Result<Option<LockGuard<'_, T>>, Stopped> {
+        entered(self.raw.try_enter()).map(|had| had.then(|| self.guard()))
+    }
+
+    /// A guard, if it is had within this time.
+    pub fn try_lock_for(&self, time: Duration) -> Result<Option<LockGuard<'_, T>>, Stopped> {
+        entered(self.raw.enter_for(time)).map(|had| had.then(|| self.guard()))
+    }
+
+    fn guard(&self) -> LockGuard<'_, T> {
+        let () = Self::FITS;
+        let mut bytes = LineBytes([MaybeUninit::uninit(); 64]);
+        // SAFETY: the calling thread holds the lock, so there is a turn, and the line has a `T`: an opening or a guard wrote it there.
+        let value = unsafe {
+            let mut turn = qolb_lock_turn(self.raw.0.get()).expect("the thread holds the lock");
+            qolb_read(turn.as_mut(), (&raw mut bytes).cast());
+            bytes.0.as_ptr().cast::<T>().read_unaligned()
+        };
+        LockGuard { lock: self, value, stays: PhantomData }
+    }
+}
+
+fn bytes_of<T: Copy + Send + 'static>(value: T) -> LineBytes {
+    let () = Lock::<T>::FITS;
+    let mut bytes = LineBytes([MaybeUninit::uninit(); 64]);
+    // SAFETY: it fits.
+    unsafe { bytes.0.as_mut_ptr().cast::<T>().write_unaligned(value) };
+    bytes
+}
+
+/// A turn of a lock: the value as the last holder left it. Dropped, also where a panic unwinds, it is written and the lock is left.
+#[must_use]
+pub struct LockGuard<'a, T: Copy + Send + 'static> {
+    lock: &'a Lock<T>,
+    value: T,
+    stays: PhantomData<*mut ()>,
+}
+
+impl<T: Copy + Send + 'static> LockGuard<'_, T> {
+    /// Writes the value and leaves, and nobody enters any more.
+    pub fn shut(self) {
+        self.write();
+        // The drop that follows finds nothing to write or to leave.
+        self.lock.raw.shut();
+    }
+
+    fn write(&self) {
+        let bytes = bytes_of(self.value);
+        // SAFETY: a turn is there where the thread holds the lock.
+        unsafe { qolb_lock_turn(self.lock.raw.0.get()).map(|mut turn| qolb_write(turn.as_mut(), u64::MAX, (&raw const bytes).cast())) };
+    }
+}
+
+impl<T: Copy + Send + 'static> Deref for LockGuard<'_, T> {
+    type Target = T;
+    fn deref(&self) -> &T {
+        &self.value
+    }
+}
+
+impl<T: Copy + Send + 'static> DerefMut for LockGuard<'_, T> {
+    fn deref_mut(&mut self) -> &mut T {
+        &mut self.value
+    }
+}
+
+impl<T: Copy + Send + 'static> Drop for LockGuard<'_, T> {
+    fn drop(&mut self) {
+        self.write();
+        self.lock.raw.leave();
+    }
+}
+
+#[cfg(feature = "lock_api")]
+mod api {
+    use super::{Answer, RawQolb, SEATS};
+    use lock_api::{GuardNoSend, RawMutex, RawMutexFair, RawMutexTimed};
+    use std::time::{Duration, Instant};
+
+    fn had(answer: Answer) -> bool {
+        match answer {
+            Answer::Granted => true,
+            Answer::Busy | Answer::Late => false,
+            answer => panic!("qolb: {answer}"),
+        }
+    }
+
+    // SAFETY: one thread at a time holds it.
+    unsafe impl RawMutex for RawQolb {
+        const INIT: RawQolb = RawQolb::new(SEATS);
+        type GuardMarker = GuardNoSend;
+
+        fn lock(&self) {
+            had(self.enter());
+        }
+        fn try_lock(&self) -> bool {
+            had(self.try_enter())
+        }
+        unsafe fn unlock(&self) {
+            self.leave();
+        }
+        fn is_locked(&self) -> bool {
+            self.holder().is_some()
+        }
+    }
+
+    // SAFETY: it is always fair.
+    unsafe impl RawMutexFair for RawQolb {
+        unsafe fn unlock_fair(&self) {
+            self.leave();
+        }
+    }
+
+    // SAFETY: as of `RawMutex`.
+    unsafe impl RawMutexTimed for RawQolb {
+        type Duration = Duration;
+        type Instant = Instant;
+
+        fn try_lock_for(&self, timeout: Duration) -> bool {
+            had(self.enter_for(timeout))
+        }
+        fn try_lock_until(&self, timeout: Instant) -> bool {
+            had(self.enter_for(timeout.saturating_duration_since(Instant::now())))
+        }
     }
 }

@@ -1,0 +1,25 @@
+//! A mutex of the crate `lock_api` over the lock of qolb.rs. Prints nothing but what went wrong.
+#[path = "../include/qolb.rs"]
+mod qolb;
+use lock_api::{Mutex, MutexGuard};
+use qolb::RawQolb;
+use std::time::{Duration, Instant};
+
+static COUNT: Mutex<RawQolb, u64> = Mutex::new(0);
+
+fn main() {
+    std::thread::scope(|scope| {
+        for _ in 0..8 {
+            scope.spawn(|| (0..1000).for_each(|_| *COUNT.lock() += 1));
+        }
+    });
+    let held: MutexGuard<'_, RawQolb, u64> = COUNT.lock();
+    assert_eq!(*held, 8000);
+    assert!(COUNT.try_lock().is_none() && COUNT.is_locked());
+    let since = Instant::now();
+    assert!(COUNT.try_lock_for(Duration::from_millis(10)).is_none());
+    assert!(COUNT.try_lock_until(Instant::now() + Duration::from_millis(10)).is_none());
+    assert!(since.elapsed() >= Duration::from_millis(20));
+    MutexGuard::unlock_fair(held);
+    assert!(COUNT.try_lock_for(Duration::from_millis(10)).is_some() && !COUNT.is_locked());
+}

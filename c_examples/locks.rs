@@ -1,0 +1,167 @@
+//! The locks of qolb.rs by threads that come and go: a mutex, a condition, a value in the line; with time limits, shut, and by panics. Prints nothing but
+//! what went wrong.
+#[path = "../include/qolb.rs"]
+mod qolb;
+
+use qolb::{Answer, Condition, Lock, Mutex, RawQolb, Stopped};
+use std::panic;
+use std::thread;
+use std::time::{Duration, Instant};
+
+const THREADS: u64 = 8;
+const ROUNDS: u64 = 1_000;
+const MS: Duration = Duration::from_millis(1);
+
+static WORDS: Mutex<Vec<u64>> = Mutex::with_seats(Vec::new(), 3);
+
+fn mutex_guards() {
+    for _wave in 0..2 {
+        thread::scope(|scope| {
+            for _ in 0..THREADS {
+                scope.spawn(|| {
+                    for k in 0..ROUNDS {
+                        WORDS.lock().unwrap().push(k);
+                    }
+                });
+            }
+        });
+    }
+    let words = WORDS.lock().unwrap();
+    assert_eq!(words.len() as u64, 2 * THREADS * ROUNDS);
+    assert_eq!(words.iter().sum::<u64>(), 2 * THREADS * (ROUNDS * (ROUNDS - 1) / 2));
+}
+
+fn mutex_answers() {
+    let mutex = Mutex::new(5);
+    assert_eq!(mutex.raw().holder(), None);
+    assert_eq!(mutex.raw().leave(), Answer::Misuse);
+    let held = mutex.lock().unwrap();
+    assert!(mutex.raw().holder().is_some());
+    thread::scope(|scope| {
+        scope.spawn(|| {
+            assert!(mutex.try_lock().unwrap().is_none());
+            let since = Instant::now();
+            assert!(mutex.try_lock_for(20 * MS).unwrap().is_none());
+            assert!(since.elapsed() >= 20 * MS);
+            assert_eq!(mutex.raw().leave(), Answer::Misuse);
+        });
+    });
+    drop(held);
+    *mutex.try_lock().unwrap().unwrap() += 1;
+    *mutex.try_lock_for(MS).unwrap().unwrap() += 1;
+    let unwound = panic::catch_unwind(panic::AssertUnwindSafe(|| {
+        let mut held = mutex.lock().unwrap();
+        *held += 1;
+        panic!("in a turn");
+    }));
+    assert!(unwound.is_err());
+    assert_eq!(*mutex.lock().unwrap(), 8);
+    mutex.lock().unwrap().shut();
+    assert_eq!(mutex.lock().err(), Some(Stopped::Closed));
+    assert_eq!(mutex.try_lock().err(), Some(Stopped::Closed));
+    assert_eq!(mutex.try_lock_for(MS).err(), Some(Stopped::Closed));
+    assert_eq!(mutex.into_inner(), 8);
+}
+
+fn conditions() {
+    let (place, changed) = (Mutex::new(None::<u64>), Condition::new());
+    let sum = thread::scope(|scope| {
+        scope.spawn(|| {
+            for k in 1..=ROUNDS {
+                let mut held = place.lock().unwrap();
+                while held.is_some() {
+                    held = changed.wait(held).unwrap();
+                }
+                *held = Some(k);
+                changed.notify_one();
+            }
+        });
+        let taker = scope.spawn(|| {
+            let mut sum = 0;
+            for _ in 0..ROUNDS {
+                let mut held = place.lock().unwrap();
+                sum += loop {
+                    match held.take() {
+                        Some(value) => break value,
+                        None => held = changed.wait_for(held, MS).unwrap().0,
+                    }
+                };
+                changed.notify_all();
+            }
+            sum
+        });
+        taker.join().unwrap()
+    });
+    assert_eq!(sum, ROUNDS * (ROUNDS + 1) / 2);
+    let since = Instant::now();
+    let (held, told) = changed.wait_for(place.lock().unwrap(), 20 * MS).unwrap();
+    assert!(!told && since.elapsed() >= 20 * MS);
+    drop(held);
+    thread::scope(|scope| {
+        let waiter = scope.spawn(|| changed.wait(place.lock().unwrap()).err());
+        thread::sleep(20 * MS);
+        place.lock().unwrap().shut();
+        assert_eq!(waiter.join().unwrap(), Some(Stopped::Closed));
+    });
+}
+
+#[derive(Clone, Copy)]
+struct Count {
+    hits: u64,
+    last: u8,
+}
+
+fn line_has_a_value() {
+    let lock = Lock::with_seats(Count { hits: 7, last: 0 }, 4).unwrap();
+    thread::scope(|scope| {
+        for thread in 0..THREADS {
+            let lock = &lock;
+            scope.spawn(move || {
+                for _ in 0..ROUNDS {
+                    let mut turn = lock.lock().unwrap();
+                    turn.hits += 1;
+                    turn.last = thread as u8;
+                }
+            });
+        }
+    });
+    let turn = lock.try_lock().unwrap().unwrap();
+    assert_eq!(turn.hits, 7 + THREADS * ROUNDS);
+    assert!(u64::from(turn.last) < THREADS);
+    assert!(lock.try_lock().unwrap().is_none());
+    drop(turn);
+    let mut turn = lock.try_lock_for(MS).unwrap().unwrap();
+    turn.hits = 1;
+    turn.shut();
+    assert_eq!(lock.lock().err(), Some(Stopped::Closed));
+    let whole = Lock::new([3u64; 8]).unwrap();
+    whole.lock().unwrap()[7] = 4;
+    assert_eq!(*whole.lock().unwrap(), [3, 3, 3, 3, 3, 3, 3, 4]);
+}
+
+fn raw_answers() {
+    let raw = RawQolb::new(1);
+    assert_eq!(raw.enter(), Answer::Granted);
+    assert_eq!(raw.try_enter(), Answer::Busy);
+    assert_eq!(raw.enter_for(MS), Answer::Late);
+    assert_eq!(raw.leave(), Answer::Done);
+    assert_eq!(raw.try_enter(), Answer::Granted);
+    assert_eq!(raw.shut(), Answer::Done);
+    assert_eq!(raw.enter_for(MS), Answer::Closed);
+    assert!(panic::catch_unwind(|| RawQolb::new(0)).is_err());
+    assert!(panic::catch_unwind(|| RawQolb::new(201)).is_err());
+}
+
+fn main() {
+    panic::set_hook(Box::new(|told| {
+        let said = told.payload_as_str().unwrap_or_default();
+        if said != "in a turn" && said != "a lock has 1 to 200 seats" {
+            println!("{told}");
+        }
+    }));
+    mutex_guards();
+    mutex_answers();
+    conditions();
+    line_has_a_value();
+    raw_answers();
+}
