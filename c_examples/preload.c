@@ -2,9 +2,9 @@
  *
  *   make -C c_examples build/preload.so && LD_PRELOAD=c_examples/build/preload.so PROGRAM        (glibc)
  *
- * Each ordinary mutex that the program locks gets a line of its own, with a pool of nodes: who locks takes a free node, and asks with it; who unlocks
- * gives it back. Condition variables are the C library's own, with a mutex of this library's behind each line. Recursive, error-checking, robust and
- * shared mutexes stay the C library's.
+ * Each ordinary mutex that the program locks gets a qolb_lock of its own, and each condition variable by which it waits with one a qolb_cond.
+ * Recursive, error-checking, robust and shared mutexes stay the C library's. A thread that is cancelled while it waits at a condition ends once it is
+ * told. A mutex that another thread unlocks than locked it stays locked.
  *
  * QOLB_KIND=list makes them lists and QOLB_KIND=ticket ticket lines; else they are rings.
  *
@@ -20,31 +20,24 @@
 #include <stdlib.h>
 #include <string.h>
 
-enum { NODES = 64, MOST = 1 << 14 };
+enum { SEATS = 64, MOST = 1 << 14 };
 
-struct place {
-    _Alignas(QOLB_NODE_ALIGN) qolb_node node;
-    atomic_int taken;
-};
-
-/* A mutex as a line. Its holder alone writes which place it holds by. */
+/* A mutex, and how many threads are in it. */
 struct line {
-    struct place place[NODES];
-    pthread_mutex_t inner; /* for its condition variables */
-    struct place *held_by;
+    qolb_lock lock;
     atomic_int inside;
 };
 
-/* Addresses of mutexes and of condition variables, each with its line. Entries are never taken away: an address that is used again finds its own. */
+/* Addresses of mutexes and of condition variables. Entries are never taken away: an address that is used again finds its own. */
 struct table {
     _Atomic(void *) key[MOST];
-    _Atomic(struct line *) line[MOST];
 };
 
 static struct table mutexes, conditions;
-static atomic_ullong lines, grants, late, not_free, violations;
-static atomic_uint threads;
-static _Thread_local unsigned self;
+static _Atomic(struct line *) lines[MOST];
+static qolb_cond conds[MOST];
+static atomic_int waited_with_line[MOST];
+static atomic_ullong opened_lines, grants, late, not_free, violations;
 
 /* ---- The C library's own ---- */
 
@@ -87,18 +80,9 @@ static uint32_t kind_named(const char *name) {
 
 static struct line *opened(void) {
     qolb_bytes zeros = {{0}};
-    qolb_node nodes[NODES] = {{0}};
-    struct line *line = aligned_alloc(QOLB_NODE_ALIGN, sizeof *line);
-    if (!line || qolb_open(kind_named(getenv("QOLB_KIND")), 0, NODES, QOLB_NO_LEASE, &zeros, nodes, NODES) != QOLB_DONE) abort();
-    memset(line, 0, sizeof *line);
-    for (int k = 0; k < NODES; k++) line->place[k].node = qolb_move(&nodes[k]);
-    pthread_mutex_init(&line->inner, NULL);
+    struct line *line = calloc(1, sizeof *line);
+    if (!line || qolb_lock_open(&line->lock, kind_named(getenv("QOLB_KIND")), 0, SEATS, &zeros) != QOLB_DONE) abort();
     return line;
-}
-
-static void let_go(struct line *line) {
-    for (int k = 0; k < NODES; k++) qolb_close(&line->place[k].node);
-    free(line);
 }
 
 /* The mutex's line; NULL where the C library keeps it. */
@@ -107,39 +91,26 @@ static struct line *line_of(pthread_mutex_t *mutex) {
     if (kind != PTHREAD_MUTEX_NORMAL && kind != PTHREAD_MUTEX_ADAPTIVE_NP) return NULL;
     int at = entry(&mutexes, mutex);
     if (at < 0) return NULL;
-    struct line *line = atomic_load(&mutexes.line[at]), *none = NULL;
+    struct line *line = atomic_load(&lines[at]), *none = NULL;
     if (line) return line;
     line = opened();
-    if (!atomic_compare_exchange_strong(&mutexes.line[at], &none, line)) {
-        let_go(line);
+    if (!atomic_compare_exchange_strong(&lines[at], &none, line)) {
+        qolb_lock_close(&line->lock);
+        free(line);
         return none;
     }
-    lines++;
+    opened_lines++;
     return line;
 }
 
-/* A free node of the line, for this thread alone until it is given back. */
-static struct place *take(struct line *line) {
-    if (!self) self = ++threads;
-    for (unsigned k = self;; k++) {
-        struct place *place = &line->place[k % NODES];
-        if (!atomic_exchange(&place->taken, 1)) return place;
-        if (k % NODES == self % NODES && k != self) sched_yield();
-    }
-}
-
-static void give_back(struct place *place) { atomic_store(&place->taken, 0); }
-
-/* What asking gave, as the C library tells it. */
-static int told(struct line *line, struct place *place, uint32_t got) {
+/* What entering gave, as the C library tells it. */
+static int told(struct line *line, uint32_t got) {
     if (got == QOLB_GRANTED) {
         grants++;
         if (atomic_fetch_add(&line->inside, 1) != 0) violations++;
-        line->held_by = place;
         return 0;
     }
     if (got != QOLB_LATE && got != QOLB_BUSY) abort();
-    give_back(place);
     if (got == QOLB_BUSY) {
         not_free++;
         return EBUSY;
@@ -148,39 +119,34 @@ static int told(struct line *line, struct place *place, uint32_t got) {
     return ETIMEDOUT;
 }
 
-static int lock(struct line *line) {
-    struct place *place = take(line);
-    return told(line, place, qolb_acquire(&place->node));
-}
-
 static int unlock(struct line *line) {
-    struct place *place = line->held_by;
+    if (!qolb_lock_turn(&line->lock)) return EPERM;
     atomic_fetch_sub(&line->inside, 1);
-    if (qolb_deqolb(&place->node) != QOLB_DONE) return EPERM;
-    give_back(place);
+    qolb_lock_leave(&line->lock);
     return 0;
 }
 
-static int lock_until(struct line *line, clockid_t clock, const struct timespec *end) {
+static uint64_t until(clockid_t clock, const struct timespec *end) {
     struct timespec now;
     clock_gettime(clock, &now);
     long long left = (end->tv_sec - now.tv_sec) * 1000000000ll + (end->tv_nsec - now.tv_nsec);
-    struct place *place = take(line);
-    return told(line, place, qolb_acquire_within(&place->node, left > 0 ? (uint64_t)left : 0));
+    return left > 0 ? (uint64_t)left : 0;
+}
+
+static int lock_until(struct line *line, clockid_t clock, const struct timespec *end) {
+    return told(line, qolb_lock_enter_within(&line->lock, until(clock, end)));
 }
 
 /* ---- Mutexes ---- */
 
 int pthread_mutex_lock(pthread_mutex_t *mutex) {
     struct line *line = line_of(mutex);
-    return line ? lock(line) : real_mutex_lock()(mutex);
+    return line ? told(line, qolb_lock_enter(&line->lock)) : real_mutex_lock()(mutex);
 }
 
 int pthread_mutex_trylock(pthread_mutex_t *mutex) {
     struct line *line = line_of(mutex);
-    if (!line) return real_mutex_trylock()(mutex);
-    struct place *place = take(line);
-    return told(line, place, qolb_try(&place->node));
+    return line ? told(line, qolb_lock_try(&line->lock)) : real_mutex_trylock()(mutex);
 }
 
 int pthread_mutex_timedlock(pthread_mutex_t *mutex, const struct timespec *end) {
@@ -198,58 +164,53 @@ int pthread_mutex_unlock(pthread_mutex_t *mutex) {
     return line ? unlock(line) : real_mutex_unlock()(mutex);
 }
 
-/* ---- Condition variables ----
- *
- * A waiter takes the inner mutex before it releases the line, and the C library lets go of that one once the waiter is known to the condition. Who
- * changes what is waited for has held the line after that, so it knows the condition's line, and takes the inner mutex before it signals. So no signal
- * comes between the release and the wait. */
+/* ---- Condition variables ---- */
 
-static struct line *waits(pthread_cond_t *condition, pthread_mutex_t *mutex) {
-    struct line *line = line_of(mutex);
+/* Waits with a line at most so long, and has it again. Here a thread may be cancelled, as where the C library waits, with the mutex locked. */
+static int wait_at(struct line *line, pthread_cond_t *condition, uint64_t nanoseconds) {
     int at = entry(&conditions, condition);
     if (at < 0) abort();
-    atomic_store(&conditions.line[at], line);
-    if (line) {
-        real_mutex_lock()(&line->inner);
-        unlock(line);
-    }
-    return line;
-}
-
-static int waited(struct line *line, int told) {
-    real_mutex_unlock()(&line->inner);
-    lock(line);
-    return told;
+    if (!qolb_lock_turn(&line->lock)) return EPERM;
+    pthread_testcancel();
+    atomic_store(&waited_with_line[at], 1);
+    atomic_fetch_sub(&line->inside, 1);
+    uint32_t got = qolb_cond_wait_within(&conds[at], &line->lock, nanoseconds);
+    told(line, got == QOLB_LATE ? (uint32_t)QOLB_GRANTED : got);
+    pthread_testcancel();
+    return got == QOLB_LATE ? ETIMEDOUT : 0;
 }
 
 int pthread_cond_wait(pthread_cond_t *condition, pthread_mutex_t *mutex) {
-    struct line *line = waits(condition, mutex);
-    return line ? waited(line, real_cond_wait()(condition, &line->inner)) : real_cond_wait()(condition, mutex);
+    struct line *line = line_of(mutex);
+    return line ? wait_at(line, condition, UINT64_MAX) : real_cond_wait()(condition, mutex);
 }
 
 int pthread_cond_timedwait(pthread_cond_t *condition, pthread_mutex_t *mutex, const struct timespec *end) {
-    struct line *line = waits(condition, mutex);
-    return line ? waited(line, real_cond_timedwait()(condition, &line->inner, end)) : real_cond_timedwait()(condition, mutex, end);
+    struct line *line = line_of(mutex);
+    clockid_t clock = condition->__data.__wrefs & 2 ? CLOCK_MONOTONIC : CLOCK_REALTIME;
+    return line ? wait_at(line, condition, until(clock, end)) : real_cond_timedwait()(condition, mutex, end);
 }
 
 int pthread_cond_clockwait(pthread_cond_t *condition, pthread_mutex_t *mutex, clockid_t clock, const struct timespec *end) {
-    struct line *line = waits(condition, mutex);
-    return line ? waited(line, real_cond_clockwait()(condition, &line->inner, clock, end)) : real_cond_clockwait()(condition, mutex, clock, end);
+    struct line *line = line_of(mutex);
+    return line ? wait_at(line, condition, until(clock, end)) : real_cond_clockwait()(condition, mutex, clock, end);
 }
 
-static int signals(pthread_cond_t *condition, int (*signal)(pthread_cond_t *)) {
+/* Where the condition stands; -1 where no thread has waited with a line there. */
+static int lined(pthread_cond_t *condition) {
     int at = entry(&conditions, condition);
-    struct line *line = at < 0 ? NULL : atomic_load(&conditions.line[at]);
-    if (!line) return signal(condition);
-    real_mutex_lock()(&line->inner);
-    int told = signal(condition);
-    real_mutex_unlock()(&line->inner);
-    return told;
+    return at >= 0 && atomic_load(&waited_with_line[at]) ? at : -1;
 }
 
-int pthread_cond_signal(pthread_cond_t *condition) { return signals(condition, real_cond_signal()); }
+int pthread_cond_signal(pthread_cond_t *condition) {
+    int at = lined(condition);
+    return at < 0 ? real_cond_signal()(condition) : (int)qolb_cond_signal(&conds[at]);
+}
 
-int pthread_cond_broadcast(pthread_cond_t *condition) { return signals(condition, real_cond_broadcast()); }
+int pthread_cond_broadcast(pthread_cond_t *condition) {
+    int at = lined(condition);
+    return at < 0 ? real_cond_broadcast()(condition) : (int)qolb_cond_broadcast(&conds[at]);
+}
 
 /* ---- The report ---- */
 
@@ -257,6 +218,6 @@ __attribute__((destructor)) static void report(void) {
     const char *name = getenv("QOLB_REPORT");
     FILE *out = name ? fopen(name, "a") : NULL;
     if (!out) return;
-    fprintf(out, "mutexes %llu grants %llu late %llu not free %llu violations %llu\n", lines, grants, late, not_free, violations);
+    fprintf(out, "mutexes %llu grants %llu late %llu not free %llu violations %llu\n", opened_lines, grants, late, not_free, violations);
     fclose(out);
 }
