@@ -154,12 +154,16 @@ def page_of_header():
     return "\n".join(out) + "\n"
 
 
-def help_of(program, *words):
-    """What the program says of itself, which it does on standard error, with 2."""
-    run = subprocess.run([program, *words, "--help"], capture_output=True, text=True, check=False)
-    if run.returncode != 2 or not run.stderr.startswith(("Usage", "Replays")) and "Usage:" not in run.stderr:
-        sys.exit(f"man.py: {program} {' '.join(words)} --help ended with {run.returncode} and said: {run.stderr[:200]}")
+def told_by(program, mark, *words):
+    """What the program says of itself, which it does on standard error, with 2. The mark is among it."""
+    run = subprocess.run([program, *words], capture_output=True, text=True, check=False)
+    if run.returncode != 2 or mark not in run.stderr:
+        sys.exit(f"man.py: {program} {' '.join(words)} ended with {run.returncode} and said: {run.stderr[:200]}")
     return run.stderr.rstrip("\n")
+
+
+def help_of(program, *words):
+    return told_by(program, "Usage:", *words, "--help")
 
 
 def as_told(text):
@@ -169,8 +173,10 @@ def as_told(text):
 def page_of_program(program):
     head = help_of(program)
     about = " ".join(head.split("\n\n", 1)[0].split()).rstrip(".")
-    out = ['.TH QOLB 1 "" "qolb"', f".SH NAME\nqolb \\- {escaped(about[:1].lower() + about[1:])}", f".SH DESCRIPTION\n{as_told(head)}"]
+    version = told_by(program, "sources proved by", "--version")
+    out = [f'.TH QOLB 1 "" "{version.splitlines()[0]}"', f".SH NAME\nqolb \\- {escaped(about[:1].lower() + about[1:])}", f".SH DESCRIPTION\n{as_told(head)}"]
     out += [f".SH QOLB {name.upper()}\n{as_told(help_of(program, name))}" for name in SUBCOMMANDS]
+    out.append(f".SH QOLB \\-\\-VERSION\n{as_told(version)}")
     out.append(".SH SEE ALSO\n.BR qolb (3)")
     return "\n".join(out) + "\n"
 

@@ -70,12 +70,13 @@ work_command name names = with_rule (work_or_sleep name names) (flag_rule (codes
 abbrev pub draw_command : App
 draw_command = with_rule (new_app (codes "draw")) (flag_rule (codes "svg"))
 
-abbrev pub needs_subcommand : App → App
-needs_subcommand app = record app { top = record app.top { subcommand_required = true } }
+-- the program's command without its subcommands: it needs one, and has a version
+abbrev pub bare_command : App
+bare_command = let app = new_app (codes "qolb") in record app { top = record app.top { subcommand_required = true; has_version = true } }
 
 -- the program's command: `replay --kind KIND`, `steps [--rank]`, `board [--kind KIND] [--sleep] [--progress]`, `bank` with the same, or `draw [--svg]`
 abbrev pub replay_or_steps : Names → App
-replay_or_steps replayed = with_subcommand (with_subcommand (needs_subcommand (new_app (codes "qolb"))) (replay_command replayed).top) steps_command.top
+replay_or_steps replayed = with_subcommand (with_subcommand bare_command (replay_command replayed).top) steps_command.top
 
 abbrev pub any_answer : KindNames → App
 any_answer names = with_subcommand (with_subcommand (replay_or_steps names.replayed) (work_command (codes "board") names.shared).top) (work_command (codes "bank") names.shared).top

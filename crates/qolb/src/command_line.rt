@@ -1,8 +1,8 @@
-//! The command line: what the words ask for, and what `--help` says.
+//! The command line: what the words ask for, and what `--help` and `--version` say.
 ghost use Rattle.std.specs.Prelude.{◌≡◌, ◌≢◌, false, map, option_map, string_bytes, codes, IfOk, IfErr};
 ghost use Rattle.clap.specs.Words.{app_of, found_of, kind_of, new_app, rows_of, rule_of};
 ghost use Rattle.qolb.specs.CommandLine as spec;
-ghost use Rattle.qolb.specs.CommandLine.{KindNames, NamesProgress, NamesWish, IsNotTaken, draw_command, kind_rule, needs_subcommand, replay_command, steps_command, work_command, the_command};
+ghost use Rattle.qolb.specs.CommandLine.{KindNames, NamesProgress, NamesWish, IsNotTaken, draw_command, bare_command, kind_rule, replay_command, steps_command, work_command, the_command};
 
 use clap::error::ErrorKind;
 use clap::{Arg, ArgAction, ArgMatches, Command, Error};
@@ -25,10 +25,16 @@ const SHARED_HELP: &str = "What represents the lines: rings, lists or ticket lin
 const ABOUT: &str =
     "Queued line locks: nodes queue at a line of 64 bytes, and a release hands lock and\nline to the next";
 
+/// What `--version` says after the name: the version, the kit that proved these sources, and the kinds of lines. `tools/sources` compares the
+/// first two.
+const VERSION: &str = "1.3.0
+sources proved by rattle-kit-13f logic dac8208d650f15bf
+kinds of lines: plain, ring, link, ticket";
+
 const STATUSES: &str = "Exit statuses:
   0  done
   1  the script was refused: `bad line N` or `script too long` on standard error
-  2  the command line was refused, or asked for help
+  2  the command line was refused, or asked for help or the version
   3  want of memory: `out of memory`; or worker W gave up: `stalled W`
   4  a failed read or write: `read fault` or `write fault`";
 
@@ -273,10 +279,11 @@ fn command<'a>(alloc: Global) -> Result<Command<'a>, AllocError>
 
 /// The program's command without its subcommands.
 fn program<'a>(alloc: Global) -> Command<'a>
-    ensures { app_of result ≡ needs_subcommand (new_app (codes "qolb")) }
+    ensures { app_of result ≡ bare_command }
 {
     Command::new(alloc, "qolb")
         .about(ABOUT)
+        .version(VERSION)
         .after_help(STATUSES)
         .subcommand_required(true)
 }

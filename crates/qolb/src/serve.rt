@@ -40,6 +40,7 @@ pub fn serve<T: Threads + Wait + Clock + Eprint + Sync, R: Read, W: Write, E: Wr
     ensures refused { result ≡ 1 → (wish : Wish) × NamesWish (map string_bytes words.now) wish × IfSome (R.remaining reader.old) (IsDenied wish) }
     ensures usage { result ≡ 2 → IsNotTaken (map string_bytes words.now) }
     ensures fault { result ≡ 4 → (wish : Wish) × NamesWish (map string_bytes words.now) wish }
+    ensures unread { result ≡ 2 → reader.new ≡ reader.old }
     ensures unwritten { 1 ≤ result → result ≤ 3 → out.new ≡ out.old }
 {
     let request = match parse_args(alloc, words) {

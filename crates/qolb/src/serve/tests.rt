@@ -1,5 +1,6 @@
 //! Runs of the program: its words and its script, with the status and what is written.
 use super::*;
+use locks::ALL;
 use std::process::Abort;
 use std::test::Fail;
 
@@ -92,7 +93,7 @@ fn replays_and_refuses_scripts(rt: HostRuntime) -> Result<(), Fail> {
 }
 
 /// Words that are not taken, and what the complaint names.
-static NOT_TAKEN: [(&[&str], &str); 28] = [
+static NOT_TAKEN: [(&[&str], &str); 30] = [
     (&[], "subcommand"),
     (&["replay"], "--kind"),
     (&["replay", "--kind"], "--kind"),
@@ -123,7 +124,9 @@ static NOT_TAKEN: [(&[&str], &str); 28] = [
     ),
     (&["--help"], "\n  4  a failed read or write: "),
     (&["replay", "--help"], "--kind"),
-    (&["--version"], "--version"),
+    (&["--help"], "-V, --version"),
+    (&["-V"], "qolb 1.3.0\n"),
+    (&["replay", "--version"], "--version"),
 ];
 
 /// What the help of each subcommand tells of, among else.
@@ -158,6 +161,53 @@ fn refuses_command_lines(rt: HostRuntime) -> Result<(), Fail> {
             assert!(rt; help.contains(*text), "{text} in the help of {name}");
         }
     }
+    Ok(())
+}
+
+/// What `--version` says.
+const VERSION: &str =
+    "qolb 1.3.0\nsources proved by rattle-kit-13f logic dac8208d650f15bf\nkinds of lines: plain, ring, link, ticket\n";
+
+#[test]
+fn tells_its_version(rt: HostRuntime) -> Result<(), Fail> {
+    let mut reader = "nodes 1 lines 1\n".as_bytes();
+    let mut out: Vec<u8> = Vec::new(rt.alloc());
+    let (status, err) = run(&rt, rt.alloc(), &["--version"], &mut reader, &mut out)?;
+    // nothing was read, nor written
+    assert_eq!(rt; (status, reader.len(), out.len()), (2, 16, 0));
+    assert_eq!(rt; err.as_str(), VERSION);
+    Ok(())
+}
+
+/// The lines that work with this `--kind` is over.
+fn lines_of_kind(alloc: Global, name: &str) -> Result<Lines, Fail> {
+    let words = vec![in alloc;
+        "qolb".to_string(alloc)?,
+        "board".to_string(alloc)?,
+        "--kind".to_string(alloc)?,
+        name.to_string(alloc)?,
+    ]?;
+    match parse_args(alloc, words.as_slice())
+        .ok()
+        .ok_or("a request")?
+        .wish
+    {
+        Wish::Answer(Task::Work(_, lines, _)) => Ok(lines),
+        _ => Err(Fail::from("no work")),
+    }
+}
+
+#[test]
+fn the_version_names_each_lock(rt: HostRuntime) -> Result<(), Fail> {
+    let (_, _, version) = told(&rt, rt.alloc(), &["--version"], "")?;
+    let (_, names) = version
+        .split_once("kinds of lines: plain, ")
+        .ok_or("the kinds")?;
+    let mut lines = Vec::new(rt.alloc());
+    for name in names.trim_end().split(", ") {
+        lines.push(lines_of_kind(rt.alloc(), name)?)?;
+    }
+    assert_eq!(rt; lines.as_slice(), ALL.as_slice());
     Ok(())
 }
 
