@@ -1,6 +1,6 @@
 /* Locks for threads that come and go: what each call answers, who is served first, conditions, and much use by many threads.
  *
- *   build/locks [SECONDS]     300: where a turn is lost, who waits for it does not end, and the program is ended after so many
+ *   build/locks [SECONDS]     1200: where a turn is lost, who waits for it does not end, and the program is ended after so many
  *
  * Prints nothing but what went wrong. The thread sanitizer sees the data, and must be quiet. */
 #define _GNU_SOURCE
@@ -590,7 +590,7 @@ static int of_kind(uint32_t kind) {
 }
 
 int main(int argc, char **argv) {
-    alarm(argc > 1 ? (unsigned)atoi(argv[1]) : 300);
+    alarm(argc > 1 ? (unsigned)atoi(argv[1]) : 1200);
     if (of_a_closed_one() || cancelled() || makers_and_takers()) return 1;
     for (uint32_t kind = QOLB_RING; kind <= QOLB_TICKET; kind++)
         if (of_kind(kind)) return 1;

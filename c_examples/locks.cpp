@@ -189,7 +189,7 @@ bool guards() {
 } // namespace
 
 int main() {
-    alarm(300);
+    alarm(1200);
     bool right = counts() && answers() && hands_over<qolb::Condition>() && hands_over<std::condition_variable_any>() && condition_ends() && guards();
     return right ? 0 : 1;
 }

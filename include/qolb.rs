@@ -644,7 +644,8 @@ fn entered(answer: Answer) -> Result<bool, Stopped> {
     }
 }
 
-/// A mutex that is first come, first served. Nothing is poisoned: a panic while it is held leaves it, with what was written until then.
+/// A mutex that is first come, first served. Nothing is poisoned: a panic while it is held leaves it, with what was written until then. A thread that
+/// locks what it holds waits for itself.
 pub struct Mutex<T: ?Sized> {
     raw: RawQolb,
     value: UnsafeCell<T>,
