@@ -13,8 +13,8 @@ use Rattle.line_threads.specs.declared.asleep.Within.TheVariants as within
 use Rattle.line_threads.specs.declared.waiting.Got.{Got}
 use Rattle.line_threads.specs.declared.waiting.Got.TheVariants.{Granted, Closed}
 
--- The turn came soon: once the port had asked, and before it looked, fewer requests ended than the line has nodes until it had the line;
--- so at most one turn of each other node came before its own.
+-- The turn came soon: once the port had asked, and before it looked, fewer requests ended than the line has nodes until it had the line.
+-- This does not say that they were of different nodes.
 pub record ComesSoon {Port : Type 0} (view : Port → View) (counters : Port → Counters) (old new : Port) : Type 0 where
   pub asked : Port
   pub unlooked : (counters asked).poll_count ≡ (counters old).poll_count

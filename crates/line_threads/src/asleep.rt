@@ -69,7 +69,7 @@ impl Patience {
 
 /// How long a nap is that may take so much time.
 fn nap_within(at_most: Duration) -> Duration
-    ensures short { as_nanos result ≤ NAP_MICROS * 1_000 }
+    ensures short { as_nanos result ≤ 200_000 }
     ensures in_time { as_nanos result ≤ as_nanos at_most }
 {
     let short = Duration::from_micros(NAP_MICROS);
