@@ -1,5 +1,5 @@
 //! A law of one's own: clerks sell the seats of a house, and in no schedule more than there are.
-ghost use Rattle.std.specs.Prelude.{◌≡◌, ◌≤◌, IfSome, IsTrue};
+ghost use Rattle.std.specs.Prelude.{◌≡◌, ◌≤◌, IfSome, IsTrue, drop};
 ghost use Rattle.line_lanes.specs.Lane.{lane_of};
 ghost use Rattle.qolb_model.specs.PortStates.{may_ask};
 ghost use Rattle.qolb_model.specs.Views.{bytes_of};
@@ -39,6 +39,7 @@ fn sell_one<L: LineSync<House>>(port: &mut L::Port)
     requires { IsGranted (L.view port.old) (L.turn port.old) }
     ensures view { L.view port.new ≡ L.view port.old }
     ensures sold { lane_of (L.turn port.new).bytes.bytes 0 ≡ sold_after (lane_of (bytes_of (L.view port.old)) 0) }
+    ensures others { drop 8 (L.turn port.new).bytes.bytes ≡ drop 8 (bytes_of (L.view port.old)) }
     ensures allowed { MayRelease StaysWithin (L.view port.new) (L.turn port.new) }
     ensures belongs { (line : L) → L.belongs line port.old → L.belongs line port.new }
 {
