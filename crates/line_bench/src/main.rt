@@ -15,7 +15,7 @@ use asking::{Asking, AtOnce, OnList};
 use clap::{Arg, ArgAction, ArgMatches, Command};
 use law::Rising;
 use line_lanes::lane;
-use locks::{LinkLine, RingLine, TicketLine};
+use locks::{Lines, LinkLine, NAMES, RingLine, TicketLine};
 use qolb_model::{LineSync, OpenLine};
 use rounds::Rounds;
 use run::{RunError, open, run_task};
@@ -33,9 +33,6 @@ static STRESSED: [u64; 3] = [4, 8, 32];
 
 /// Rounds of each thread where the words name none: enough to see that nothing is lost.
 const FEW_ROUNDS: u64 = 100;
-
-/// The names of the kinds of line.
-static KINDS: [&str; 3] = ["ring", "link", "ticket"];
 
 /// What the words ask for.
 #[derive(Clone, Copy)]
@@ -131,7 +128,7 @@ fn with_kind<'a>(alloc: Global, command: Command<'a>) -> Result<Command<'a>, All
         .long("kind")
         .value_name("KIND")
         .help("The kind of line: a ring, where the words name none, a list, or a ticket line")
-        .value_parser(KINDS.as_slice());
+        .value_parser(NAMES.as_slice());
     command.arg(kind)
 }
 
@@ -162,10 +159,10 @@ fn kind_of(matches: &ArgMatches) -> Kind {
     if matches.get_flag("apart") {
         return Kind::List { apart: true };
     }
-    match matches.get_str("kind") {
-        Some("link") => Kind::List { apart: false },
-        Some("ticket") => Kind::Ticket,
-        _ => Kind::Ring,
+    match matches.get_str("kind").and_then(Lines::named) {
+        Some(Lines::Link) => Kind::List { apart: false },
+        Some(Lines::Ticket) => Kind::Ticket,
+        Some(Lines::Ring) | None => Kind::Ring,
     }
 }
 

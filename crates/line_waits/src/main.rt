@@ -5,14 +5,11 @@ mod run;
 mod turns;
 
 use clap::{Arg, ArgAction, ArgMatches, Command};
-use locks::Lines;
+use locks::{Lines, NAMES};
 use run::{measure, try_each};
 use std::alloc::{AllocError, Global};
 use std::time::Duration;
 use turns::{Plan, Waiter};
-
-/// The names of the kinds of line.
-static KINDS: [&str; 3] = ["ring", "link", "ticket"];
 
 fn main(rt: HostRuntime) -> anyhow::Result<()> {
     let alloc = rt.alloc();
@@ -79,7 +76,7 @@ fn command<'a>(alloc: Global) -> Result<Command<'a>, AllocError> {
 /// The command with an option that names the kind of line.
 fn with_kind<'a>(alloc: Global, command: Command<'a>) -> Result<Command<'a>, AllocError> {
     let help = "The kind of line: a ring, where the words name none, a list, or a ticket line";
-    command.arg(argument(alloc, "kind", "KIND", help)?.value_parser(KINDS.as_slice()))
+    command.arg(argument(alloc, "kind", "KIND", help)?.value_parser(NAMES.as_slice()))
 }
 
 /// The command with an option that takes a number of at least 1.
@@ -122,9 +119,8 @@ fn plan_of(matches: &ArgMatches, micros: u64) -> Plan {
 
 /// The line that they name: a ring where they name none.
 fn kind_of(matches: &ArgMatches) -> Lines {
-    match matches.get_str("kind") {
-        Some("link") => Lines::Link,
-        Some("ticket") => Lines::Ticket,
-        _ => Lines::Ring,
-    }
+    matches
+        .get_str("kind")
+        .and_then(Lines::named)
+        .unwrap_or(Lines::Ring)
 }

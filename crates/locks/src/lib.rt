@@ -1,11 +1,10 @@
 //! The locks that there are: the one place where a lock is registered.
 #![tactic(auto)]
 
-ghost use Rattle.locks.specs.declared.Lines.{Lines};
-ghost use Rattle.locks.specs.declared.Lines.TheVariants.{Ring, Link, Ticket};
+ghost use Rattle.std.specs.Prelude.{◌≡◌};
+ghost use Rattle.locks.specs.Names.{lock_named};
 
 pub use link_line::LinkLine;
-use qolb_model::{Keep, OpenLine};
 pub use ring_line::RingLine;
 pub use ticket_line::TicketLine;
 
@@ -23,54 +22,26 @@ pub enum Lines {
 /// Each lock that there is.
 pub static ALL: [Lines; 3] = [Lines::Ring, Lines::Link, Lines::Ticket];
 
-/// A line type that has a name here.
-pub trait Lock<K: Keep>: OpenLine<K> {
-    /// Its name.
-    ghost lock: { Lines };
-}
+/// The locks' names on command lines, in the order of `ALL`.
+pub static NAMES: [&str; 3] = ["ring", "link", "ticket"];
 
-impl<K: Keep> Lock<K> for RingLine<K> {
-    ghost lock = { Ring };
-}
-
-impl<K: Keep> Lock<K> for LinkLine<K> {
-    ghost lock = { Link };
-}
-
-impl<K: Keep> Lock<K> for TicketLine<K> {
-    ghost lock = { Ticket };
-}
-
-/// What is done over lines of one type, whichever it is.
-pub trait OverLines<K: Keep> {
-    /// What comes of it.
-    type Back;
-
-    /// This may come of it over lines of this name.
-    ghost done: { Self → Lines → Self.Back → Type 0 };
-
-    /// Does it, over lines of the type `L`.
-    fn over<L: Lock<K> + Drop>(self) -> Self::Back
-    where
-        L::Port: Drop,
-        ensures { done self L.lock result };
-}
-
-/// Does it over the lines that are named.
-pub fn over_lines<K: Keep, D: OverLines<K>>(lines: Lines, work: D) -> D::Back
-    ensures { D.done work lines result }
-{
-    match lines {
-        Lines::Ring => work.over::<RingLine<K>>(),
-        Lines::Link => work.over::<LinkLine<K>>(),
-        Lines::Ticket => work.over::<TicketLine<K>>(),
+impl Lines {
+    /// The lock of this name, if there is one.
+    pub fn named(name: &str) -> Option<Lines>
+        ensures { result ≡ lock_named name.now }
+    {
+        match name {
+            "ring" => Some(Lines::Ring),
+            "link" => Some(Lines::Link),
+            "ticket" => Some(Lines::Ticket),
+            _ => None,
+        }
     }
 }
 
 /// Calls a function over the lines that are named: its last type parameters are their types, one for each law.
 ///
-/// `over_named!(lines, f, [R], [Free], (a, b))` is `f::<R, RingLine<Free>>(a, b)` where rings are named. It is for work that starts threads:
-/// a method with a type parameter of its own can send nothing of that type to a thread, so such work is no `OverLines`.
+/// `over_named!(lines, f, [R], [Free], (a, b))` is `f::<R, RingLine<Free>>(a, b)` where rings are named.
 #[macro_export]
 macro_rules! over_named {
     ($lines:expr, $work:ident, [$($other:ty),*], [$($law:ty),*], $given:tt) => {

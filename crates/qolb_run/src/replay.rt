@@ -17,7 +17,7 @@ use crate::input::{InputError, read_input};
 use crate::line::ReplayLine;
 use crate::tally::TalliedLine;
 use line_lanes::Line64;
-use locks::{Lines, Lock, OverLines, over_lines};
+use locks::{Lines, over_named};
 use qolb_model::{Free, OpenLine, PlainLine, Terms};
 use qolb_script::{Fault, Schedule, ScriptError, Watched, push_said, read_schedule};
 use std::alloc::{AllocError, Allocator, Global};
@@ -155,14 +155,7 @@ pub fn run_schedule<R: Read, W: Write>(
     let input = read_input(alloc, reader)?;
     let text = match kind.shared() {
         None => answered_plainly(&alloc, input.as_slice())?,
-        Some(lines) => over_lines(
-            lines,
-            Answering {
-                alloc: &alloc,
-                shared: alloc,
-                input: input.as_slice(),
-            },
-        )?,
+        Some(lines) => answered_by(lines, &alloc, input.as_slice())?,
     };
     writer.write_all(text.as_slice())?;
     Ok(())
@@ -231,25 +224,22 @@ where
     Ok(reply(alloc, &schedule, lines)?)
 }
 
-/// Answers this input over lines of some type, which lie in memory of `shared`.
-#[derive(Drop)]
-struct Answering<'a, 'b, A: Allocator> {
-    alloc: &'a A,
-    shared: Global,
-    input: &'b [u8],
-}
-
-impl<'a, A: Allocator> OverLines<Free> for Answering<'a, '_, A> {
-    type Back = Result<Vec<u8, &'a A>, ReplayError>;
-
-    ghost done = { λ work _ result. (IfOk result (λ text. reply_to work.input.now ≡ Ok text.items)) × (IfErr result (HasNoReply work.input.now)) };
-
-    fn over<L: Lock<Free> + Drop>(self) -> Result<Vec<u8, &'a A>, ReplayError>
-    where
-        L::Port: Drop,
-    {
-        answered_over::<A, L>(self.alloc, self.shared, self.input)
-    }
+/// The reply of the schedule that the input is, by lines of this name.
+fn answered_by<'a>(
+    lines: Lines,
+    alloc: &'a Global,
+    input: &[u8],
+) -> Result<Vec<u8, &'a Global>, ReplayError>
+    ensures ok { IfOk result (λ text. reply_to input.now ≡ Ok text.items) }
+    ensures refused { IfErr result (HasNoReply input.now) }
+{
+    over_named!(
+        lines,
+        answered_over,
+        [Global],
+        [Free],
+        (alloc, *alloc, input)
+    )
 }
 
 /// The reply of a schedule, by these lines, of which nothing was said yet.
