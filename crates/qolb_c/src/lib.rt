@@ -34,6 +34,20 @@ pub struct Bytes {
 /// The version of the library: 10,000 for each major version, 100 for each minor one. The header has it too, as `QOLB_VERSION`.
 const VERSION: u32 = 10_200;
 
+/// Takes the node out of its handle, calls it, puts it back, and gives the answer's number. An empty handle is misuse.
+macro_rules! told {
+    ($node:ident, $alloc:ident, $taken:ident => $call:expr) => {
+        match $node.take($alloc) {
+            None => Answer::Misuse.number(),
+            Some(mut $taken) => {
+                let answer = $call;
+                $node.put($taken);
+                answer.number()
+            }
+        }
+    };
+}
+
 /// Opens a line of this kind (0 a ring, 1 a list, 2 a ticket line) with the bytes of `opening`, and puts its nodes into the first of these
 /// handles. The line closes at the turn that is the lease's last; with a lease of 2^64 - 1 it has none.
 #[unsafe(no_mangle)]
@@ -63,14 +77,7 @@ pub extern "C" fn qolb_open(
 pub extern "C" fn qolb_enqolb(alloc: Global, node: &mut Handle) -> u32
     ensures { Calls Enqolbs node.old.held node.new.held result }
 {
-    match node.take(alloc) {
-        None => Answer::Misuse.number(),
-        Some(mut taken) => {
-            let answer = taken.enqolb();
-            node.put(taken);
-            answer.number()
-        }
-    }
+    told!(node, alloc, taken => taken.enqolb())
 }
 
 /// Looks whether the request has come to its turn.
@@ -78,14 +85,7 @@ pub extern "C" fn qolb_enqolb(alloc: Global, node: &mut Handle) -> u32
 pub extern "C" fn qolb_poll(alloc: Global, node: &mut Handle) -> u32
     ensures { Calls Polls node.old.held node.new.held result }
 {
-    match node.take(alloc) {
-        None => Answer::Misuse.number(),
-        Some(mut taken) => {
-            let answer = taken.poll();
-            node.put(taken);
-            answer.number()
-        }
-    }
+    told!(node, alloc, taken => taken.poll())
 }
 
 /// Looks at most so many times whether the request has come to its turn, with a pause between two.
@@ -93,14 +93,7 @@ pub extern "C" fn qolb_poll(alloc: Global, node: &mut Handle) -> u32
 pub extern "C" fn qolb_wait(alloc: Global, node: &mut Handle, polls: u64) -> u32
     ensures { Calls (Waits polls) node.old.held node.new.held result }
 {
-    match node.take(alloc) {
-        None => Answer::Misuse.number(),
-        Some(mut taken) => {
-            let answer = taken.wait(polls);
-            node.put(taken);
-            answer.number()
-        }
-    }
+    told!(node, alloc, taken => taken.wait(polls))
 }
 
 /// The first half of asking, of a list alone: makes a request, and leaves it to be linked to the one before.
@@ -108,14 +101,7 @@ pub extern "C" fn qolb_wait(alloc: Global, node: &mut Handle, polls: u64) -> u32
 pub extern "C" fn qolb_prepend(alloc: Global, node: &mut Handle) -> u32
     ensures { Calls Prepends node.old.held node.new.held result }
 {
-    match node.take(alloc) {
-        None => Answer::Misuse.number(),
-        Some(mut taken) => {
-            let answer = taken.prepend();
-            node.put(taken);
-            answer.number()
-        }
-    }
+    told!(node, alloc, taken => taken.prepend())
 }
 
 /// The second half of asking, of a list alone: links the request to the one before.
@@ -123,14 +109,7 @@ pub extern "C" fn qolb_prepend(alloc: Global, node: &mut Handle) -> u32
 pub extern "C" fn qolb_link(alloc: Global, node: &mut Handle) -> u32
     ensures { Calls LinksUp node.old.held node.new.held result }
 {
-    match node.take(alloc) {
-        None => Answer::Misuse.number(),
-        Some(mut taken) => {
-            let answer = taken.link();
-            node.put(taken);
-            answer.number()
-        }
-    }
+    told!(node, alloc, taken => taken.link())
 }
 
 /// Gives the request up, unless it has come to its turn.
@@ -138,14 +117,7 @@ pub extern "C" fn qolb_link(alloc: Global, node: &mut Handle) -> u32
 pub extern "C" fn qolb_withdraw(alloc: Global, node: &mut Handle) -> u32
     ensures { Calls Withdraws node.old.held node.new.held result }
 {
-    match node.take(alloc) {
-        None => Answer::Misuse.number(),
-        Some(mut taken) => {
-            let answer = taken.withdraw();
-            node.put(taken);
-            answer.number()
-        }
-    }
+    told!(node, alloc, taken => taken.withdraw())
 }
 
 /// The holder reads the line.
@@ -169,15 +141,8 @@ pub extern "C" fn qolb_read(alloc: Global, node: &mut Handle, out: &mut Bytes) -
 pub extern "C" fn qolb_write(alloc: Global, node: &mut Handle, mask: u64, bytes: &Bytes) -> u32
     ensures { Calls (Writes mask bytes.now.bytes) node.old.held node.new.held result }
 {
-    match node.take(alloc) {
-        None => Answer::Misuse.number(),
-        Some(mut taken) => {
-            let line = Line64 { bytes: bytes.bytes };
-            let answer = taken.write(Mask(mask), &line);
-            node.put(taken);
-            answer.number()
-        }
-    }
+    let line = Line64 { bytes: bytes.bytes };
+    told!(node, alloc, taken => taken.write(Mask(mask), &line))
 }
 
 /// The holder reads one of the eight lanes.
@@ -201,14 +166,7 @@ pub extern "C" fn qolb_read_lane(alloc: Global, node: &mut Handle, lane: u64, ou
 pub extern "C" fn qolb_write_lane(alloc: Global, node: &mut Handle, lane: u64, value: u64) -> u32
     ensures { Calls (WritesLane lane value) node.old.held node.new.held result }
 {
-    match node.take(alloc) {
-        None => Answer::Misuse.number(),
-        Some(mut taken) => {
-            let answer = taken.write_lane(lane, value);
-            node.put(taken);
-            answer.number()
-        }
-    }
+    told!(node, alloc, taken => taken.write_lane(lane, value))
 }
 
 /// How many turns are left of the line's lease, with the holder's own: 2^64 - 1 without a lease; 0 where the node does not hold the line.
@@ -232,14 +190,7 @@ pub extern "C" fn qolb_turns_left(alloc: Global, node: &mut Handle) -> u64
 pub extern "C" fn qolb_deqolb(alloc: Global, node: &mut Handle) -> u32
     ensures { Calls (Releases false) node.old.held node.new.held result }
 {
-    match node.take(alloc) {
-        None => Answer::Misuse.number(),
-        Some(mut taken) => {
-            let answer = taken.deqolb();
-            node.put(taken);
-            answer.number()
-        }
-    }
+    told!(node, alloc, taken => taken.deqolb())
 }
 
 /// Releases the line, and closes it.
@@ -247,14 +198,7 @@ pub extern "C" fn qolb_deqolb(alloc: Global, node: &mut Handle) -> u32
 pub extern "C" fn qolb_shut(alloc: Global, node: &mut Handle) -> u32
     ensures { Calls (Releases true) node.old.held node.new.held result }
 {
-    match node.take(alloc) {
-        None => Answer::Misuse.number(),
-        Some(mut taken) => {
-            let answer = taken.shut();
-            node.put(taken);
-            answer.number()
-        }
-    }
+    told!(node, alloc, taken => taken.shut())
 }
 
 /// Lets go of a node that neither waits nor holds. The last one of a line frees the line.
