@@ -1,5 +1,5 @@
 -- A waiting node reads its cell: the line has come, or it waits on.
-use Rattle.std.proofs.Common.{◌≡◌, ◌≢◌, ℕ, ◌%◌, ◌^◌, Bool, true, false, List, [], ◌∷◌, length, set, slice_index, sym, refl, ap, subst, arith}
+use Rattle.std.proofs.Common.{◌≡◌, ◌≢◌, ℕ, ◌%◌, ◌^◌, Bool, true, false, Option, List, [], ◌∷◌, length, set, slice_index, sym, refl, ap, subst, arith}
 use mathlib.Core.Logic.{dite}
 use mathlib.Core.Option.{none, some}
 use native.Mathlib.Decide.{ℕ_discrete}
@@ -13,7 +13,7 @@ use Rattle.shared_line.specs.declared.rule.Setup.{Setup}
 use Rattle.shared_line.specs.declared.rule.Parcel.{Parcel}
 use Rattle.shared_line.specs.Slots.{Slots}
 use Rattle.shared_line.specs.Steps.{Looked}
-use Rattle.array_line.specs.Stances.{fresh, rests, holding, refused}
+use Rattle.array_line.specs.Stances.{phases}
 use Rattle.array_line.specs.Words.{cell_at, cells_in, cell_of}
 use Rattle.array_line.specs.Berths.{Berths}
 use Rattle.array_line.specs.Array.{ArrayEntry, ArrayState, Cells, NodeOk, ArrayRule, has_line, lets_go, is_kept}
@@ -87,11 +87,11 @@ module _ (cells : Cells) (berths : Berths) (good : List ℕ → Type 0) (allows 
         )))
 
     -- what a look finds that is told by a mark and the lower half of the word
-    pub looks_next : (brings : ℕ → Parcel → Slots → Type 0) (may_come : ℕ → ℕ → Bool) (mark : ℕ) → mark ≡ mark_of v.own.place
+    pub looks_next : (brings : ℕ → Parcel → Slots → Type 0) (kept : ℕ → Option ℕ → Slots → Type 0) (laid : ℕ → Parcel → Slots → Type 0) (may_come : ℕ → ℕ → Bool) (mark : ℕ) → mark ≡ mark_of v.own.place
         → ((found : ℕ) → may_come mark (found % 2 ^ 32) ≡ false → waits v.own.place found) → ((found : ℕ) → may_come mark (found % 2 ^ 32) ≡ true → comes_to v.own.place found)
         → ((y : Parcel) (k : Slots) → berths.brings v.own.place y k → brings mark y k)
-        → (me slots i : ℕ) → i ≡ cell_at (cell_of v.own.place) → Allows Rule slots me (v ∷ [], []) i (λ n. n) (Looked fresh (rests mark_of) (holding mark_of) (refused mark_of) brings may_come mark)
-    looks_next brings may_come mark is not_yet now brought_so me slots i word s r deep at small = let a = loads_next me slots i (v ∷ [], []) refl word s r deep at small in (
+        → (me slots i : ℕ) → i ≡ cell_at (cell_of v.own.place) → Allows Rule slots me (v ∷ [], []) i (λ n. n) (Looked (phases mark_of brings kept laid) may_come mark)
+    looks_next brings kept laid may_come mark is not_yet now brought_so me slots i word s r deep at small = let a = loads_next me slots i (v ∷ [], []) refl word s r deep at small in (
       a.0,
       a.1,
       a.2,

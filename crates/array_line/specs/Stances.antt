@@ -1,11 +1,13 @@
 -- Where a node stands between its calls, by what its port shows, and how many word steps a call takes.
-use Rattle.std.specs.Prelude.{◌≡◌, ◌≢◌, ℕ, ◌+◌, ◌*◌, [], length}
+use Rattle.std.specs.Prelude.{◌≡◌, ◌≢◌, ℕ, ◌+◌, ◌*◌, [], length, Option}
 use Rattle.qolb_model.specs.declared.answer.PortState.{PortState}
 use Rattle.qolb_model.specs.declared.answer.PortState.TheVariants as shows
 use Rattle.qolb_model.specs.declared.answer.Enq.{Enq}
 use Rattle.qolb_model.specs.declared.answer.Enq.TheVariants as enq
 use Rattle.qolb_model.specs.declared.view.View.{View}
 use Rattle.shared_line.specs.declared.rule.Parcel.{Parcel}
+use Rattle.shared_line.specs.Slots.{Slots}
+use Rattle.shared_line.specs.Phases.{Phases}
 use Rattle.array_line.specs.Words.{cell_at, cell_of}
 use Rattle.array_line.specs.declared.own.Point.TheVariants.{Idle, Queued, Holding, Rolled}
 use Rattle.array_line.specs.declared.own.Own.{Own}
@@ -37,6 +39,10 @@ module _ (mark_of : ℕ → ℕ) where
   -- a closed line comes to a node as an open one does
   abbrev pub refused : ℕ → View → Own → Parcel → Type 0
   refused mark view own y = holding mark (length view.ends) own
+
+  -- and all that, with what slots a node has in hand
+  abbrev pub phases : (ℕ → Parcel → Slots → Type 0) → (ℕ → Option ℕ → Slots → Type 0) → (ℕ → Parcel → Slots → Type 0) → Phases Own
+  phases brings keeps lays = record { fresh = fresh; rests = rests; holding = holding; refused = refused; brings = brings; keeps = keeps; lays = lays }
 
   -- the word of the turn is the cell of the mark of the place at its turn
   abbrev pub turn_word : View → ℕ

@@ -12,6 +12,8 @@ use Rattle.qolb_model.specs.Histories.{turn_of}
 use Rattle.link_core.specs.declared.point.Point.TheVariants.{Idle, Linking, Queued, Holding, Leaving, Left, Rolled, Shut}
 use Rattle.link_core.specs.State.{unused}
 use Rattle.shared_line.specs.declared.rule.Parcel.{Parcel}
+use Rattle.shared_line.specs.Slots.{lies_alone, kept_alone}
+use Rattle.shared_line.specs.Phases.{Phases}
 use Rattle.link_line.specs.declared.own.LinkOwn.{LinkOwn}
 use Rattle.link_line.specs.Known.{no_line}
 use Rattle.link_line.specs.Words.{home_at, entry_at}
@@ -37,6 +39,10 @@ holding mark ended own = (own.seat.point ≡ Holding) × (own.passed ≡ [])
 -- a node to which this closed line came is in a release of it at once
 abbrev pub refused : ℕ → View → LinkOwn → Parcel → Type 0
 refused mark view own y = (own.seat.point ≡ Leaving view.node) × (own.line ≡ y) × (own.passed ≡ [])
+
+-- all that, and the one slot of all turns
+abbrev pub phases : Phases LinkOwn
+phases = record { fresh = fresh; rests = rests; holding = holding; refused = refused; brings = lies_alone; keeps = kept_alone; lays = lies_alone }
 
 -- a node waits at its own entry, once it is linked to the one before
 abbrev pub waits_at : ℕ → ℕ → ℕ

@@ -28,7 +28,7 @@ use Rattle.link_line.specs.Known.{Known}
 use Rattle.link_line.specs.declared.own.LinkOwn.{LinkOwn}
 use Rattle.link_line.specs.Words.{home_at, entry_at, word_count, is_granted, is_rolled, is_done, is_freed, link_of}
 use Rattle.link_line.specs.Links.{At}
-use Rattle.link_line.specs.Stances.{fresh, rests, holding, refused, turn_word}
+use Rattle.link_line.specs.Stances.{fresh, rests, holding, refused, phases, turn_word}
 
 -- The words of `shared_line`, for the nodes of a list. Where a port's mark means nothing, they hold of any.
 
@@ -57,7 +57,7 @@ abbrev pub GoesOn : (List ℕ → List ℕ → Type 0) → Contents → Contents
 GoesOn allows old new steps = shared.GoesOn allows fresh old new steps
 
 abbrev pub Rests : PortState → ℕ → LinkSeat → Type 0
-Rests state mark s = shared.Rests fresh rests state mark s
+Rests state mark s = shared.Rests phases state mark s
 
 -- the request has not come to its turn, and is not withdrawn
 abbrev pub IsEarly : Known → Type 0

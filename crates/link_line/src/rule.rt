@@ -1,6 +1,5 @@
 //! The queue of a list: how its nodes stand, and its rule.
 ghost use Rattle.link_line.specs.Laws.Standing as standing;
-ghost use Rattle.shared_line.specs.Slots.{lies_alone, kept_alone};
 ghost use Rattle.link_line.specs.Stances as stances;
 ghost use Rattle.link_line.specs.Words as layout;
 
@@ -21,19 +20,7 @@ pub struct Links;
 impl Shape for Links {
     type Own = LinkOwn;
 
-    ghost fresh = { stances.fresh };
-
-    ghost rests = { stances.rests };
-
-    ghost holding = { stances.holding };
-
-    ghost refused = { stances.refused };
-
-    ghost brings = { lies_alone };
-
-    ghost keeps = { kept_alone };
-
-    ghost lays = { lies_alone };
+    ghost phases = { stances.phases };
 
     ghost waits_at = { stances.waits_at };
 

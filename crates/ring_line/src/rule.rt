@@ -21,19 +21,7 @@ pub struct Ring;
 impl Shape for Ring {
     type Own = Own;
 
-    ghost fresh = { stances.fresh };
-
-    ghost rests = { stances.rests cell_of };
-
-    ghost holding = { stances.holding cell_of };
-
-    ghost refused = { stances.refused cell_of };
-
-    ghost brings = { lies_alone };
-
-    ghost keeps = { kept_alone };
-
-    ghost lays = { lies_alone };
+    ghost phases = { stances.phases cell_of lies_alone kept_alone lies_alone };
 
     ghost waits_at = { stances.waits_at };
 

@@ -7,15 +7,15 @@ use Rattle.qolb_model.proofs.Going.{continues_sound, sound_goes}
 use Rattle.shared_line.specs.declared.rule.Parcel.{Parcel}
 use Rattle.shared_line.specs.declared.rule.Setup.{Setup}
 use Rattle.shared_line.specs.Entries.{LineSeat}
-use Rattle.shared_line.specs.Slots.{Slots}
+use Rattle.shared_line.specs.Phases.{Phases}
 use Rattle.shared_line.specs.Steps.{entry_of, Went}
 use Rattle.shared_line.specs.Ports.{IsPort, IsPassedOn, IsSeated}
 
 -- its fields are as they are between calls
-pub passed_port : {O : Type 0} {allows : List ℕ → List ℕ → Type 0} {fresh : O} {rests : PortState → ℕ → O → Type 0} {holding : ℕ → ℕ → O → Type 0} {keeps : ℕ → Option ℕ → Slots → Type 0} {s t : LineSeat O} {n : ℕ} (label node mark : ℕ) (z : Parcel) (state : PortState)
-    → (entry_of fresh s).view.label ≡ label → (entry_of fresh s).view.node ≡ node → Went allows fresh s t n → IsPassedOn fresh rests t state × (state ≢ shows.Holding)
-    → IsPort fresh rests holding keeps label node t z mark state
-passed_port {fresh = fresh} {t = t} label node mark z state label_is node_is went told = let r = told.0.0 mark in record {
+pub passed_port : {O : Type 0} {allows : List ℕ → List ℕ → Type 0} {q : Phases O} {s t : LineSeat O} {n : ℕ} (label node mark : ℕ) (z : Parcel) (state : PortState)
+    → (entry_of q.fresh s).view.label ≡ label → (entry_of q.fresh s).view.node ≡ node → Went allows q.fresh s t n → IsPassedOn q t state × (state ≢ shows.Holding)
+    → IsPort q label node t z mark state
+passed_port {t = t} label node mark z state label_is node_is went told = let r = told.0.0 mark in record {
   alone = went.goes.alone;
   rests_so = λ not. (r.stands, r.slot);
   holds_so = λ is. absurd (told.1 is);

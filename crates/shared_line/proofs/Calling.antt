@@ -25,7 +25,7 @@ use Rattle.shared_line.specs.declared.queue.Asked.TheVariants as asked
 use Rattle.shared_line.specs.declared.rule.Parcel.{Parcel}
 use Rattle.shared_line.specs.declared.rule.Setup.{Setup}
 use Rattle.shared_line.specs.Entries.{LineSeat}
-use Rattle.shared_line.specs.Slots.{Slots}
+use Rattle.shared_line.specs.Phases.{Phases}
 use Rattle.shared_line.specs.Steps.{SameSeat, entry_of, sole, HasLine, write_of, own_end, Carries, Went}
 use Rattle.shared_line.specs.Ports.{Standing, standing, Holds, IsPort, BelongsTo, IsSeated, IsPutBack}
 use Rattle.shared_line.proofs.Letting.{carries_served, holds_written}
@@ -81,21 +81,21 @@ module _ {O : Type 0} (fresh : O) {p : Standing} (s : LineSeat O) (y : Parcel) (
   call_links_on {v = v} {w = w} links more same = call_links (record { count = same ∙ links.count; joined = joined_goes v w links.joined more same })
 
 -- a port between calls
-module _ {O : Type 0} {fresh : O} {rests : PortState → ℕ → O → Type 0} {holding : ℕ → ℕ → O → Type 0} {keeps : ℕ → Option ℕ → Slots → Type 0} {label node : ℕ} {p : Standing} (s : LineSeat O) (y : Parcel) (mark steps looks : ℕ) (state : PortState) (between : IsPort fresh rests holding keeps label node s y mark state) (is : standing fresh s y steps looks ≡ p) where
+module _ {O : Type 0} {q : Phases O} {label node : ℕ} {p : Standing} (s : LineSeat O) (y : Parcel) (mark steps looks : ℕ) (state : PortState) (between : IsPort q label node s y mark state) (is : standing q.fresh s y steps looks ≡ p) where
   -- the state that it shows is its own
   pub own_state : p.view.state ≡ state
   own_state = ap (λ (x : Standing). x.view.state) (sym is) ∙ between.shows_state
 
-  pub holds_of : p.view.state ≡ shows.Holding → Holds fresh holding keeps s y mark
+  pub holds_of : p.view.state ≡ shows.Holding → Holds q s y mark
   holds_of held = between.holds_so (sym own_state ∙ held)
 
   -- it writes
   pub written_port : (z : Parcel) (mask : ℕ) (bytes : List ℕ) → p.view.state ≡ shows.Holding → z.bytes.bytes ≡ merged y.bytes.bytes bytes mask → z.mask.0 ≡ bit_or y.mask.0 mask → z.turns_left ≡ y.turns_left
-      → IsPort fresh rests holding keeps label node s z mark state
+      → IsPort q label node s z mark state
   written_port z mask bytes held b m c = record {
     alone = between.alone;
     rests_so = between.rests_so;
-    holds_so = λ e. holds_written fresh holding keeps s y z mark mask bytes (between.holds_so e) b m c;
+    holds_so = λ e. holds_written q s y z mark mask bytes (between.holds_so e) b m c;
     shows_state = between.shows_state;
     label_is = between.label_is;
     node_is = between.node_is;
@@ -103,53 +103,53 @@ module _ {O : Type 0} {fresh : O} {rests : PortState → ℕ → O → Type 0} {
 
   -- a holder's turns: the line is put back into it, closed or not
   module _ {good : List ℕ → Type 0} {allows : List ℕ → List ℕ → Type 0} {key : Setup} {table_id : TableId} (b : BelongsTo good allows key table_id p) (held : p.view.state ≡ shows.Holding)
-      (shut closed : Bool) (is_shut : closed ≡ (shut || is_one y.turns_left)) (u : LineSeat O) (same : SameSeat s u) (entries : u.me.0 ≡ s.me.0) (lays : ℕ → Parcel → Slots → Type 0) (back : (z : Parcel) × lays mark z u.me.1 × IsPutBack y closed z) where
-    its : Holds fresh holding keeps s y mark
+      (shut closed : Bool) (is_shut : closed ≡ (shut || is_one y.turns_left)) (u : LineSeat O) (same : SameSeat s u) (entries : u.me.0 ≡ s.me.0) (back : (z : Parcel) × q.lays mark z u.me.1 × IsPutBack y closed z) where
+    its : Holds q s y mark
     its = holds_of held
 
-    entry : entry_of fresh u ≡ entry_of fresh s
-    entry = ap (sole fresh) entries
+    entry : entry_of q.fresh u ≡ entry_of q.fresh s
+    entry = ap (sole q.fresh) entries
 
-    pub put_closes : closed ≡ closes (entry_of fresh s).view.terms.lease (entry_of fresh s).view.ends shut
-    put_closes = is_shut ∙ ap (λ b. shut || b) (ap is_one its.turns ∙ last-is_one (entry_of fresh s).view.terms.lease (entry_of fresh s).view.ends)
+    pub put_closes : closed ≡ closes (entry_of q.fresh s).view.terms.lease (entry_of q.fresh s).view.ends shut
+    put_closes = is_shut ∙ ap (λ b. shut || b) (ap is_one its.turns ∙ last-is_one (entry_of q.fresh s).view.terms.lease (entry_of q.fresh s).view.ends)
 
-    pub put_has : {refused : ℕ → View → O → Parcel → Type 0} (z : Parcel) → HasLine holding refused mark (entry_of fresh u) z
-    put_has {refused = refused} z = subst (λ e. HasLine holding refused mark e z) (sym entry) (record { holds = λ _. its.at; refuses = λ shut. let e : true ≡ false = sym shut ∙ its.is_open in absurd (cc e) })
+    pub put_has : (z : Parcel) → HasLine q.holding q.refused mark (entry_of q.fresh u) z
+    put_has z = subst (λ e. HasLine q.holding q.refused mark e z) (sym entry) (record { holds = λ _. its.at; refuses = λ shut. let e : true ≡ false = sym shut ∙ its.is_open in absurd (cc e) })
 
-    pub put_carries : {refused : ℕ → View → O → Parcel → Type 0} → MayRelease allows p.view p.turn → (z : Parcel) × lays mark z u.me.1 × HasLine holding refused mark (entry_of fresh u) z × Carries allows (entry_of fresh u).view z × (z.closed ≡ closed)
+    pub put_carries : MayRelease allows p.view p.turn → (z : Parcel) × q.lays mark z u.me.1 × HasLine q.holding q.refused mark (entry_of q.fresh u) z × Carries allows (entry_of q.fresh u).view z × (z.closed ≡ closed)
     put_carries may = (
       back.0,
       back.1,
       put_has back.0,
       subst (λ e. Carries allows e.view back.0) (sym entry)
-          (carries_served allows (entry_of fresh s).view y back.0 shut its.is_open its.turns its.merged (subst (λ (x : Standing). MayRelease allows x.view x.turn) (sym is) may) (subst (λ c. IsPutBack y c back.0) put_closes back.2)),
+          (carries_served allows (entry_of q.fresh s).view y back.0 shut its.is_open its.turns its.merged (subst (λ (x : Standing). MayRelease allows x.view x.turn) (sym is) may) (subst (λ c. IsPutBack y c back.0) put_closes back.2)),
       back.2.closed_is,
     )
 
     -- and let go
-    pub let_go_releases : {t : LineSeat O} {n : ℕ} → Went allows fresh s t n → EndsTurn (entry_of fresh u).view (own_end (is_closed (entry_of fresh u).view.ends) back.0) (left_by back.0.closed) (entry_of fresh t).view → Releases allows shut p.view (entry_of fresh t).view p.turn
+    pub let_go_releases : {t : LineSeat O} {n : ℕ} → Went allows q.fresh s t n → EndsTurn (entry_of q.fresh u).view (own_end (is_closed (entry_of q.fresh u).view.ends) back.0) (left_by back.0.closed) (entry_of q.fresh t).view → Releases allows shut p.view (entry_of q.fresh t).view p.turn
     let_go_releases {t = t} w l = record {
       continues = c;
       ends_turn = ends;
       bytes = (λ i. bytes_after (c.extends.terms i).opening.bytes (ends.ends i)) ∙ (bytes_after-release p.view.terms.opening.bytes p.view.ends p.turn (closes p.view.terms.lease p.view.ends shut) ends.passed ∙ merged_now);
     }
       where
-        c : Continues allows p.view (entry_of fresh t).view
+        c : Continues allows p.view (entry_of q.fresh t).view
         c = call_continues s y steps looks b is w
 
         merged_now : written (bytes_of p.view) p.turn ≡ p.turn.bytes.bytes
         merged_now = subst (λ (x : Standing). written (bytes_of x.view) x.turn ≡ x.turn.bytes.bytes) is its.merged
 
-        here : EndsTurn (entry_of fresh s).view (own_end (is_closed (entry_of fresh s).view.ends) back.0) (left_by back.0.closed) (entry_of fresh t).view
-        here = subst (λ e. EndsTurn e.view (own_end (is_closed e.view.ends) back.0) (left_by back.0.closed) (entry_of fresh t).view) entry l
+        here : EndsTurn (entry_of q.fresh s).view (own_end (is_closed (entry_of q.fresh s).view.ends) back.0) (left_by back.0.closed) (entry_of q.fresh t).view
+        here = subst (λ e. EndsTurn e.view (own_end (is_closed e.view.ends) back.0) (left_by back.0.closed) (entry_of q.fresh t).view) entry l
 
-        what : own_end (is_closed (entry_of fresh s).view.ends) back.0 ≡ Served (write_of y) (closes (entry_of fresh s).view.terms.lease (entry_of fresh s).view.ends shut)
+        what : own_end (is_closed (entry_of q.fresh s).view.ends) back.0 ≡ Served (write_of y) (closes (entry_of q.fresh s).view.terms.lease (entry_of q.fresh s).view.ends shut)
         what = ap (λ k. own_end k back.0) its.is_open ∙ (λ i. Served (record { mask = back.2.mask i; bytes = back.2.bytes i }) ((back.2.closed_is ∙ put_closes) i))
 
-        leaves : left_by back.0.closed ≡ left_by (closes (entry_of fresh s).view.terms.lease (entry_of fresh s).view.ends shut)
+        leaves : left_by back.0.closed ≡ left_by (closes (entry_of q.fresh s).view.terms.lease (entry_of q.fresh s).view.ends shut)
         leaves = ap left_by (back.2.closed_is ∙ put_closes)
 
-        ends : let closing = closes p.view.terms.lease p.view.ends shut in EndsTurn p.view (Served p.turn closing) (left_by closing) (entry_of fresh t).view
-        ends = subst (λ (x : Standing). EndsTurn x.view (Served x.turn (closes x.view.terms.lease x.view.ends shut)) (left_by (closes x.view.terms.lease x.view.ends shut)) (entry_of fresh t).view) is
-            (subst (λ e. EndsTurn (entry_of fresh s).view e (left_by (closes (entry_of fresh s).view.terms.lease (entry_of fresh s).view.ends shut)) (entry_of fresh t).view) what
-            (subst (λ k. EndsTurn (entry_of fresh s).view (own_end (is_closed (entry_of fresh s).view.ends) back.0) k (entry_of fresh t).view) leaves here))
+        ends : let closing = closes p.view.terms.lease p.view.ends shut in EndsTurn p.view (Served p.turn closing) (left_by closing) (entry_of q.fresh t).view
+        ends = subst (λ (x : Standing). EndsTurn x.view (Served x.turn (closes x.view.terms.lease x.view.ends shut)) (left_by (closes x.view.terms.lease x.view.ends shut)) (entry_of q.fresh t).view) is
+            (subst (λ e. EndsTurn (entry_of q.fresh s).view e (left_by (closes (entry_of q.fresh s).view.terms.lease (entry_of q.fresh s).view.ends shut)) (entry_of q.fresh t).view) what
+            (subst (λ k. EndsTurn (entry_of q.fresh s).view (own_end (is_closed (entry_of q.fresh s).view.ends) back.0) k (entry_of q.fresh t).view) leaves here))

@@ -11,7 +11,7 @@ use Rattle.qolb_model.specs.declared.answer.PortState.TheVariants as shows
 use Rattle.shared_line.specs.declared.rule.Parcel.{Parcel}
 use Rattle.shared_line.specs.declared.rule.Entry.{Entry}
 use Rattle.shared_line.specs.Entries.{LineSeat, AtRest}
-use Rattle.shared_line.specs.Slots.{Slots}
+use Rattle.shared_line.specs.Phases.{Phases}
 use Rattle.shared_line.specs.Steps.{entry_of}
 use Rattle.shared_line.specs.Ports.{Standing, standing, IsPort}
 use Rattle.shared_line.specs.Finish.{Gathers}
@@ -36,44 +36,44 @@ pub all_rest : {A : Type 0} (P : A → Type 0) (x : A) (xs : List A) → All P (
 all_rest P x xs h = λ k d l. h (suc k) d (omega arith)
 
 -- the entries of one seat
-module _ {O : Type 0} (fresh : O) (rests : PortState → ℕ → O → Type 0) (holding : ℕ → ℕ → O → Type 0) (keeps : ℕ → Option ℕ → Slots → Type 0) (label node : ℕ) (s : LineSeat O) (y : Parcel) (mark steps looks : ℕ) (state : PortState) (p : Standing) (is : standing fresh s y steps looks ≡ p) (ok : IsPort fresh rests holding keeps label node s y mark state) (quiet : may_ask p.view.state ≡ true) where
-  same_view : (entry_of fresh s).view ≡ p.view
-  same_view = ap (λ (q : Standing). q.view) is
+module _ {O : Type 0} (q : Phases O) (label node : ℕ) (s : LineSeat O) (y : Parcel) (mark steps looks : ℕ) (state : PortState) (p : Standing) (is : standing q.fresh s y steps looks ≡ p) (ok : IsPort q label node s y mark state) (quiet : may_ask p.view.state ≡ true) where
+  same_view : (entry_of q.fresh s).view ≡ p.view
+  same_view = ap (λ (o : Standing). o.view) is
 
   own_state : may_ask state ≡ true
   own_state = ap may_ask (sym ok.shows_state) ∙ (ap (λ (v : View). may_ask v.state) same_view ∙ quiet)
 
-  stands : rests state mark (entry_of fresh s).own × (s.me.1 ≡ [])
+  stands : q.rests state mark (entry_of q.fresh s).own × (s.me.1 ≡ [])
   stands = ok.rests_so (λ h. quiet_holds state own_state h)
 
   pub none_carried : s.me.1 ≡ []
   none_carried = stands.1
 
-  only_at_rest : (i : ℕ) (e : Entry O) → slice_get s.me.0 i ≡ Some e → AtRest rests e
-  only_at_rest i e at = subst (λ (x : Entry O). AtRest rests x) (at_one (entry_of fresh s) e i (subst (λ es. slice_get es i ≡ Some e) ok.alone at)) (state, mark, own_state, stands.0)
+  only_at_rest : (i : ℕ) (e : Entry O) → slice_get s.me.0 i ≡ Some e → AtRest q.rests e
+  only_at_rest i e at = subst (λ (x : Entry O). AtRest q.rests x) (at_one (entry_of q.fresh s) e i (subst (λ es. slice_get es i ≡ Some e) ok.alone at)) (state, mark, own_state, stands.0)
 
   -- the first seat
-  pub gathers_first : (table_id : TableId) (rest : List Standing) → All (λ (q : Standing). q.table ≡ table_id) (p ∷ rest) → All (λ (q : Standing). may_ask q.view.state ≡ true) (p ∷ rest)
-      → Gathers rests table_id (p ∷ rest) rest s
+  pub gathers_first : (table_id : TableId) (rest : List Standing) → All (λ (o : Standing). o.table ≡ table_id) (p ∷ rest) → All (λ (o : Standing). may_ask o.view.state ≡ true) (p ∷ rest)
+      → Gathers q.rests table_id (p ∷ rest) rest s
   gathers_first table_id rest tables quiets = record {
-    table = ap (λ (q : Standing). q.table) is ∙ all_first (λ (q : Standing). q.table ≡ table_id) p rest tables;
+    table = ap (λ (o : Standing). o.table) is ∙ all_first (λ (o : Standing). o.table ≡ table_id) p rest tables;
     views = ap (λ es. map (λ (e : Entry O). e.view) es ++ views rest) ok.alone ∙ ap (λ v. v ∷ views rest) same_view;
     at_rest = only_at_rest;
-    tables = all_rest (λ (q : Standing). q.table ≡ table_id) p rest tables;
-    quiet = all_rest (λ (q : Standing). may_ask q.view.state ≡ true) p rest quiets;
+    tables = all_rest (λ (o : Standing). o.table ≡ table_id) p rest tables;
+    quiet = all_rest (λ (o : Standing). may_ask o.view.state ≡ true) p rest quiets;
   }
 
   -- the same, of a list of ports with this one at its head
-  pub gathers_head : (table_id : TableId) (ports rest : List Standing) → ports ≡ p ∷ rest → All (λ (q : Standing). q.table ≡ table_id) ports → All (λ (q : Standing). may_ask q.view.state ≡ true) ports → Gathers rests table_id ports rest s
-  gathers_head table_id ports rest e tables quiets = subst (λ ps. Gathers rests table_id ps rest s) (sym e)
-      (gathers_first table_id rest (subst (All (λ (q : Standing). q.table ≡ table_id)) e tables) (subst (All (λ (q : Standing). may_ask q.view.state ≡ true)) e quiets))
+  pub gathers_head : (table_id : TableId) (ports rest : List Standing) → ports ≡ p ∷ rest → All (λ (o : Standing). o.table ≡ table_id) ports → All (λ (o : Standing). may_ask o.view.state ≡ true) ports → Gathers q.rests table_id ports rest s
+  gathers_head table_id ports rest e tables quiets = subst (λ ps. Gathers q.rests table_id ps rest s) (sym e)
+      (gathers_first table_id rest (subst (All (λ (o : Standing). o.table ≡ table_id)) e tables) (subst (All (λ (o : Standing). may_ask o.view.state ≡ true)) e quiets))
 
   -- the seat is of the same table
-  pub head_table : (table_id : TableId) (ports rest : List Standing) (whole : LineSeat O) (left : List Standing) → left ≡ p ∷ rest → Gathers rests table_id ports left whole → s.table_id ≡ table_id
-  head_table table_id ports rest whole left e h = ap (λ (q : Standing). q.table) is ∙ all_first (λ (q : Standing). q.table ≡ table_id) p rest (subst (All (λ (q : Standing). q.table ≡ table_id)) e h.tables)
+  pub head_table : (table_id : TableId) (ports rest : List Standing) (whole : LineSeat O) (left : List Standing) → left ≡ p ∷ rest → Gathers q.rests table_id ports left whole → s.table_id ≡ table_id
+  head_table table_id ports rest whole left e h = ap (λ (o : Standing). o.table) is ∙ all_first (λ (o : Standing). o.table ≡ table_id) p rest (subst (All (λ (o : Standing). o.table ≡ table_id)) e h.tables)
 
   -- a seat more
-  pub gathers_more : (table_id : TableId) (ports rest : List Standing) (old new : LineSeat O) → Gathers rests table_id ports (p ∷ rest) old → new.table_id ≡ old.table_id → new.me ≡ (old.me.0 ++ s.me.0, old.me.1) → Gathers rests table_id ports rest new
+  pub gathers_more : (table_id : TableId) (ports rest : List Standing) (old new : LineSeat O) → Gathers q.rests table_id ports (p ∷ rest) old → new.table_id ≡ old.table_id → new.me ≡ (old.me.0 ++ s.me.0, old.me.1) → Gathers q.rests table_id ports rest new
   gathers_more table_id ports rest old new h t m = record {
     table = t ∙ h.table;
     views =
@@ -83,14 +83,14 @@ module _ {O : Type 0} (fresh : O) (rests : PortState → ℕ → O → Type 0) (
         ∙ ap (λ v. map (λ (e : Entry O). e.view) old.me.0 ++ (v ∷ views rest)) same_view
         ∙ h.views;
     at_rest = λ i e at. ⊎_elim (λ z. h.at_rest i e z) (λ z. only_at_rest z.0 e z.2) (at_either old.me.0 s.me.0 i e (subst (λ z. slice_get z.0 i ≡ Some e) m at));
-    tables = all_rest (λ (q : Standing). q.table ≡ table_id) p rest h.tables;
-    quiet = all_rest (λ (q : Standing). may_ask q.view.state ≡ true) p rest h.quiet;
+    tables = all_rest (λ (o : Standing). o.table ≡ table_id) p rest h.tables;
+    quiet = all_rest (λ (o : Standing). may_ask o.view.state ≡ true) p rest h.quiet;
   }
 
 -- the first seat, as the iterator over the ports gives it
-pub gathers_start : {O : Type 0} (fresh : O) (rests : PortState → ℕ → O → Type 0) (holding : ℕ → ℕ → O → Type 0) (keeps : ℕ → Option ℕ → Slots → Type 0) (label node : ℕ) (s : LineSeat O) (y : Parcel) (mark steps looks : ℕ) (state : PortState) (p : Standing) → standing fresh s y steps looks ≡ p → IsPort fresh rests holding keeps label node s y mark state → (table_id : TableId) (ports items rest left : List Standing) → items ≡ ports → items ≡ p ∷ rest → left ≡ rest
-    → All (λ (q : Standing). q.table ≡ table_id) ports → All (λ (q : Standing). may_ask q.view.state ≡ true) ports → Gathers rests table_id ports left s
-gathers_start fresh rests holding keeps label node s y mark steps looks state p is ok table_id ports items rest left a b c tables quiets =
+pub gathers_start : {O : Type 0} (q : Phases O) (label node : ℕ) (s : LineSeat O) (y : Parcel) (mark steps looks : ℕ) (state : PortState) (p : Standing) → standing q.fresh s y steps looks ≡ p → IsPort q label node s y mark state → (table_id : TableId) (ports items rest left : List Standing) → items ≡ ports → items ≡ p ∷ rest → left ≡ rest
+    → All (λ (o : Standing). o.table ≡ table_id) ports → All (λ (o : Standing). may_ask o.view.state ≡ true) ports → Gathers q.rests table_id ports left s
+gathers_start q label node s y mark steps looks state p is ok table_id ports items rest left a b c tables quiets =
     let e : ports ≡ p ∷ rest = sym a ∙ b in
-    subst (λ l. Gathers rests table_id ports l s) (sym c)
-    (gathers_head fresh rests holding keeps label node s y mark steps looks state p is ok (all_first (λ (q : Standing). may_ask q.view.state ≡ true) p rest (subst (All (λ (q : Standing). may_ask q.view.state ≡ true)) e quiets)) table_id ports rest e tables quiets)
+    subst (λ l. Gathers q.rests table_id ports l s) (sym c)
+    (gathers_head q label node s y mark steps looks state p is ok (all_first (λ (o : Standing). may_ask o.view.state ≡ true) p rest (subst (All (λ (o : Standing). may_ask o.view.state ≡ true)) e quiets)) table_id ports rest e tables quiets)

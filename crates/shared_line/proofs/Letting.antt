@@ -25,7 +25,8 @@ use Rattle.shared_line.specs.declared.rule.Entry.{Entry}
 use Rattle.shared_line.specs.declared.rule.Parcel.{Parcel}
 use Rattle.shared_line.specs.Entries.{LineSeat}
 use Rattle.shared_line.specs.Steps.{entry_of, sole, write_of, own_end, Carries, Comes}
-use Rattle.shared_line.specs.Slots.{Slots, IsCopy}
+use Rattle.shared_line.specs.Slots.{IsCopy}
+use Rattle.shared_line.specs.Phases.{Phases}
 use Rattle.shared_line.specs.Ports.{IsMerged, Holds, IsHeld, IsPutBack}
 
 -- the line that a holder puts back and lets go is the one after its turn
@@ -84,17 +85,17 @@ told_by w t y c closed more l =
 merged_fresh : (base : List ℕ) (z : Parcel) → length z.bytes.bytes ≡ 64 → z.mask.0 ≡ 0 → z.bytes.bytes ≡ base → written base (write_of z) ≡ z.bytes.bytes
 merged_fresh base z line mask is = ap (λ m. merged base z.bytes.bytes m) mask ∙ merged-none base z.bytes.bytes (ap length (sym is) ∙ line) ∙ sym is
 
-pub arrives : {O : Type 0} (fresh : O) (holding : ℕ → ℕ → O → Type 0) (keeps : ℕ → Option ℕ → Slots → Type 0) (refused : ℕ → View → O → Parcel → Type 0) (mark : ℕ) (s t : LineSeat O) (y z : Parcel) → Comes holding refused mark (entry_of fresh s) y → t.me.0 ≡ s.me.0 → IsCopy z y → (y.closed ≡ false → keeps mark y.turns_left t.me.1) → z.closed ≡ false
-    → IsHeld fresh holding keeps t z mark
-arrives fresh holding keeps refused mark s t y z c same copied kept unclosed =
-    let entry : entry_of fresh s ≡ entry_of fresh t = ap (sole fresh) (sym same) in
-    let here : Comes holding refused mark (entry_of fresh t) y = subst (λ e. Comes holding refused mark e y) entry c in
-    let base : z.bytes.bytes ≡ bytes_of (entry_of fresh t).view = ap (λ l. l.bytes) copied.bytes ∙ here.bytes in
-    let unshut : is_closed (entry_of fresh t).view.ends ≡ false = sym here.closed ∙ (sym copied.closed ∙ unclosed) in (
+pub arrives : {O : Type 0} (q : Phases O) (mark : ℕ) (s t : LineSeat O) (y z : Parcel) → Comes q.holding q.refused mark (entry_of q.fresh s) y → t.me.0 ≡ s.me.0 → IsCopy z y → (y.closed ≡ false → q.keeps mark y.turns_left t.me.1) → z.closed ≡ false
+    → IsHeld q t z mark
+arrives q mark s t y z c same copied kept unclosed =
+    let entry : entry_of q.fresh s ≡ entry_of q.fresh t = ap (sole q.fresh) (sym same) in
+    let here : Comes q.holding q.refused mark (entry_of q.fresh t) y = subst (λ e. Comes q.holding q.refused mark e y) entry c in
+    let base : z.bytes.bytes ≡ bytes_of (entry_of q.fresh t).view = ap (λ l. l.bytes) copied.bytes ∙ here.bytes in
+    let unshut : is_closed (entry_of q.fresh t).view.ends ≡ false = sym here.closed ∙ (sym copied.closed ∙ unclosed) in (
       record {
         at = here.has.holds unshut;
-        kept = subst (λ left. keeps mark left t.me.1) (sym copied.turns) (kept (sym copied.closed ∙ unclosed));
-        merged = merged_fresh (bytes_of (entry_of fresh t).view) z (ap (λ l. length l.bytes) copied.bytes ∙ here.line) copied.no_mask base;
+        kept = subst (λ left. q.keeps mark left t.me.1) (sym copied.turns) (kept (sym copied.closed ∙ unclosed));
+        merged = merged_fresh (bytes_of (entry_of q.fresh t).view) z (ap (λ l. length l.bytes) copied.bytes ∙ here.line) copied.no_mask base;
         is_open = unshut;
         turns = copied.turns ∙ here.turns;
         some_left = λ none. here.some_left unshut (sym copied.turns ∙ none);
@@ -112,11 +113,11 @@ arrives fresh holding keeps refused mark s t y z c same copied kept unclosed =
     )
 
 -- the holder writes
-pub holds_written : {O : Type 0} (fresh : O) (holding : ℕ → ℕ → O → Type 0) (keeps : ℕ → Option ℕ → Slots → Type 0) (s : LineSeat O) (y z : Parcel) (mark mask : ℕ) (bytes : List ℕ) → Holds fresh holding keeps s y mark → z.bytes.bytes ≡ merged y.bytes.bytes bytes mask → z.mask.0 ≡ bit_or y.mask.0 mask → z.turns_left ≡ y.turns_left → Holds fresh holding keeps s z mark
-holds_written fresh holding keeps s y z mark mask bytes h b k c = record {
+pub holds_written : {O : Type 0} (q : Phases O) (s : LineSeat O) (y z : Parcel) (mark mask : ℕ) (bytes : List ℕ) → Holds q s y mark → z.bytes.bytes ≡ merged y.bytes.bytes bytes mask → z.mask.0 ≡ bit_or y.mask.0 mask → z.turns_left ≡ y.turns_left → Holds q s z mark
+holds_written q s y z mark mask bytes h b k c = record {
   at = h.at;
-  kept = subst (λ left. keeps mark left s.me.1) (sym c) h.kept;
-  merged = (λ i. merged (bytes_of (entry_of fresh s).view) (b i) (k i)) ∙ merged-twice (bytes_of (entry_of fresh s).view) y.bytes.bytes bytes y.mask.0 mask h.merged ∙ sym b;
+  kept = subst (λ left. q.keeps mark left s.me.1) (sym c) h.kept;
+  merged = (λ i. merged (bytes_of (entry_of q.fresh s).view) (b i) (k i)) ∙ merged-twice (bytes_of (entry_of q.fresh s).view) y.bytes.bytes bytes y.mask.0 mask h.merged ∙ sym b;
   is_open = h.is_open;
   turns = c ∙ h.turns;
   some_left = λ none. h.some_left (sym c ∙ none);

@@ -11,26 +11,25 @@ use Rattle.qolb_model.proofs.Seats.{each_from_more}
 use Rattle.shared_line.specs.declared.rule.Setup.{Setup}
 use Rattle.shared_line.specs.declared.rule.Parcel.{Parcel}
 use Rattle.shared_line.specs.Entries.{LineSeat, newcomer, newcomers_from}
-use Rattle.shared_line.specs.Slots.{Slots}
+use Rattle.shared_line.specs.Phases.{Phases}
 use Rattle.shared_line.specs.Steps.{sole}
 use Rattle.shared_line.specs.Ports.{Standing, standing, IsPort, AreSplit, IsUnused, AreUnused, IsOpened, BelongsTo}
-use Rattle.qolb_model.specs.declared.answer.PortState.{PortState}
 
-module _ {O : Type 0} (fresh : O) (about : Setup) (n : ℕ) (old first rest : LineSeat O) (more : n < about.terms.nodes) (whole : old.me ≡ (newcomers_from fresh about n (about.terms.nodes - n), [])) where
-  pub first_me : first.me ≡ (front old.me.0, old.me.1) → first.me ≡ (newcomer fresh about (n + 1) ∷ [], [])
-  first_me e = e ∙ (λ i. (front (whole i).0, (whole i).1)) ∙ (λ i. (front (each_from_more (newcomer fresh about) n about.terms.nodes more i), []))
+module _ {O : Type 0} (q : Phases O) (about : Setup) (n : ℕ) (old first rest : LineSeat O) (more : n < about.terms.nodes) (whole : old.me ≡ (newcomers_from q.fresh about n (about.terms.nodes - n), [])) where
+  pub first_me : first.me ≡ (front old.me.0, old.me.1) → first.me ≡ (newcomer q.fresh about (n + 1) ∷ [], [])
+  first_me e = e ∙ (λ i. (front (whole i).0, (whole i).1)) ∙ (λ i. (front (each_from_more (newcomer q.fresh about) n about.terms.nodes more i), []))
 
-  pub rest_me : rest.me ≡ (behind old.me.0, []) → rest.me ≡ (newcomers_from fresh about (n + 1) (about.terms.nodes - (n + 1)), [])
-  rest_me e = e ∙ (λ i. (behind (whole i).0, [])) ∙ (λ i. (behind (each_from_more (newcomer fresh about) n about.terms.nodes more i), []))
+  pub rest_me : rest.me ≡ (behind old.me.0, []) → rest.me ≡ (newcomers_from q.fresh about (n + 1) (about.terms.nodes - (n + 1)), [])
+  rest_me e = e ∙ (λ i. (behind (whole i).0, [])) ∙ (λ i. (behind (each_from_more (newcomer q.fresh about) n about.terms.nodes more i), []))
 
-  pub first_port : (rests : PortState → ℕ → O → Type 0) (holding : ℕ → ℕ → O → Type 0) (keeps : ℕ → Option ℕ → Slots → Type 0) → rests shows.Idle 0 fresh → (y : Parcel) → first.me ≡ (front old.me.0, old.me.1) → IsPort fresh rests holding keeps about.label (n + 1) first y 0 shows.Idle
-  first_port rests holding keeps new y e = let is = first_me e in record {
-    alone = ap (λ m. m.0) is ∙ (λ i. sole fresh (sym is i).0 ∷ []);
-    rests_so = λ _. (subst (λ o. rests shows.Idle 0 o) (ap (λ m. (sole fresh m.0).own) (sym is)) new, ap (λ m. m.1) is);
+  pub first_port : q.rests shows.Idle 0 q.fresh → (y : Parcel) → first.me ≡ (front old.me.0, old.me.1) → IsPort q about.label (n + 1) first y 0 shows.Idle
+  first_port new y e = let is = first_me e in record {
+    alone = ap (λ m. m.0) is ∙ (λ i. sole q.fresh (sym is i).0 ∷ []);
+    rests_so = λ _. (subst (λ o. q.rests shows.Idle 0 o) (ap (λ m. (sole q.fresh m.0).own) (sym is)) new, ap (λ m. m.1) is);
     holds_so = λ e. absurd (cc e);
-    shows_state = ap (λ m. (sole fresh m.0).view.state) is;
-    label_is = ap (λ m. (sole fresh m.0).view.label) is;
-    node_is = ap (λ m. (sole fresh m.0).view.node) is;
+    shows_state = ap (λ m. (sole q.fresh m.0).view.state) is;
+    label_is = ap (λ m. (sole q.fresh m.0).view.label) is;
+    node_is = ap (λ m. (sole q.fresh m.0).view.node) is;
   }
 
 pub one_more : {O : Type 0} (fresh : O) (table_id : TableId) (about : Setup) (n : ℕ) (ports : List Standing) (first : LineSeat O) (y : Parcel) (looks : ℕ) → looks ≡ 0 → AreSplit table_id about n ports → first.table_id ≡ table_id → first.me ≡ (newcomer fresh about (n + 1) ∷ [], []) → AreSplit table_id about (n + 1) (ports ++ standing fresh first y 0 looks ∷ [])

@@ -1,5 +1,6 @@
 pub mod Entries
 pub mod Slots
+pub mod Phases
 pub mod Steps
 pub mod Ports
 pub mod Finish

@@ -23,7 +23,7 @@ use Rattle.qolb_model.specs.LettingGo.{IsTold}
 use Rattle.shared_line.specs.declared.rule.Parcel.{Parcel}
 use Rattle.shared_line.specs.declared.rule.Setup.{Setup}
 use Rattle.shared_line.specs.Entries.{LineSeat, newcomers_from}
-use Rattle.shared_line.specs.Slots.{Slots}
+use Rattle.shared_line.specs.Phases.{Phases}
 use Rattle.shared_line.specs.Steps.{Alone, entry_of, HasNoSlot, write_of, Rests}
 
 -- a port as contracts see it: its table, what it knows, the line's bytes where it holds it with the mask of the turn's writes, and what it
@@ -54,29 +54,29 @@ abbrev pub IsMerged : View → Parcel → Type 0
 IsMerged v y = written (bytes_of v) (write_of y) ≡ y.bytes.bytes
 
 -- the port has its own copy of the open line, which it may have written, and the slots in which it came and will lie
-pub record Holds {O : Type 0} (fresh : O) (holding : ℕ → ℕ → O → Type 0) (keeps : ℕ → Option ℕ → Slots → Type 0) (s : LineSeat O) (y : Parcel) (mark : ℕ) : Type 0 where
-  pub at : holding mark (length (entry_of fresh s).view.ends) (entry_of fresh s).own
-  pub kept : keeps mark y.turns_left s.me.1
-  pub merged : IsMerged (entry_of fresh s).view y
-  pub is_open : is_closed (entry_of fresh s).view.ends ≡ false
-  pub turns : y.turns_left ≡ turns_left (entry_of fresh s).view.terms.lease (entry_of fresh s).view.ends
+pub record Holds {O : Type 0} (q : Phases O) (s : LineSeat O) (y : Parcel) (mark : ℕ) : Type 0 where
+  pub at : q.holding mark (length (entry_of q.fresh s).view.ends) (entry_of q.fresh s).own
+  pub kept : q.keeps mark y.turns_left s.me.1
+  pub merged : IsMerged (entry_of q.fresh s).view y
+  pub is_open : is_closed (entry_of q.fresh s).view.ends ≡ false
+  pub turns : y.turns_left ≡ turns_left (entry_of q.fresh s).view.terms.lease (entry_of q.fresh s).view.ends
   pub some_left : y.turns_left ≢ Some 0
 
-pub record IsPort {O : Type 0} (fresh : O) (rests : PortState → ℕ → O → Type 0) (holding : ℕ → ℕ → O → Type 0) (keeps : ℕ → Option ℕ → Slots → Type 0) (label node : ℕ) (s : LineSeat O) (y : Parcel) (mark : ℕ) (state : PortState) : Type 0 where
-  pub alone : Alone fresh s.me
-  pub rests_so : state ≢ shows.Holding → rests state mark (entry_of fresh s).own × HasNoSlot s
-  pub holds_so : state ≡ shows.Holding → Holds fresh holding keeps s y mark
-  pub shows_state : (entry_of fresh s).view.state ≡ state
-  pub label_is : (entry_of fresh s).view.label ≡ label
-  pub node_is : (entry_of fresh s).view.node ≡ node
+pub record IsPort {O : Type 0} (q : Phases O) (label node : ℕ) (s : LineSeat O) (y : Parcel) (mark : ℕ) (state : PortState) : Type 0 where
+  pub alone : Alone q.fresh s.me
+  pub rests_so : state ≢ shows.Holding → q.rests state mark (entry_of q.fresh s).own × HasNoSlot s
+  pub holds_so : state ≡ shows.Holding → Holds q s y mark
+  pub shows_state : (entry_of q.fresh s).view.state ≡ state
+  pub label_is : (entry_of q.fresh s).view.label ≡ label
+  pub node_is : (entry_of q.fresh s).view.node ≡ node
 
 -- the line has arrived: it is in the port's hand, open and not written, at no further step
-abbrev pub IsHeld : {O : Type 0} → O → (ℕ → ℕ → O → Type 0) → (ℕ → Option ℕ → Slots → Type 0) → LineSeat O → Parcel → ℕ → Type 0
-IsHeld fresh holding keeps s y mark = Holds fresh holding keeps s y mark × ((entry_of fresh s).view.state ≡ shows.Holding) × IsGranted (entry_of fresh s).view (write_of y)
+abbrev pub IsHeld : {O : Type 0} → Phases O → LineSeat O → Parcel → ℕ → Type 0
+IsHeld q s y mark = Holds q s y mark × ((entry_of q.fresh s).view.state ≡ shows.Holding) × IsGranted (entry_of q.fresh s).view (write_of y)
 
 -- or, closed, it was passed on, and has left the port in this state
-abbrev pub IsPassedOn : {O : Type 0} → O → (PortState → ℕ → O → Type 0) → LineSeat O → PortState → Type 0
-IsPassedOn fresh rests s state = ((mark : ℕ) → Rests fresh rests state mark s) × IsTold (entry_of fresh s).view
+abbrev pub IsPassedOn : {O : Type 0} → Phases O → LineSeat O → PortState → Type 0
+IsPassedOn q s state = ((mark : ℕ) → Rests q state mark s) × IsTold (entry_of q.fresh s).view
 
 -- the slot after a turn: the holder's bytes and mask; one turn fewer is left; and whether the turn closed it
 pub record IsPutBack (turn : Parcel) (closed : Bool) (y : Parcel) : Type 0 where

@@ -23,7 +23,7 @@ use Rattle.qolb_model.specs.declared.terms.TheConstants.{MOST_NODES}
 use Rattle.shared_line.specs.declared.rule.Entry.{Entry}
 use Rattle.shared_line.specs.declared.rule.Parcel.{Parcel}
 use Rattle.shared_line.specs.Entries.{no_view, Contents, LineSeat}
-use Rattle.shared_line.specs.Slots.{Slots}
+use Rattle.shared_line.specs.Phases.{Phases}
 
 abbrev pub sole : {O : Type 0} → O → List (Entry O) → Entry O
 sole fresh [] = record { view = no_view; own = fresh; steps = 0 }
@@ -57,10 +57,10 @@ abbrev pub IsOwnNode : {O : Type 0} → O → ℕ → LineSeat O → Type 0
 IsOwnNode fresh node seat = (node ≡ (entry_of fresh seat).view.node) × (node ≤ MOST_NODES)
 
 -- the seat has the entry of one node, which does not hold, and stands as that of a port in this state with this mark
-pub record Rests {O : Type 0} (fresh : O) (rests : PortState → ℕ → O → Type 0) (state : PortState) (mark : ℕ) (s : LineSeat O) : Type 0 where
-  pub alone : Alone fresh s.me
-  pub stands : rests state mark (entry_of fresh s).own
-  pub shows_state : (entry_of fresh s).view.state ≡ state
+pub record Rests {O : Type 0} (q : Phases O) (state : PortState) (mark : ℕ) (s : LineSeat O) : Type 0 where
+  pub alone : Alone q.fresh s.me
+  pub stands : q.rests state mark (entry_of q.fresh s).own
+  pub shows_state : (entry_of q.fresh s).view.state ≡ state
   pub slot : HasNoSlot s
 
 -- After so many word steps of its node the seat has one entry as before: the node forgets nothing, what was true of its knowledge is so,
@@ -141,6 +141,6 @@ parked st m n m' = (m'.0 ≡ m.0) × (m'.1 ≡ [])
 
 -- What a look gives a node that waits with this mark, by the lower half of the word that it finds, which is all that a sleep compares: where
 -- that says that the turn may have come it has, with the line; and else the node waits on.
-pub record Looked {O : Type 0} (fresh : O) (rests : PortState → ℕ → O → Type 0) (holding : ℕ → ℕ → O → Type 0) (refused : ℕ → View → O → Parcel → Type 0) (brings : ℕ → Parcel → Slots → Type 0) (may_come : ℕ → ℕ → Bool) (mark found : ℕ) (new : Contents O) : Type 0 where
-  pub waits : may_come mark (found % 2 ^ 32) ≡ false → (new.1 ≡ []) × IsEarly rests mark (sole fresh new.0)
-  pub comes : may_come mark (found % 2 ^ 32) ≡ true → (y : Parcel) × brings mark y new.1 × Comes holding refused mark (sole fresh new.0) y
+pub record Looked {O : Type 0} (q : Phases O) (may_come : ℕ → ℕ → Bool) (mark found : ℕ) (new : Contents O) : Type 0 where
+  pub waits : may_come mark (found % 2 ^ 32) ≡ false → (new.1 ≡ []) × IsEarly q.rests mark (sole q.fresh new.0)
+  pub comes : may_come mark (found % 2 ^ 32) ≡ true → (y : Parcel) × q.brings mark y new.1 × Comes q.holding q.refused mark (sole q.fresh new.0) y

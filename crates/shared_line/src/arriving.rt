@@ -27,15 +27,15 @@ impl<K: Keep, Q: Discipline<K>, W: Waking> Line<K, Q, W> {
         granted: A,
         closed: A,
     ) -> A
-        requires seat { IsSeated K.good K.allows self.now.table.shared.key self.now.table.shared.table_id Q.fresh node seat.old }
-        requires comes { (y : Parcel) × Q.brings mark y seat.old.me.1 × Comes Q.holding Q.refused mark (entry_of Q.fresh seat.old) y }
+        requires seat { IsSeated K.good K.allows self.now.table.shared.key self.now.table.shared.table_id Q.phases.fresh node seat.old }
+        requires comes { (y : Parcel) × Q.phases.brings mark y seat.old.me.1 × Comes Q.phases.holding Q.phases.refused mark (entry_of Q.phases.fresh seat.old) y }
         requires few { steps.old ≤ 4 }
-        ensures seat { IsSeated K.good K.allows self.now.table.shared.key self.now.table.shared.table_id Q.fresh node seat.new }
-        ensures port { (label : ℕ) → (entry_of Q.fresh seat.old).view.label ≡ label → IsPort Q.fresh Q.rests Q.holding Q.keeps label node seat.new parcel.new mark state.new }
+        ensures seat { IsSeated K.good K.allows self.now.table.shared.key self.now.table.shared.table_id Q.phases.fresh node seat.new }
+        ensures port { (label : ℕ) → (entry_of Q.phases.fresh seat.old).view.label ≡ label → IsPort Q.phases label node seat.new parcel.new mark state.new }
         ensures more { steps.old ≤ steps.new }
-        ensures went { Went K.allows Q.fresh seat.old seat.new (steps.new - steps.old) }
-        ensures count { (entry_of Q.fresh seat.new).view.count ≡ (entry_of Q.fresh seat.old).view.count }
-        ensures came { HasCome granted closed result (entry_of Q.fresh seat.new).view (write_of parcel.new) }
+        ensures went { Went K.allows Q.phases.fresh seat.old seat.new (steps.new - steps.old) }
+        ensures count { (entry_of Q.phases.fresh seat.new).view.count ≡ (entry_of Q.phases.fresh seat.old).view.count }
+        ensures came { HasCome granted closed result (entry_of Q.phases.fresh seat.new).view (write_of parcel.new) }
         ensures counted { result ≢ closed → steps.new ≡ steps.old }
         ensures bound { steps.new + 1 ≤ steps.old + Q.most self.now.table.shared.key.terms.nodes }
     {
@@ -67,18 +67,18 @@ fn pass_on<K: Keep, Q: Discipline<K>>(
     mark: u64,
 ) -> Released
     requires table { IsSeatOf Q.word_count ground.now.table_id seat.old }
-    requires alone { Alone Q.fresh seat.old.me }
-    requires own { IsOwnNode Q.fresh node seat.old }
-    requires nodes { (1 ≤ (entry_of Q.fresh seat.old).view.terms.nodes) × ((entry_of Q.fresh seat.old).view.terms.nodes ≤ MOST_NODES) }
-    requires comes { (y : Parcel) × Q.lays mark y seat.old.me.1 × Comes Q.holding Q.refused mark (entry_of Q.fresh seat.old) y × (y.closed ≡ true) }
+    requires alone { Alone Q.phases.fresh seat.old.me }
+    requires own { IsOwnNode Q.phases.fresh node seat.old }
+    requires nodes { (1 ≤ (entry_of Q.phases.fresh seat.old).view.terms.nodes) × ((entry_of Q.phases.fresh seat.old).view.terms.nodes ≤ MOST_NODES) }
+    requires comes { (y : Parcel) × Q.phases.lays mark y seat.old.me.1 × Comes Q.phases.holding Q.phases.refused mark (entry_of Q.phases.fresh seat.old) y × (y.closed ≡ true) }
     ensures same { SameSeat seat.old seat.new }
-    ensures goes_on { GoesOn K.allows Q.fresh seat.old.me seat.new.me result.steps }
-    ensures count { (entry_of Q.fresh seat.new).view.count ≡ (entry_of Q.fresh seat.old).view.count }
-    ensures told { IsPassedOn Q.fresh Q.rests seat.new result.state }
+    ensures goes_on { GoesOn K.allows Q.phases.fresh seat.old.me seat.new.me result.steps }
+    ensures count { (entry_of Q.phases.fresh seat.new).view.count ≡ (entry_of Q.phases.fresh seat.old).view.count }
+    ensures told { IsPassedOn Q.phases seat.new result.state }
     ensures not_held { result.state ≢ PortState.Holding }
     ensures to_wake { result.to_wake.word < Q.word_count }
-    ensures wakes { result.to_wake.word ≡ Q.turn_word (entry_of Q.fresh seat.new).view }
-    ensures bound { result.steps + 1 ≤ Q.most (entry_of Q.fresh seat.old).view.terms.nodes }
+    ensures wakes { result.to_wake.word ≡ Q.turn_word (entry_of Q.phases.fresh seat.new).view }
+    ensures bound { result.steps + 1 ≤ Q.most (entry_of Q.phases.fresh seat.old).view.terms.nodes }
 {
     Q::release(ground, seat, node, mark, true)
 }

@@ -21,13 +21,13 @@ pub(crate) fn meet_seats<K: Keep, Q: Discipline<K>>(
 )
     requires table_a { IsSeatOf Q.word_count ground.now.table_id a.old }
     requires table_b { IsSeatOf Q.word_count ground.now.table_id b.old }
-    requires ready { Alone Q.fresh a.old.me × Alone Q.fresh b.old.me }
+    requires ready { Alone Q.phases.fresh a.old.me × Alone Q.phases.fresh b.old.me }
     requires slot { HasNoSlot b.old }
     ensures tables { (a.new.table_id ≡ a.old.table_id) × (b.new.table_id ≡ b.old.table_id) }
-    ensures first { a.new.me ≡ (informed (entry_of Q.fresh a.old) (entry_of Q.fresh b.old) ∷ [], a.old.me.1) }
-    ensures second { b.new.me ≡ (informed (entry_of Q.fresh b.old) (entry_of Q.fresh a.old) ∷ [], []) }
-    ensures tell { TellEachOther K.allows (entry_of Q.fresh a.old).view (entry_of Q.fresh b.old).view (entry_of Q.fresh a.new).view (entry_of Q.fresh b.new).view }
-    ensures holder { let v = entry_of Q.fresh a.old in let u = entry_of Q.fresh b.old in (v.view.state ≡ PortState.Holding → longer v.view.ends u.view.ends ≡ v.view.ends) × (u.view.state ≡ PortState.Holding → longer u.view.ends v.view.ends ≡ u.view.ends) }
+    ensures first { a.new.me ≡ (informed (entry_of Q.phases.fresh a.old) (entry_of Q.phases.fresh b.old) ∷ [], a.old.me.1) }
+    ensures second { b.new.me ≡ (informed (entry_of Q.phases.fresh b.old) (entry_of Q.phases.fresh a.old) ∷ [], []) }
+    ensures tell { TellEachOther K.allows (entry_of Q.phases.fresh a.old).view (entry_of Q.phases.fresh b.old).view (entry_of Q.phases.fresh a.new).view (entry_of Q.phases.fresh b.new).view }
+    ensures holder { let v = entry_of Q.phases.fresh a.old in let u = entry_of Q.phases.fresh b.old in (v.view.state ≡ PortState.Holding → longer v.view.ends u.view.ends ≡ v.view.ends) × (u.view.state ≡ PortState.Holding → longer u.view.ends v.view.ends ≡ u.view.ends) }
 {
     let blank = ground.split_seat::<Blank>(a);
     let other = mem::replace(b, blank);

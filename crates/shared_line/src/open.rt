@@ -92,7 +92,7 @@ impl<K: Keep, Q: Discipline<K>, W: Waking> Line<K, Q, W> {
         requires terms { MayOpen setup.now.terms }
         requires line { length setup.now.terms.opening.bytes ≡ 64 }
         requires good { K.good setup.now.terms.opening.bytes }
-        ensures { IfOk result (λ t. (t.1.table_id ≡ t.0.table.shared.table_id) × (t.0.table.shared.key ≡ setup.now) × (t.1.me ≡ (newcomers Q.fresh setup.now, []))) }
+        ensures { IfOk result (λ t. (t.1.table_id ≡ t.0.table.shared.table_id) × (t.0.table.shared.key ≡ setup.now) × (t.1.me ≡ (newcomers Q.phases.fresh setup.now, []))) }
     {
         let Setup { label, terms } = *setup;
         let words = Q::first_words(alloc)?;
@@ -142,7 +142,7 @@ fn split_ports<K: Keep, Q: Discipline<K>>(
 ) -> Result<Vec<Port<Q>>, AllocError>
     requires table { (rest.table_id ≡ ground.now.table_id) × (0 < ground.now.table_id.words) }
     requires terms { MayOpen setup.now.terms }
-    requires whole { rest.me ≡ (newcomers Q.fresh setup.now, []) }
+    requires whole { rest.me ≡ (newcomers Q.phases.fresh setup.now, []) }
     ensures { IfOk result (λ ports. AreSplit ground.now.table_id setup.now setup.now.terms.nodes ports.items) }
 {
     let mut rest = rest;

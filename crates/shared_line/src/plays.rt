@@ -43,7 +43,7 @@ pub(crate) struct Meet<K, Q> {
 }
 
 impl<K: Keep, Q: Shape> Play<Parcel, LinkedList<Entry<Q::Own>>> for Meet<K, Q> {
-    ghost then = { met K.allows Q.fresh };
+    ghost then = { met K.allows Q.phases.fresh };
 }
 
 /// A holder's slot goes home, for a moment.

@@ -30,9 +30,9 @@ impl<Q: Shape> Model for Port<Q> {
 
     ghost Value = { Standing };
 
-    ghost view = { λ p. standing Q.fresh p.seat p.parcel p.steps p.looks.count };
+    ghost view = { λ p. standing Q.phases.fresh p.seat p.parcel p.steps p.looks.count };
 
-    ghost invariant = { λ p. IsPort Q.fresh Q.rests Q.holding Q.keeps p.label p.node p.seat p.parcel p.mark p.state };
+    ghost invariant = { λ p. IsPort Q.phases p.label p.node p.seat p.parcel p.mark p.state };
 }
 
 impl<Q: Shape> LinePort for Port<Q> {

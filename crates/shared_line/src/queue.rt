@@ -21,7 +21,8 @@ ghost use Rattle.qolb_model.specs.Finishing.{IsLast};
 ghost use Rattle.shared_line.specs.declared.rule.Parcel.{Parcel};
 ghost use Rattle.shared_line.specs.declared.rule.Setup.{Setup};
 ghost use Rattle.shared_line.specs.declared.rule.Entry.{Entry};
-ghost use Rattle.shared_line.specs.Slots.{Slots, IsCopy};
+ghost use Rattle.shared_line.specs.Slots.{IsCopy};
+ghost use Rattle.shared_line.specs.Phases.{Phases};
 ghost use Rattle.shared_line.specs.Ports.{IsPutBack};
 ghost use Rattle.shared_line.specs.Turns.{SeesTurn};
 ghost use Rattle.shared_line.specs.Entries.{Contents, newcomers, AllRest, views_of};
@@ -66,26 +67,8 @@ pub trait Shape {
     /// What the rule knows of a node beside what its port knows.
     type Own;
 
-    /// That of a new node.
-    ghost fresh: { Self.Own };
-
-    /// Where a node is whose port shows this state, which is not that of a holder, and keeps this mark.
-    ghost rests: { PortState → ℕ → Self.Own → Type 0 };
-
-    /// Where a node is that holds the open line, by its port's mark and how many requests have ended.
-    ghost holding: { ℕ → ℕ → Self.Own → Type 0 };
-
-    /// Where a node is to which this closed line came, by its port's mark and what it knows.
-    ghost refused: { ℕ → View → Self.Own → Parcel → Type 0 };
-
-    /// A node with this mark to which this line came has it in these slots.
-    ghost brings: { ℕ → Parcel → Slots → Type 0 };
-
-    /// A holder with this mark, of a line with so many turns left, has these slots.
-    ghost keeps: { ℕ → Option ℕ → Slots → Type 0 };
-
-    /// A node with this mark that is about to let this line go has laid it in these slots, for the next.
-    ghost lays: { ℕ → Parcel → Slots → Type 0 };
+    /// How the nodes stand, and in which slots a line lies that is in a node's hand.
+    ghost phases: { Phases Self.Own };
 
     /// The word at which a node with this mark waits: the node, the mark.
     ghost waits_at: { ℕ → ℕ → ℕ };
@@ -109,19 +92,19 @@ pub trait Shape {
     ghost most: { ℕ → ℕ };
 
     /// A new node is idle.
-    ghost starts_idle: { rests shows.Idle 0 fresh };
+    ghost starts_idle: { phases.rests shows.Idle 0 phases.fresh };
 
     /// No other state is shown than those.
-    ghost rests_shown: { (state : PortState) (mark : ℕ) (own : Self.Own) → rests state mark own → may_show state };
+    ghost rests_shown: { (state : PortState) (mark : ℕ) (own : Self.Own) → phases.rests state mark own → may_show state };
 
     ghost holding_shown: { may_show shows.Holding };
 
     /// A node that has the open line by this mark waited at the word of the turn, by what any port knows that sees whose turn it is: whoever lets
     /// the line go to that node, and sees so, names the word at which it waits.
-    ghost holder_waits_there: { (mark : ℕ) (u v : View) (stance : Self.Own) → holding mark (length v.ends) stance → SeesTurn u v → waits_at v.node mark ≡ turn_word u };
+    ghost holder_waits_there: { (mark : ℕ) (u v : View) (stance : Self.Own) → phases.holding mark (length v.ends) stance → SeesTurn u v → waits_at v.node mark ≡ turn_word u };
 
     /// And so did one to which the line came closed.
-    ghost refused_waits_there: { (mark : ℕ) (u v : View) (stance : Self.Own) (y : Parcel) → refused mark v stance y → SeesTurn u v → waits_at v.node mark ≡ turn_word u };
+    ghost refused_waits_there: { (mark : ℕ) (u v : View) (stance : Self.Own) (y : Parcel) → phases.refused mark v stance y → SeesTurn u v → waits_at v.node mark ≡ turn_word u };
 
     /// A look takes a step.
     ghost most_some: { (nodes : ℕ) → 1 ≤ nodes → 1 ≤ most nodes };
@@ -169,11 +152,11 @@ pub trait Discipline<K: Keep>: Ruled<K> {
         parcel: &mut Parcel,
     )
         requires table { seat.old.table_id ≡ ground.now.table_id }
-        requires came { (y : Parcel) × Self.brings mark y seat.old.me.1 }
+        requires came { (y : Parcel) × Self.phases.brings mark y seat.old.me.1 }
         ensures same { SameSeat seat.old seat.new × (seat.new.me.0 ≡ seat.old.me.0) }
-        ensures copied { (y : Parcel) → Self.brings mark y seat.old.me.1 → IsCopy parcel.new y }
-        ensures kept { (y : Parcel) → Self.brings mark y seat.old.me.1 → y.closed ≡ false → Self.keeps mark y.turns_left seat.new.me.1 }
-        ensures laid { (y : Parcel) → Self.brings mark y seat.old.me.1 → y.closed ≡ true → Self.lays mark y seat.new.me.1 };
+        ensures copied { (y : Parcel) → Self.phases.brings mark y seat.old.me.1 → IsCopy parcel.new y }
+        ensures kept { (y : Parcel) → Self.phases.brings mark y seat.old.me.1 → y.closed ≡ false → Self.phases.keeps mark y.turns_left seat.new.me.1 }
+        ensures laid { (y : Parcel) → Self.phases.brings mark y seat.old.me.1 → y.closed ≡ true → Self.phases.lays mark y seat.new.me.1 };
 
     /// Lays the line of a turn that is over for the next, closed where that is said.
     fn put(
@@ -184,10 +167,10 @@ pub trait Discipline<K: Keep>: Ruled<K> {
         closed: bool,
     )
         requires table { seat.old.table_id ≡ ground.now.table_id }
-        requires kept { Self.keeps mark parcel.now.turns_left seat.old.me.1 }
+        requires kept { Self.phases.keeps mark parcel.now.turns_left seat.old.me.1 }
         requires left { parcel.now.turns_left ≢ Some 0 }
         ensures same { SameSeat seat.old seat.new × (seat.new.me.0 ≡ seat.old.me.0) }
-        ensures put_back { (y : Parcel) × Self.lays mark y seat.new.me.1 × IsPutBack parcel.now closed y };
+        ensures put_back { (y : Parcel) × Self.phases.lays mark y seat.new.me.1 × IsPutBack parcel.now closed y };
 
     /// The line, out of a table that no thread shares any more.
     fn unlay(closed: Closed<Parcel, Global>) -> Parcel
@@ -203,17 +186,17 @@ pub trait Discipline<K: Keep>: Ruled<K> {
         state: PortState,
     ) -> Requested
         requires table { IsSeatOf word_count ground.now.table_id seat.old }
-        requires rests { (mark : ℕ) × Rests Self.fresh Self.rests state mark seat.old }
+        requires rests { (mark : ℕ) × Rests Self.phases state mark seat.old }
         requires may_ask { IsTrue (states.may_ask state) }
-        requires own { IsOwnNode Self.fresh node seat.old }
+        requires own { IsOwnNode Self.phases.fresh node seat.old }
         ensures same { SameSeat seat.old seat.new }
-        ensures goes_on { GoesOn K.allows Self.fresh seat.old.me seat.new.me result.steps }
-        ensures stays { result.answer ≡ Asked.Busy → (mark : ℕ) → Rests Self.fresh Self.rests state mark seat.old → Rests Self.fresh Self.rests state mark seat.new }
-        ensures busy { result.answer ≡ Asked.Busy → IsBusy (entry_of Self.fresh seat.old).view (entry_of Self.fresh seat.new).view }
-        ensures asks { result.answer ≢ Asked.Busy → Asks (entry_of Self.fresh seat.old).view (entry_of Self.fresh seat.new).view }
-        ensures joined { result.answer ≢ Asked.Busy → IsJoined (entry_of Self.fresh seat.new).view }
-        ensures behind { result.answer ≡ Asked.Behind → HasNoSlot seat.new × IsEarly Self.rests result.mark (entry_of Self.fresh seat.new) }
-        ensures came { result.answer ≡ Asked.Came → (y : Parcel) × Self.brings result.mark y seat.new.me.1 × Comes Self.holding Self.refused result.mark (entry_of Self.fresh seat.new) y }
+        ensures goes_on { GoesOn K.allows Self.phases.fresh seat.old.me seat.new.me result.steps }
+        ensures stays { result.answer ≡ Asked.Busy → (mark : ℕ) → Rests Self.phases state mark seat.old → Rests Self.phases state mark seat.new }
+        ensures busy { result.answer ≡ Asked.Busy → IsBusy (entry_of Self.phases.fresh seat.old).view (entry_of Self.phases.fresh seat.new).view }
+        ensures asks { result.answer ≢ Asked.Busy → Asks (entry_of Self.phases.fresh seat.old).view (entry_of Self.phases.fresh seat.new).view }
+        ensures joined { result.answer ≢ Asked.Busy → IsJoined (entry_of Self.phases.fresh seat.new).view }
+        ensures behind { result.answer ≡ Asked.Behind → HasNoSlot seat.new × IsEarly Self.phases.rests result.mark (entry_of Self.phases.fresh seat.new) }
+        ensures came { result.answer ≡ Asked.Came → (y : Parcel) × Self.phases.brings result.mark y seat.new.me.1 × Comes Self.phases.holding Self.phases.refused result.mark (entry_of Self.phases.fresh seat.new) y }
         ensures counted_busy { result.answer ≡ Asked.Busy → Self.asks_in state enq.Busy result.steps }
         ensures counted_behind { result.answer ≡ Asked.Behind → Self.asks_in state enq.Queued result.steps }
         ensures counted_came { result.answer ≡ Asked.Came → Self.asks_in state enq.Granted result.steps }
@@ -222,24 +205,24 @@ pub trait Discipline<K: Keep>: Ruled<K> {
     /// Looks whether the request has come to its turn.
     fn look(ground: &Ground<K, Self>, seat: &mut LineSeat<Self::Own>, node: u64, mark: u64) -> bool
         requires table { IsSeatOf word_count ground.now.table_id seat.old }
-        requires rests { Rests Self.fresh Self.rests PortState.Queued mark seat.old }
-        requires own { IsOwnNode Self.fresh node seat.old }
+        requires rests { Rests Self.phases PortState.Queued mark seat.old }
+        requires own { IsOwnNode Self.phases.fresh node seat.old }
         ensures same { SameSeat seat.old seat.new }
-        ensures goes_on { GoesOn K.allows Self.fresh seat.old.me seat.new.me 1 }
-        ensures count { (entry_of Self.fresh seat.new).view.count ≡ (entry_of Self.fresh seat.old).view.count }
-        ensures waits { result ≡ false → HasNoSlot seat.new × IsEarly Self.rests mark (entry_of Self.fresh seat.new) }
-        ensures comes { result ≡ true → (y : Parcel) × Self.brings mark y seat.new.me.1 × Comes Self.holding Self.refused mark (entry_of Self.fresh seat.new) y };
+        ensures goes_on { GoesOn K.allows Self.phases.fresh seat.old.me seat.new.me 1 }
+        ensures count { (entry_of Self.phases.fresh seat.new).view.count ≡ (entry_of Self.phases.fresh seat.old).view.count }
+        ensures waits { result ≡ false → HasNoSlot seat.new × IsEarly Self.phases.rests mark (entry_of Self.phases.fresh seat.new) }
+        ensures comes { result ≡ true → (y : Parcel) × Self.phases.brings mark y seat.new.me.1 × Comes Self.phases.holding Self.phases.refused mark (entry_of Self.phases.fresh seat.new) y };
 
     /// Withdraws the request, unless it has come to its turn: whether it has.
     fn roll(ground: &Ground<K, Self>, seat: &mut LineSeat<Self::Own>, node: u64, mark: u64) -> bool
         requires table { IsSeatOf word_count ground.now.table_id seat.old }
-        requires rests { Rests Self.fresh Self.rests PortState.Queued mark seat.old }
-        requires own { IsOwnNode Self.fresh node seat.old }
+        requires rests { Rests Self.phases PortState.Queued mark seat.old }
+        requires own { IsOwnNode Self.phases.fresh node seat.old }
         ensures same { SameSeat seat.old seat.new }
-        ensures goes_on { GoesOn K.allows Self.fresh seat.old.me seat.new.me 1 }
-        ensures count { (entry_of Self.fresh seat.new).view.count ≡ (entry_of Self.fresh seat.old).view.count }
-        ensures withdrawn { result ≡ false → HasNoSlot seat.new × IsGivenUp Self.rests mark (entry_of Self.fresh seat.new) }
-        ensures comes { result ≡ true → (y : Parcel) × Self.brings mark y seat.new.me.1 × Comes Self.holding Self.refused mark (entry_of Self.fresh seat.new) y };
+        ensures goes_on { GoesOn K.allows Self.phases.fresh seat.old.me seat.new.me 1 }
+        ensures count { (entry_of Self.phases.fresh seat.new).view.count ≡ (entry_of Self.phases.fresh seat.old).view.count }
+        ensures withdrawn { result ≡ false → HasNoSlot seat.new × IsGivenUp Self.phases.rests mark (entry_of Self.phases.fresh seat.new) }
+        ensures comes { result ≡ true → (y : Parcel) × Self.phases.brings mark y seat.new.me.1 × Comes Self.phases.holding Self.phases.refused mark (entry_of Self.phases.fresh seat.new) y };
 
     /// Lets the line go that was laid for the next, closed or not.
     fn release(
@@ -250,19 +233,19 @@ pub trait Discipline<K: Keep>: Ruled<K> {
         closed: bool,
     ) -> Released
         requires table { IsSeatOf word_count ground.now.table_id seat.old }
-        requires alone { Alone Self.fresh seat.old.me }
-        requires own { IsOwnNode Self.fresh node seat.old }
-        requires nodes { (1 ≤ (entry_of Self.fresh seat.old).view.terms.nodes) × ((entry_of Self.fresh seat.old).view.terms.nodes ≤ MOST_NODES) }
-        requires line { (y : Parcel) × Self.lays mark y seat.old.me.1 × HasLine Self.holding Self.refused mark (entry_of Self.fresh seat.old) y × Carries K.allows (entry_of Self.fresh seat.old).view y × (y.closed ≡ closed) }
+        requires alone { Alone Self.phases.fresh seat.old.me }
+        requires own { IsOwnNode Self.phases.fresh node seat.old }
+        requires nodes { (1 ≤ (entry_of Self.phases.fresh seat.old).view.terms.nodes) × ((entry_of Self.phases.fresh seat.old).view.terms.nodes ≤ MOST_NODES) }
+        requires line { (y : Parcel) × Self.phases.lays mark y seat.old.me.1 × HasLine Self.phases.holding Self.phases.refused mark (entry_of Self.phases.fresh seat.old) y × Carries K.allows (entry_of Self.phases.fresh seat.old).view y × (y.closed ≡ closed) }
         ensures same { SameSeat seat.old seat.new }
-        ensures rests { (mark : ℕ) → Rests Self.fresh Self.rests result.state mark seat.new }
+        ensures rests { (mark : ℕ) → Rests Self.phases result.state mark seat.new }
         ensures not_held { result.state ≢ PortState.Holding }
-        ensures goes_on { GoesOn K.allows Self.fresh seat.old.me seat.new.me result.steps }
-        ensures lets_go { (y : Parcel) → Self.lays mark y seat.old.me.1 → EndsTurn (entry_of Self.fresh seat.old).view (own_end (is_closed (entry_of Self.fresh seat.old).view.ends) y) (states.left_by y.closed) (entry_of Self.fresh seat.new).view }
-        ensures counted { Self.lets_go_in (length (entry_of Self.fresh seat.old).view.ends) (length (entry_of Self.fresh seat.new).view.ends) result.steps }
+        ensures goes_on { GoesOn K.allows Self.phases.fresh seat.old.me seat.new.me result.steps }
+        ensures lets_go { (y : Parcel) → Self.phases.lays mark y seat.old.me.1 → EndsTurn (entry_of Self.phases.fresh seat.old).view (own_end (is_closed (entry_of Self.phases.fresh seat.old).view.ends) y) (states.left_by y.closed) (entry_of Self.phases.fresh seat.new).view }
+        ensures counted { Self.lets_go_in (length (entry_of Self.phases.fresh seat.old).view.ends) (length (entry_of Self.phases.fresh seat.new).view.ends) result.steps }
         ensures to_wake { result.to_wake.word < word_count }
-        ensures wakes { result.to_wake.word ≡ Self.turn_word (entry_of Self.fresh seat.new).view }
-        ensures bound { result.steps + 1 ≤ Self.most (entry_of Self.fresh seat.old).view.terms.nodes };
+        ensures wakes { result.to_wake.word ≡ Self.turn_word (entry_of Self.phases.fresh seat.new).view }
+        ensures bound { result.steps + 1 ≤ Self.most (entry_of Self.phases.fresh seat.old).view.terms.nodes };
 
     /// The word at which a waiting node looks.
     fn awaited(node: u64, mark: u64) -> usize
@@ -274,7 +257,7 @@ pub trait Discipline<K: Keep>: Ruled<K> {
     /// finds otherwise does not. So this half changes when the turn comes, and a node may sleep as long as the half stays.
     fn may_have_come(mark: u64, low: u32) -> bool
         ensures result { result ≡ Self.may_come mark low }
-        ensures looks { (about : Setup) (id slots : ℕ) (v : Entry Self.Own) → Self.rests shows.Queued mark v.own → Allows (Self.holds about) slots id (v ∷ [], []) (Self.waits_at v.view.node mark) (λ n. n) (Looked Self.fresh Self.rests Self.holding Self.refused Self.brings Self.may_come mark) };
+        ensures looks { (about : Setup) (id slots : ℕ) (v : Entry Self.Own) → Self.phases.rests shows.Queued mark v.own → Allows (Self.holds about) slots id (v ∷ [], []) (Self.waits_at v.view.node mark) (λ n. n) (Looked Self.phases Self.may_come mark) };
 
     /// A seat is cut behind its first entry; a new one has none; and one takes in those of another.
     ghost cuts: { (about : Setup) (id : ℕ) (es : List (Entry Self.Own)) → Splits (Self.holds about) id es (front es) (behind es) };
@@ -287,16 +270,16 @@ pub trait Discipline<K: Keep>: Ruled<K> {
     ghost slots: { (about : Setup) (s : State Parcel (List (Entry Self.Own))) → Self.holds about s → length s.homes ≡ slot_count };
 
     /// A new line keeps the rule.
-    ghost starts: { (about : Setup) (words : List ℕ) (y : Parcel) → MayOpen about.terms → length about.terms.opening.bytes ≡ 64 → K.good about.terms.opening.bytes → length words ≡ word_count → are_first words → y.bytes.bytes ≡ about.terms.opening.bytes → y.closed ≡ false → y.turns_left ≡ about.terms.lease → Self.holds about (opening words (replicate slot_count y) (newcomers Self.fresh about)) };
+    ghost starts: { (about : Setup) (words : List ℕ) (y : Parcel) → MayOpen about.terms → length about.terms.opening.bytes ≡ 64 → K.good about.terms.opening.bytes → length words ≡ word_count → are_first words → y.bytes.bytes ≡ about.terms.opening.bytes → y.closed ≡ false → y.turns_left ≡ about.terms.lease → Self.holds about (opening words (replicate slot_count y) (newcomers Self.phases.fresh about)) };
 
     /// Two entries of one seat tell each other what they know.
-    ghost meets: { (about : Setup) (id slots i : ℕ) (m : Contents Self.Own) (v u : Entry Self.Own) → m.0 ≡ v ∷ u ∷ [] → Allows (Self.holds about) slots id m i (λ n. n) (met K.allows Self.fresh (step slots i 0 0 none) m) };
+    ghost meets: { (about : Setup) (id slots i : ℕ) (m : Contents Self.Own) (v u : Entry Self.Own) → m.0 ≡ v ∷ u ∷ [] → Allows (Self.holds about) slots id m i (λ n. n) (met K.allows Self.phases.fresh (step slots i 0 0 none) m) };
 
     /// A holder's slots go home.
-    ghost parks: { (about : Setup) (id slots i : ℕ) (m : Contents Self.Own) (v : Entry Self.Own) (mark : ℕ) (left : Option ℕ) → m.0 ≡ v ∷ [] → v.view.state ≡ shows.Holding → Self.keeps mark left m.1 → Allows (Self.holds about) slots id m i (λ n. n) (parked (step slots i 0 0 none) m) };
+    ghost parks: { (about : Setup) (id slots i : ℕ) (m : Contents Self.Own) (v : Entry Self.Own) (mark : ℕ) (left : Option ℕ) → m.0 ≡ v ∷ [] → v.view.state ≡ shows.Holding → Self.phases.keeps mark left m.1 → Allows (Self.holds about) slots id m i (λ n. n) (parked (step slots i 0 0 none) m) };
 
     /// The line at the end, where one seat has all entries and each is at rest.
-    ghost finishes: { (about : Setup) (es : List (Entry Self.Own)) (id : ℕ) (words : List ℕ) (xs : List Parcel) → AllRest Self.rests about.terms.nodes es → Final (λ s. Self.holds about s × (get_elem? s.views id ≡ some es)) words xs → (y : Parcel) × (get_elem? xs (Self.last words) ≡ some y) × IsLast K.good K.allows about.terms (views_of es) y.bytes.bytes };
+    ghost finishes: { (about : Setup) (es : List (Entry Self.Own)) (id : ℕ) (words : List ℕ) (xs : List Parcel) → AllRest Self.phases.rests about.terms.nodes es → Final (λ s. Self.holds about s × (get_elem? s.views id ≡ some es)) words xs → (y : Parcel) × (get_elem? xs (Self.last words) ≡ some y) × IsLast K.good K.allows about.terms (views_of es) y.bytes.bytes };
 }
 
 /// A queue whose request is made first, and linked to the one before by a second call.
@@ -312,17 +295,17 @@ pub trait Linked<K: Keep>: Discipline<K> {
         state: PortState,
     ) -> Requested
         requires table { IsSeatOf Self.word_count ground.now.table_id seat.old }
-        requires rests { (mark : ℕ) × Rests Self.fresh Self.rests state mark seat.old }
+        requires rests { (mark : ℕ) × Rests Self.phases state mark seat.old }
         requires may_ask { IsTrue (states.may_ask state) }
-        requires own { IsOwnNode Self.fresh node seat.old }
+        requires own { IsOwnNode Self.phases.fresh node seat.old }
         ensures same { SameSeat seat.old seat.new }
-        ensures goes_on { GoesOn K.allows Self.fresh seat.old.me seat.new.me result.steps }
-        ensures stays { result.answer ≡ Asked.Busy → (mark : ℕ) → Rests Self.fresh Self.rests state mark seat.old → Rests Self.fresh Self.rests state mark seat.new }
-        ensures busy { result.answer ≡ Asked.Busy → IsBusy (entry_of Self.fresh seat.old).view (entry_of Self.fresh seat.new).view }
-        ensures asks { result.answer ≢ Asked.Busy → Asks (entry_of Self.fresh seat.old).view (entry_of Self.fresh seat.new).view }
-        ensures joined { result.answer ≡ Asked.Came → IsJoined (entry_of Self.fresh seat.new).view }
-        ensures behind { result.answer ≡ Asked.Behind → HasNoSlot seat.new × IsUnlinked Self.rests result.mark (entry_of Self.fresh seat.new) }
-        ensures came { result.answer ≡ Asked.Came → (y : Parcel) × Self.brings result.mark y seat.new.me.1 × Comes Self.holding Self.refused result.mark (entry_of Self.fresh seat.new) y }
+        ensures goes_on { GoesOn K.allows Self.phases.fresh seat.old.me seat.new.me result.steps }
+        ensures stays { result.answer ≡ Asked.Busy → (mark : ℕ) → Rests Self.phases state mark seat.old → Rests Self.phases state mark seat.new }
+        ensures busy { result.answer ≡ Asked.Busy → IsBusy (entry_of Self.phases.fresh seat.old).view (entry_of Self.phases.fresh seat.new).view }
+        ensures asks { result.answer ≢ Asked.Busy → Asks (entry_of Self.phases.fresh seat.old).view (entry_of Self.phases.fresh seat.new).view }
+        ensures joined { result.answer ≡ Asked.Came → IsJoined (entry_of Self.phases.fresh seat.new).view }
+        ensures behind { result.answer ≡ Asked.Behind → HasNoSlot seat.new × IsUnlinked Self.phases.rests result.mark (entry_of Self.phases.fresh seat.new) }
+        ensures came { result.answer ≡ Asked.Came → (y : Parcel) × Self.phases.brings result.mark y seat.new.me.1 × Comes Self.phases.holding Self.phases.refused result.mark (entry_of Self.phases.fresh seat.new) y }
         ensures counted_busy { result.answer ≡ Asked.Busy → result.steps ≡ 1 }
         ensures counted { result.answer ≢ Asked.Busy → result.steps ≡ prepends_in state }
         ensures bound { result.steps ≤ 3 };
@@ -330,11 +313,11 @@ pub trait Linked<K: Keep>: Discipline<K> {
     /// Links the request to the one before: whether the line had been left for it, and so has come.
     fn link(ground: &Ground<K, Self>, seat: &mut LineSeat<Self::Own>, node: u64, mark: u64) -> bool
         requires table { IsSeatOf Self.word_count ground.now.table_id seat.old }
-        requires rests { Rests Self.fresh Self.rests PortState.Linking mark seat.old }
-        requires own { IsOwnNode Self.fresh node seat.old }
+        requires rests { Rests Self.phases PortState.Linking mark seat.old }
+        requires own { IsOwnNode Self.phases.fresh node seat.old }
         ensures same { SameSeat seat.old seat.new }
-        ensures goes_on { GoesOn K.allows Self.fresh seat.old.me seat.new.me 1 }
-        ensures links { Links (entry_of Self.fresh seat.old).view (entry_of Self.fresh seat.new).view }
-        ensures waits { result ≡ false → HasNoSlot seat.new × IsEarly Self.rests mark (entry_of Self.fresh seat.new) }
-        ensures comes { result ≡ true → (y : Parcel) × Self.brings mark y seat.new.me.1 × Comes Self.holding Self.refused mark (entry_of Self.fresh seat.new) y };
+        ensures goes_on { GoesOn K.allows Self.phases.fresh seat.old.me seat.new.me 1 }
+        ensures links { Links (entry_of Self.phases.fresh seat.old).view (entry_of Self.phases.fresh seat.new).view }
+        ensures waits { result ≡ false → HasNoSlot seat.new × IsEarly Self.phases.rests mark (entry_of Self.phases.fresh seat.new) }
+        ensures comes { result ≡ true → (y : Parcel) × Self.phases.brings mark y seat.new.me.1 × Comes Self.phases.holding Self.phases.refused mark (entry_of Self.phases.fresh seat.new) y };
 }

@@ -57,7 +57,7 @@ impl<K: Keep, Q: Ruled<K>> TableRule<Parcel, LinkedList<Entry<Q::Own>>, Setup> f
 
     ghost holds = { Q.holds };
 
-    ghost first = { newcomers Q.fresh };
+    ghost first = { newcomers Q.phases.fresh };
 }
 
 /// The table of a line, as all its nodes see it.

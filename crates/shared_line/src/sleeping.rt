@@ -101,8 +101,8 @@ impl<K: Keep, Q: Discipline<K>> Line<K, Q> {
         at_most: Duration,
     )
         requires table { IsSeatOf Q.word_count self.now.table.shared.table_id seat.now }
-        requires rests { Rests Q.fresh Q.rests PortState.Queued mark seat.now }
-        requires own { IsOwnNode Q.fresh node seat.now }
+        requires rests { Rests Q.phases PortState.Queued mark seat.now }
+        requires own { IsOwnNode Q.phases.fresh node seat.now }
         requires not_come { Q.may_come mark low ≡ false }
     {
         let word = Q::awaited(node, mark);

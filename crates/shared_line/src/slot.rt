@@ -81,8 +81,8 @@ pub fn unlay_alone(closed: Closed<Parcel, Global>) -> Parcel
 /// A slot goes home only at a step on a word, so word 0 is loaded, which nobody looks at.
 pub(crate) fn park<K: Keep, Q: Discipline<K>>(ground: &Ground<K, Q>, seat: &mut LineSeat<Q::Own>)
     requires table { IsSeatOf Q.word_count ground.now.table_id seat.old }
-    requires ready { Alone Q.fresh seat.old.me × ((entry_of Q.fresh seat.old).view.state ≡ PortState.Holding) }
-    requires kept { (mark : ℕ) × (left : Option ℕ) × Q.keeps mark left seat.old.me.1 }
+    requires ready { Alone Q.phases.fresh seat.old.me × ((entry_of Q.phases.fresh seat.old).view.state ≡ PortState.Holding) }
+    requires kept { (mark : ℕ) × (left : Option ℕ) × Q.phases.keeps mark left seat.old.me.1 }
     ensures { (seat.new.table_id ≡ seat.old.table_id) × (seat.new.me ≡ (seat.old.me.0, [])) }
 {
     ground.load::<Park>(seat, 0);

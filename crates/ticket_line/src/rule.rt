@@ -21,19 +21,7 @@ pub struct Ticket;
 impl Shape for Ticket {
     type Own = Own;
 
-    ghost fresh = { stances.fresh };
-
-    ghost rests = { stances.rests ticket_of };
-
-    ghost holding = { stances.holding ticket_of };
-
-    ghost refused = { stances.refused ticket_of };
-
-    ghost brings = { slots.brings };
-
-    ghost keeps = { slots.keeps };
-
-    ghost lays = { slots.lays };
+    ghost phases = { stances.phases ticket_of slots.brings slots.keeps slots.lays };
 
     ghost waits_at = { stances.waits_at };
 

@@ -5,7 +5,7 @@ use Rattle.shared_line.proofs.finish.gather.Goals as goal
 
 pub loop-port-init : goal.loop-port-init
 loop-port-init g c =
-    gathers_start g.Q.Shape.fresh g.Q.Shape.rests g.Q.Shape.holding g.Q.Shape.keeps c.first.inside.label c.first.inside.node c.first.inside.seat c.first.inside.parcel c.first.inside.mark c.first.inside.steps c.first.inside.looks.count c.first.inside.state c.in-Some.first c.first.view_is c.first.invariant c.args.ground.now.table_id c.args.ports.items c.into_iter-seats.result.rest.items c.next.new.self.rest.items c.into_iter-port-iterator.result.rest.items
+    gathers_start g.Q.Shape.phases c.first.inside.label c.first.inside.node c.first.inside.seat c.first.inside.parcel c.first.inside.mark c.first.inside.steps c.first.inside.looks.count c.first.inside.state c.in-Some.first c.first.view_is c.first.invariant c.args.ground.now.table_id c.args.ports.items c.into_iter-seats.result.rest.items c.next.new.self.rest.items c.into_iter-port-iterator.result.rest.items
     c.into_iter-seats.ensures.rest c.in-Some.ensures.items (λ i. (c.into_iter-port-iterator.ensures.into_iter_gives i).rest.items) c.requires.table c.requires.quiet
 
 pub join_seat-requires : goal.join_seat-requires
@@ -13,8 +13,8 @@ join_seat-requires g c =
     let i = c.loop-port.invariant in
     let quiet = head_quiet c.args.ground.now.table_id c.args.ports.items c.loop-port.port-iterator.rest.items c.next-in-loop-port.new.self.rest.items c.loop-port.whole c.in-Some-port.port c.in-Some-port.ensures.steps.0 i in (
       i.table,
-      head_table g.Q.Shape.fresh g.Q.Shape.rests g.Q.Shape.holding g.Q.Shape.keeps c.port.inside.label c.port.inside.node c.port.inside.seat c.port.inside.parcel c.port.inside.mark c.port.inside.steps c.port.inside.looks.count c.port.inside.state c.in-Some-port.port c.port.view_is c.port.invariant quiet c.args.ground.now.table_id c.args.ports.items c.next-in-loop-port.new.self.rest.items c.loop-port.whole c.loop-port.port-iterator.rest.items c.in-Some-port.ensures.steps.0 i,
-      none_carried g.Q.Shape.fresh g.Q.Shape.rests g.Q.Shape.holding g.Q.Shape.keeps c.port.inside.label c.port.inside.node c.port.inside.seat c.port.inside.parcel c.port.inside.mark c.port.inside.steps c.port.inside.looks.count c.port.inside.state c.in-Some-port.port c.port.view_is c.port.invariant quiet,
+      head_table g.Q.Shape.phases c.port.inside.label c.port.inside.node c.port.inside.seat c.port.inside.parcel c.port.inside.mark c.port.inside.steps c.port.inside.looks.count c.port.inside.state c.in-Some-port.port c.port.view_is c.port.invariant quiet c.args.ground.now.table_id c.args.ports.items c.next-in-loop-port.new.self.rest.items c.loop-port.whole c.loop-port.port-iterator.rest.items c.in-Some-port.ensures.steps.0 i,
+      none_carried g.Q.Shape.phases c.port.inside.label c.port.inside.node c.port.inside.seat c.port.inside.parcel c.port.inside.mark c.port.inside.steps c.port.inside.looks.count c.port.inside.state c.in-Some-port.port c.port.view_is c.port.invariant quiet,
       c.requires.words,
       g.met.Q.Discipline.joins c.args.ground.now.key _ _ _ _,
     )
@@ -23,5 +23,5 @@ pub loop-port-preserved : goal.loop-port-preserved
 loop-port-preserved g c =
     let i = c.loop-port.invariant in
     let quiet = head_quiet c.args.ground.now.table_id c.args.ports.items c.loop-port.port-iterator.rest.items c.next-in-loop-port.new.self.rest.items c.loop-port.whole c.in-Some-port.port c.in-Some-port.ensures.steps.0 i in
-    gathers_more g.Q.Shape.fresh g.Q.Shape.rests g.Q.Shape.holding g.Q.Shape.keeps c.port.inside.label c.port.inside.node c.port.inside.seat c.port.inside.parcel c.port.inside.mark c.port.inside.steps c.port.inside.looks.count c.port.inside.state c.in-Some-port.port c.port.view_is c.port.invariant quiet c.args.ground.now.table_id c.args.ports.items c.next-in-loop-port.new.self.rest.items c.loop-port.whole c.join_seat.new.seat
-    (subst (λ rest. Gathers g.Q.Shape.rests c.args.ground.now.table_id c.args.ports.items rest c.loop-port.whole) c.in-Some-port.ensures.steps.0 i) c.join_seat.ensures.0 c.join_seat.ensures.2
+    gathers_more g.Q.Shape.phases c.port.inside.label c.port.inside.node c.port.inside.seat c.port.inside.parcel c.port.inside.mark c.port.inside.steps c.port.inside.looks.count c.port.inside.state c.in-Some-port.port c.port.view_is c.port.invariant quiet c.args.ground.now.table_id c.args.ports.items c.next-in-loop-port.new.self.rest.items c.loop-port.whole c.join_seat.new.seat
+    (subst (λ rest. Gathers g.Q.Shape.phases.rests c.args.ground.now.table_id c.args.ports.items rest c.loop-port.whole) c.in-Some-port.ensures.steps.0 i) c.join_seat.ensures.0 c.join_seat.ensures.2

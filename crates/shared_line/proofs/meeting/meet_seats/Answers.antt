@@ -9,5 +9,5 @@ glued fresh a b s o j ea eb es eo ej = ej ∙ (λ i. ((es i).0 ++ (eo i).me.0, (
 
 pub load-requires : goal.load-requires
 load-requires g c =
-    let all = glued g.Q.Shape.fresh c.args.a.now c.args.b.now c.split_seat-blank.new.seat c.replace-other.result c.join_seat.new.seat c.requires.ready.0 c.requires.ready.1 c.split_seat-blank.ensures.2 c.replace-other.ensures.value c.join_seat.ensures.2 in
-    (search rules, omega arith, g.met.Q.Discipline.meets c.args.ground.now.key _ _ _ c.join_seat.new.seat.me (entry_of g.Q.Shape.fresh c.args.a.now) (entry_of g.Q.Shape.fresh c.args.b.now) (ap (λ m. m.0) all))
+    let all = glued g.Q.Shape.phases.fresh c.args.a.now c.args.b.now c.split_seat-blank.new.seat c.replace-other.result c.join_seat.new.seat c.requires.ready.0 c.requires.ready.1 c.split_seat-blank.ensures.2 c.replace-other.ensures.value c.join_seat.ensures.2 in
+    (search rules, omega arith, g.met.Q.Discipline.meets c.args.ground.now.key _ _ _ c.join_seat.new.seat.me (entry_of g.Q.Shape.phases.fresh c.args.a.now) (entry_of g.Q.Shape.phases.fresh c.args.b.now) (ap (λ m. m.0) all))

@@ -8,16 +8,16 @@ split_seat-others-requires g c = (search rules, search rules, g.met.Q.Discipline
 
 pub invariant_of-push : goal.invariant_of-push
 invariant_of-push g c = let s = c.split_seat-others.ensures in
-    first_port g.Q.Shape.fresh c.args.setup.now c.loop-done.done c.loop-done.rest c.replace-seat.result c.replace-seat.new.dest (omega arith) c.loop-done.invariant.me g.Q.Shape.rests g.Q.Shape.holding g.Q.Shape.keeps g.Q.Shape.starts_idle _ (same_me c.replace-seat.ensures.value ∙ s.2)
+    first_port g.Q.Shape.phases c.args.setup.now c.loop-done.done c.loop-done.rest c.replace-seat.result c.replace-seat.new.dest (omega arith) c.loop-done.invariant.me g.Q.Shape.starts_idle _ (same_me c.replace-seat.ensures.value ∙ s.2)
 
 pub loop-done-preserved : goal.loop-done-preserved
 loop-done-preserved g c = let s = c.split_seat-others.ensures in
     let i = c.loop-done.invariant in
-    let first = first_me g.Q.Shape.fresh c.args.setup.now c.loop-done.done c.loop-done.rest c.replace-seat.result c.replace-seat.new.dest (omega arith) i.me (same_me c.replace-seat.ensures.value ∙ s.2) in
-    let rest = rest_me g.Q.Shape.fresh c.args.setup.now c.loop-done.done c.loop-done.rest c.replace-seat.result c.replace-seat.new.dest (omega arith) i.me (same_me c.replace-seat.ensures.after ∙ s.4) in
+    let first = first_me g.Q.Shape.phases c.args.setup.now c.loop-done.done c.loop-done.rest c.replace-seat.result c.replace-seat.new.dest (omega arith) i.me (same_me c.replace-seat.ensures.value ∙ s.2) in
+    let rest = rest_me g.Q.Shape.phases c.args.setup.now c.loop-done.done c.loop-done.rest c.replace-seat.result c.replace-seat.new.dest (omega arith) i.me (same_me c.replace-seat.ensures.after ∙ s.4) in
     record {
       table = same_table c.replace-seat.ensures.after ∙ s.3 ∙ i.table;
       me = rest;
       new_ports = subst (AreSplit c.args.ground.now.table_id c.args.setup.now (c.loop-done.done + 1)) (sym c.in_ok-push.ensures.items)
-          (one_more g.Q.Shape.fresh c.args.ground.now.table_id c.args.setup.now c.loop-done.done c.loop-done.ports.items c.replace-seat.result (record { bytes = c.zero.result; mask = record { 0 = 0 }; turns_left = None; closed = false }) _ c.none.ensures i.new_ports (same_table c.replace-seat.ensures.value ∙ s.0 ∙ i.table) first);
+          (one_more g.Q.Shape.phases.fresh c.args.ground.now.table_id c.args.setup.now c.loop-done.done c.loop-done.ports.items c.replace-seat.result (record { bytes = c.zero.result; mask = record { 0 = 0 }; turns_left = None; closed = false }) _ c.none.ensures i.new_ports (same_table c.replace-seat.ensures.value ∙ s.0 ∙ i.table) first);
     }

@@ -14,7 +14,7 @@ returns-then-not-roll-clause-belongs g c = let q = c.port.inside in call_belongs
 pub returns-then-not-roll-clause-withdraws : goal.returns-then-not-roll-clause-withdraws
 returns-then-not-roll-clause-withdraws g c = let q = c.port.inside in
     withdraws_withdrawn (call_continues q.seat q.parcel q.steps q.looks.count c.requires.belongs c.port.view_is (record { same = c.roll.ensures.same; goes = c.roll.ensures.goes_on }))
-    (same_count g.Q.Shape.fresh (entry_of g.Q.Shape.fresh c.roll.new.seat).view q.seat q.parcel q.steps q.looks.count c.port.view_is c.roll.ensures.count) (c.roll.ensures.withdrawn c.if-not-roll.true).1.withdrawn
+    (same_count g.Q.Shape.phases.fresh (entry_of g.Q.Shape.phases.fresh c.roll.new.seat).view q.seat q.parcel q.steps q.looks.count c.port.view_is c.roll.ensures.count) (c.roll.ensures.withdrawn c.if-not-roll.true).1.withdrawn
 
 pub invariant_of-port-2 : goal.invariant_of-port-2
 invariant_of-port-2 g c = c.arrive.ensures.port c.port.inside.label (c.roll.ensures.goes_on.extends.label ∙ c.port.invariant.label_is)
@@ -22,4 +22,4 @@ invariant_of-port-2 g c = c.arrive.ensures.port c.port.inside.label (c.roll.ensu
 pub returns-clause-withdraws : goal.returns-clause-withdraws
 returns-clause-withdraws g c = let q = c.port.inside in
     withdraws_came (call_continues q.seat q.parcel q.steps q.looks.count c.requires.belongs c.port.view_is {t = c.arrive.new.seat} (then_to (record { same = c.roll.ensures.same; goes = c.roll.ensures.goes_on }) c.arrive.ensures.more c.arrive.ensures.went))
-    (same_count g.Q.Shape.fresh (entry_of g.Q.Shape.fresh c.arrive.new.seat).view q.seat q.parcel q.steps q.looks.count c.port.view_is (c.arrive.ensures.count ∙ c.roll.ensures.count)) c.arrive.ensures.came
+    (same_count g.Q.Shape.phases.fresh (entry_of g.Q.Shape.phases.fresh c.arrive.new.seat).view q.seat q.parcel q.steps q.looks.count c.port.view_is (c.arrive.ensures.count ∙ c.roll.ensures.count)) c.arrive.ensures.came

@@ -9,14 +9,14 @@ pub returns-then-not-parcel-clause-port : goal.returns-then-not-parcel-clause-po
 returns-then-not-parcel-clause-port g c label label_is =
     let y = c.requires.comes in
     let same = c.take.ensures.same.1 in
-    let held = arrives g.Q.Shape.fresh g.Q.Shape.holding g.Q.Shape.keeps g.Q.Shape.refused c.args.mark c.args.seat.now c.take.new.seat y.0 c.take.new.parcel y.2 same (c.take.ensures.copied y.0 y.1) (c.take.ensures.kept y.0 y.1) c.if-not-parcel.true in
+    let held = arrives g.Q.Shape.phases c.args.mark c.args.seat.now c.take.new.seat y.0 c.take.new.parcel y.2 same (c.take.ensures.copied y.0 y.1) (c.take.ensures.kept y.0 y.1) c.if-not-parcel.true in
     record {
-      alone = subst (λ es. es ≡ sole g.Q.Shape.fresh es ∷ []) (sym same) c.requires.seat.alone;
+      alone = subst (λ es. es ≡ sole g.Q.Shape.phases.fresh es ∷ []) (sym same) c.requires.seat.alone;
       rests_so = λ not. absurd (not refl);
       holds_so = λ _. held.0;
       shows_state = held.1;
-      label_is = ap (λ es. (sole g.Q.Shape.fresh es).view.label) same ∙ label_is;
-      node_is = ap (λ es. (sole g.Q.Shape.fresh es).view.node) same ∙ c.requires.seat.node_is;
+      label_is = ap (λ es. (sole g.Q.Shape.phases.fresh es).view.label) same ∙ label_is;
+      node_is = ap (λ es. (sole g.Q.Shape.phases.fresh es).view.node) same ∙ c.requires.seat.node_is;
     }
 
 pub returns-clause-seat : goal.returns-clause-seat
@@ -29,4 +29,4 @@ returns-clause-port g c label label_is = let gone = c.pass_on-left.ensures in
 pub returns-clause-went : goal.returns-clause-went
 returns-clause-went g c = let gone = c.pass_on-left.ensures in
     let e : c.pass_on-left.result.steps ≡ c.args.steps.now + c.pass_on-left.result.steps - c.args.steps.now = omega arith in
-    subst (Went g.K.Keep.allows g.Q.Shape.fresh c.args.seat.now c.pass_on-left.new.seat) e (put_then c.take.ensures.same gone.same gone.goes_on)
+    subst (Went g.K.Keep.allows g.Q.Shape.phases.fresh c.args.seat.now c.pass_on-left.new.seat) e (put_then c.take.ensures.same gone.same gone.goes_on)

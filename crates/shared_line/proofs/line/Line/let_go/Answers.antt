@@ -6,7 +6,7 @@ use Rattle.shared_line.proofs.line.Line.let_go.Goals as goal
 
 pub release-gone-requires-clause-line : goal.release-gone-requires-clause-line
 release-gone-requires-clause-line g c = let q = c.port.inside in
-    put_carries q.seat q.parcel q.mark q.steps q.looks.count q.state c.port.invariant c.port.view_is c.requires.belongs c.requires.state c.args.shut c.closes-closed.result c.closes-closed.ensures c.put.new.seat c.put.ensures.same.0 c.put.ensures.same.1 g.Q.Shape.lays c.put.ensures.put_back c.requires.allowed
+    put_carries q.seat q.parcel q.mark q.steps q.looks.count q.state c.port.invariant c.port.view_is c.requires.belongs c.requires.state c.args.shut c.closes-closed.result c.closes-closed.ensures c.put.new.seat c.put.ensures.same.0 c.put.ensures.same.1 c.put.ensures.put_back c.requires.allowed
 
 pub invariant_of-port : goal.invariant_of-port
 invariant_of-port g c = let q = c.port.inside in let after = c.release-gone.ensures.rests q.mark in let on = c.release-gone.ensures.goes_on.extends in record {
@@ -14,8 +14,8 @@ invariant_of-port g c = let q = c.port.inside in let after = c.release-gone.ensu
   rests_so = λ _. (after.stands, after.slot);
   holds_so = λ e. absurd (c.release-gone.ensures.not_held e);
   shows_state = after.shows_state;
-  label_is = on.label ∙ (ap (λ es. (sole g.Q.Shape.fresh es).view.label) c.put.ensures.same.1 ∙ c.port.invariant.label_is);
-  node_is = on.node ∙ (ap (λ es. (sole g.Q.Shape.fresh es).view.node) c.put.ensures.same.1 ∙ c.port.invariant.node_is);
+  label_is = on.label ∙ (ap (λ es. (sole g.Q.Shape.phases.fresh es).view.label) c.put.ensures.same.1 ∙ c.port.invariant.label_is);
+  node_is = on.node ∙ (ap (λ es. (sole g.Q.Shape.phases.fresh es).view.node) c.put.ensures.same.1 ∙ c.port.invariant.node_is);
 }
 
 pub returns-clause-belongs : goal.returns-clause-belongs
@@ -24,5 +24,5 @@ returns-clause-belongs g c = let q = c.port.inside in
 
 pub returns-clause-releases : goal.returns-clause-releases
 returns-clause-releases g c = let q = c.port.inside in let back = c.put.ensures.put_back in
-    let_go_releases q.seat q.parcel q.mark q.steps q.looks.count q.state c.port.invariant c.port.view_is c.requires.belongs c.requires.state c.args.shut c.closes-closed.result c.closes-closed.ensures c.put.new.seat c.put.ensures.same.0 c.put.ensures.same.1 g.Q.Shape.lays back
+    let_go_releases q.seat q.parcel q.mark q.steps q.looks.count q.state c.port.invariant c.port.view_is c.requires.belongs c.requires.state c.args.shut c.closes-closed.result c.closes-closed.ensures c.put.new.seat c.put.ensures.same.0 c.put.ensures.same.1 back
     {t = c.release-gone.new.seat} (put_then c.put.ensures.same c.release-gone.ensures.same c.release-gone.ensures.goes_on) (c.release-gone.ensures.lets_go back.0 back.1)

@@ -20,12 +20,12 @@ returns-in-Behind-clause-belongs g c = let q = c.port.inside in call_belongs q.s
 
 pub returns-in-Busy-clause-prepends : goal.returns-in-Busy-clause-prepends
 returns-in-Busy-clause-prepends g c = let q = c.port.inside in
-    prepends_busy (call_continues q.seat q.parcel q.steps q.looks.count c.requires.belongs c.port.view_is (record { same = c.prepend-made.ensures.same; goes = c.prepend-made.ensures.goes_on })) (call_busy g.Q.Shape.fresh q.seat q.parcel q.steps q.looks.count c.port.view_is (c.prepend-made.ensures.busy c.in-Busy.is))
+    prepends_busy (call_continues q.seat q.parcel q.steps q.looks.count c.requires.belongs c.port.view_is (record { same = c.prepend-made.ensures.same; goes = c.prepend-made.ensures.goes_on })) (call_busy g.Q.Shape.phases.fresh q.seat q.parcel q.steps q.looks.count c.port.view_is (c.prepend-made.ensures.busy c.in-Busy.is))
 
 pub returns-in-Behind-clause-prepends : goal.returns-in-Behind-clause-prepends
 returns-in-Behind-clause-prepends g c = let q = c.port.inside in
     prepends_linking (call_continues q.seat q.parcel q.steps q.looks.count c.requires.belongs c.port.view_is (record { same = c.prepend-made.ensures.same; goes = c.prepend-made.ensures.goes_on }))
-    (call_asks g.Q.Shape.fresh q.seat q.parcel q.steps q.looks.count c.port.view_is (c.prepend-made.ensures.asks (behind_asked c.in-Behind.is))) (c.prepend-made.ensures.behind c.in-Behind.is).1.linking
+    (call_asks g.Q.Shape.phases.fresh q.seat q.parcel q.steps q.looks.count c.port.view_is (c.prepend-made.ensures.asks (behind_asked c.in-Behind.is))) (c.prepend-made.ensures.behind c.in-Behind.is).1.linking
 
 pub invariant_of-port-in-Came : goal.invariant_of-port-in-Came
 invariant_of-port-in-Came g c = c.arrive.ensures.port c.port.inside.label (c.prepend-made.ensures.goes_on.extends.label ∙ c.port.invariant.label_is)
@@ -33,5 +33,5 @@ invariant_of-port-in-Came g c = c.arrive.ensures.port c.port.inside.label (c.pre
 pub returns-in-Came-clause-prepends : goal.returns-in-Came-clause-prepends
 returns-in-Came-clause-prepends g c = let q = c.port.inside in let more = c.arrive.ensures.went.goes.extends in
     prepends_came (call_continues q.seat q.parcel q.steps q.looks.count c.requires.belongs c.port.view_is {t = c.arrive.new.seat} (then_to (record { same = c.prepend-made.ensures.same; goes = c.prepend-made.ensures.goes_on }) c.arrive.ensures.more c.arrive.ensures.went))
-    (call_asks_on g.Q.Shape.fresh q.seat q.parcel q.steps q.looks.count c.port.view_is (c.prepend-made.ensures.asks (came_asked c.in-Came.is)) more c.arrive.ensures.count)
-    (joined_goes (entry_of g.Q.Shape.fresh c.prepend-made.new.seat).view (entry_of g.Q.Shape.fresh c.arrive.new.seat).view (c.prepend-made.ensures.joined c.in-Came.is) more c.arrive.ensures.count) c.arrive.ensures.came
+    (call_asks_on g.Q.Shape.phases.fresh q.seat q.parcel q.steps q.looks.count c.port.view_is (c.prepend-made.ensures.asks (came_asked c.in-Came.is)) more c.arrive.ensures.count)
+    (joined_goes (entry_of g.Q.Shape.phases.fresh c.prepend-made.new.seat).view (entry_of g.Q.Shape.phases.fresh c.arrive.new.seat).view (c.prepend-made.ensures.joined c.in-Came.is) more c.arrive.ensures.count) c.arrive.ensures.came
