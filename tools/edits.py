@@ -27,9 +27,11 @@ The lines are kept in tools/wrong_bodies/RECORD, each with a sum of what it was 
 is not tried again, if it wasn't BROKEN, but with --anew. It ends with 1 where a body is `new`, `shape`, `names`, ALIVE or BROKEN.
 
 With --log it tries nothing: it reads what a run of `rt ci` or `rt must-fail` said of each edit, which is the first error alone. Then an edit is
-`answer`, `goal` (one that the tactics no longer prove, by whatever name), `names`, `limit` (the prover gave up), ALIVE or BROKEN.
+`answer`, `goal` (one that the tactics no longer prove, by whatever name), `names`, `limit` (the prover gave up), ALIVE or BROKEN. With --record, too,
+those lines go to RECORD, for edits of which it has none with the same sum: the run must have been one of this very checkout.
 
-  tools/edits.py [--jobs N] [--only WORD] [--anew] [--proved] [--keep FOLDER] [--log FILE] [CRATE ..]
+  tools/edits.py [--jobs N] [--only WORD] [--anew] [--proved] [--keep FOLDER] [CRATE ..]
+  tools/edits.py --log FILE [--record] [--only WORD] [CRATE ..]
 """
 
 import argparse
@@ -242,13 +244,18 @@ def try_batch(crates, bodies, record, args):
 
 
 def by_log(args):
-    """Says of each edit what the log of a run of the gate says of it."""
-    bad = 0
+    """Says of each edit what the log of a run of the gate says of it, and keeps it if that is asked for."""
+    bad, crates = 0, read_crates()
+    record = Record(crates)
+    bodies = {it.name: it for it in bodies_of(crates, args.names, args.only)}
     for crate, edit, text in re.findall(r"^(?:rt: )?must-fail ([a-z0-9_]+)/(\S+)\.edit: (.*)$", pathlib.Path(args.log).read_text(), re.M):
         if args.only in edit and (not args.names or crate in args.names):
             kind, goal = by_gate(text)
             bad += kind in NOTHING_SHOWN
             print(f"{kind:7} {crate}/{edit}  {goal}")
+            body = bodies.get(f"{crate}/{edit}") if args.record else None
+            if body and (record.known(body) or ["BROKEN"])[0] == "BROKEN":
+                record.write(body, kind, goal)
     return 1 if bad else 0
 
 
@@ -283,6 +290,7 @@ def main():
     parser.add_argument("--proved", action="store_true", help="also those whose tests must be proved to be run")
     parser.add_argument("--keep", type=os.path.abspath, help="where to keep what was said, a file a body")
     parser.add_argument("--log", help="the log of a run of rt ci or rt must-fail")
+    parser.add_argument("--record", action="store_true", help="keep what the log says of edits that are not known")
     parser.add_argument("--batch", help=argparse.SUPPRESS)
     parser.add_argument("names", nargs="*", metavar="CRATE")
     args = parser.parse_args()
