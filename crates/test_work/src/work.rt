@@ -1,7 +1,6 @@
 //! Workers that share lines, over lines of each kind, awake and asleep.
 ghost use Rattle.std.specs.Prelude.{◌<◌};
 
-use crate::replays::repeated;
 use locks::{ALL, Lines};
 use qolb_run::{AlwaysOpen, Gate, RunError, Waits, run_work, run_work_with};
 use qolb_script::{Report, WorkKind, read_work};
@@ -184,7 +183,10 @@ fn expect_longest<R: Threads + Wait + Abort + Sync>(
     kind: WorkKind,
     report: Report,
 ) -> Result<(), Fail> {
-    let script = repeated(alloc, header, 50_000, jobs, "")?;
+    let mut script = header.to_string(alloc)?;
+    for _ in 0..50_000u32 {
+        script.push_str(jobs)?;
+    }
     let work = read_work(alloc, script.as_bytes(), kind)?;
     let found = run_work(rt, alloc, &AlwaysOpen, &work, Lines::Ring);
     assert_eq!(rt; found, Ok(report));

@@ -1,0 +1,13 @@
+//! Tests of workers that share lines, and of what is said of their progress.
+#![tactic(auto)]
+
+#[cfg(test)]
+mod asleep;
+#[cfg(test)]
+mod gates;
+#[cfg(test)]
+mod progress;
+#[cfg(test)]
+mod scarce;
+#[cfg(test)]
+mod work;

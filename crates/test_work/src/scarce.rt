@@ -1,0 +1,52 @@
+//! Work in a room of memory: work that is refused was not begun twice.
+use crate::gates::Counting;
+use hoard::Siege;
+use locks::Lines;
+use qolb_run::{RunError, run_work};
+use qolb_script::{Work, WorkKind, read_work};
+use std::alloc::Global;
+use std::sync::Wait;
+use std::test::Fail;
+use std::thread::Threads;
+
+/// Eight workers, each with a job.
+const EIGHT: &str =
+    "board workers 8\n1 put 1\n2 put 2\n3 put 3\n4 put 4\n5 take\n6 take\n7 take\n8 take\n";
+
+/// What comes of this work in a room of so many MB: its error, and how often the gate was asked for the first worker's first job and what
+/// is behind it.
+fn worked_in<T: Threads + Wait + Sync>(
+    rt: &T,
+    alloc: Global,
+    siege: &Siege,
+    work: &Work,
+    room: usize,
+) -> Result<(Option<RunError>, u64, u64), Fail> {
+    let gate = Counting::new(1);
+    let rest = siege.leave(alloc, room << 20)?;
+    let found = run_work(rt, alloc, &gate, work, Lines::Ring);
+    drop(rest);
+    Ok((found.err(), gate.asks_for(0), gate.asks_for(1)))
+}
+
+#[test]
+fn work_that_is_refused_is_not_done_again(rt: HostRuntime) -> Result<(), Fail> {
+    let alloc = rt.alloc();
+    let work = read_work(alloc, EIGHT.as_bytes(), WorkKind::Board)?;
+    let siege = Siege::begin(alloc, 1 << 28)?;
+    let mut half_done = 0u32;
+    for room in 1..100usize {
+        let (error, first, second) = worked_in(&rt, alloc, &siege, &work, room)?;
+        assert!(rt; first <= 1 && second <= 1, "in {room} MB");
+        if error.is_none() {
+            assert_eq!(rt; second, 1, "in {room} MB");
+            assert!(rt; half_done > 0);
+            return Ok(());
+        }
+        assert_eq!(rt; error, Some(RunError::Memory), "in {room} MB");
+        if second == 1 {
+            half_done = half_done.saturating_add(1);
+        }
+    }
+    Err(Fail::from("no room was large enough"))
+}
