@@ -35,5 +35,5 @@ pub then_to : {O : Type 0} {allows : List ℕ → List ℕ → Type 0} {fresh : 
 then_to {allows = allows} {fresh = fresh} {s = s} {u = u} {i = i} {j = j} a more b = let e : i + (j - i) ≡ j = omega arith in subst (Went allows fresh s u) e (then a b)
 
 -- what is put into the slot first is no matter
-pub put_then : {O : Type 0} {allows : List ℕ → List ℕ → Type 0} {fresh : O} {s t u : LineSeat O} {n : ℕ} → SameSeat s t × (t.me.0 ≡ s.me.0) → SameSeat t u → GoesOn allows fresh t.me u.me n → Went allows fresh s u n
-put_then put same goes = record { same = (same.0 ∙ put.0.0, same.1 ∙ put.0.1); goes = put_on put.1 goes }
+pub put_then : {O : Type 0} {allows : List ℕ → List ℕ → Type 0} {fresh : O} {s t u : LineSeat O} {n : ℕ} → SameSeat s t × (t.me.0 ≡ s.me.0) → Went allows fresh t u n → Went allows fresh s u n
+put_then put w = record { same = (w.same.0 ∙ put.0.0, w.same.1 ∙ put.0.1); goes = put_on put.1 w.goes }

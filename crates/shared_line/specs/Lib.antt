@@ -3,5 +3,6 @@ pub mod Slots
 pub mod Phases
 pub mod Steps
 pub mod Ports
+pub mod Answers
 pub mod Finish
 pub mod Turns

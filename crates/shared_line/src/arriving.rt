@@ -1,10 +1,10 @@
 //! A line that has come to its turn.
 ghost use Rattle.std.specs.Prelude.{◌≡◌, ◌≢◌, ℕ, ◌+◌, ◌-◌, ◌<◌, ◌≤◌, true};
-ghost use Rattle.qolb_model.specs.declared.terms.TheConstants.{MOST_NODES};
 ghost use Rattle.qolb_model.specs.Calls.{HasCome};
 ghost use Rattle.shared_line.specs.declared.rule.Parcel.{Parcel};
-ghost use Rattle.shared_line.specs.Steps.{SameSeat, IsSeatOf, IsOwnNode, Alone, entry_of, write_of, GoesOn, Went, Comes};
+ghost use Rattle.shared_line.specs.Steps.{Alone, entry_of, write_of, Went, Comes};
 ghost use Rattle.shared_line.specs.Ports.{IsPassedOn, IsPort, IsSeated};
+ghost use Rattle.shared_line.specs.Answers.{IsSeatOfNode, HasNodes, HasArrived};
 
 use crate::line::Line;
 use crate::queue::{Discipline, Released};
@@ -28,7 +28,7 @@ impl<K: Keep, Q: Discipline<K>, W: Waking> Line<K, Q, W> {
         closed: A,
     ) -> A
         requires seat { IsSeated K.good K.allows self.now.table.shared.key self.now.table.shared.table_id Q.phases.fresh node seat.old }
-        requires comes { (y : Parcel) × Q.phases.brings mark y seat.old.me.1 × Comes Q.phases.holding Q.phases.refused mark (entry_of Q.phases.fresh seat.old) y }
+        requires comes { HasArrived Q.phases mark seat.old }
         requires few { steps.old ≤ 4 }
         ensures seat { IsSeated K.good K.allows self.now.table.shared.key self.now.table.shared.table_id Q.phases.fresh node seat.new }
         ensures port { (label : ℕ) → (entry_of Q.phases.fresh seat.old).view.label ≡ label → IsPort Q.phases label node seat.new parcel.new mark state.new }
@@ -66,13 +66,11 @@ fn pass_on<K: Keep, Q: Discipline<K>>(
     node: u64,
     mark: u64,
 ) -> Released
-    requires table { IsSeatOf Q.word_count ground.now.table_id seat.old }
+    requires seat { IsSeatOfNode Q.word_count ground.now.table_id Q.phases.fresh node seat.old }
     requires alone { Alone Q.phases.fresh seat.old.me }
-    requires own { IsOwnNode Q.phases.fresh node seat.old }
-    requires nodes { (1 ≤ (entry_of Q.phases.fresh seat.old).view.terms.nodes) × ((entry_of Q.phases.fresh seat.old).view.terms.nodes ≤ MOST_NODES) }
+    requires nodes { HasNodes (entry_of Q.phases.fresh seat.old).view }
     requires comes { (y : Parcel) × Q.phases.lays mark y seat.old.me.1 × Comes Q.phases.holding Q.phases.refused mark (entry_of Q.phases.fresh seat.old) y × (y.closed ≡ true) }
-    ensures same { SameSeat seat.old seat.new }
-    ensures goes_on { GoesOn K.allows Q.phases.fresh seat.old.me seat.new.me result.steps }
+    ensures went { Went K.allows Q.phases.fresh seat.old seat.new result.steps }
     ensures count { (entry_of Q.phases.fresh seat.new).view.count ≡ (entry_of Q.phases.fresh seat.old).view.count }
     ensures told { IsPassedOn Q.phases seat.new result.state }
     ensures not_held { result.state ≢ PortState.Holding }

@@ -12,21 +12,17 @@ ghost use Rattle.qolb_model.specs.declared.answer.Enq.TheVariants as enq;
 ghost use Rattle.qolb_model.specs.declared.view.View.{View};
 ghost use Rattle.qolb_model.specs.declared.terms.TheConstants.{MOST_NODES};
 ghost use Rattle.qolb_model.specs.PortStates as states;
-ghost use Rattle.qolb_model.specs.Ends.{is_closed};
 ghost use Rattle.qolb_model.specs.Asking.{IsBusy, Asks, IsJoined};
-ghost use Rattle.qolb_model.specs.Linking.{Links};
-ghost use Rattle.qolb_model.specs.LettingGo.{EndsTurn};
 ghost use Rattle.qolb_model.specs.Opening.{MayOpen};
 ghost use Rattle.qolb_model.specs.Finishing.{IsLast};
 ghost use Rattle.shared_line.specs.declared.rule.Parcel.{Parcel};
 ghost use Rattle.shared_line.specs.declared.rule.Setup.{Setup};
 ghost use Rattle.shared_line.specs.declared.rule.Entry.{Entry};
-ghost use Rattle.shared_line.specs.Slots.{IsCopy};
 ghost use Rattle.shared_line.specs.Phases.{Phases};
-ghost use Rattle.shared_line.specs.Ports.{IsPutBack};
+ghost use Rattle.shared_line.specs.Answers.{IsSeatOfNode, HasNodes, Takes, Puts, MakesRequest, PutsRequest, Looks, Rolls, LinksOn, HasLaid, LetsGoOf};
 ghost use Rattle.shared_line.specs.Turns.{SeesTurn};
 ghost use Rattle.shared_line.specs.Entries.{Contents, newcomers, AllRest, views_of};
-ghost use Rattle.shared_line.specs.Steps.{Alone, entry_of, SameSeat, IsSeatOf, IsOwnNode, HasNoSlot, HasLine, Rests, GoesOn, IsEarly, IsUnlinked, IsGivenUp, Comes, Carries, own_end, met, parked, Looked};
+ghost use Rattle.shared_line.specs.Steps.{Alone, entry_of, Rests, Went, met, parked, Looked};
 
 use crate::rule::{Ground, LineSeat, Parcel};
 use crate::sleeping::ToWake;
@@ -153,10 +149,7 @@ pub trait Discipline<K: Keep>: Ruled<K> {
     )
         requires table { seat.old.table_id ≡ ground.now.table_id }
         requires came { (y : Parcel) × Self.phases.brings mark y seat.old.me.1 }
-        ensures same { SameSeat seat.old seat.new × (seat.new.me.0 ≡ seat.old.me.0) }
-        ensures copied { (y : Parcel) → Self.phases.brings mark y seat.old.me.1 → IsCopy parcel.new y }
-        ensures kept { (y : Parcel) → Self.phases.brings mark y seat.old.me.1 → y.closed ≡ false → Self.phases.keeps mark y.turns_left seat.new.me.1 }
-        ensures laid { (y : Parcel) → Self.phases.brings mark y seat.old.me.1 → y.closed ≡ true → Self.phases.lays mark y seat.new.me.1 };
+        ensures { Takes Self.phases mark seat.old seat.new parcel.new };
 
     /// Lays the line of a turn that is over for the next, closed where that is said.
     fn put(
@@ -169,8 +162,7 @@ pub trait Discipline<K: Keep>: Ruled<K> {
         requires table { seat.old.table_id ≡ ground.now.table_id }
         requires kept { Self.phases.keeps mark parcel.now.turns_left seat.old.me.1 }
         requires left { parcel.now.turns_left ≢ Some 0 }
-        ensures same { SameSeat seat.old seat.new × (seat.new.me.0 ≡ seat.old.me.0) }
-        ensures put_back { (y : Parcel) × Self.phases.lays mark y seat.new.me.1 × IsPutBack parcel.now closed y };
+        ensures { Puts Self.phases mark seat.old seat.new parcel.now closed };
 
     /// The line, out of a table that no thread shares any more.
     fn unlay(closed: Closed<Parcel, Global>) -> Parcel
@@ -185,18 +177,11 @@ pub trait Discipline<K: Keep>: Ruled<K> {
         node: u64,
         state: PortState,
     ) -> Requested
-        requires table { IsSeatOf word_count ground.now.table_id seat.old }
+        requires seat { IsSeatOfNode word_count ground.now.table_id Self.phases.fresh node seat.old }
         requires rests { (mark : ℕ) × Rests Self.phases state mark seat.old }
         requires may_ask { IsTrue (states.may_ask state) }
-        requires own { IsOwnNode Self.phases.fresh node seat.old }
-        ensures same { SameSeat seat.old seat.new }
-        ensures goes_on { GoesOn K.allows Self.phases.fresh seat.old.me seat.new.me result.steps }
-        ensures stays { result.answer ≡ Asked.Busy → (mark : ℕ) → Rests Self.phases state mark seat.old → Rests Self.phases state mark seat.new }
-        ensures busy { result.answer ≡ Asked.Busy → IsBusy (entry_of Self.phases.fresh seat.old).view (entry_of Self.phases.fresh seat.new).view }
-        ensures asks { result.answer ≢ Asked.Busy → Asks (entry_of Self.phases.fresh seat.old).view (entry_of Self.phases.fresh seat.new).view }
-        ensures joined { result.answer ≢ Asked.Busy → IsJoined (entry_of Self.phases.fresh seat.new).view }
-        ensures behind { result.answer ≡ Asked.Behind → HasNoSlot seat.new × IsEarly Self.phases.rests result.mark (entry_of Self.phases.fresh seat.new) }
-        ensures came { result.answer ≡ Asked.Came → (y : Parcel) × Self.phases.brings result.mark y seat.new.me.1 × Comes Self.phases.holding Self.phases.refused result.mark (entry_of Self.phases.fresh seat.new) y }
+        ensures went { Went K.allows Self.phases.fresh seat.old seat.new result.steps }
+        ensures request { MakesRequest Self.phases result.mark state seat.old seat.new result.answer }
         ensures counted_busy { result.answer ≡ Asked.Busy → Self.asks_in state enq.Busy result.steps }
         ensures counted_behind { result.answer ≡ Asked.Behind → Self.asks_in state enq.Queued result.steps }
         ensures counted_came { result.answer ≡ Asked.Came → Self.asks_in state enq.Granted result.steps }
@@ -204,25 +189,17 @@ pub trait Discipline<K: Keep>: Ruled<K> {
 
     /// Looks whether the request has come to its turn.
     fn look(ground: &Ground<K, Self>, seat: &mut LineSeat<Self::Own>, node: u64, mark: u64) -> bool
-        requires table { IsSeatOf word_count ground.now.table_id seat.old }
+        requires seat { IsSeatOfNode word_count ground.now.table_id Self.phases.fresh node seat.old }
         requires rests { Rests Self.phases PortState.Queued mark seat.old }
-        requires own { IsOwnNode Self.phases.fresh node seat.old }
-        ensures same { SameSeat seat.old seat.new }
-        ensures goes_on { GoesOn K.allows Self.phases.fresh seat.old.me seat.new.me 1 }
-        ensures count { (entry_of Self.phases.fresh seat.new).view.count ≡ (entry_of Self.phases.fresh seat.old).view.count }
-        ensures waits { result ≡ false → HasNoSlot seat.new × IsEarly Self.phases.rests mark (entry_of Self.phases.fresh seat.new) }
-        ensures comes { result ≡ true → (y : Parcel) × Self.phases.brings mark y seat.new.me.1 × Comes Self.phases.holding Self.phases.refused mark (entry_of Self.phases.fresh seat.new) y };
+        ensures went { Went K.allows Self.phases.fresh seat.old seat.new 1 }
+        ensures looks { Looks Self.phases mark seat.old seat.new result };
 
     /// Withdraws the request, unless it has come to its turn: whether it has.
     fn roll(ground: &Ground<K, Self>, seat: &mut LineSeat<Self::Own>, node: u64, mark: u64) -> bool
-        requires table { IsSeatOf word_count ground.now.table_id seat.old }
+        requires seat { IsSeatOfNode word_count ground.now.table_id Self.phases.fresh node seat.old }
         requires rests { Rests Self.phases PortState.Queued mark seat.old }
-        requires own { IsOwnNode Self.phases.fresh node seat.old }
-        ensures same { SameSeat seat.old seat.new }
-        ensures goes_on { GoesOn K.allows Self.phases.fresh seat.old.me seat.new.me 1 }
-        ensures count { (entry_of Self.phases.fresh seat.new).view.count ≡ (entry_of Self.phases.fresh seat.old).view.count }
-        ensures withdrawn { result ≡ false → HasNoSlot seat.new × IsGivenUp Self.phases.rests mark (entry_of Self.phases.fresh seat.new) }
-        ensures comes { result ≡ true → (y : Parcel) × Self.phases.brings mark y seat.new.me.1 × Comes Self.phases.holding Self.phases.refused mark (entry_of Self.phases.fresh seat.new) y };
+        ensures went { Went K.allows Self.phases.fresh seat.old seat.new 1 }
+        ensures rolls { Rolls Self.phases mark seat.old seat.new result };
 
     /// Lets the line go that was laid for the next, closed or not.
     fn release(
@@ -232,16 +209,14 @@ pub trait Discipline<K: Keep>: Ruled<K> {
         mark: u64,
         closed: bool,
     ) -> Released
-        requires table { IsSeatOf word_count ground.now.table_id seat.old }
+        requires seat { IsSeatOfNode word_count ground.now.table_id Self.phases.fresh node seat.old }
         requires alone { Alone Self.phases.fresh seat.old.me }
-        requires own { IsOwnNode Self.phases.fresh node seat.old }
-        requires nodes { (1 ≤ (entry_of Self.phases.fresh seat.old).view.terms.nodes) × ((entry_of Self.phases.fresh seat.old).view.terms.nodes ≤ MOST_NODES) }
-        requires line { (y : Parcel) × Self.phases.lays mark y seat.old.me.1 × HasLine Self.phases.holding Self.phases.refused mark (entry_of Self.phases.fresh seat.old) y × Carries K.allows (entry_of Self.phases.fresh seat.old).view y × (y.closed ≡ closed) }
-        ensures same { SameSeat seat.old seat.new }
+        requires nodes { HasNodes (entry_of Self.phases.fresh seat.old).view }
+        requires line { HasLaid Self.phases mark K.allows closed seat.old }
         ensures rests { (mark : ℕ) → Rests Self.phases result.state mark seat.new }
         ensures not_held { result.state ≢ PortState.Holding }
-        ensures goes_on { GoesOn K.allows Self.phases.fresh seat.old.me seat.new.me result.steps }
-        ensures lets_go { (y : Parcel) → Self.phases.lays mark y seat.old.me.1 → EndsTurn (entry_of Self.phases.fresh seat.old).view (own_end (is_closed (entry_of Self.phases.fresh seat.old).view.ends) y) (states.left_by y.closed) (entry_of Self.phases.fresh seat.new).view }
+        ensures went { Went K.allows Self.phases.fresh seat.old seat.new result.steps }
+        ensures lets_go { LetsGoOf Self.phases mark seat.old seat.new }
         ensures counted { Self.lets_go_in (length (entry_of Self.phases.fresh seat.old).view.ends) (length (entry_of Self.phases.fresh seat.new).view.ends) result.steps }
         ensures to_wake { result.to_wake.word < word_count }
         ensures wakes { result.to_wake.word ≡ Self.turn_word (entry_of Self.phases.fresh seat.new).view }
@@ -294,30 +269,19 @@ pub trait Linked<K: Keep>: Discipline<K> {
         node: u64,
         state: PortState,
     ) -> Requested
-        requires table { IsSeatOf Self.word_count ground.now.table_id seat.old }
+        requires seat { IsSeatOfNode Self.word_count ground.now.table_id Self.phases.fresh node seat.old }
         requires rests { (mark : ℕ) × Rests Self.phases state mark seat.old }
         requires may_ask { IsTrue (states.may_ask state) }
-        requires own { IsOwnNode Self.phases.fresh node seat.old }
-        ensures same { SameSeat seat.old seat.new }
-        ensures goes_on { GoesOn K.allows Self.phases.fresh seat.old.me seat.new.me result.steps }
-        ensures stays { result.answer ≡ Asked.Busy → (mark : ℕ) → Rests Self.phases state mark seat.old → Rests Self.phases state mark seat.new }
-        ensures busy { result.answer ≡ Asked.Busy → IsBusy (entry_of Self.phases.fresh seat.old).view (entry_of Self.phases.fresh seat.new).view }
-        ensures asks { result.answer ≢ Asked.Busy → Asks (entry_of Self.phases.fresh seat.old).view (entry_of Self.phases.fresh seat.new).view }
-        ensures joined { result.answer ≡ Asked.Came → IsJoined (entry_of Self.phases.fresh seat.new).view }
-        ensures behind { result.answer ≡ Asked.Behind → HasNoSlot seat.new × IsUnlinked Self.phases.rests result.mark (entry_of Self.phases.fresh seat.new) }
-        ensures came { result.answer ≡ Asked.Came → (y : Parcel) × Self.phases.brings result.mark y seat.new.me.1 × Comes Self.phases.holding Self.phases.refused result.mark (entry_of Self.phases.fresh seat.new) y }
+        ensures went { Went K.allows Self.phases.fresh seat.old seat.new result.steps }
+        ensures request { PutsRequest Self.phases result.mark state seat.old seat.new result.answer }
         ensures counted_busy { result.answer ≡ Asked.Busy → result.steps ≡ 1 }
         ensures counted { result.answer ≢ Asked.Busy → result.steps ≡ prepends_in state }
         ensures bound { result.steps ≤ 3 };
 
     /// Links the request to the one before: whether the line had been left for it, and so has come.
     fn link(ground: &Ground<K, Self>, seat: &mut LineSeat<Self::Own>, node: u64, mark: u64) -> bool
-        requires table { IsSeatOf Self.word_count ground.now.table_id seat.old }
+        requires seat { IsSeatOfNode Self.word_count ground.now.table_id Self.phases.fresh node seat.old }
         requires rests { Rests Self.phases PortState.Linking mark seat.old }
-        requires own { IsOwnNode Self.phases.fresh node seat.old }
-        ensures same { SameSeat seat.old seat.new }
-        ensures goes_on { GoesOn K.allows Self.phases.fresh seat.old.me seat.new.me 1 }
-        ensures links { Links (entry_of Self.phases.fresh seat.old).view (entry_of Self.phases.fresh seat.new).view }
-        ensures waits { result ≡ false → HasNoSlot seat.new × IsEarly Self.phases.rests mark (entry_of Self.phases.fresh seat.new) }
-        ensures comes { result ≡ true → (y : Parcel) × Self.phases.brings mark y seat.new.me.1 × Comes Self.phases.holding Self.phases.refused mark (entry_of Self.phases.fresh seat.new) y };
+        ensures went { Went K.allows Self.phases.fresh seat.old seat.new 1 }
+        ensures links { LinksOn Self.phases mark seat.old seat.new result };
 }

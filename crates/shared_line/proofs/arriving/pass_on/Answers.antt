@@ -10,4 +10,4 @@ returns-clause-count g c = let y = c.requires.comes in (c.release.ensures.lets_g
 
 pub returns-clause-told : goal.returns-clause-told
 returns-clause-told g c = let y = c.requires.comes in
-    (c.release.ensures.rests, told_by (entry_of g.Q.Shape.phases.fresh c.args.seat.now) (entry_of g.Q.Shape.phases.fresh c.release.new.seat) y.0 y.2 y.3 c.release.ensures.goes_on.extends (c.release.ensures.lets_go y.0 y.1))
+    (c.release.ensures.rests, told_by (entry_of g.Q.Shape.phases.fresh c.args.seat.now) (entry_of g.Q.Shape.phases.fresh c.release.new.seat) y.0 y.2 y.3 c.release.ensures.went.goes.extends (c.release.ensures.lets_go y.0 y.1))

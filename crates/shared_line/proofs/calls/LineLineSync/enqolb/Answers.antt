@@ -7,31 +7,31 @@ use Rattle.shared_line.proofs.Calling.{came_asked, behind_asked, call_continues,
 use Rattle.shared_line.proofs.calls.LineLineSync.enqolb.Goals as goal
 
 pub arrive-requires-clause-seat : goal.arrive-requires-clause-seat
-arrive-requires-clause-seat g c = let q = c.port.inside in call_seat q.seat q.parcel q.steps q.looks.count c.requires.belongs c.port.view_is (record { same = c.ask-made.ensures.same; goes = c.ask-made.ensures.goes_on }) q.node c.port.invariant.node_is
+arrive-requires-clause-seat g c = let q = c.port.inside in call_seat q.seat q.parcel q.steps q.looks.count c.requires.belongs c.port.view_is c.ask-made.ensures.went q.node c.port.invariant.node_is
 
 pub arrive-requires-clause-comes : goal.arrive-requires-clause-comes
-arrive-requires-clause-comes g c = c.ask-made.ensures.came c.in-Came.is
+arrive-requires-clause-comes g c = c.ask-made.ensures.request.came c.in-Came.is
 
 pub returns-in-Busy-clause-belongs : goal.returns-in-Busy-clause-belongs
-returns-in-Busy-clause-belongs g c = let q = c.port.inside in call_belongs q.seat q.parcel q.steps q.looks.count c.requires.belongs c.port.view_is (record { same = c.ask-made.ensures.same; goes = c.ask-made.ensures.goes_on }) q.parcel c.ask-made.result.steps
+returns-in-Busy-clause-belongs g c = let q = c.port.inside in call_belongs q.seat q.parcel q.steps q.looks.count c.requires.belongs c.port.view_is c.ask-made.ensures.went q.parcel c.ask-made.result.steps
 
 pub returns-in-Behind-clause-belongs : goal.returns-in-Behind-clause-belongs
-returns-in-Behind-clause-belongs g c = let q = c.port.inside in call_belongs q.seat q.parcel q.steps q.looks.count c.requires.belongs c.port.view_is (record { same = c.ask-made.ensures.same; goes = c.ask-made.ensures.goes_on }) q.parcel c.ask-made.result.steps
+returns-in-Behind-clause-belongs g c = let q = c.port.inside in call_belongs q.seat q.parcel q.steps q.looks.count c.requires.belongs c.port.view_is c.ask-made.ensures.went q.parcel c.ask-made.result.steps
 
 pub returns-in-Busy-clause-enqueues : goal.returns-in-Busy-clause-enqueues
 returns-in-Busy-clause-enqueues g c = let q = c.port.inside in
-    enqueues_busy (call_continues q.seat q.parcel q.steps q.looks.count c.requires.belongs c.port.view_is (record { same = c.ask-made.ensures.same; goes = c.ask-made.ensures.goes_on })) (call_busy g.Q.Shape.phases.fresh q.seat q.parcel q.steps q.looks.count c.port.view_is (c.ask-made.ensures.busy c.in-Busy.is))
+    enqueues_busy (call_continues q.seat q.parcel q.steps q.looks.count c.requires.belongs c.port.view_is c.ask-made.ensures.went) (call_busy g.Q.Shape.phases.fresh q.seat q.parcel q.steps q.looks.count c.port.view_is (c.ask-made.ensures.request.busy c.in-Busy.is))
 
 pub returns-in-Behind-clause-enqueues : goal.returns-in-Behind-clause-enqueues
 returns-in-Behind-clause-enqueues g c = let q = c.port.inside in
-    enqueues_queued (call_continues q.seat q.parcel q.steps q.looks.count c.requires.belongs c.port.view_is (record { same = c.ask-made.ensures.same; goes = c.ask-made.ensures.goes_on }))
-    (call_asks g.Q.Shape.phases.fresh q.seat q.parcel q.steps q.looks.count c.port.view_is (c.ask-made.ensures.asks (behind_asked c.in-Behind.is))) (c.ask-made.ensures.joined (behind_asked c.in-Behind.is)) (c.ask-made.ensures.behind c.in-Behind.is).1.queued
+    enqueues_queued (call_continues q.seat q.parcel q.steps q.looks.count c.requires.belongs c.port.view_is c.ask-made.ensures.went)
+    (call_asks g.Q.Shape.phases.fresh q.seat q.parcel q.steps q.looks.count c.port.view_is (c.ask-made.ensures.request.asks (behind_asked c.in-Behind.is))) (c.ask-made.ensures.request.joined (behind_asked c.in-Behind.is)) (c.ask-made.ensures.request.behind c.in-Behind.is).1.queued
 
 pub invariant_of-port-in-Came : goal.invariant_of-port-in-Came
-invariant_of-port-in-Came g c = c.arrive.ensures.port c.port.inside.label (c.ask-made.ensures.goes_on.extends.label ∙ c.port.invariant.label_is)
+invariant_of-port-in-Came g c = c.arrive.ensures.port c.port.inside.label (c.ask-made.ensures.went.goes.extends.label ∙ c.port.invariant.label_is)
 
 pub returns-in-Came-clause-enqueues : goal.returns-in-Came-clause-enqueues
 returns-in-Came-clause-enqueues g c = let q = c.port.inside in let more = c.arrive.ensures.went.goes.extends in
-    enqueues_came (call_continues q.seat q.parcel q.steps q.looks.count c.requires.belongs c.port.view_is {t = c.arrive.new.seat} (then_to (record { same = c.ask-made.ensures.same; goes = c.ask-made.ensures.goes_on }) c.arrive.ensures.more c.arrive.ensures.went))
-    (call_asks_on g.Q.Shape.phases.fresh q.seat q.parcel q.steps q.looks.count c.port.view_is (c.ask-made.ensures.asks (came_asked c.in-Came.is)) more c.arrive.ensures.count)
-    (joined_goes (entry_of g.Q.Shape.phases.fresh c.ask-made.new.seat).view (entry_of g.Q.Shape.phases.fresh c.arrive.new.seat).view (c.ask-made.ensures.joined (came_asked c.in-Came.is)) more c.arrive.ensures.count) c.arrive.ensures.came
+    enqueues_came (call_continues q.seat q.parcel q.steps q.looks.count c.requires.belongs c.port.view_is {t = c.arrive.new.seat} (then_to c.ask-made.ensures.went c.arrive.ensures.more c.arrive.ensures.went))
+    (call_asks_on g.Q.Shape.phases.fresh q.seat q.parcel q.steps q.looks.count c.port.view_is (c.ask-made.ensures.request.asks (came_asked c.in-Came.is)) more c.arrive.ensures.count)
+    (joined_goes (entry_of g.Q.Shape.phases.fresh c.ask-made.new.seat).view (entry_of g.Q.Shape.phases.fresh c.arrive.new.seat).view (c.ask-made.ensures.request.joined (came_asked c.in-Came.is)) more c.arrive.ensures.count) c.arrive.ensures.came

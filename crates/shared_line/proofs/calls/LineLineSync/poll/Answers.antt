@@ -6,20 +6,20 @@ use Rattle.shared_line.proofs.Calling.{call_continues, call_belongs, call_seat, 
 use Rattle.shared_line.proofs.calls.LineLineSync.poll.Goals as goal
 
 pub arrive-requires-clause-seat : goal.arrive-requires-clause-seat
-arrive-requires-clause-seat g c = let q = c.port.inside in call_seat q.seat q.parcel q.steps q.looks.count c.requires.belongs c.port.view_is (record { same = c.look.ensures.same; goes = c.look.ensures.goes_on }) q.node c.port.invariant.node_is
+arrive-requires-clause-seat g c = let q = c.port.inside in call_seat q.seat q.parcel q.steps q.looks.count c.requires.belongs c.port.view_is c.look.ensures.went q.node c.port.invariant.node_is
 
 pub returns-then-not-look-clause-belongs : goal.returns-then-not-look-clause-belongs
-returns-then-not-look-clause-belongs g c = let q = c.port.inside in call_belongs q.seat q.parcel q.steps q.looks.count c.requires.belongs c.port.view_is (record { same = c.look.ensures.same; goes = c.look.ensures.goes_on }) q.parcel 1
+returns-then-not-look-clause-belongs g c = let q = c.port.inside in call_belongs q.seat q.parcel q.steps q.looks.count c.requires.belongs c.port.view_is c.look.ensures.went q.parcel 1
 
 pub returns-then-not-look-clause-polls : goal.returns-then-not-look-clause-polls
 returns-then-not-look-clause-polls g c = let q = c.port.inside in
-    polls_waiting (call_continues q.seat q.parcel q.steps q.looks.count c.requires.belongs c.port.view_is (record { same = c.look.ensures.same; goes = c.look.ensures.goes_on }))
-    (same_count g.Q.Shape.phases.fresh (entry_of g.Q.Shape.phases.fresh c.look.new.seat).view q.seat q.parcel q.steps q.looks.count c.port.view_is c.look.ensures.count) (c.look.ensures.waits c.if-not-look.true).1.queued
+    polls_waiting (call_continues q.seat q.parcel q.steps q.looks.count c.requires.belongs c.port.view_is c.look.ensures.went)
+    (same_count g.Q.Shape.phases.fresh (entry_of g.Q.Shape.phases.fresh c.look.new.seat).view q.seat q.parcel q.steps q.looks.count c.port.view_is c.look.ensures.looks.count) (c.look.ensures.looks.waits c.if-not-look.true).1.queued
 
 pub invariant_of-port-2 : goal.invariant_of-port-2
-invariant_of-port-2 g c = c.arrive.ensures.port c.port.inside.label (c.look.ensures.goes_on.extends.label ∙ c.port.invariant.label_is)
+invariant_of-port-2 g c = c.arrive.ensures.port c.port.inside.label (c.look.ensures.went.goes.extends.label ∙ c.port.invariant.label_is)
 
 pub returns-clause-polls : goal.returns-clause-polls
 returns-clause-polls g c = let q = c.port.inside in
-    polls_came (call_continues q.seat q.parcel q.steps q.looks.count c.requires.belongs c.port.view_is {t = c.arrive.new.seat} (then_to (record { same = c.look.ensures.same; goes = c.look.ensures.goes_on }) c.arrive.ensures.more c.arrive.ensures.went))
-    (same_count g.Q.Shape.phases.fresh (entry_of g.Q.Shape.phases.fresh c.arrive.new.seat).view q.seat q.parcel q.steps q.looks.count c.port.view_is (c.arrive.ensures.count ∙ c.look.ensures.count)) c.arrive.ensures.came
+    polls_came (call_continues q.seat q.parcel q.steps q.looks.count c.requires.belongs c.port.view_is {t = c.arrive.new.seat} (then_to c.look.ensures.went c.arrive.ensures.more c.arrive.ensures.went))
+    (same_count g.Q.Shape.phases.fresh (entry_of g.Q.Shape.phases.fresh c.arrive.new.seat).view q.seat q.parcel q.steps q.looks.count c.port.view_is (c.arrive.ensures.count ∙ c.look.ensures.looks.count)) c.arrive.ensures.came

@@ -6,20 +6,20 @@ use Rattle.shared_line.proofs.Calling.{call_continues, call_belongs, call_seat, 
 use Rattle.shared_line.proofs.calls.LineLineSync.withdraw.Goals as goal
 
 pub arrive-requires-clause-seat : goal.arrive-requires-clause-seat
-arrive-requires-clause-seat g c = let q = c.port.inside in call_seat q.seat q.parcel q.steps q.looks.count c.requires.belongs c.port.view_is (record { same = c.roll.ensures.same; goes = c.roll.ensures.goes_on }) q.node c.port.invariant.node_is
+arrive-requires-clause-seat g c = let q = c.port.inside in call_seat q.seat q.parcel q.steps q.looks.count c.requires.belongs c.port.view_is c.roll.ensures.went q.node c.port.invariant.node_is
 
 pub returns-then-not-roll-clause-belongs : goal.returns-then-not-roll-clause-belongs
-returns-then-not-roll-clause-belongs g c = let q = c.port.inside in call_belongs q.seat q.parcel q.steps q.looks.count c.requires.belongs c.port.view_is (record { same = c.roll.ensures.same; goes = c.roll.ensures.goes_on }) q.parcel 1
+returns-then-not-roll-clause-belongs g c = let q = c.port.inside in call_belongs q.seat q.parcel q.steps q.looks.count c.requires.belongs c.port.view_is c.roll.ensures.went q.parcel 1
 
 pub returns-then-not-roll-clause-withdraws : goal.returns-then-not-roll-clause-withdraws
 returns-then-not-roll-clause-withdraws g c = let q = c.port.inside in
-    withdraws_withdrawn (call_continues q.seat q.parcel q.steps q.looks.count c.requires.belongs c.port.view_is (record { same = c.roll.ensures.same; goes = c.roll.ensures.goes_on }))
-    (same_count g.Q.Shape.phases.fresh (entry_of g.Q.Shape.phases.fresh c.roll.new.seat).view q.seat q.parcel q.steps q.looks.count c.port.view_is c.roll.ensures.count) (c.roll.ensures.withdrawn c.if-not-roll.true).1.withdrawn
+    withdraws_withdrawn (call_continues q.seat q.parcel q.steps q.looks.count c.requires.belongs c.port.view_is c.roll.ensures.went)
+    (same_count g.Q.Shape.phases.fresh (entry_of g.Q.Shape.phases.fresh c.roll.new.seat).view q.seat q.parcel q.steps q.looks.count c.port.view_is c.roll.ensures.rolls.count) (c.roll.ensures.rolls.withdrawn c.if-not-roll.true).1.withdrawn
 
 pub invariant_of-port-2 : goal.invariant_of-port-2
-invariant_of-port-2 g c = c.arrive.ensures.port c.port.inside.label (c.roll.ensures.goes_on.extends.label ∙ c.port.invariant.label_is)
+invariant_of-port-2 g c = c.arrive.ensures.port c.port.inside.label (c.roll.ensures.went.goes.extends.label ∙ c.port.invariant.label_is)
 
 pub returns-clause-withdraws : goal.returns-clause-withdraws
 returns-clause-withdraws g c = let q = c.port.inside in
-    withdraws_came (call_continues q.seat q.parcel q.steps q.looks.count c.requires.belongs c.port.view_is {t = c.arrive.new.seat} (then_to (record { same = c.roll.ensures.same; goes = c.roll.ensures.goes_on }) c.arrive.ensures.more c.arrive.ensures.went))
-    (same_count g.Q.Shape.phases.fresh (entry_of g.Q.Shape.phases.fresh c.arrive.new.seat).view q.seat q.parcel q.steps q.looks.count c.port.view_is (c.arrive.ensures.count ∙ c.roll.ensures.count)) c.arrive.ensures.came
+    withdraws_came (call_continues q.seat q.parcel q.steps q.looks.count c.requires.belongs c.port.view_is {t = c.arrive.new.seat} (then_to c.roll.ensures.went c.arrive.ensures.more c.arrive.ensures.went))
+    (same_count g.Q.Shape.phases.fresh (entry_of g.Q.Shape.phases.fresh c.arrive.new.seat).view q.seat q.parcel q.steps q.looks.count c.port.view_is (c.arrive.ensures.count ∙ c.roll.ensures.rolls.count)) c.arrive.ensures.came

@@ -20,13 +20,13 @@ returns-then-not-parcel-clause-port g c label label_is =
     }
 
 pub returns-clause-seat : goal.returns-clause-seat
-returns-clause-seat g c = let gone = c.pass_on-left.ensures in seated_goes c.requires.seat (put_then c.take.ensures.same gone.same gone.goes_on)
+returns-clause-seat g c = let gone = c.pass_on-left.ensures in seated_goes c.requires.seat (put_then c.take.ensures.same gone.went)
 
 pub returns-clause-port : goal.returns-clause-port
 returns-clause-port g c label label_is = let gone = c.pass_on-left.ensures in
-    passed_port {s = c.args.seat.now} label c.args.node c.args.mark c.take.new.parcel c.pass_on-left.result.state label_is c.requires.seat.node_is (put_then c.take.ensures.same gone.same gone.goes_on) (gone.told, gone.not_held)
+    passed_port {s = c.args.seat.now} label c.args.node c.args.mark c.take.new.parcel c.pass_on-left.result.state label_is c.requires.seat.node_is (put_then c.take.ensures.same gone.went) (gone.told, gone.not_held)
 
 pub returns-clause-went : goal.returns-clause-went
 returns-clause-went g c = let gone = c.pass_on-left.ensures in
     let e : c.pass_on-left.result.steps ≡ c.args.steps.now + c.pass_on-left.result.steps - c.args.steps.now = omega arith in
-    subst (Went g.K.Keep.allows g.Q.Shape.phases.fresh c.args.seat.now c.pass_on-left.new.seat) e (put_then c.take.ensures.same gone.same gone.goes_on)
+    subst (Went g.K.Keep.allows g.Q.Shape.phases.fresh c.args.seat.now c.pass_on-left.new.seat) e (put_then c.take.ensures.same gone.went)
