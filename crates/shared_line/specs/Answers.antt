@@ -2,6 +2,7 @@
 use Rattle.std.specs.Prelude.{◌≡◌, ◌≢◌, ◌≤◌, ℕ, List, Bool, true, false}
 use Rattle.atomic_table.specs.Seated.{TableId}
 use Rattle.qolb_model.specs.declared.answer.PortState.{PortState}
+use Rattle.qolb_model.specs.declared.answer.PortState.TheVariants as shows
 use Rattle.qolb_model.specs.declared.answer.Enq.{Enq}
 use Rattle.qolb_model.specs.declared.answer.Enq.TheVariants as enq
 use Rattle.qolb_model.specs.declared.view.View.{View}
@@ -27,6 +28,13 @@ IsSeatOfNode words table_id fresh node s = IsSeatOf words table_id s × IsOwnNod
 -- the line that a node knows is one of some nodes, and of no more than there may be
 abbrev pub HasNodes : View → Type 0
 HasNodes v = (1 ≤ v.terms.nodes) × (v.terms.nodes ≤ MOST_NODES)
+
+-- a request took so many word steps, as its lock says by what became of it, and four at most
+pub record CountsRequest (asks_in : PortState → Enq → ℕ → Type 0) (state : PortState) (answer : Asked) (steps : ℕ) : Type 0 where
+  pub busy : answer ≡ asked.Busy → asks_in state enq.Busy steps
+  pub behind : answer ≡ asked.Behind → asks_in state enq.Queued steps
+  pub came : answer ≡ asked.Came → asks_in state enq.Granted steps
+  pub bound : steps ≤ 4
 
 module _ {O : Type 0} (q : Phases O) (mark : ℕ) where
   -- a line has come to the node, and lies in the slots that it has in hand
@@ -97,6 +105,8 @@ module _ {O : Type 0} (q : Phases O) (mark : ℕ) where
   abbrev pub HasLaid : (List ℕ → List ℕ → Type 0) → Bool → LineSeat O → Type 0
   HasLaid allows closed s = (y : Parcel) × q.lays mark y s.me.1 × HasLine q.holding q.refused mark (entry_of q.fresh s) y × Carries allows (entry_of q.fresh s).view y × (y.closed ≡ closed)
 
-  -- and ends that request so
-  abbrev pub LetsGoOf : LineSeat O → LineSeat O → Type 0
-  LetsGoOf old new = (y : Parcel) → q.lays mark y old.me.1 → EndsTurn (entry_of q.fresh old).view (own_end (is_closed (entry_of q.fresh old).view.ends) y) (left_by y.closed) (entry_of q.fresh new).view
+  -- and then the node holds no more, and that request has ended
+  pub record HandsOver (old new : LineSeat O) (state : PortState) : Type 0 where
+    pub rests : (m : ℕ) → Rests q state m new
+    pub not_held : state ≢ shows.Holding
+    pub lets_go : (y : Parcel) → q.lays mark y old.me.1 → EndsTurn (entry_of q.fresh old).view (own_end (is_closed (entry_of q.fresh old).view.ends) y) (left_by y.closed) (entry_of q.fresh new).view

@@ -8,7 +8,6 @@ ghost use Rattle.qolb_model.specs.Entries.{front, behind};
 ghost use Rattle.qolb_model.specs.declared.answer.PortState.{PortState};
 ghost use Rattle.qolb_model.specs.declared.answer.PortState.TheVariants as shows;
 ghost use Rattle.qolb_model.specs.declared.answer.Enq.{Enq};
-ghost use Rattle.qolb_model.specs.declared.answer.Enq.TheVariants as enq;
 ghost use Rattle.qolb_model.specs.declared.view.View.{View};
 ghost use Rattle.qolb_model.specs.declared.terms.TheConstants.{MOST_NODES};
 ghost use Rattle.qolb_model.specs.PortStates as states;
@@ -19,7 +18,7 @@ ghost use Rattle.shared_line.specs.declared.rule.Parcel.{Parcel};
 ghost use Rattle.shared_line.specs.declared.rule.Setup.{Setup};
 ghost use Rattle.shared_line.specs.declared.rule.Entry.{Entry};
 ghost use Rattle.shared_line.specs.Phases.{Phases};
-ghost use Rattle.shared_line.specs.Answers.{IsSeatOfNode, HasNodes, Takes, Puts, MakesRequest, PutsRequest, Looks, Rolls, LinksOn, HasLaid, LetsGoOf};
+ghost use Rattle.shared_line.specs.Answers.{IsSeatOfNode, HasNodes, Takes, Puts, MakesRequest, CountsRequest, PutsRequest, Looks, Rolls, LinksOn, HasLaid, HandsOver};
 ghost use Rattle.shared_line.specs.Turns.{SeesTurn};
 ghost use Rattle.shared_line.specs.Entries.{Contents, newcomers, AllRest, views_of};
 ghost use Rattle.shared_line.specs.Steps.{Alone, entry_of, Rests, Went, met, parked, Looked};
@@ -182,10 +181,7 @@ pub trait Discipline<K: Keep>: Ruled<K> {
         requires may_ask { IsTrue (states.may_ask state) }
         ensures went { Went K.allows Self.phases.fresh seat.old seat.new result.steps }
         ensures request { MakesRequest Self.phases result.mark state seat.old seat.new result.answer }
-        ensures counted_busy { result.answer ≡ Asked.Busy → Self.asks_in state enq.Busy result.steps }
-        ensures counted_behind { result.answer ≡ Asked.Behind → Self.asks_in state enq.Queued result.steps }
-        ensures counted_came { result.answer ≡ Asked.Came → Self.asks_in state enq.Granted result.steps }
-        ensures bound { result.steps ≤ 4 };
+        ensures counted { CountsRequest Self.asks_in state result.answer result.steps };
 
     /// Looks whether the request has come to its turn.
     fn look(ground: &Ground<K, Self>, seat: &mut LineSeat<Self::Own>, node: u64, mark: u64) -> bool
@@ -213,10 +209,8 @@ pub trait Discipline<K: Keep>: Ruled<K> {
         requires alone { Alone Self.phases.fresh seat.old.me }
         requires nodes { HasNodes (entry_of Self.phases.fresh seat.old).view }
         requires line { HasLaid Self.phases mark K.allows closed seat.old }
-        ensures rests { (mark : ℕ) → Rests Self.phases result.state mark seat.new }
-        ensures not_held { result.state ≢ PortState.Holding }
         ensures went { Went K.allows Self.phases.fresh seat.old seat.new result.steps }
-        ensures lets_go { LetsGoOf Self.phases mark seat.old seat.new }
+        ensures hands_over { HandsOver Self.phases mark seat.old seat.new result.state }
         ensures counted { Self.lets_go_in (length (entry_of Self.phases.fresh seat.old).view.ends) (length (entry_of Self.phases.fresh seat.new).view.ends) result.steps }
         ensures to_wake { result.to_wake.word < word_count }
         ensures wakes { result.to_wake.word ≡ Self.turn_word (entry_of Self.phases.fresh seat.new).view }

@@ -9,10 +9,10 @@ release-gone-requires-clause-line g c = let q = c.port.inside in
     put_carries q.seat q.parcel q.mark q.steps q.looks.count q.state c.port.invariant c.port.view_is c.requires.belongs c.requires.state c.args.shut c.closes-closed.result c.closes-closed.ensures c.put.new.seat c.put.ensures.same.0 c.put.ensures.same.1 c.put.ensures.put_back c.requires.allowed
 
 pub invariant_of-port : goal.invariant_of-port
-invariant_of-port g c = let q = c.port.inside in let after = c.release-gone.ensures.rests q.mark in let on = c.release-gone.ensures.went.goes.extends in record {
+invariant_of-port g c = let q = c.port.inside in let after = c.release-gone.ensures.hands_over.rests q.mark in let on = c.release-gone.ensures.went.goes.extends in record {
   alone = after.alone;
   rests_so = λ _. (after.stands, after.slot);
-  holds_so = λ e. absurd (c.release-gone.ensures.not_held e);
+  holds_so = λ e. absurd (c.release-gone.ensures.hands_over.not_held e);
   shows_state = after.shows_state;
   label_is = on.label ∙ (ap (λ es. (sole g.Q.Shape.phases.fresh es).view.label) c.put.ensures.same.1 ∙ c.port.invariant.label_is);
   node_is = on.node ∙ (ap (λ es. (sole g.Q.Shape.phases.fresh es).view.node) c.put.ensures.same.1 ∙ c.port.invariant.node_is);
@@ -25,4 +25,4 @@ returns-clause-belongs g c = let q = c.port.inside in
 pub returns-clause-releases : goal.returns-clause-releases
 returns-clause-releases g c = let q = c.port.inside in let back = c.put.ensures.put_back in
     let_go_releases q.seat q.parcel q.mark q.steps q.looks.count q.state c.port.invariant c.port.view_is c.requires.belongs c.requires.state c.args.shut c.closes-closed.result c.closes-closed.ensures c.put.new.seat c.put.ensures.same.0 c.put.ensures.same.1 back
-    {t = c.release-gone.new.seat} (put_then c.put.ensures.same c.release-gone.ensures.went) (c.release-gone.ensures.lets_go back.0 back.1)
+    {t = c.release-gone.new.seat} (put_then c.put.ensures.same c.release-gone.ensures.went) (c.release-gone.ensures.hands_over.lets_go back.0 back.1)
