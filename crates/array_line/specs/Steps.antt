@@ -55,6 +55,10 @@ IsOwnNode node seat = line.IsOwnNode fresh node seat
 abbrev pub GoesOn : (List ℕ → List ℕ → Type 0) → Contents → Contents → ℕ → Type 0
 GoesOn allows old new steps = line.GoesOn allows fresh old new steps
 
+-- and it is the same seat
+abbrev pub Went : (List ℕ → List ℕ → Type 0) → ArraySeat → ArraySeat → ℕ → Type 0
+Went allows old new steps = line.Went allows fresh old new steps
+
 -- the node drew a ticket, and knows all that came before
 pub record Draws (v w : ArrayEntry) : Type 0 where
   pub point : w.own.point ≡ Queued

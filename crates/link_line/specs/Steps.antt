@@ -56,6 +56,9 @@ IsOwnNode node seat = shared.IsOwnNode fresh node seat
 abbrev pub GoesOn : (List ℕ → List ℕ → Type 0) → Contents → Contents → ℕ → Type 0
 GoesOn allows old new steps = shared.GoesOn allows fresh old new steps
 
+abbrev pub Went : (List ℕ → List ℕ → Type 0) → LinkSeat → LinkSeat → ℕ → Type 0
+Went allows old new steps = shared.Went allows fresh old new steps
+
 abbrev pub Rests : PortState → ℕ → LinkSeat → Type 0
 Rests state mark s = shared.Rests phases state mark s
 

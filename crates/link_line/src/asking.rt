@@ -3,9 +3,9 @@ ghost use Rattle.std.specs.Prelude.{◌≡◌, ◌≢◌, ℕ, ◌+◌, ◌≤�
 ghost use Rattle.qolb_model.specs.Asking.{IsBusy, Asks, IsJoined};
 ghost use Rattle.qolb_model.specs.PortStates as states;
 ghost use Rattle.shared_line.specs.declared.rule.Parcel.{Parcel};
-ghost use Rattle.shared_line.specs.Steps.{SameSeat, HasSlot, HasNoSlot};
+ghost use Rattle.shared_line.specs.Steps.{HasSlot, HasNoSlot};
 ghost use Rattle.link_line.specs.Stances.{steps_to_ask};
-ghost use Rattle.link_line.specs.Steps.{IsSeatOf, IsOwnNode, Alone, known_of, GoesOn, Rests, Comes, LinksTo};
+ghost use Rattle.link_line.specs.Steps.{IsSeatOf, IsOwnNode, Alone, known_of, Went, Rests, Comes, LinksTo};
 ghost use Rattle.link_line.specs.Releases.{IsRenewed, steps_to_renew, rest_of};
 
 use crate::rule::{Ground, LinkSeat};
@@ -25,8 +25,7 @@ pub(crate) fn request<K: Keep>(
     requires rests { (mark : ℕ) × Rests state mark seat.old }
     requires may_ask { IsTrue (states.may_ask state) }
     requires own { IsOwnNode node seat.old }
-    ensures same { SameSeat seat.old seat.new }
-    ensures goes_on { GoesOn K.allows seat.old.me seat.new.me result.steps }
+    ensures went { Went K.allows seat.old seat.new result.steps }
     ensures stays { result.answer ≡ Asked.Busy → (mark : ℕ) → Rests state mark seat.old → Rests state mark seat.new }
     ensures busy { result.answer ≡ Asked.Busy → IsBusy (known_of seat.old).view (known_of seat.new).view }
     ensures asks { result.answer ≢ Asked.Busy → Asks (known_of seat.old).view (known_of seat.new).view }
@@ -70,9 +69,8 @@ pub(crate) fn renew<K: Keep>(
     requires point { (known_of seat.old).own.seat.point ≡ rest_of state }
     requires may_ask { states.may_ask state ≡ true }
     requires own { IsOwnNode node seat.old }
-    ensures same { SameSeat seat.old seat.new }
     ensures slot { seat.new.me.1 ≡ seat.old.me.1 }
-    ensures goes_on { GoesOn K.allows seat.old.me seat.new.me (steps_to_renew result) }
+    ensures went { Went K.allows seat.old seat.new (steps_to_renew result) }
     ensures renewed { IsRenewed state (known_of seat.old) (known_of seat.new) result }
 {
     // By comparisons, rarest last: as a `match` on all states this is a table of jumps, which each round would go through.

@@ -10,7 +10,7 @@ ghost use Rattle.shared_line.specs.Steps.{SameSeat, HasSlot, HasNoSlot};
 ghost use Rattle.link_line.specs.Links.{At};
 ghost use Rattle.link_line.specs.Stances.{lets_go_in, turn_word};
 ghost use Rattle.link_line.specs.Words as layout;
-ghost use Rattle.link_line.specs.Steps.{IsSeatOf, IsAt, IsOwnNode, Alone, known_of, GoesOn, MayLetGo};
+ghost use Rattle.link_line.specs.Steps.{IsSeatOf, IsAt, IsOwnNode, Alone, known_of, GoesOn, Went, MayLetGo};
 ghost use Rattle.link_line.specs.Releases.{AreFew, HandsOn, NamesTurn, LetsLineGo, WalksOn, AreNodesAt, FreesAll};
 
 use crate::rule::{Ground, LinkSeat};
@@ -48,9 +48,8 @@ pub(crate) fn release<K: Keep>(
     requires none_passed { (known_of seat.old).own.passed ≡ [] }
     requires nodes { (1 ≤ (known_of seat.old).view.terms.nodes) × ((known_of seat.old).view.terms.nodes ≤ MOST_NODES) }
     requires parcel { (y : Parcel) × HasSlot seat.old y × MayLetGo K.allows (known_of seat.old) y node × (y.closed ≡ closed) }
-    ensures same { SameSeat seat.old seat.new }
     ensures slot { HasNoSlot seat.new }
-    ensures goes_on { GoesOn K.allows seat.old.me seat.new.me result.steps }
+    ensures went { Went K.allows seat.old seat.new result.steps }
     ensures lets_go { (y : Parcel) → HasSlot seat.old y → LetsLineGo (known_of seat.old) y result.state (known_of seat.new) }
     ensures counted { lets_go_in (length (known_of seat.old).view.ends) (length (known_of seat.new).view.ends) result.steps }
     ensures to_wake { result.to_wake.word < layout.word_count }
@@ -174,9 +173,8 @@ fn free_passed<K: Keep>(ground: &Ground<K>, seat: &mut LinkSeat, nodes: &[u64])
     requires some { (known_of seat.old).own.passed ≢ [] }
     requires many { length nodes.now ≡ length (known_of seat.old).own.passed }
     requires nodes { AreNodesAt (known_of seat.old).view.order (known_of seat.old).own.passed nodes.now }
-    ensures same { SameSeat seat.old seat.new }
     ensures slot { seat.new.me.1 ≡ seat.old.me.1 }
-    ensures goes_on { GoesOn K.allows seat.old.me seat.new.me (length nodes.now) }
+    ensures went { Went K.allows seat.old seat.new (length nodes.now) }
     ensures frees { FreesAll (known_of seat.old) (known_of seat.new) }
 {
     for node in nodes {

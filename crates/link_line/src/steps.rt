@@ -9,8 +9,8 @@ ghost use Rattle.link_line.specs.Links.{At};
 ghost use Rattle.link_line.specs.Stances.{turn_word};
 ghost use Rattle.link_line.specs.Words as layout;
 ghost use Rattle.shared_line.specs.declared.rule.Parcel.{Parcel};
-ghost use Rattle.shared_line.specs.Steps.{SameSeat, HasSlot, HasNoSlot};
-ghost use Rattle.link_line.specs.Steps.{Alone, IsSeatOf, IsAt, IsOwnNode, known_of, GoesOn, IsReady, LinksTo, IsEarly, Comes, IsRolled, IsStill, MayLetGo, Carries, IsOneLeft, Ended, GoesOut, IsLeft, Passes, Frees};
+ghost use Rattle.shared_line.specs.Steps.{HasSlot, HasNoSlot};
+ghost use Rattle.link_line.specs.Steps.{Alone, IsSeatOf, IsAt, IsOwnNode, known_of, Went, IsReady, LinksTo, IsEarly, Comes, IsRolled, IsStill, MayLetGo, Carries, IsOneLeft, Ended, GoesOut, IsLeft, Passes, Frees};
 
 use crate::plays::{Done, Free, Grant, Home, Link, Load, Look, Prepend, Reset, Roll};
 use crate::rule::{Ground, LinkSeat};
@@ -25,9 +25,8 @@ pub(crate) fn reset<K: Keep>(ground: &Ground<K>, seat: &mut LinkSeat, node: u64)
     requires table { IsSeatOf ground.now.table_id seat.old }
     requires ready { IsAt Idle seat.old ⊎ IsAt Shut seat.old }
     requires own { IsOwnNode node seat.old }
-    ensures same { SameSeat seat.old seat.new }
     ensures slot { seat.new.me.1 ≡ seat.old.me.1 }
-    ensures goes_on { GoesOn K.allows seat.old.me seat.new.me 1 }
+    ensures went { Went K.allows seat.old seat.new 1 }
     ensures is_ready { IsReady (known_of seat.old) (known_of seat.new) }
 {
     ground.store::<Reset<K>>(seat, entry_word(node), 0);
@@ -42,8 +41,7 @@ pub(crate) fn prepend<K: Keep>(ground: &Ground<K>, seat: &mut LinkSeat, node: u6
     requires ready { IsAt Ready seat.old }
     requires slot { HasNoSlot seat.old }
     requires own { IsOwnNode node seat.old }
-    ensures same { SameSeat seat.old seat.new }
-    ensures goes_on { GoesOn K.allows seat.old.me seat.new.me 1 }
+    ensures went { Went K.allows seat.old seat.new 1 }
     ensures asks { Asks (known_of seat.old).view (known_of seat.new).view }
     ensures joined { result ≡ 0 → IsJoined (known_of seat.new).view }
     ensures comes { result ≡ 0 → (y : Parcel) × HasSlot seat.new y × Comes (known_of seat.new) y }
@@ -59,8 +57,7 @@ pub(crate) fn link<K: Keep>(ground: &Ground<K>, seat: &mut LinkSeat, node: u64, 
     requires slot { HasNoSlot seat.old }
     requires own { IsOwnNode node seat.old }
     requires high { older ≤ MOST_NODES }
-    ensures same { SameSeat seat.old seat.new }
-    ensures goes_on { GoesOn K.allows seat.old.me seat.new.me 1 }
+    ensures went { Went K.allows seat.old seat.new 1 }
     ensures links { Links (known_of seat.old).view (known_of seat.new).view }
     ensures waits { result ≡ false → HasNoSlot seat.new × IsEarly (known_of seat.new) }
     ensures comes { result ≡ true → (y : Parcel) × HasSlot seat.new y × Comes (known_of seat.new) y }
@@ -74,8 +71,7 @@ pub(crate) fn load<K: Keep>(ground: &Ground<K>, seat: &mut LinkSeat, node: u64) 
     requires ready { IsAt Queued seat.old }
     requires slot { HasNoSlot seat.old }
     requires own { IsOwnNode node seat.old }
-    ensures same { SameSeat seat.old seat.new }
-    ensures goes_on { GoesOn K.allows seat.old.me seat.new.me 1 }
+    ensures went { Went K.allows seat.old seat.new 1 }
     ensures count { (known_of seat.new).view.count ≡ (known_of seat.old).view.count }
     ensures waits { result ≡ false → HasNoSlot seat.new × IsEarly (known_of seat.new) }
     ensures comes { result ≡ true → (y : Parcel) × HasSlot seat.new y × Comes (known_of seat.new) y }
@@ -89,8 +85,7 @@ pub(crate) fn roll<K: Keep>(ground: &Ground<K>, seat: &mut LinkSeat, node: u64) 
     requires ready { IsAt Queued seat.old }
     requires slot { HasNoSlot seat.old }
     requires own { IsOwnNode node seat.old }
-    ensures same { SameSeat seat.old seat.new }
-    ensures goes_on { GoesOn K.allows seat.old.me seat.new.me 1 }
+    ensures went { Went K.allows seat.old seat.new 1 }
     ensures count { (known_of seat.new).view.count ≡ (known_of seat.old).view.count }
     ensures withdrawn { result ≡ false → HasNoSlot seat.new × IsRolled (known_of seat.new) }
     ensures comes { result ≡ true → (y : Parcel) × HasSlot seat.new y × Comes (known_of seat.new) y }
@@ -103,9 +98,8 @@ pub(crate) fn look_left<K: Keep>(ground: &Ground<K>, seat: &mut LinkSeat, node: 
     requires table { IsSeatOf ground.now.table_id seat.old }
     requires ready { IsAt Left seat.old }
     requires own { IsOwnNode node seat.old }
-    ensures same { SameSeat seat.old seat.new }
     ensures slot { seat.new.me.1 ≡ seat.old.me.1 }
-    ensures goes_on { GoesOn K.allows seat.old.me seat.new.me 1 }
+    ensures went { Went K.allows seat.old seat.new 1 }
     ensures still { IsStill (known_of seat.old) result (known_of seat.new) }
 {
     link_of(ground.load::<Look<K>>(seat, entry_word(node))) != 0
@@ -117,9 +111,8 @@ pub(crate) fn look_rolled<K: Keep>(ground: &Ground<K>, seat: &mut LinkSeat, node
     requires table { IsSeatOf ground.now.table_id seat.old }
     requires ready { IsAt Rolled seat.old }
     requires own { IsOwnNode node seat.old }
-    ensures same { SameSeat seat.old seat.new }
     ensures slot { seat.new.me.1 ≡ seat.old.me.1 }
-    ensures goes_on { GoesOn K.allows seat.old.me seat.new.me 1 }
+    ensures went { Went K.allows seat.old seat.new 1 }
     ensures still { IsStill (known_of seat.old) result (known_of seat.new) }
 {
     let word = ground.load::<Look<K>>(seat, entry_word(node));
@@ -134,8 +127,7 @@ pub(crate) fn home<K: Keep>(ground: &Ground<K>, seat: &mut LinkSeat, at: u64) ->
     requires table { IsSeatOf ground.now.table_id seat.old }
     requires alone { Alone seat.old.me }
     requires parcel { (y : Parcel) × HasSlot seat.old y × MayLetGo K.allows (known_of seat.old) y at }
-    ensures same { SameSeat seat.old seat.new }
-    ensures goes_on { GoesOn K.allows seat.old.me seat.new.me 1 }
+    ensures went { Went K.allows seat.old seat.new 1 }
     ensures home { result ≡ true → HasNoSlot seat.new × ((y : Parcel) → HasSlot seat.old y → Ended (known_of seat.old) (known_of seat.new) y × GoesOut (known_of seat.old) (known_of seat.new) y) }
     ensures names { result ≡ true → turn_word (known_of seat.new).view ≡ layout.home_at }
     ensures on { result ≡ false → (seat.new.me.1 ≡ seat.old.me.1) × IsOneLeft (known_of seat.new) × ((y : Parcel) → HasSlot seat.old y → Carries (known_of seat.old) (known_of seat.new) y (Marking at)) }
@@ -153,8 +145,7 @@ pub(crate) fn done<K: Keep>(ground: &Ground<K>, seat: &mut LinkSeat, at: u64) ->
     requires ready { IsAt (Marking at) seat.old }
     requires high { at ≤ MOST_NODES }
     requires parcel { HasSlot seat.old (known_of seat.old).own.line }
-    ensures same { SameSeat seat.old seat.new }
-    ensures goes_on { GoesOn K.allows seat.old.me seat.new.me 1 }
+    ensures went { Went K.allows seat.old seat.new 1 }
     ensures left { result ≡ 0 → HasNoSlot seat.new × Ended (known_of seat.old) (known_of seat.new) (known_of seat.old).own.line × IsLeft (known_of seat.old) (known_of seat.new) (known_of seat.old).own.line }
     ensures names { result ≡ 0 → turn_word (known_of seat.new).view ≡ layout.home_at }
     ensures on { result ≢ 0 → (seat.new.me.1 ≡ seat.old.me.1) × (result ≤ MOST_NODES) × Carries (known_of seat.old) (known_of seat.new) (known_of seat.old).own.line (Granting result) }
@@ -168,8 +159,7 @@ pub(crate) fn grant<K: Keep>(ground: &Ground<K>, seat: &mut LinkSeat, next: u64)
     requires ready { IsAt (Granting next) seat.old }
     requires high { next ≤ MOST_NODES }
     requires parcel { HasSlot seat.old (known_of seat.old).own.line }
-    ensures same { SameSeat seat.old seat.new }
-    ensures goes_on { GoesOn K.allows seat.old.me seat.new.me 1 }
+    ensures went { Went K.allows seat.old seat.new 1 }
     ensures ended { Ended (known_of seat.old) (known_of seat.new) (known_of seat.old).own.line }
     ensures out { result ≡ false → HasNoSlot seat.new × GoesOut (known_of seat.old) (known_of seat.new) (known_of seat.old).own.line }
     ensures names { result ≡ false → turn_word (known_of seat.new).view ≡ layout.entry_at next }
@@ -184,9 +174,8 @@ pub(crate) fn free<K: Keep>(ground: &Ground<K>, seat: &mut LinkSeat, node: u64)
     requires ready { IsAt Freeing seat.old }
     requires high { node ≤ MOST_NODES }
     requires next { (p : ℕ) × (ps : List ℕ) × (r : Request) × ((known_of seat.old).own.passed ≡ p ∷ ps) × At (known_of seat.old).view.order p r × (r.node ≡ node) }
-    ensures same { SameSeat seat.old seat.new }
     ensures slot { seat.new.me.1 ≡ seat.old.me.1 }
-    ensures goes_on { GoesOn K.allows seat.old.me seat.new.me 1 }
+    ensures went { Went K.allows seat.old seat.new 1 }
     ensures frees { (p : ℕ) (ps : List ℕ) (r : Request) → (known_of seat.old).own.passed ≡ p ∷ ps → At (known_of seat.old).view.order p r → Frees (known_of seat.old) p ps r (known_of seat.new) }
 {
     ground.fetch_add::<Free<K>>(seat, entry_word(node), FREED);

@@ -5,10 +5,10 @@ ghost use Rattle.qolb_model.specs.Requests.{AreOfOthers};
 ghost use Rattle.qolb_model.specs.declared.terms.TheConstants.{MOST_NODES};
 ghost use Rattle.qolb_model.specs.PortStates.{left_by};
 ghost use Rattle.shared_line.specs.declared.rule.Parcel.{Parcel};
-ghost use Rattle.shared_line.specs.Steps.{SameSeat, IsSeatOf, HasSlot, HasNoSlot};
+ghost use Rattle.shared_line.specs.Steps.{IsSeatOf, HasSlot, HasNoSlot};
 ghost use Rattle.array_line.specs.Words.{word_count};
 ghost use Rattle.array_line.specs.Array.{At};
-ghost use Rattle.array_line.specs.Steps.{IsAt, IsOwnNode, entry_of, GoesOn, CarriesNext};
+ghost use Rattle.array_line.specs.Steps.{IsAt, IsOwnNode, entry_of, Went, CarriesNext};
 ghost use Rattle.array_line.specs.Releases.{IsRenewed, steps_to_renew, IsBare, LetsLineGo, WalksOn, AreNodesAt, FreesAll};
 ghost use Rattle.ring_line.specs.Words.{withdrawn_by};
 ghost use Rattle.ring_line.specs.Steps.{turn_cell};
@@ -44,9 +44,8 @@ pub(crate) fn renew<K: Keep>(
     requires rolled { state ≡ PortState.Rolled → IsAt Rolled seat.old }
     requires idle { state ≢ PortState.Rolled → IsAt Idle seat.old }
     requires own { IsOwnNode node seat.old }
-    ensures same { SameSeat seat.old seat.new }
     ensures slot { seat.new.me.1 ≡ seat.old.me.1 }
-    ensures goes_on { GoesOn K.allows seat.old.me seat.new.me (steps_to_renew result) }
+    ensures went { Went K.allows seat.old seat.new (steps_to_renew result) }
     ensures renewed { IsRenewed state (entry_of seat.old) (entry_of seat.new) result }
 {
     if state != PortState::Rolled {
@@ -68,9 +67,8 @@ pub(crate) fn release<K: Keep>(ground: &Ground<K>, seat: &mut RingSeat, cell: u6
     requires cell { cell ≡ turn_cell seat.old }
     requires nodes { 1 ≤ (entry_of seat.old).view.terms.nodes }
     requires parcel { (y : Parcel) × HasSlot seat.old y × CarriesNext K.allows (entry_of seat.old) y }
-    ensures same { SameSeat seat.old seat.new }
     ensures slot { HasNoSlot seat.new }
-    ensures goes_on { GoesOn K.allows seat.old.me seat.new.me result.steps }
+    ensures went { Went K.allows seat.old seat.new result.steps }
     ensures lets_go { (y : Parcel) → HasSlot seat.old y → LetsLineGo (entry_of seat.old) y (entry_of seat.new) }
     ensures granted { result.cell ≡ turn_cell seat.new }
     ensures counted { result.steps + 1 + 3 * length (entry_of seat.old).view.ends ≡ 3 * length (entry_of seat.new).view.ends }
@@ -108,9 +106,8 @@ fn walk<K: Keep>(ground: &Ground<K>, seat: &mut RingSeat, cell: u64, found: u64)
     requires first { (r : Request) × At (entry_of seat.old).view.order (length (entry_of seat.old).view.ends) r × (r.node ≡ withdrawn_by found) × (r.node ≤ (entry_of seat.old).view.terms.nodes) }
     requires nodes { (2 ≤ (entry_of seat.old).view.terms.nodes) × ((entry_of seat.old).view.terms.nodes ≤ MOST_NODES) }
     requires parcel { (y : Parcel) × HasSlot seat.old y × IsBare (entry_of seat.old) y × ((entry_of seat.old).view.state ≡ left_by y.closed) }
-    ensures same { SameSeat seat.old seat.new }
     ensures slot { HasNoSlot seat.new }
-    ensures goes_on { GoesOn K.allows seat.old.me seat.new.me result.steps }
+    ensures went { Went K.allows seat.old seat.new result.steps }
     ensures walks_on { WalksOn (entry_of seat.old) (entry_of seat.new) }
     ensures granted { result.cell ≡ turn_cell seat.new }
     ensures counted { result.steps + 3 * length (entry_of seat.old).view.ends ≡ 3 * length (entry_of seat.new).view.ends }
@@ -140,9 +137,8 @@ fn free_passed<K: Keep>(ground: &Ground<K>, seat: &mut RingSeat, nodes: &[u64])
     requires some { (entry_of seat.old).own.passed ≢ [] }
     requires many { length nodes.now ≡ length (entry_of seat.old).own.passed }
     requires nodes { AreNodesAt (entry_of seat.old).view.order (entry_of seat.old).own.passed nodes.now }
-    ensures same { SameSeat seat.old seat.new }
     ensures slot { seat.new.me.1 ≡ seat.old.me.1 }
-    ensures goes_on { GoesOn K.allows seat.old.me seat.new.me (length nodes.now) }
+    ensures went { Went K.allows seat.old seat.new (length nodes.now) }
     ensures frees { FreesAll (entry_of seat.old) (entry_of seat.new) }
 {
     for node in nodes {

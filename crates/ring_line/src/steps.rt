@@ -8,7 +8,7 @@ ghost use Rattle.shared_line.specs.declared.rule.Parcel.{Parcel};
 ghost use Rattle.shared_line.specs.Steps.{SameSeat, IsSeatOf, HasSlot, HasNoSlot};
 ghost use Rattle.array_line.specs.Words.{word_count};
 ghost use Rattle.array_line.specs.Array.{At};
-ghost use Rattle.array_line.specs.Steps.{IsAt, IsOwnNode, entry_of, GoesOn, Draws, IsStill, CarriesNext, Ended, GoesHome, Passes, Frees, after_reset};
+ghost use Rattle.array_line.specs.Steps.{IsAt, IsOwnNode, entry_of, Went, Draws, IsStill, CarriesNext, Ended, GoesHome, Passes, Frees, after_reset};
 ghost use Rattle.ring_line.specs.Words.{withdrawn_by};
 ghost use Rattle.ring_line.specs.Steps.{own_cell, turn_cell, IsEarly, Comes, IsRolled, after_clear};
 ghost use Rattle.array_line.specs.declared.own.Point.TheVariants.{Idle, Queued, Holding, Passing, Cleared, Freeing, Rolled};
@@ -25,9 +25,8 @@ use qolb_model::Keep;
 pub(crate) fn draw<K: Keep>(ground: &Ground<K>, seat: &mut RingSeat) -> u64
     requires table { IsSeatOf word_count ground.now.table_id seat.old }
     requires ready { IsAt Idle seat.old }
-    ensures same { SameSeat seat.old seat.new }
     ensures slot { seat.new.me.1 ≡ seat.old.me.1 }
-    ensures goes_on { GoesOn K.allows seat.old.me seat.new.me 1 }
+    ensures went { Went K.allows seat.old seat.new 1 }
     ensures cell { result ≡ own_cell seat.new }
     ensures draws { Draws (entry_of seat.old) (entry_of seat.new) }
 {
@@ -40,8 +39,7 @@ pub(crate) fn load<K: Keep>(ground: &Ground<K>, seat: &mut RingSeat, cell: u64) 
     requires ready { IsAt Queued seat.old }
     requires slot { HasNoSlot seat.old }
     requires cell { cell ≡ own_cell seat.old }
-    ensures same { SameSeat seat.old seat.new }
-    ensures goes_on { GoesOn K.allows seat.old.me seat.new.me 1 }
+    ensures went { Went K.allows seat.old seat.new 1 }
     ensures count { (entry_of seat.new).view.count ≡ (entry_of seat.old).view.count }
     ensures waits { result ≡ false → HasNoSlot seat.new × IsEarly cell (entry_of seat.new) }
     ensures comes { result ≡ true → (y : Parcel) × HasSlot seat.new y × Comes cell (entry_of seat.new) y }
@@ -57,8 +55,7 @@ pub(crate) fn roll<K: Keep>(ground: &Ground<K>, seat: &mut RingSeat, cell: u64, 
     requires slot { HasNoSlot seat.old }
     requires cell { cell ≡ own_cell seat.old }
     requires own { IsOwnNode node seat.old }
-    ensures same { SameSeat seat.old seat.new }
-    ensures goes_on { GoesOn K.allows seat.old.me seat.new.me 1 }
+    ensures went { Went K.allows seat.old seat.new 1 }
     ensures count { (entry_of seat.new).view.count ≡ (entry_of seat.old).view.count }
     ensures withdrawn { result ≡ false → HasNoSlot seat.new × IsRolled cell (entry_of seat.new) }
     ensures comes { result ≡ true → (y : Parcel) × HasSlot seat.new y × Comes cell (entry_of seat.new) y }
@@ -84,8 +81,7 @@ pub(crate) fn grant<K: Keep>(ground: &Ground<K>, seat: &mut RingSeat, cell: u64)
     requires ready { IsAt Cleared seat.old }
     requires cell { cell ≡ turn_cell seat.old }
     requires parcel { (y : Parcel) × HasSlot seat.old y × CarriesNext K.allows (entry_of seat.old) y }
-    ensures same { SameSeat seat.old seat.new }
-    ensures goes_on { GoesOn K.allows seat.old.me seat.new.me 1 }
+    ensures went { Went K.allows seat.old seat.new 1 }
     ensures ended { (y : Parcel) → HasSlot seat.old y → Ended (entry_of seat.old) (entry_of seat.new) y }
     ensures home { result ≡ 0 → HasNoSlot seat.new × GoesHome (entry_of seat.old) (entry_of seat.new) }
     ensures passes { result ≢ 0 → ((y : Parcel) → HasSlot seat.old y → HasSlot seat.new y) × Passes (entry_of seat.old) (withdrawn_by result) (entry_of seat.new) }
@@ -99,9 +95,8 @@ pub(crate) fn free<K: Keep>(ground: &Ground<K>, seat: &mut RingSeat, node: u64)
     requires ready { IsAt Freeing seat.old }
     requires high { node ≤ MOST_NODES }
     requires next { (q : ℕ) × (ps : List ℕ) × (r : Request) × ((entry_of seat.old).own.passed ≡ q ∷ ps) × At (entry_of seat.old).view.order q r × (r.node ≡ node) }
-    ensures same { SameSeat seat.old seat.new }
     ensures slot { seat.new.me.1 ≡ seat.old.me.1 }
-    ensures goes_on { GoesOn K.allows seat.old.me seat.new.me 1 }
+    ensures went { Went K.allows seat.old seat.new 1 }
     ensures frees { (q : ℕ) (ps : List ℕ) (r : Request) → (entry_of seat.old).own.passed ≡ q ∷ ps → At (entry_of seat.old).view.order q r → Frees (entry_of seat.old) ps r (entry_of seat.new) }
 {
     ground.store::<Free<K>>(seat, node_word(node), 1);
@@ -112,9 +107,8 @@ pub(crate) fn load_node<K: Keep>(ground: &Ground<K>, seat: &mut RingSeat, node: 
     requires table { IsSeatOf word_count ground.now.table_id seat.old }
     requires ready { IsAt Rolled seat.old }
     requires own { IsOwnNode node seat.old }
-    ensures same { SameSeat seat.old seat.new }
     ensures slot { seat.new.me.1 ≡ seat.old.me.1 }
-    ensures goes_on { GoesOn K.allows seat.old.me seat.new.me 1 }
+    ensures went { Went K.allows seat.old seat.new 1 }
     ensures still { IsStill (entry_of seat.old) result (entry_of seat.new) }
 {
     ground.load::<LoadNode<K>>(seat, node_word(node))

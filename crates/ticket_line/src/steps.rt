@@ -8,7 +8,7 @@ ghost use Rattle.shared_line.specs.declared.rule.Parcel.{Parcel};
 ghost use Rattle.shared_line.specs.Steps.{SameSeat, IsSeatOf, HasNoSlot};
 ghost use Rattle.array_line.specs.Words.{word_count};
 ghost use Rattle.array_line.specs.Array.{At};
-ghost use Rattle.array_line.specs.Steps.{IsAt, IsOwnNode, entry_of, GoesOn, Draws, IsStill, CarriesNext, Ended, GoesHome, Passes, Frees, after_reset};
+ghost use Rattle.array_line.specs.Steps.{IsAt, IsOwnNode, entry_of, Went, Draws, IsStill, CarriesNext, Ended, GoesHome, Passes, Frees, after_reset};
 ghost use Rattle.ticket_line.specs.Steps.{own_ticket, turn_ticket, next_ticket, HasCome, HasLaid, IsEarly, Comes, IsRolled};
 ghost use Rattle.array_line.specs.declared.own.Point.TheVariants.{Idle, Queued, Holding, Passing, Freeing, Rolled};
 
@@ -24,9 +24,8 @@ use qolb_model::Keep;
 pub(crate) fn draw<K: Keep>(ground: &Ground<K>, seat: &mut TicketSeat) -> u64
     requires table { IsSeatOf word_count ground.now.table_id seat.old }
     requires ready { IsAt Idle seat.old }
-    ensures same { SameSeat seat.old seat.new }
     ensures slot { seat.new.me.1 ≡ seat.old.me.1 }
-    ensures goes_on { GoesOn K.allows seat.old.me seat.new.me 1 }
+    ensures went { Went K.allows seat.old seat.new 1 }
     ensures ticket { result ≡ own_ticket seat.new }
     ensures draws { Draws (entry_of seat.old) (entry_of seat.new) }
 {
@@ -39,8 +38,7 @@ pub(crate) fn load<K: Keep>(ground: &Ground<K>, seat: &mut TicketSeat, ticket: u
     requires ready { IsAt Queued seat.old }
     requires slot { HasNoSlot seat.old }
     requires ticket { ticket ≡ own_ticket seat.old }
-    ensures same { SameSeat seat.old seat.new }
-    ensures goes_on { GoesOn K.allows seat.old.me seat.new.me 1 }
+    ensures went { Went K.allows seat.old seat.new 1 }
     ensures count { (entry_of seat.new).view.count ≡ (entry_of seat.old).view.count }
     ensures waits { result ≡ false → HasNoSlot seat.new × IsEarly ticket (entry_of seat.new) }
     ensures comes { result ≡ true → (y : Parcel) × HasCome ticket seat.new y × Comes ticket (entry_of seat.new) y }
@@ -60,8 +58,7 @@ pub(crate) fn roll<K: Keep>(
     requires slot { HasNoSlot seat.old }
     requires ticket { ticket ≡ own_ticket seat.old }
     requires own { IsOwnNode node seat.old }
-    ensures same { SameSeat seat.old seat.new }
-    ensures goes_on { GoesOn K.allows seat.old.me seat.new.me 1 }
+    ensures went { Went K.allows seat.old seat.new 1 }
     ensures count { (entry_of seat.new).view.count ≡ (entry_of seat.old).view.count }
     ensures withdrawn { result ≡ false → HasNoSlot seat.new × IsRolled ticket (entry_of seat.new) }
     ensures comes { result ≡ true → (y : Parcel) × HasCome ticket seat.new y × Comes ticket (entry_of seat.new) y }
@@ -77,8 +74,7 @@ pub(crate) fn grant<K: Keep>(ground: &Ground<K>, seat: &mut TicketSeat, next: u6
     requires ready { IsAt Holding seat.old ⊎ IsAt Passing seat.old }
     requires next { next ≡ next_ticket seat.old }
     requires parcel { (y : Parcel) × HasLaid (turn_ticket seat.old) seat.old y × CarriesNext K.allows (entry_of seat.old) y }
-    ensures same { SameSeat seat.old seat.new }
-    ensures goes_on { GoesOn K.allows seat.old.me seat.new.me 1 }
+    ensures went { Went K.allows seat.old seat.new 1 }
     ensures ended { (y : Parcel) → HasLaid (turn_ticket seat.old) seat.old y → Ended (entry_of seat.old) (entry_of seat.new) y }
     ensures home { result ≡ 0 → HasNoSlot seat.new × GoesHome (entry_of seat.old) (entry_of seat.new) }
     ensures passes { result ≢ 0 → ((y : Parcel) → HasLaid (turn_ticket seat.old) seat.old y → HasCome next seat.new y) × Passes (entry_of seat.old) result (entry_of seat.new) }
@@ -93,9 +89,8 @@ pub(crate) fn free<K: Keep>(ground: &Ground<K>, seat: &mut TicketSeat, node: u64
     requires ready { IsAt Freeing seat.old }
     requires high { node ≤ MOST_NODES }
     requires next { (q : ℕ) × (ps : List ℕ) × (r : Request) × ((entry_of seat.old).own.passed ≡ q ∷ ps) × At (entry_of seat.old).view.order q r × (r.node ≡ node) }
-    ensures same { SameSeat seat.old seat.new }
     ensures slot { seat.new.me.1 ≡ seat.old.me.1 }
-    ensures goes_on { GoesOn K.allows seat.old.me seat.new.me 1 }
+    ensures went { Went K.allows seat.old seat.new 1 }
     ensures frees { (q : ℕ) (ps : List ℕ) (r : Request) → (entry_of seat.old).own.passed ≡ q ∷ ps → At (entry_of seat.old).view.order q r → Frees (entry_of seat.old) ps r (entry_of seat.new) }
 {
     ground.store::<Free<K>>(seat, node_word(node), 1);
@@ -106,9 +101,8 @@ pub(crate) fn load_node<K: Keep>(ground: &Ground<K>, seat: &mut TicketSeat, node
     requires table { IsSeatOf word_count ground.now.table_id seat.old }
     requires ready { IsAt Rolled seat.old }
     requires own { IsOwnNode node seat.old }
-    ensures same { SameSeat seat.old seat.new }
     ensures slot { seat.new.me.1 ≡ seat.old.me.1 }
-    ensures goes_on { GoesOn K.allows seat.old.me seat.new.me 1 }
+    ensures went { Went K.allows seat.old seat.new 1 }
     ensures still { IsStill (entry_of seat.old) result (entry_of seat.new) }
 {
     ground.load::<LoadNode<K>>(seat, node_word(node))

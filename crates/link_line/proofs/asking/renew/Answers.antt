@@ -1,12 +1,15 @@
-use Rattle.std.proofs.Common.{ℕ, ◌+◌, sym, subst}
+use Rattle.std.proofs.Common.{rules, ℕ, ◌+◌, sym, subst}
 use Rattle.link_line.specs.Steps.{LinkSeat, GoesOn}
 use Rattle.link_line.proofs.Stepping.{goes_trans}
 use Rattle.link_line.proofs.asking.renew.Goals as goal
 use Rattle.link_line.proofs.asking.renew.Goals.{then-eq+else-not-look_left, else-eq+then-eq-2+else-not-look_rolled, else-eq+else-eq-2}
 
-pub returns-clause-goes_on : goal.returns-clause-goes_on
-returns-clause-goes_on g c = elim c.if-eq.branch [
-  | then-eq+else-not-look_left w ↦ subst (λ (n : ℕ). GoesOn g.K.Keep.allows c.args.seat.now.me c.reset.new.seat.me (n + 1)) (sym w.looks-is) (goes_trans g.K.Keep.allows c.args.seat.now.me w.look_left.new.seat.me c.reset.new.seat.me 1 1 w.look_left.ensures.goes_on (subst (λ (s : LinkSeat). GoesOn g.K.Keep.allows s.me c.reset.new.seat.me 1) w.seat-is c.reset.ensures.goes_on))
-  | else-eq+then-eq-2+else-not-look_rolled w ↦ subst (λ (n : ℕ). GoesOn g.K.Keep.allows c.args.seat.now.me c.reset.new.seat.me (n + 1)) (sym w.looks-is) (goes_trans g.K.Keep.allows c.args.seat.now.me w.look_rolled.new.seat.me c.reset.new.seat.me 1 1 w.look_rolled.ensures.goes_on (subst (λ (s : LinkSeat). GoesOn g.K.Keep.allows s.me c.reset.new.seat.me 1) w.seat-is c.reset.ensures.goes_on))
-  | else-eq+else-eq-2 w ↦ subst (λ (n : ℕ). GoesOn g.K.Keep.allows c.args.seat.now.me c.reset.new.seat.me (n + 1)) (sym w.looks-is) (subst (λ (s : LinkSeat). GoesOn g.K.Keep.allows s.me c.reset.new.seat.me 1) w.seat-is c.reset.ensures.goes_on)
-]
+pub returns-clause-went : goal.returns-clause-went
+returns-clause-went g c = record {
+  same = search rules;
+  goes = elim c.if-eq.branch [
+    | then-eq+else-not-look_left w ↦ subst (λ (n : ℕ). GoesOn g.K.Keep.allows c.args.seat.now.me c.reset.new.seat.me (n + 1)) (sym w.looks-is) (goes_trans g.K.Keep.allows c.args.seat.now.me w.look_left.new.seat.me c.reset.new.seat.me 1 1 w.look_left.ensures.went.goes (subst (λ (s : LinkSeat). GoesOn g.K.Keep.allows s.me c.reset.new.seat.me 1) w.seat-is c.reset.ensures.went.goes))
+    | else-eq+then-eq-2+else-not-look_rolled w ↦ subst (λ (n : ℕ). GoesOn g.K.Keep.allows c.args.seat.now.me c.reset.new.seat.me (n + 1)) (sym w.looks-is) (goes_trans g.K.Keep.allows c.args.seat.now.me w.look_rolled.new.seat.me c.reset.new.seat.me 1 1 w.look_rolled.ensures.went.goes (subst (λ (s : LinkSeat). GoesOn g.K.Keep.allows s.me c.reset.new.seat.me 1) w.seat-is c.reset.ensures.went.goes))
+    | else-eq+else-eq-2 w ↦ subst (λ (n : ℕ). GoesOn g.K.Keep.allows c.args.seat.now.me c.reset.new.seat.me (n + 1)) (sym w.looks-is) (subst (λ (s : LinkSeat). GoesOn g.K.Keep.allows s.me c.reset.new.seat.me 1) w.seat-is c.reset.ensures.went.goes)
+  ];
+}

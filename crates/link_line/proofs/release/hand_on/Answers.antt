@@ -7,7 +7,7 @@ pub returns-then-home-clause-handed : goal.returns-then-home-clause-handed
 returns-then-home-clause-handed g c = let gone = c.home.ensures.home c.if-home.true in (
   1,
   refl,
-  c.home.ensures.goes_on,
+  c.home.ensures.went.goes,
   λ y slot. (gone.0, (gone.1 y slot).0, (gone.1 y slot).1, inl refl),
 )
 
@@ -17,8 +17,8 @@ returns-then-next-eq0-clause-handed g c =
     let left = c.done-next.ensures.left c.if-next-eq0.true in (
       2,
       omega arith,
-      goes_trans g.K.Keep.allows c.args.seat.now.me c.home.new.seat.me c.done-next.new.seat.me 1 1 c.home.ensures.goes_on c.done-next.ensures.goes_on,
-      λ y slot. hands_left g.K.Keep.allows c.args.seat.now c.home.new.seat c.done-next.new.seat y c.args.at c.home.ensures.goes_on on.1 (on.2 y slot) left.0 left.1 left.2,
+      goes_trans g.K.Keep.allows c.args.seat.now.me c.home.new.seat.me c.done-next.new.seat.me 1 1 c.home.ensures.went.goes c.done-next.ensures.went.goes,
+      λ y slot. hands_left g.K.Keep.allows c.args.seat.now c.home.new.seat c.done-next.new.seat y c.args.at c.home.ensures.went.goes on.1 (on.2 y slot) left.0 left.1 left.2,
     )
 
 pub returns-then-grant-clause-handed : goal.returns-then-grant-clause-handed
@@ -28,9 +28,9 @@ returns-then-grant-clause-handed g c =
     let passed = c.grant.ensures.passes c.if-grant.true in (
       3,
       omega arith,
-      goes_trans g.K.Keep.allows c.args.seat.now.me c.home.new.seat.me c.grant.new.seat.me 1 2 c.home.ensures.goes_on
-          (goes_trans g.K.Keep.allows c.home.new.seat.me c.done-next.new.seat.me c.grant.new.seat.me 1 1 c.done-next.ensures.goes_on c.grant.ensures.goes_on),
-      λ y slot. hands_passed g.K.Keep.allows c.args.seat.now c.home.new.seat c.done-next.new.seat y c.args.at c.home.ensures.goes_on on.1 (on.2 y slot) c.grant.new.seat c.done-next.result linked.2 (passed.0 ∙ (linked.0 ∙ (on.0 ∙ slot))) linked.1 c.grant.ensures.ended passed.1,
+      goes_trans g.K.Keep.allows c.args.seat.now.me c.home.new.seat.me c.grant.new.seat.me 1 2 c.home.ensures.went.goes
+          (goes_trans g.K.Keep.allows c.home.new.seat.me c.done-next.new.seat.me c.grant.new.seat.me 1 1 c.done-next.ensures.went.goes c.grant.ensures.went.goes),
+      λ y slot. hands_passed g.K.Keep.allows c.args.seat.now c.home.new.seat c.done-next.new.seat y c.args.at c.home.ensures.went.goes on.1 (on.2 y slot) c.grant.new.seat c.done-next.result linked.2 (passed.0 ∙ (linked.0 ∙ (on.0 ∙ slot))) linked.1 c.grant.ensures.ended passed.1,
     )
 
 pub returns-else-grant-clause-handed : goal.returns-else-grant-clause-handed
@@ -40,9 +40,9 @@ returns-else-grant-clause-handed g c =
     let out = c.grant.ensures.out c.if-grant.false in (
       3,
       omega arith,
-      goes_trans g.K.Keep.allows c.args.seat.now.me c.home.new.seat.me c.grant.new.seat.me 1 2 c.home.ensures.goes_on
-          (goes_trans g.K.Keep.allows c.home.new.seat.me c.done-next.new.seat.me c.grant.new.seat.me 1 1 c.done-next.ensures.goes_on c.grant.ensures.goes_on),
-      λ y slot. hands_out g.K.Keep.allows c.args.seat.now c.home.new.seat c.done-next.new.seat y c.args.at c.home.ensures.goes_on on.1 (on.2 y slot) c.grant.new.seat c.done-next.result linked.2 out.0 c.grant.ensures.ended out.1,
+      goes_trans g.K.Keep.allows c.args.seat.now.me c.home.new.seat.me c.grant.new.seat.me 1 2 c.home.ensures.went.goes
+          (goes_trans g.K.Keep.allows c.home.new.seat.me c.done-next.new.seat.me c.grant.new.seat.me 1 1 c.done-next.ensures.went.goes c.grant.ensures.went.goes),
+      λ y slot. hands_out g.K.Keep.allows c.args.seat.now c.home.new.seat c.done-next.new.seat y c.args.at c.home.ensures.went.goes on.1 (on.2 y slot) c.grant.new.seat c.done-next.result linked.2 out.0 c.grant.ensures.ended out.1,
     )
 
 pub returns-then-home-clause-names : goal.returns-then-home-clause-names

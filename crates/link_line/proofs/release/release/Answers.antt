@@ -1,4 +1,4 @@
-use Rattle.std.proofs.Common.{◌≡◌, ℕ, ◌+◌, ◌∙◌, List, ap, sym, subst, ⊎_elim, arith}
+use Rattle.std.proofs.Common.{rules, ◌≡◌, ℕ, ◌+◌, ◌∙◌, List, ap, sym, subst, ⊎_elim, arith}
 use Rattle.qolb_model.specs.declared.answer.PortState.{PortState}
 use Rattle.qolb_model.specs.declared.terms.Terms.{Terms}
 use Rattle.qolb_model.specs.PortStates.{left_by}
@@ -32,11 +32,13 @@ returns-in-Left-clause-lets_go g c y slot =
     let on = c.in-Left.ensures.handed.3 y slot in
     lets_left (known_of c.args.seat.now) y c.requires.none_passed (known_of c.hand_on.new.seat) on.1 on.2
 
-pub returns-in-Passed-clause-goes_on : goal.returns-in-Passed-clause-goes_on
-returns-in-Passed-clause-goes_on g c =
-    let on = c.in-Passed.ensures.handed in
-    let walked = c.walk-steps.ensures.goes_on in
-    after_none c.args.seat.now c.walk-steps.new.seat (on.0 + walked.0) c.walk-steps.result (omega (arith, on.1, walked.1)) (goes_trans g.K.Keep.allows c.args.seat.now.me c.hand_on.new.seat.me c.walk-steps.new.seat.me on.0 walked.0 on.2 walked.2)
+pub returns-in-Passed-clause-went : goal.returns-in-Passed-clause-went
+returns-in-Passed-clause-went g c = record {
+  same = search rules;
+  goes = let on = c.in-Passed.ensures.handed in
+      let walked = c.walk-steps.ensures.goes_on in
+      after_none c.args.seat.now c.walk-steps.new.seat (on.0 + walked.0) c.walk-steps.result (omega (arith, on.1, walked.1)) (goes_trans g.K.Keep.allows c.args.seat.now.me c.hand_on.new.seat.me c.walk-steps.new.seat.me on.0 walked.0 on.2 walked.2);
+}
 
 pub returns-in-Passed-clause-lets_go : goal.returns-in-Passed-clause-lets_go
 returns-in-Passed-clause-lets_go g c y slot =
@@ -46,11 +48,17 @@ returns-in-Passed-clause-lets_go g c y slot =
     subst (λ (state : PortState). LetsLineGo (known_of c.args.seat.now) y state (known_of c.walk-steps.new.seat)) (closed ∙ sym c.left_by-in-Passed.ensures)
     (lets_on (known_of c.args.seat.now) y c.requires.none_passed (known_of c.hand_on.new.seat) (known_of c.walk-steps.new.seat) c.in-Passed.first on.1 on.2 c.walk-steps.ensures.goes_on.2.extends c.walk-steps.ensures.walks_on)
 
-pub returns-in-On-clause-goes_on : goal.returns-in-On-clause-goes_on
-returns-in-On-clause-goes_on g c = let on = c.in-On.ensures.handed in after_none c.args.seat.now c.hand_on.new.seat on.0 c.hand_on.new.steps on.1 on.2
+pub returns-in-On-clause-went : goal.returns-in-On-clause-went
+returns-in-On-clause-went g c = record {
+  same = search rules;
+  goes = let on = c.in-On.ensures.handed in after_none c.args.seat.now c.hand_on.new.seat on.0 c.hand_on.new.steps on.1 on.2;
+}
 
-pub returns-in-Left-clause-goes_on : goal.returns-in-Left-clause-goes_on
-returns-in-Left-clause-goes_on g c = let on = c.in-Left.ensures.handed in after_none c.args.seat.now c.hand_on.new.seat on.0 c.hand_on.new.steps on.1 on.2
+pub returns-in-Left-clause-went : goal.returns-in-Left-clause-went
+returns-in-Left-clause-went g c = record {
+  same = search rules;
+  goes = let on = c.in-Left.ensures.handed in after_none c.args.seat.now c.hand_on.new.seat on.0 c.hand_on.new.steps on.1 on.2;
+}
 
 pub returns-in-On-clause-counted : goal.returns-in-On-clause-counted
 returns-in-On-clause-counted g c =

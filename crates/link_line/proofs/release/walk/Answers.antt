@@ -19,9 +19,9 @@ pub returns : goal.returns
 returns g c =
     let k = c.loop-handed.invariant.0 in
     let away = away_by g.K.Keep.allows c.args.seat.now c.loop-handed.seat c.args.steps c.loop-handed.passed.items c.loop-handed.handed c.loop-handed.steps c.in_default.not-Passed k in
-    let freed : GoesOn g.K.Keep.allows c.loop-handed.seat.me c.free_passed.new.seat.me (length c.loop-handed.passed.items) = subst (GoesOn g.K.Keep.allows c.loop-handed.seat.me c.free_passed.new.seat.me) (ap length c.deref.ensures.0) c.free_passed.ensures.goes_on in
+    let freed : GoesOn g.K.Keep.allows c.loop-handed.seat.me c.free_passed.new.seat.me (length c.loop-handed.passed.items) = subst (GoesOn g.K.Keep.allows c.loop-handed.seat.me c.free_passed.new.seat.me) (ap length c.deref.ensures.0) c.free_passed.ensures.went.goes in
     record {
-      same = (c.free_passed.ensures.same.0 ∙ k.same.0, c.free_passed.ensures.same.1 ∙ k.same.1);
+      same = (c.free_passed.ensures.went.same.0 ∙ k.same.0, c.free_passed.ensures.went.same.1 ∙ k.same.1);
       slot = c.free_passed.ensures.slot ∙ away.0;
       goes_on = (k.taken + length c.loop-handed.passed.items, omega (arith, k.counted, c.len.ensures.value), goes_trans g.K.Keep.allows c.args.seat.now.me c.loop-handed.seat.me c.free_passed.new.seat.me k.taken (length c.loop-handed.passed.items) k.goes_on freed);
       walks_on = walk_over (known_of c.args.seat.now) (known_of c.loop-handed.seat) (known_of c.free_passed.new.seat) c.loop-handed.passed.items k.walked away.1 c.free_passed.ensures.frees;

@@ -34,10 +34,13 @@ loop-passed-preserved g c =
     let y = c.requires.parcel in
     subst (λ (nodes : List ℕ). IsWalking g.K.Keep.allows c.args.seat.now nodes c.cell_after-cell.result c.grant-found.result c.grant-found.new.seat) (sym (c.push.ensures.items ∙ ap (λ (n : ℕ). c.loop-passed.passed.items ++ n ∷ []) c.withdrawn_by.ensures))
     (walk_step g.K.Keep.allows c.args.seat.now c.loop-passed.seat c.clear.new.seat c.grant-found.new.seat c.loop-passed.passed.items c.loop-passed.cell c.loop-passed.found c.cell_after-cell.result c.grant-found.result y.0 c.loop-passed.invariant more
-    c.requires.nodes.1 c.clear.ensures.same c.clear.ensures.cleared y.1 y.3 c.grant-found.ensures.same c.grant-found.ensures.goes_on c.grant-found.ensures.ended c.grant-found.ensures.home c.grant-found.ensures.passes c.cell_after-cell.ensures)
+    c.requires.nodes.1 c.clear.ensures.same c.clear.ensures.cleared y.1 y.3 c.grant-found.ensures.went.same c.grant-found.ensures.went.goes c.grant-found.ensures.ended c.grant-found.ensures.home c.grant-found.ensures.passes c.cell_after-cell.ensures)
 
-pub returns-clause-goes_on : goal.returns-clause-goes_on
-returns-clause-goes_on g c = walked_steps one_slot g.K.Keep.allows c.args.seat.now c.loop-passed.seat c.free_passed.new.seat c.loop-passed.passed.items _ c.loop-passed.found _ _ _ c.loop-passed.invariant.walking c.free_passed.ensures.goes_on (ap length (search rules)) (omega arith)
+pub returns-clause-went : goal.returns-clause-went
+returns-clause-went g c = record {
+  same = search rules;
+  goes = walked_steps one_slot g.K.Keep.allows c.args.seat.now c.loop-passed.seat c.free_passed.new.seat c.loop-passed.passed.items _ c.loop-passed.found _ _ _ c.loop-passed.invariant.walking c.free_passed.ensures.went.goes (ap length (search rules)) (omega arith);
+}
 
 pub returns-clause-walks_on : goal.returns-clause-walks_on
 returns-clause-walks_on g c = let done : c.loop-passed.found ≡ 0 = search rules in

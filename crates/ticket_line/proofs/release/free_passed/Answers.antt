@@ -24,12 +24,11 @@ free-requires g c =
     }
 
 pub loop-node-preserved : goal.loop-node-preserved
-loop-node-preserved g c = freeing_next g.K.Keep.allows c.args.seat.now c.loop-node.seat c.free.new.seat c.args.nodes.now c.loop-node.node-index c.loop-node.invariant c.requires.many c.requires.nodes c.loop-node-test.true c.free.ensures.same c.free.ensures.slot c.free.ensures.goes_on c.free.ensures.frees
+loop-node-preserved g c = freeing_next g.K.Keep.allows c.args.seat.now c.loop-node.seat c.free.new.seat c.args.nodes.now c.loop-node.node-index c.loop-node.invariant c.requires.many c.requires.nodes c.loop-node-test.true c.free.ensures.went.same c.free.ensures.slot c.free.ensures.went.goes c.free.ensures.frees
 
 pub returns : goal.returns
 returns g c = let done = c.loop-node.invariant in record {
-  same = done.same;
+  went = record { same = done.same; goes = freed_steps g.K.Keep.allows c.args.seat.now c.loop-node.seat c.args.nodes.now c.loop-node.node-index done c.requires.many (omega (arith, c.loop-node-test.false)) };
   slot = done.carried;
-  goes_on = freed_steps g.K.Keep.allows c.args.seat.now c.loop-node.seat c.args.nodes.now c.loop-node.node-index done c.requires.many (omega (arith, c.loop-node-test.false));
   frees = frees_all (entry_of c.args.seat.now) (entry_of c.loop-node.seat) c.loop-node.node-index done.frees (omega (arith, c.requires.many, c.loop-node-test.false));
 }

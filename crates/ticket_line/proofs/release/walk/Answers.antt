@@ -45,10 +45,13 @@ loop-node-preserved g c =
     let y = c.requires.parcel in
     subst (λ (nodes : List ℕ). IsWalking g.K.Keep.allows c.args.seat.now nodes c.ticket_after-ticket.result c.grant-node.result c.grant-node.new.seat) (sym c.push.ensures.items)
     (walk_step g.K.Keep.allows c.args.seat.now c.loop-node.seat c.carry.new.seat c.grant-node.new.seat c.loop-node.passed.items c.args.ticket c.loop-node.ticket c.loop-node.node c.ticket_after-ticket.result c.grant-node.result y.0 c.loop-node.invariant more
-    c.requires.nodes.1 (record { same = c.carry.ensures.same.0; entries = c.carry.ensures.same.1; laid = c.carry.ensures.laid }) c.requires.ticket y.1 y.2 y.3 c.grant-node.ensures.same c.grant-node.ensures.goes_on c.grant-node.ensures.ended c.grant-node.ensures.home c.grant-node.ensures.passes c.ticket_after-ticket.ensures)
+    c.requires.nodes.1 (record { same = c.carry.ensures.same.0; entries = c.carry.ensures.same.1; laid = c.carry.ensures.laid }) c.requires.ticket y.1 y.2 y.3 c.grant-node.ensures.went.same c.grant-node.ensures.went.goes c.grant-node.ensures.ended c.grant-node.ensures.home c.grant-node.ensures.passes c.ticket_after-ticket.ensures)
 
-pub returns-clause-goes_on : goal.returns-clause-goes_on
-returns-clause-goes_on g c = walked_steps berths g.K.Keep.allows c.args.seat.now c.loop-node.seat c.free_passed.new.seat c.loop-node.passed.items _ c.loop-node.node _ _ _ c.loop-node.invariant.walking c.free_passed.ensures.goes_on (ap length (search rules)) (omega arith)
+pub returns-clause-went : goal.returns-clause-went
+returns-clause-went g c = record {
+  same = search rules;
+  goes = walked_steps berths g.K.Keep.allows c.args.seat.now c.loop-node.seat c.free_passed.new.seat c.loop-node.passed.items _ c.loop-node.node _ _ _ c.loop-node.invariant.walking c.free_passed.ensures.went.goes (ap length (search rules)) (omega arith);
+}
 
 pub returns-clause-walks_on : goal.returns-clause-walks_on
 returns-clause-walks_on g c = let done : c.loop-node.node ≡ 0 = search rules in

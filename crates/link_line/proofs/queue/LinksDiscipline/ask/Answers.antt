@@ -18,8 +18,8 @@ returns-then-ne-clause-request g c = record {
 
 pub returns-clause-went : goal.returns-clause-went
 returns-clause-went g c = record {
-  same = (c.link-came.ensures.same.0 ∙ c.request-made.ensures.same.0, c.link-came.ensures.same.1 ∙ c.request-made.ensures.same.1);
-  goes = goes_trans g.K.Keep.allows c.args.seat.now.me c.request-made.new.seat.me c.link-came.new.seat.me c.request-made.result.steps 1 c.request-made.ensures.goes_on c.link-came.ensures.goes_on;
+  same = (c.link-came.ensures.went.same.0 ∙ c.request-made.ensures.went.same.0, c.link-came.ensures.went.same.1 ∙ c.request-made.ensures.went.same.1);
+  goes = goes_trans g.K.Keep.allows c.args.seat.now.me c.request-made.new.seat.me c.link-came.new.seat.me c.request-made.result.steps 1 c.request-made.ensures.went.goes c.link-came.ensures.went.goes;
 }
 
 pub returns-clause-request : goal.returns-clause-request
@@ -29,7 +29,7 @@ returns-clause-request g c = record {
   asks = λ _.
       let behind : c.request-made.result.answer ≡ asked.Behind = search rules in
       asks_goes (known_of c.args.seat.now).view (known_of c.request-made.new.seat).view (known_of c.link-came.new.seat).view (c.request-made.ensures.asks (λ busy. let z : asked.Behind ≡ asked.Busy = sym behind ∙ busy in cc))
-      c.link-came.ensures.goes_on.extends c.link-came.ensures.links.count;
+      c.link-came.ensures.went.goes.extends c.link-came.ensures.links.count;
   joined = λ _. c.link-came.ensures.links.joined;
   behind = λ behind. elim c.if-came.branch [
     | then-came w ↦ absurd (let z : asked.Behind ≡ asked.Came = sym behind ∙ w.result-is in cc)

@@ -6,9 +6,9 @@ use Rattle.ring_line.proofs.queue.RingDiscipline.ask.Goals as goal
 
 pub returns-clause-went : goal.returns-clause-went
 returns-clause-went g c = record {
-  same = (c.load.ensures.same.0 ∙ c.draw-cell.ensures.same.0 ∙ c.in-Some.ensures.same.0, c.load.ensures.same.1 ∙ c.draw-cell.ensures.same.1 ∙ c.in-Some.ensures.same.1);
-  goes = goes_trans g.K.Keep.allows c.args.seat.now.me c.renew.new.seat.me c.load.new.seat.me c.in-Some.renewing 2 c.in-Some.ensures.goes_on
-      (goes_trans g.K.Keep.allows c.renew.new.seat.me c.draw-cell.new.seat.me c.load.new.seat.me 1 1 c.draw-cell.ensures.goes_on c.load.ensures.goes_on);
+  same = (c.load.ensures.went.same.0 ∙ c.draw-cell.ensures.went.same.0 ∙ c.in-Some.ensures.went.same.0, c.load.ensures.went.same.1 ∙ c.draw-cell.ensures.went.same.1 ∙ c.in-Some.ensures.went.same.1);
+  goes = goes_trans g.K.Keep.allows c.args.seat.now.me c.renew.new.seat.me c.load.new.seat.me c.in-Some.renewing 2 c.in-Some.ensures.went.goes
+      (goes_trans g.K.Keep.allows c.renew.new.seat.me c.draw-cell.new.seat.me c.load.new.seat.me 1 1 c.draw-cell.ensures.went.goes c.load.ensures.went.goes);
 }
 
 pub returns-clause-request : goal.returns-clause-request
@@ -16,8 +16,8 @@ returns-clause-request g c = record {
   stays = search rules;
   busy = search rules;
   asks = λ _.
-      let asked = asks_from (entry_of c.args.seat.now).view (entry_of c.renew.new.seat).view (entry_of c.draw-cell.new.seat).view c.in-Some.ensures.goes_on.extends c.in-Some.ensures.renewed.1 c.draw-cell.ensures.draws.asks in
-      asks_goes (entry_of c.args.seat.now).view (entry_of c.draw-cell.new.seat).view (entry_of c.load.new.seat).view asked c.load.ensures.goes_on.extends c.load.ensures.count;
+      let asked = asks_from (entry_of c.args.seat.now).view (entry_of c.renew.new.seat).view (entry_of c.draw-cell.new.seat).view c.in-Some.ensures.went.goes.extends c.in-Some.ensures.renewed.1 c.draw-cell.ensures.draws.asks in
+      asks_goes (entry_of c.args.seat.now).view (entry_of c.draw-cell.new.seat).view (entry_of c.load.new.seat).view asked c.load.ensures.went.goes.extends c.load.ensures.count;
   joined = search rules;
   behind = search rules;
   came = search rules;
