@@ -131,6 +131,12 @@ where
         self.line.owns(port)
     }
 
+    /// The port at this place: its node, what its last call left, and whether it is the line's.
+    pub fn at(&self, place: usize) -> Option<(u64, PortState, bool)> {
+        let port = self.ports.get(place)?;
+        Some((L::node(port), L::state(port), self.owns(port)))
+    }
+
     /// What the node's last call left.
     pub fn state(&self, node: u64) -> Option<PortState> {
         let port = self.ports.iter().find(|port| L::node(port) == node)?;

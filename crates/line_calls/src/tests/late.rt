@@ -175,27 +175,34 @@ where
     Some(row.put(stranger))
 }
 
-/// Why a line is not finished without the third port while one node is linking, and why not with a port of another line besides.
-fn first_causes<L: Halved + Drop>(alloc: Global) -> Option<(FinishError, FinishError)>
-where
-    L::Port: Drop,
-{
-    let mut row = left_behind::<L>(alloc)?;
-    let three = row.take(3)?;
-    drop(three);
-    let (missing, mut row) = row.finish(alloc).err()?;
-    put_a_stranger(alloc, &mut row)?;
-    let (stranger, back) = row.finish(alloc).err()?;
-    drop(back);
-    Some((missing, stranger))
-}
+/// What comes back from there, place by place, with a port of another line: which node's port it is, its state, whether it is the line's.
+static BESIDE: [(u64, PortState, bool); 3] = [
+    (1, PortState::Left, true),
+    (2, PortState::Linking, true),
+    (1, PortState::Idle, false),
+];
 
-fn finish_names_the_first_cause<R: Abort, L: Halved + Drop>(rt: &R, alloc: Global)
+fn finish_names_the_first_cause<R: Abort, L: Halved + Drop>(
+    rt: &R,
+    alloc: Global,
+) -> Result<(), Fail>
 where
     L::Port: Drop,
 {
-    let want = Some((FinishError::Missing(3), FinishError::Missing(0)));
-    assert_eq!(rt; first_causes::<L>(alloc), want);
+    let mut row = left_behind::<L>(alloc).ok_or("opened")?;
+    let three = row.take(3).ok_or("a port of node 3")?;
+    drop(three);
+    let (why, mut row) = row.finish(alloc).err().ok_or("node 3 has no port")?;
+    assert_eq!(rt; why, FinishError::Missing(3));
+    assert_eq!(rt; put_a_stranger(alloc, &mut row), Some(true));
+    let (why, mut row) = row.finish(alloc).err().ok_or("one is a stranger")?;
+    assert_eq!(rt; why, FinishError::Missing(0));
+    for (place, port) in BESIDE.iter().enumerate() {
+        assert_eq!(rt; row.at(place), Some(*port), "at {place}");
+    }
+    assert_eq!(rt; row.at(3), None);
+    expect_by_halves(rt, &mut row, &AT_REST);
+    Ok(())
 }
 
 /// Each of these over lines of this type.
@@ -208,8 +215,7 @@ where
     one_who_links_before_the_release_waits::<R, L>(rt, alloc)?;
     a_chain_of_withdrawn_nodes_ends_at_a_late_linker::<R, L>(rt, alloc)?;
     finish_waits_for_a_late_linker::<R, L>(rt, alloc)?;
-    finish_names_the_first_cause::<R, L>(rt, alloc);
-    Ok(())
+    finish_names_the_first_cause::<R, L>(rt, alloc)
 }
 
 #[test]
