@@ -1,6 +1,7 @@
 -- What each step of a port tells it.
 use Rattle.std.specs.Prelude.{◌≡◌, ◌≢◌, ℕ, ◌+◌, ◌≤◌, List, [], ◌∷◌, ◌++◌, length, Bool, Some}
 use Rattle.atomic_table.specs.Table.{Step}
+use Rattle.atomic_table.specs.Seated.{TableId}
 use Rattle.qolb_model.specs.declared.answer.PortState.TheVariants as shows
 use Rattle.qolb_model.specs.declared.request.Request.{Request}
 use Rattle.qolb_model.specs.declared.end.End.{End}
@@ -16,13 +17,14 @@ use Rattle.qolb_model.specs.Kept.{AreAllowed}
 use Rattle.qolb_model.specs.Asking.{Asks}
 use Rattle.shared_line.specs.declared.rule.Parcel.{Parcel}
 use Rattle.shared_line.specs.Entries as entries
+use Rattle.shared_line.specs.Answers as answers
 use Rattle.shared_line.specs.Steps as line
 use Rattle.shared_line.specs.Steps.{own_end}
 use Rattle.array_line.specs.declared.own.Point.{Point}
 use Rattle.array_line.specs.declared.own.Point.TheVariants.{Idle, Queued, Passing, Freeing, Rolled}
 use Rattle.array_line.specs.declared.own.Own.{Own}
 use Rattle.array_line.specs.Berths.{Berths}
-use Rattle.array_line.specs.Words.{ticket_of}
+use Rattle.array_line.specs.Words.{word_count, ticket_of}
 use Rattle.array_line.specs.Stances.{fresh, rests, holding, refused}
 use Rattle.array_line.specs.Array.{ArrayEntry, At}
 
@@ -50,6 +52,10 @@ IsAt point seat = Alone seat.me × ((entry_of seat).own.point ≡ point)
 -- the number of the seat's node
 abbrev pub IsOwnNode : ℕ → ArraySeat → Type 0
 IsOwnNode node seat = line.IsOwnNode fresh node seat
+
+-- and the seat is of a line's table
+abbrev pub IsSeatOfNode : TableId → ℕ → ArraySeat → Type 0
+IsSeatOfNode table_id node seat = answers.IsSeatOfNode word_count table_id fresh node seat
 
 -- after so many word steps of its node the seat has one entry as before, which forgets nothing
 abbrev pub GoesOn : (List ℕ → List ℕ → Type 0) → Contents → Contents → ℕ → Type 0

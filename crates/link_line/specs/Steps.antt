@@ -22,6 +22,7 @@ use Rattle.link_core.specs.declared.point.Point.{Point}
 use Rattle.link_core.specs.declared.point.Point.TheVariants.{Idle, Ready, Holding, Leaving, Marking, Granting, Freeing, Left, Rolled, Shut}
 use Rattle.shared_line.specs.declared.rule.Parcel.{Parcel}
 use Rattle.shared_line.specs.Entries as entries
+use Rattle.shared_line.specs.Answers as answers
 use Rattle.shared_line.specs.Steps as shared
 use Rattle.shared_line.specs.Steps.{write_of, own_end}
 use Rattle.link_line.specs.Known.{Known}
@@ -52,6 +53,10 @@ IsSeatOf table_id seat = shared.IsSeatOf word_count table_id seat
 
 abbrev pub IsOwnNode : ℕ → LinkSeat → Type 0
 IsOwnNode node seat = shared.IsOwnNode fresh node seat
+
+-- and the seat is of a line's table
+abbrev pub IsSeatOfNode : TableId → ℕ → LinkSeat → Type 0
+IsSeatOfNode table_id node seat = answers.IsSeatOfNode word_count table_id fresh node seat
 
 abbrev pub GoesOn : (List ℕ → List ℕ → Type 0) → Contents → Contents → ℕ → Type 0
 GoesOn allows old new steps = shared.GoesOn allows fresh old new steps

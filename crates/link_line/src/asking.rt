@@ -5,7 +5,7 @@ ghost use Rattle.qolb_model.specs.PortStates as states;
 ghost use Rattle.shared_line.specs.declared.rule.Parcel.{Parcel};
 ghost use Rattle.shared_line.specs.Steps.{HasSlot, HasNoSlot};
 ghost use Rattle.link_line.specs.Stances.{steps_to_ask};
-ghost use Rattle.link_line.specs.Steps.{IsSeatOf, IsOwnNode, Alone, known_of, Went, Rests, Comes, LinksTo};
+ghost use Rattle.link_line.specs.Steps.{IsSeatOfNode, Alone, known_of, Went, Rests, Comes, LinksTo};
 ghost use Rattle.link_line.specs.Releases.{IsRenewed, steps_to_renew, rest_of};
 
 use crate::rule::{Ground, LinkSeat};
@@ -21,10 +21,9 @@ pub(crate) fn request<K: Keep>(
     node: u64,
     state: PortState,
 ) -> Requested
-    requires table { IsSeatOf ground.now.table_id seat.old }
+    requires seat { IsSeatOfNode ground.now.table_id node seat.old }
     requires rests { (mark : ℕ) × Rests state mark seat.old }
     requires may_ask { IsTrue (states.may_ask state) }
-    requires own { IsOwnNode node seat.old }
     ensures went { Went K.allows seat.old seat.new result.steps }
     ensures stays { result.answer ≡ Asked.Busy → (mark : ℕ) → Rests state mark seat.old → Rests state mark seat.new }
     ensures busy { result.answer ≡ Asked.Busy → IsBusy (known_of seat.old).view (known_of seat.new).view }
@@ -64,11 +63,10 @@ pub(crate) fn renew<K: Keep>(
     node: u64,
     state: PortState,
 ) -> Option<u64>
-    requires table { IsSeatOf ground.now.table_id seat.old }
+    requires seat { IsSeatOfNode ground.now.table_id node seat.old }
     requires alone { Alone seat.old.me }
     requires point { (known_of seat.old).own.seat.point ≡ rest_of state }
     requires may_ask { states.may_ask state ≡ true }
-    requires own { IsOwnNode node seat.old }
     ensures slot { seat.new.me.1 ≡ seat.old.me.1 }
     ensures went { Went K.allows seat.old seat.new (steps_to_renew result) }
     ensures renewed { IsRenewed state (known_of seat.old) (known_of seat.new) result }

@@ -10,7 +10,7 @@ ghost use Rattle.shared_line.specs.Steps.{SameSeat, HasSlot, HasNoSlot};
 ghost use Rattle.link_line.specs.Links.{At};
 ghost use Rattle.link_line.specs.Stances.{lets_go_in, turn_word};
 ghost use Rattle.link_line.specs.Words as layout;
-ghost use Rattle.link_line.specs.Steps.{IsSeatOf, IsAt, IsOwnNode, Alone, known_of, GoesOn, Went, MayLetGo};
+ghost use Rattle.link_line.specs.Steps.{IsSeatOf, IsAt, IsSeatOfNode, Alone, known_of, GoesOn, Went, MayLetGo};
 ghost use Rattle.link_line.specs.Releases.{AreFew, HandsOn, NamesTurn, LetsLineGo, WalksOn, AreNodesAt, FreesAll};
 
 use crate::rule::{Ground, LinkSeat};
@@ -42,9 +42,8 @@ pub(crate) fn release<K: Keep>(
     node: u64,
     closed: bool,
 ) -> Released
-    requires table { IsSeatOf ground.now.table_id seat.old }
+    requires seat { IsSeatOfNode ground.now.table_id node seat.old }
     requires alone { Alone seat.old.me }
-    requires own { IsOwnNode node seat.old }
     requires none_passed { (known_of seat.old).own.passed ≡ [] }
     requires nodes { (1 ≤ (known_of seat.old).view.terms.nodes) × ((known_of seat.old).view.terms.nodes ≤ MOST_NODES) }
     requires parcel { (y : Parcel) × HasSlot seat.old y × MayLetGo K.allows (known_of seat.old) y node × (y.closed ≡ closed) }

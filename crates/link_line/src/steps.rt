@@ -10,7 +10,7 @@ ghost use Rattle.link_line.specs.Stances.{turn_word};
 ghost use Rattle.link_line.specs.Words as layout;
 ghost use Rattle.shared_line.specs.declared.rule.Parcel.{Parcel};
 ghost use Rattle.shared_line.specs.Steps.{HasSlot, HasNoSlot};
-ghost use Rattle.link_line.specs.Steps.{Alone, IsSeatOf, IsAt, IsOwnNode, known_of, Went, IsReady, LinksTo, IsEarly, Comes, IsRolled, IsStill, MayLetGo, Carries, IsOneLeft, Ended, GoesOut, IsLeft, Passes, Frees};
+ghost use Rattle.link_line.specs.Steps.{Alone, IsSeatOf, IsAt, IsSeatOfNode, known_of, Went, IsReady, LinksTo, IsEarly, Comes, IsRolled, IsStill, MayLetGo, Carries, IsOneLeft, Ended, GoesOut, IsLeft, Passes, Frees};
 
 use crate::plays::{Done, Free, Grant, Home, Link, Load, Look, Prepend, Reset, Roll};
 use crate::rule::{Ground, LinkSeat};
@@ -22,9 +22,8 @@ use qolb_model::Keep;
 
 /// Clears the own entry, for a new request.
 pub(crate) fn reset<K: Keep>(ground: &Ground<K>, seat: &mut LinkSeat, node: u64)
-    requires table { IsSeatOf ground.now.table_id seat.old }
+    requires seat { IsSeatOfNode ground.now.table_id node seat.old }
     requires ready { IsAt Idle seat.old ⊎ IsAt Shut seat.old }
-    requires own { IsOwnNode node seat.old }
     ensures slot { seat.new.me.1 ≡ seat.old.me.1 }
     ensures went { Went K.allows seat.old seat.new 1 }
     ensures is_ready { IsReady (known_of seat.old) (known_of seat.new) }
@@ -37,10 +36,9 @@ pub(crate) fn reset<K: Keep>(ground: &Ground<K>, seat: &mut LinkSeat, node: u64)
 /// This swap is where a request takes effect (its linearization point): it puts the request into the order. The link is made later, and
 /// changes no order.
 pub(crate) fn prepend<K: Keep>(ground: &Ground<K>, seat: &mut LinkSeat, node: u64) -> u64
-    requires table { IsSeatOf ground.now.table_id seat.old }
+    requires seat { IsSeatOfNode ground.now.table_id node seat.old }
     requires ready { IsAt Ready seat.old }
     requires slot { HasNoSlot seat.old }
-    requires own { IsOwnNode node seat.old }
     ensures went { Went K.allows seat.old seat.new 1 }
     ensures asks { Asks (known_of seat.old).view (known_of seat.new).view }
     ensures joined { result ≡ 0 → IsJoined (known_of seat.new).view }
@@ -52,10 +50,9 @@ pub(crate) fn prepend<K: Keep>(ground: &Ground<K>, seat: &mut LinkSeat, node: u6
 
 /// Links the own request to that of the node before: whether the line has come.
 pub(crate) fn link<K: Keep>(ground: &Ground<K>, seat: &mut LinkSeat, node: u64, older: u64) -> bool
-    requires table { IsSeatOf ground.now.table_id seat.old }
+    requires seat { IsSeatOfNode ground.now.table_id node seat.old }
     requires ready { IsAt (Linking older) seat.old }
     requires slot { HasNoSlot seat.old }
-    requires own { IsOwnNode node seat.old }
     requires high { older ≤ MOST_NODES }
     ensures went { Went K.allows seat.old seat.new 1 }
     ensures links { Links (known_of seat.old).view (known_of seat.new).view }
@@ -67,10 +64,9 @@ pub(crate) fn link<K: Keep>(ground: &Ground<K>, seat: &mut LinkSeat, node: u64, 
 
 /// Loads the own entry: whether it is granted, so that the line has come.
 pub(crate) fn load<K: Keep>(ground: &Ground<K>, seat: &mut LinkSeat, node: u64) -> bool
-    requires table { IsSeatOf ground.now.table_id seat.old }
+    requires seat { IsSeatOfNode ground.now.table_id node seat.old }
     requires ready { IsAt Queued seat.old }
     requires slot { HasNoSlot seat.old }
-    requires own { IsOwnNode node seat.old }
     ensures went { Went K.allows seat.old seat.new 1 }
     ensures count { (known_of seat.new).view.count ≡ (known_of seat.old).view.count }
     ensures waits { result ≡ false → HasNoSlot seat.new × IsEarly (known_of seat.new) }
@@ -81,10 +77,9 @@ pub(crate) fn load<K: Keep>(ground: &Ground<K>, seat: &mut LinkSeat, node: u64) 
 
 /// Withdraws the request, unless its entry is granted: whether it is.
 pub(crate) fn roll<K: Keep>(ground: &Ground<K>, seat: &mut LinkSeat, node: u64) -> bool
-    requires table { IsSeatOf ground.now.table_id seat.old }
+    requires seat { IsSeatOfNode ground.now.table_id node seat.old }
     requires ready { IsAt Queued seat.old }
     requires slot { HasNoSlot seat.old }
-    requires own { IsOwnNode node seat.old }
     ensures went { Went K.allows seat.old seat.new 1 }
     ensures count { (known_of seat.new).view.count ≡ (known_of seat.old).view.count }
     ensures withdrawn { result ≡ false → HasNoSlot seat.new × IsRolled (known_of seat.new) }
@@ -95,9 +90,8 @@ pub(crate) fn roll<K: Keep>(ground: &Ground<K>, seat: &mut LinkSeat, node: u64) 
 
 /// Loads the own entry after the line was left in it: whether a late linker has linked, so that the last request is clear.
 pub(crate) fn look_left<K: Keep>(ground: &Ground<K>, seat: &mut LinkSeat, node: u64) -> bool
-    requires table { IsSeatOf ground.now.table_id seat.old }
+    requires seat { IsSeatOfNode ground.now.table_id node seat.old }
     requires ready { IsAt Left seat.old }
-    requires own { IsOwnNode node seat.old }
     ensures slot { seat.new.me.1 ≡ seat.old.me.1 }
     ensures went { Went K.allows seat.old seat.new 1 }
     ensures still { IsStill (known_of seat.old) result (known_of seat.new) }
@@ -108,9 +102,8 @@ pub(crate) fn look_left<K: Keep>(ground: &Ground<K>, seat: &mut LinkSeat, node: 
 /// Loads the own entry after the request was withdrawn: whether it is clear. It is freed then, and the line is not left in it: where the
 /// release that passed this node ended here, a late linker still comes to this entry for the line.
 pub(crate) fn look_rolled<K: Keep>(ground: &Ground<K>, seat: &mut LinkSeat, node: u64) -> bool
-    requires table { IsSeatOf ground.now.table_id seat.old }
+    requires seat { IsSeatOfNode ground.now.table_id node seat.old }
     requires ready { IsAt Rolled seat.old }
-    requires own { IsOwnNode node seat.old }
     ensures slot { seat.new.me.1 ≡ seat.old.me.1 }
     ensures went { Went K.allows seat.old seat.new 1 }
     ensures still { IsStill (known_of seat.old) result (known_of seat.new) }

@@ -8,7 +8,7 @@ ghost use Rattle.shared_line.specs.declared.rule.Parcel.{Parcel};
 ghost use Rattle.shared_line.specs.Steps.{IsSeatOf, HasSlot, HasNoSlot};
 ghost use Rattle.array_line.specs.Words.{word_count};
 ghost use Rattle.array_line.specs.Array.{At};
-ghost use Rattle.array_line.specs.Steps.{IsAt, IsOwnNode, entry_of, Went, CarriesNext};
+ghost use Rattle.array_line.specs.Steps.{IsAt, IsSeatOfNode, entry_of, Went, CarriesNext};
 ghost use Rattle.array_line.specs.Releases.{IsRenewed, steps_to_renew, IsBare, LetsLineGo, WalksOn, AreNodesAt, FreesAll};
 ghost use Rattle.ring_line.specs.Words.{withdrawn_by};
 ghost use Rattle.ring_line.specs.Steps.{turn_cell};
@@ -40,10 +40,9 @@ pub(crate) fn renew<K: Keep>(
     node: u64,
     state: PortState,
 ) -> Option<u64>
-    requires table { IsSeatOf word_count ground.now.table_id seat.old }
+    requires seat { IsSeatOfNode ground.now.table_id node seat.old }
     requires rolled { state ≡ PortState.Rolled → IsAt Rolled seat.old }
     requires idle { state ≢ PortState.Rolled → IsAt Idle seat.old }
-    requires own { IsOwnNode node seat.old }
     ensures slot { seat.new.me.1 ≡ seat.old.me.1 }
     ensures went { Went K.allows seat.old seat.new (steps_to_renew result) }
     ensures renewed { IsRenewed state (entry_of seat.old) (entry_of seat.new) result }

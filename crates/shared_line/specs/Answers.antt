@@ -1,5 +1,5 @@
 -- What the calls of a discipline ask of a node and tell it, each by the mark that its port keeps.
-use Rattle.std.specs.Prelude.{◌≡◌, ◌≢◌, ◌≤◌, ℕ, List, Bool, true, false}
+use Rattle.std.specs.Prelude.{◌≡◌, ◌≢◌, ◌≤◌, ℕ, List, [], ◌∷◌, Bool, true, false}
 use Rattle.atomic_table.specs.Seated.{TableId}
 use Rattle.qolb_model.specs.declared.answer.PortState.{PortState}
 use Rattle.qolb_model.specs.declared.answer.PortState.TheVariants as shows
@@ -11,6 +11,8 @@ use Rattle.qolb_model.specs.PortStates.{left_by}
 use Rattle.qolb_model.specs.Ends.{is_closed}
 use Rattle.qolb_model.specs.Asking.{IsBusy, Asks, IsJoined}
 use Rattle.qolb_model.specs.Linking.{Links}
+use Rattle.qolb_model.specs.Meeting.{longer}
+use Rattle.qolb_model.specs.Calls.{TellEachOther}
 use Rattle.qolb_model.specs.LettingGo.{EndsTurn}
 use Rattle.shared_line.specs.declared.queue.Asked.{Asked}
 use Rattle.shared_line.specs.declared.queue.Asked.TheVariants as asked
@@ -19,7 +21,7 @@ use Rattle.shared_line.specs.Entries.{LineSeat}
 use Rattle.shared_line.specs.Slots.{IsCopy}
 use Rattle.shared_line.specs.Phases.{Phases}
 use Rattle.shared_line.specs.Ports.{IsPutBack}
-use Rattle.shared_line.specs.Steps.{entry_of, SameSeat, IsSeatOf, IsOwnNode, HasNoSlot, HasLine, IsEarly, IsUnlinked, IsGivenUp, Comes, Rests, Carries, own_end}
+use Rattle.shared_line.specs.Steps.{entry_of, SameSeat, IsSeatOf, IsOwnNode, HasNoSlot, HasLine, IsEarly, IsUnlinked, IsGivenUp, Comes, Rests, Carries, own_end, informed}
 
 -- the seat is of a line's table, and the node is its own
 abbrev pub IsSeatOfNode : {O : Type 0} → ℕ → TableId → O → ℕ → LineSeat O → Type 0
@@ -35,6 +37,14 @@ pub record CountsRequest (asks_in : PortState → Enq → ℕ → Type 0) (state
   pub behind : answer ≡ asked.Behind → asks_in state enq.Queued steps
   pub came : answer ≡ asked.Came → asks_in state enq.Granted steps
   pub bound : steps ≤ 4
+
+-- two seats with one entry each have met, of which the first may have slots in hand: each learned what the other knows
+pub record HaveMet {O : Type 0} (allows : List ℕ → List ℕ → Type 0) (fresh : O) (a b a_then b_then : LineSeat O) : Type 0 where
+  pub tables : (a_then.table_id ≡ a.table_id) × (b_then.table_id ≡ b.table_id)
+  pub first : a_then.me ≡ (informed (entry_of fresh a) (entry_of fresh b) ∷ [], a.me.1)
+  pub second : b_then.me ≡ (informed (entry_of fresh b) (entry_of fresh a) ∷ [], [])
+  pub tell : TellEachOther allows (entry_of fresh a).view (entry_of fresh b).view (entry_of fresh a_then).view (entry_of fresh b_then).view
+  pub holder : let v = entry_of fresh a in let u = entry_of fresh b in (v.view.state ≡ shows.Holding → longer v.view.ends u.view.ends ≡ v.view.ends) × (u.view.state ≡ shows.Holding → longer u.view.ends v.view.ends ≡ u.view.ends)
 
 module _ {O : Type 0} (q : Phases O) (mark : ℕ) where
   -- a line has come to the node, and lies in the slots that it has in hand
@@ -100,6 +110,10 @@ module _ {O : Type 0} (q : Phases O) (mark : ℕ) where
     pub links : Links (entry_of q.fresh old).view (entry_of q.fresh new).view
     pub waits : came ≡ false → WaitsOn new
     pub comes : came ≡ true → HasArrived new
+
+  -- a closed line has come to the node, and is laid for the next
+  abbrev pub HasLaidClosed : LineSeat O → Type 0
+  HasLaidClosed s = (y : Parcel) × q.lays mark y s.me.1 × Comes q.holding q.refused mark (entry_of q.fresh s) y × (y.closed ≡ true)
 
   -- `release` takes the line that was laid for the next, closed or not: it is the one after the end of the node's request
   abbrev pub HasLaid : (List ℕ → List ℕ → Type 0) → Bool → LineSeat O → Type 0

@@ -2,9 +2,9 @@
 ghost use Rattle.std.specs.Prelude.{◌≡◌, ◌≢◌, ℕ, ◌+◌, ◌-◌, ◌<◌, ◌≤◌, true};
 ghost use Rattle.qolb_model.specs.Calls.{HasCome};
 ghost use Rattle.shared_line.specs.declared.rule.Parcel.{Parcel};
-ghost use Rattle.shared_line.specs.Steps.{Alone, entry_of, write_of, Went, Comes};
+ghost use Rattle.shared_line.specs.Steps.{Alone, entry_of, write_of, Went};
 ghost use Rattle.shared_line.specs.Ports.{IsPassedOn, IsPort, IsSeated};
-ghost use Rattle.shared_line.specs.Answers.{IsSeatOfNode, HasNodes, HasArrived};
+ghost use Rattle.shared_line.specs.Answers.{IsSeatOfNode, HasNodes, HasArrived, HasLaidClosed};
 
 use crate::line::Line;
 use crate::queue::{Discipline, Released};
@@ -69,7 +69,7 @@ fn pass_on<K: Keep, Q: Discipline<K>>(
     requires seat { IsSeatOfNode Q.word_count ground.now.table_id Q.phases.fresh node seat.old }
     requires alone { Alone Q.phases.fresh seat.old.me }
     requires nodes { HasNodes (entry_of Q.phases.fresh seat.old).view }
-    requires comes { (y : Parcel) × Q.phases.lays mark y seat.old.me.1 × Comes Q.phases.holding Q.phases.refused mark (entry_of Q.phases.fresh seat.old) y × (y.closed ≡ true) }
+    requires comes { HasLaidClosed Q.phases mark seat.old }
     ensures went { Went K.allows Q.phases.fresh seat.old seat.new result.steps }
     ensures count { (entry_of Q.phases.fresh seat.new).view.count ≡ (entry_of Q.phases.fresh seat.old).view.count }
     ensures told { IsPassedOn Q.phases seat.new result.state }

@@ -1,13 +1,11 @@
 //! Seats that are cut and joined.
-ghost use Rattle.std.specs.Prelude.{◌≡◌, [], ◌∷◌};
-ghost use Rattle.qolb_model.specs.Calls.{TellEachOther};
-ghost use Rattle.qolb_model.specs.Meeting.{longer};
-ghost use Rattle.shared_line.specs.Steps.{IsSeatOf, HasNoSlot, Alone, entry_of, informed};
+ghost use Rattle.shared_line.specs.Answers.{HaveMet};
+ghost use Rattle.shared_line.specs.Steps.{IsSeatOf, HasNoSlot, Alone};
 
 use crate::plays::{Blank, Cut, Glue, Meet};
 use crate::queue::Discipline;
 use crate::rule::{Ground, LineSeat};
-use qolb_model::{Keep, PortState};
+use qolb_model::Keep;
 use std::mem;
 
 /// Two seats with an entry each, of which the first may hold the slot, learn what the other knows.
@@ -23,11 +21,7 @@ pub(crate) fn meet_seats<K: Keep, Q: Discipline<K>>(
     requires table_b { IsSeatOf Q.word_count ground.now.table_id b.old }
     requires ready { Alone Q.phases.fresh a.old.me × Alone Q.phases.fresh b.old.me }
     requires slot { HasNoSlot b.old }
-    ensures tables { (a.new.table_id ≡ a.old.table_id) × (b.new.table_id ≡ b.old.table_id) }
-    ensures first { a.new.me ≡ (informed (entry_of Q.phases.fresh a.old) (entry_of Q.phases.fresh b.old) ∷ [], a.old.me.1) }
-    ensures second { b.new.me ≡ (informed (entry_of Q.phases.fresh b.old) (entry_of Q.phases.fresh a.old) ∷ [], []) }
-    ensures tell { TellEachOther K.allows (entry_of Q.phases.fresh a.old).view (entry_of Q.phases.fresh b.old).view (entry_of Q.phases.fresh a.new).view (entry_of Q.phases.fresh b.new).view }
-    ensures holder { let v = entry_of Q.phases.fresh a.old in let u = entry_of Q.phases.fresh b.old in (v.view.state ≡ PortState.Holding → longer v.view.ends u.view.ends ≡ v.view.ends) × (u.view.state ≡ PortState.Holding → longer u.view.ends v.view.ends ≡ u.view.ends) }
+    ensures { HaveMet K.allows Q.phases.fresh a.old b.old a.new b.new }
 {
     let blank = ground.split_seat::<Blank>(a);
     let other = mem::replace(b, blank);

@@ -1,6 +1,7 @@
 //! Waiters that sleep, and whoever wakes them. None of it is a step of the queue: the table stays as it is.
 ghost use Rattle.std.specs.Prelude.{◌≡◌, ℕ, ◌<◌, ◌%◌, ◌^◌, false};
-ghost use Rattle.shared_line.specs.Steps.{IsSeatOf, IsOwnNode, Rests};
+ghost use Rattle.shared_line.specs.Answers.{IsSeatOfNode};
+ghost use Rattle.shared_line.specs.Steps.{Rests};
 
 use crate::line::Line;
 use crate::port::Port;
@@ -100,9 +101,8 @@ impl<K: Keep, Q: Discipline<K>> Line<K, Q> {
         low: u32,
         at_most: Duration,
     )
-        requires table { IsSeatOf Q.word_count self.now.table.shared.table_id seat.now }
+        requires seat { IsSeatOfNode Q.word_count self.now.table.shared.table_id Q.phases.fresh node seat.now }
         requires rests { Rests Q.phases PortState.Queued mark seat.now }
-        requires own { IsOwnNode Q.phases.fresh node seat.now }
         requires not_come { Q.may_come mark low ≡ false }
     {
         let word = Q::awaited(node, mark);

@@ -8,7 +8,7 @@ ghost use Rattle.shared_line.specs.declared.rule.Parcel.{Parcel};
 ghost use Rattle.shared_line.specs.Steps.{SameSeat, IsSeatOf, HasNoSlot};
 ghost use Rattle.array_line.specs.Words.{word_count};
 ghost use Rattle.array_line.specs.Array.{At};
-ghost use Rattle.array_line.specs.Steps.{IsAt, IsOwnNode, entry_of, Went, Draws, IsStill, CarriesNext, Ended, GoesHome, Passes, Frees, after_reset};
+ghost use Rattle.array_line.specs.Steps.{IsAt, IsSeatOfNode, entry_of, Went, Draws, IsStill, CarriesNext, Ended, GoesHome, Passes, Frees, after_reset};
 ghost use Rattle.ticket_line.specs.Steps.{own_ticket, turn_ticket, next_ticket, HasCome, HasLaid, IsEarly, Comes, IsRolled};
 ghost use Rattle.array_line.specs.declared.own.Point.TheVariants.{Idle, Queued, Holding, Passing, Freeing, Rolled};
 
@@ -53,11 +53,10 @@ pub(crate) fn roll<K: Keep>(
     ticket: u64,
     node: u64,
 ) -> bool
-    requires table { IsSeatOf word_count ground.now.table_id seat.old }
+    requires seat { IsSeatOfNode ground.now.table_id node seat.old }
     requires ready { IsAt Queued seat.old }
     requires slot { HasNoSlot seat.old }
     requires ticket { ticket ≡ own_ticket seat.old }
-    requires own { IsOwnNode node seat.old }
     ensures went { Went K.allows seat.old seat.new 1 }
     ensures count { (entry_of seat.new).view.count ≡ (entry_of seat.old).view.count }
     ensures withdrawn { result ≡ false → HasNoSlot seat.new × IsRolled ticket (entry_of seat.new) }
@@ -98,9 +97,8 @@ pub(crate) fn free<K: Keep>(ground: &Ground<K>, seat: &mut TicketSeat, node: u64
 
 /// Loads the own node's word: not 0 where the withdrawn request was passed and its node freed.
 pub(crate) fn load_node<K: Keep>(ground: &Ground<K>, seat: &mut TicketSeat, node: u64) -> u64
-    requires table { IsSeatOf word_count ground.now.table_id seat.old }
+    requires seat { IsSeatOfNode ground.now.table_id node seat.old }
     requires ready { IsAt Rolled seat.old }
-    requires own { IsOwnNode node seat.old }
     ensures slot { seat.new.me.1 ≡ seat.old.me.1 }
     ensures went { Went K.allows seat.old seat.new 1 }
     ensures still { IsStill (entry_of seat.old) result (entry_of seat.new) }
@@ -110,10 +108,9 @@ pub(crate) fn load_node<K: Keep>(ground: &Ground<K>, seat: &mut TicketSeat, node
 
 /// Clears the own node's word.
 pub(crate) fn reset<K: Keep>(ground: &Ground<K>, seat: &mut TicketSeat, node: u64)
-    requires table { IsSeatOf word_count ground.now.table_id seat.old }
+    requires seat { IsSeatOfNode ground.now.table_id node seat.old }
     requires ready { IsAt Rolled seat.old }
     requires clear { Has (entry_of seat.old).view.clear (own (entry_of seat.old).view) }
-    requires own { IsOwnNode node seat.old }
     ensures same { SameSeat seat.old seat.new }
     ensures reset { seat.new.me ≡ (after_reset (entry_of seat.old) ∷ [], seat.old.me.1) }
 {

@@ -4,4 +4,4 @@ use Rattle.link_line.proofs.Prepend.{prepends_next}
 use Rattle.link_line.proofs.steps.prepend.Goals as goal
 
 pub swap-requires : goal.swap-requires
-swap-requires g c = (search rules, omega arith, prepends_next g.K.Keep.good g.K.Keep.allows c.args.ground.now.key (known_of c.args.seat.now) c.requires.ready.1 _ _ _ c.args.seat.now.me c.requires.ready.0 c.requires.own.0)
+swap-requires g c = (search rules, omega arith, prepends_next g.K.Keep.good g.K.Keep.allows c.args.ground.now.key (known_of c.args.seat.now) c.requires.ready.1 _ _ _ c.args.seat.now.me c.requires.ready.0 c.requires.seat.1.0)

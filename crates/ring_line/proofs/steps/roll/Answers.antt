@@ -15,5 +15,5 @@ fetch_add-requires g c = let v = entry_of c.args.seat.now in let d : ℕ = WITHD
   search rules,
   omega arith,
   rolls_next RingCells one_slot g.K.Keep.good g.K.Keep.allows c.args.ground.now.key v c.requires.ready.1 cell_of is_blank is_granted change one_take (takes v.own.place v.view.node change) (stays v.own.place)
-      (withdraws v.own.place v.view.node d (ap (λ (k : ℕ). WITHDRAWN * k) c.requires.own.0)) _ _ _ c.args.seat.now.me (λ i. (c.requires.ready.0 i, c.requires.slot i)) (c.cell_word.ensures ∙ ap cell_at c.requires.cell),
+      (withdraws v.own.place v.view.node d (ap (λ (k : ℕ). WITHDRAWN * k) c.requires.seat.1.0)) _ _ _ c.args.seat.now.me (λ i. (c.requires.ready.0 i, c.requires.slot i)) (c.cell_word.ensures ∙ ap cell_at c.requires.cell),
 )

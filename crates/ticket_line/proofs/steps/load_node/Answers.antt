@@ -7,4 +7,4 @@ use Rattle.ticket_line.specs.Ticket.{TicketCells}
 use Rattle.ticket_line.proofs.steps.load_node.Goals as goal
 
 pub load-requires : goal.load-requires
-load-requires g c = (search rules, omega arith, loads_node_next TicketCells berths g.K.Keep.good g.K.Keep.allows c.args.ground.now.key (entry_of c.args.seat.now) c.requires.ready.1 _ _ _ c.args.seat.now.me c.requires.ready.0 (c.node_word.ensures ∙ ap node_at c.requires.own.0))
+load-requires g c = (search rules, omega arith, loads_node_next TicketCells berths g.K.Keep.good g.K.Keep.allows c.args.ground.now.key (entry_of c.args.seat.now) c.requires.ready.1 _ _ _ c.args.seat.now.me c.requires.ready.0 (c.node_word.ensures ∙ ap node_at c.requires.seat.1.0))

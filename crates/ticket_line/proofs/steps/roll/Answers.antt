@@ -13,8 +13,8 @@ use Rattle.ticket_line.specs.Ticket.{TicketCells}
 use Rattle.ticket_line.proofs.steps.roll.Goals as goal
 
 pub swap-found-requires : goal.swap-found-requires
-swap-found-requires g c = let v = entry_of c.args.seat.now in let says = c.withdrawn.ensures ∙ (λ j. withdrawn (c.requires.ticket j) (c.requires.own.0 j)) in
-    let high : v.view.node ≤ MOST_NODES = subst (λ n. n ≤ MOST_NODES) c.requires.own.0 c.requires.own.1 in (
+swap-found-requires g c = let v = entry_of c.args.seat.now in let says = c.withdrawn.ensures ∙ (λ j. withdrawn (c.requires.ticket j) (c.requires.seat.1.0 j)) in
+    let high : v.view.node ≤ MOST_NODES = subst (λ n. n ≤ MOST_NODES) c.requires.seat.1.0 c.requires.seat.1.1 in (
       search rules,
       omega arith,
       rolls_next TicketCells berths g.K.Keep.good g.K.Keep.allows c.args.ground.now.key v c.requires.ready.1 ticket_of is_other is_granted (λ _. c.withdrawn.result) take
