@@ -1,5 +1,5 @@
 -- A port that was told, and has passed the closed line on.
-use Rattle.std.proofs.Common.{◌≡◌, ◌≢◌, ℕ, Option, List, ◌∙◌}
+use Rattle.std.proofs.Common.{◌≡◌, ◌≢◌, ℕ, List, ◌∙◌}
 use Rattle.atomic_table.specs.Seated.{TableId}
 use Rattle.qolb_model.specs.declared.answer.PortState.{PortState}
 use Rattle.qolb_model.specs.declared.answer.PortState.TheVariants as shows

@@ -1,5 +1,5 @@
 -- What a port's fields, and what its contract shows of them, are after a call.
-use Rattle.std.proofs.Common.{◌≡◌, ◌≢◌, ℕ, Option, List, true, false, sym, ap, ◌∙◌, subst, Bool, ◌||◌, bit_or}
+use Rattle.std.proofs.Common.{◌≡◌, ◌≢◌, ℕ, List, true, false, sym, ap, ◌∙◌, subst, Bool, ◌||◌, bit_or}
 use Rattle.line_lanes.specs.Line.{merged}
 use Rattle.atomic_table.specs.Seated.{TableId}
 use Rattle.qolb_model.specs.declared.answer.PortState.{PortState}

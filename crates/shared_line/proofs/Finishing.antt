@@ -1,5 +1,5 @@
 -- How the seats of the ports handed to `finish` are joined.
-use Rattle.std.proofs.Common.{Some, slice_get, ◌≡◌, ℕ, Option, suc, List, [], ◌∷◌, ◌++◌, map, true, false, sym, ap, ◌∙◌, subst, ⊎_elim, arith, append_assoc}
+use Rattle.std.proofs.Common.{Some, slice_get, ◌≡◌, ℕ, suc, List, [], ◌∷◌, ◌++◌, map, true, false, sym, ap, ◌∙◌, subst, ⊎_elim, arith, append_assoc}
 use Rattle.std.specs.List.{All}
 use Rattle.std.proofs.lemmas.List.{map-append}
 use Rattle.atomic_table.specs.Seated.{TableId}

@@ -1,5 +1,5 @@
 //! What a queue is: how its nodes stand, its rule, and the few calls that are its own.
-ghost use Rattle.std.specs.Prelude.{◌≡◌, ◌≢◌, ℕ, List, ◌∷◌, ◌++◌, [], Option, Some, replicate, ◌<◌, ◌≤◌, ◌+◌, ◌^◌, length, Bool, true, false, IsTrue, IfOk};
+ghost use Rattle.std.specs.Prelude.{◌≡◌, ◌≢◌, ℕ, List, ◌∷◌, ◌++◌, [], Option, Some, replicate, ◌<◌, ◌≤◌, ◌+◌, ◌^◌, length, Bool, false, IsTrue, IfOk};
 ghost use mathlib.Core.Option.{some, none};
 ghost use lib.ListN.{get_elem?};
 ghost use Rattle.std.specs.Slots.{slots_items, slots_len, IsFull};
@@ -11,7 +11,6 @@ ghost use Rattle.qolb_model.specs.declared.answer.Enq.{Enq};
 ghost use Rattle.qolb_model.specs.declared.view.View.{View};
 ghost use Rattle.qolb_model.specs.declared.terms.TheConstants.{MOST_NODES};
 ghost use Rattle.qolb_model.specs.PortStates as states;
-ghost use Rattle.qolb_model.specs.Asking.{IsBusy, Asks, IsJoined};
 ghost use Rattle.qolb_model.specs.Opening.{MayOpen};
 ghost use Rattle.qolb_model.specs.Finishing.{IsLast};
 ghost use Rattle.shared_line.specs.declared.rule.Parcel.{Parcel};
