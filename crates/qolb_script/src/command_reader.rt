@@ -9,8 +9,10 @@ ghost use Rattle.qolb_script.specs.Reading.{words_left, lease_words, IsNoLease};
 use crate::command::{Command, Verb};
 use crate::items::ReadItem;
 use crate::number::number_within;
+use crate::reason::Reason;
 use crate::schedule::MOST_LINES;
 use crate::text::LineFault;
+use crate::why_command::why_command;
 use crate::words::Words;
 use hex::decode_to_slice;
 use line_lanes::{Line64, Mask, placed};
@@ -20,7 +22,7 @@ use qolb_model::MOST_NODES;
 const MOST_BYTES: usize = 64;
 
 /// The last place of a line.
-const LAST_PLACE: u64 = 63;
+pub const LAST_PLACE: u64 = 63;
 
 /// The first word of a write.
 pub const WRITE: &[u8] = b"write";
@@ -32,7 +34,7 @@ pub const NODES: &[u8] = b"nodes";
 pub const LINES: &[u8] = b"lines";
 
 /// The word of a header before its lease.
-const LEASE: &[u8] = b"lease";
+pub const LEASE: &[u8] = b"lease";
 
 /// What the header of a schedule says.
 #[derive(Clone, Copy)]
@@ -51,14 +53,22 @@ pub struct CommandReader {
 }
 
 impl ReadItem for CommandReader {
+    ghost use Rattle.qolb_script.specs.Reasons.{why_command};
+
     type Item = Command;
 
     ghost item_of = { λ r. spec.command_of r.nodes r.lines };
+
+    ghost why_of = { λ r. why_command r.nodes r.lines };
 
     ghost in_range = { λ r c. (1 ≤ spec.node_of c) × (spec.node_of c ≤ r.nodes) × (spec.line_of c < r.lines) };
 
     fn read_item(&self, line: &[u8]) -> Result<Command, LineFault> {
         read_command(self.nodes, self.lines, line)
+    }
+
+    fn why(&self, line: &[u8]) -> Reason {
+        why_command(self.nodes, self.lines, line)
     }
 }
 

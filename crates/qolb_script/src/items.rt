@@ -4,6 +4,7 @@ ghost use Rattle.qolb_script.specs.Reading.{lines_left};
 
 use crate::error::ScriptError;
 use crate::lines::Lines;
+use crate::reason::Reason;
 use crate::schedule::MOST_COMMANDS;
 use crate::text::LineFault;
 use std::alloc::Allocator;
@@ -12,12 +13,17 @@ use std::alloc::Allocator;
 pub trait ReadItem {
     ghost use Rattle.std.specs.Prelude.{◌≡◌, ℕ, List, Result, IfOk};
     ghost use Rattle.qolb_script.specs.declared.text.LineFault.{LineFault};
+    ghost use Rattle.qolb_script.specs.declared.reason.Reason.{Reason};
     ghost use Rattle.qolb_script.specs.Commands.{read_line};
+    ghost use Rattle.qolb_script.specs.Reasons.{why_line};
 
     type Item: Drop;
 
     /// The item that some words write.
     ghost item_of: { Self → List (List ℕ) → Result Self.Item LineFault };
+
+    /// What is wrong with the words, if they are refused.
+    ghost why_of: { Self → List (List ℕ) → Reason };
 
     /// The item's numbers are in the ranges that the header gives.
     ghost in_range: { Self → Self.Item → Type 0 };
@@ -26,6 +32,10 @@ pub trait ReadItem {
     fn read_item(&self, line: &[u8]) -> Result<Self::Item, LineFault>
         ensures item { result ≡ read_line (item_of self.now) line.now }
         ensures range { IfOk result (λ item. in_range self.now item) };
+
+    /// What is wrong with the line, if it is refused.
+    fn why(&self, line: &[u8]) -> Reason
+        ensures { result ≡ why_line (why_of self.now) line.now };
 }
 
 /// Reads the items on the lines below a header.

@@ -9,28 +9,30 @@ use crate::command_reader::{LINES, node_within, read_sizes};
 use crate::items::ReadItem;
 use crate::job::{ACCOUNTS_A_LINE, Job, WorkKind};
 use crate::number::number_within;
+use crate::reason::Reason;
 use crate::schedule::MOST_LINES;
 use crate::text::LineFault;
+use crate::why_job::why_job;
 use crate::words::Words;
 use qolb_model::MOST_NODES;
 
 /// The words of headers.
-const BOARD: &[u8] = b"board";
+pub const BOARD: &[u8] = b"board";
 
-const BANK: &[u8] = b"bank";
+pub const BANK: &[u8] = b"bank";
 
-const WORKERS: &[u8] = b"workers";
+pub const WORKERS: &[u8] = b"workers";
 
 /// The second words of jobs.
-const PUT: &[u8] = b"put";
+pub const PUT: &[u8] = b"put";
 
-const TAKE: &[u8] = b"take";
+pub const TAKE: &[u8] = b"take";
 
-const PAY_IN: &[u8] = b"in";
+pub const PAY_IN: &[u8] = b"in";
 
-const PAY_OUT: &[u8] = b"out";
+pub const PAY_OUT: &[u8] = b"out";
 
-const MOVE: &[u8] = b"move";
+pub const MOVE: &[u8] = b"move";
 
 /// What the header of a work script says. A board has one line.
 #[derive(Clone, Copy)]
@@ -50,9 +52,13 @@ pub struct JobReader {
 }
 
 impl ReadItem for JobReader {
+    ghost use Rattle.qolb_script.specs.Reasons.{why_job};
+
     type Item = Job;
 
     ghost item_of = { λ r. spec.job_of r.kind r.workers r.lines };
+
+    ghost why_of = { λ r. why_job r.kind r.workers r.lines };
 
     ghost in_range = { λ r job. (1 ≤ spec.worker_of job) × (spec.worker_of job ≤ r.workers) × spec.IsOfKind r.kind r.lines job };
 
@@ -61,6 +67,10 @@ impl ReadItem for JobReader {
             WorkKind::Board => read_board_job(self.workers, line),
             WorkKind::Bank => read_bank_job(self.workers, self.lines, line),
         }
+    }
+
+    fn why(&self, line: &[u8]) -> Reason {
+        why_job(self.kind, self.workers, self.lines, line)
     }
 }
 

@@ -2,6 +2,8 @@
 #![tactic(auto)]
 
 #[cfg(test)]
+mod reasons;
+#[cfg(test)]
 mod replies;
 #[cfg(test)]
 mod reports;
