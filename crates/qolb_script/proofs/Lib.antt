@@ -1,5 +1,6 @@
 pub mod CommandLemmas
 pub mod NumberLemmas
+pub mod ReasonLemmas
 pub mod ScriptLemmas
 pub mod TextLemmas
 pub mod WorkedScripts

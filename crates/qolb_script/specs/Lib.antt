@@ -23,3 +23,4 @@ pub mod Jobs
 pub mod WorkScript
 pub mod Reports
 pub mod Reasons
+pub mod Laws

@@ -9,6 +9,7 @@ mod explain;
 mod items;
 mod job;
 mod job_reader;
+pub mod laws;
 mod lines;
 mod number;
 mod reason;
