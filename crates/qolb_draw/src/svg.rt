@@ -14,7 +14,7 @@ use std::alloc::{AllocError, Allocator};
 pub const STYLE: &[u8] = b"' font-family='monospace' font-size='12'>
 <style>
 svg{background:#fff}text{fill:#1f2328}.small{font-size:9px;text-anchor:middle}
-.lane{stroke:#d0d7de}.waits{fill:#b6d4fe}.turn{fill:#f2c14e}.holds{fill:#2da44e}.withdrawn{fill:none;stroke:#8c959f;stroke-dasharray:3 2}
+.lane{stroke:#d0d7de}.waits{fill:#b6d4fe}.turn{fill:#f2c14e}.holds{fill:#2da44e}.withdrawn{fill:none;stroke:#8c959f;stroke-dasharray:3 2;pointer-events:all}
 .arrow{fill:none;stroke:#cf222e;stroke-width:2;marker-end:url(#tip)}#tip path,#told path{fill:#cf222e}#call circle{fill:#1f2328}
 #out path,#misuse path{fill:none;stroke:#cf222e;stroke-width:2}.point{fill:#fff;fill-opacity:0;stroke:none}
 @media(prefers-color-scheme:dark){svg{background:#0d1117}text{fill:#e6edf3}.lane{stroke:#30363d}.waits{fill:#1f4a7d}

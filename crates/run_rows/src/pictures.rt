@@ -379,3 +379,62 @@ fn names_stand_again(rt: HostRuntime) -> Result<(), Fail> {
     assert!(rt; svg.contains(" width='800' height='164' "));
     Ok(())
 }
+
+/// The legend: a bar or a sign, with its meaning beside it.
+const LEGEND: &str =
+    "<rect class='waits' x='8' y='8' width='32' height='16'/><text x='46' y='20'>waits</text>
+<rect class='turn' x='112' y='8' width='32' height='16'/><text x='150' y='20'>may take its turn</text>
+<rect class='holds' x='304' y='8' width='32' height='16'/><text x='342' y='20'>holds the line</text>
+<rect class='withdrawn' x='476' y='8' width='32' height='16'/><text x='514' y='20'>has withdrawn</text>
+<path class='arrow' d='M24 32V50'/><text x='46' y='46'>hands over</text>
+<use href='#call' x='144' y='42'/><text x='156' y='46'>a call</text>
+<use href='#out' x='228' y='42'/><text x='240' y='46'>withdraws</text>
+<use href='#told' x='330' y='42'/><text x='342' y='46'>is told of the close</text>
+<use href='#misuse' x='508' y='42'/><text x='520' y='46'>may not</text>
+";
+
+/// The colours of a light page and of a dark one.
+static COLOURS: [(&str, &str); 7] = [
+    ("svg{background:#fff}", "svg{background:#0d1117}"),
+    ("text{fill:#1f2328}", "text{fill:#e6edf3}"),
+    (".lane{stroke:#d0d7de}", ".lane{stroke:#30363d}"),
+    (".waits{fill:#b6d4fe}", ".waits{fill:#1f4a7d}"),
+    (".turn{fill:#f2c14e}", ".turn{fill:#b8860b}"),
+    (".holds{fill:#2da44e}", ".holds{fill:#3fb950}"),
+    (
+        "#tip path,#told path{fill:#cf222e}",
+        "#tip path,#told path{fill:#ff7b72}",
+    ),
+];
+
+/// The signs: a dot, a cross, a diamond and a bar over a dot, each over what the pointer may point at.
+static SIGNS: [(&str, &str); 4] = [
+    ("<g id='call'>", "<circle r='3'/></g>"),
+    ("<g id='out'>", "<path d='M-5 -5L5 5M-5 5L5 -5'/></g>"),
+    ("<g id='told'>", "<path d='M0 -6L6 0L0 6L-6 0z'/></g>"),
+    ("<g id='misuse'>", "<path d='M0 -7V2M0 4V7'/></g>"),
+];
+
+#[test]
+fn a_timeline_has_its_style_and_its_legend(rt: HostRuntime) -> Result<(), Fail> {
+    let alloc = rt.alloc();
+    let svg = drawn(alloc, "nodes 1 lines 1\n", Form::Svg)?;
+    let (style, rest) = svg.split_once("</style>\n<defs>\n").ok_or("a style")?;
+    let (signs, rest) = rest.split_once("</defs>\n").ok_or("signs")?;
+    let (legend, _) = rest.split_once("<g transform=").ok_or("a line")?;
+    assert_eq!(rt; legend, LEGEND);
+    let (light, dark) = style
+        .split_once("@media(prefers-color-scheme:dark){")
+        .ok_or("a dark page")?;
+    for (bright, dim) in &COLOURS {
+        assert!(rt; light.contains(*bright) && dark.contains(*dim), "{bright}");
+    }
+    assert!(rt; light.contains(".withdrawn{fill:none;stroke:#8c959f;stroke-dasharray:3 2;pointer-events:all}"));
+    for (begin, shape) in &SIGNS {
+        let sign = format!(in alloc;
+            "{begin}<rect class='point' x='-8' y='-12' width='16' height='24'/>{shape}\n"
+        )?;
+        assert!(rt; signs.contains(sign.as_str()), "{begin}");
+    }
+    Ok(())
+}
