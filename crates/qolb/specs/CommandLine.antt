@@ -44,17 +44,21 @@ kind_rule names = record (new_rule (codes "kind")) {
   parser = Some (parser.Names names);
 }
 
--- `replay --kind KIND`, where the kind must be given
-abbrev pub replay_command : Names → App
-replay_command names = with_rule (new_app (codes "replay")) (record (kind_rule names) { required = true })
-
 -- `--name`, without a value
 abbrev pub flag_rule : Text → Rule
 flag_rule name = record (new_rule name) { long = Some name; action = Some SetTrue }
 
--- `steps [--rank]`
+-- `--explain`, which each subcommand takes
+abbrev pub explaining : App → App
+explaining app = with_rule app (flag_rule (codes "explain"))
+
+-- `replay --kind KIND [--explain]`, where the kind must be given
+abbrev pub replay_command : Names → App
+replay_command names = explaining (with_rule (new_app (codes "replay")) (record (kind_rule names) { required = true }))
+
+-- `steps [--rank] [--explain]`
 abbrev pub steps_command : App
-steps_command = with_rule (new_app (codes "steps")) (flag_rule (codes "rank"))
+steps_command = explaining (with_rule (new_app (codes "steps")) (flag_rule (codes "rank")))
 
 -- work by this name, over lists where no kind is given
 abbrev pub work_over : Text → Names → App
@@ -63,18 +67,22 @@ work_over name names = with_rule (new_app name) (record (kind_rule names) { defa
 abbrev pub work_or_sleep : Text → Names → App
 work_or_sleep name names = with_rule (work_over name names) (flag_rule (codes "sleep"))
 
-abbrev pub work_command : Text → Names → App
-work_command name names = with_rule (work_or_sleep name names) (flag_rule (codes "progress"))
+abbrev pub work_or_progress : Text → Names → App
+work_or_progress name names = with_rule (work_or_sleep name names) (flag_rule (codes "progress"))
 
--- `draw [--svg]`
+abbrev pub work_command : Text → Names → App
+work_command name names = explaining (work_or_progress name names)
+
+-- `draw [--svg] [--explain]`
 abbrev pub draw_command : App
-draw_command = with_rule (new_app (codes "draw")) (flag_rule (codes "svg"))
+draw_command = explaining (with_rule (new_app (codes "draw")) (flag_rule (codes "svg")))
 
 -- the program's command without its subcommands: it needs one, and has a version
 abbrev pub bare_command : App
 bare_command = let app = new_app (codes "qolb") in record app { top = record app.top { subcommand_required = true; has_version = true } }
 
--- the program's command: `replay --kind KIND`, `steps [--rank]`, `board [--kind KIND] [--sleep] [--progress]`, `bank` with the same, or `draw [--svg]`
+-- the program's command: `replay --kind KIND`, `steps [--rank]`, `board [--kind KIND] [--sleep] [--progress]`, `bank` with the same, or
+-- `draw [--svg]`; each also with `--explain`
 abbrev pub replay_or_steps : Names → App
 replay_or_steps replayed = with_subcommand (with_subcommand bare_command (replay_command replayed).top) steps_command.top
 
@@ -103,13 +111,13 @@ abbrev pub waits_of : Option Text → Waits
 waits_of None = waits.Awake
 waits_of (Some value) = if bytes_eq value (codes "true") then waits.Asleep else waits.Awake
 
--- whether standard error is to say how far it is, by what `--progress` is set to
-abbrev pub progress_of : Option Text → Bool
-progress_of None = false
-progress_of (Some value) = bytes_eq value (codes "true")
+-- whether a flag is given, by its value
+abbrev pub is_given : Option Text → Bool
+is_given None = false
+is_given (Some value) = bytes_eq value (codes "true")
 
-abbrev pub progress_at : List Row → Bool
-progress_at rows = progress_of (first_of (codes "progress") rows)
+abbrev pub is_given_at : Text → List Row → Bool
+is_given_at flag rows = is_given (first_of flag rows)
 
 -- the task of a subcommand with these arguments
 abbrev pub task_by : Text → Option Text → Detail → Waits → Task
@@ -139,10 +147,10 @@ pub record NamesWish (words : List Text) (wanted : Wish) : Type 0 where
   pub names : KindNames
   pub named : option_map wish_at (subcommand_of (the_command names) words) ≡ Some wanted
 
--- the words ask to be told how far it is, or not
-pub record NamesProgress (words : List Text) (wanted : Bool) : Type 0 where
+-- the words have this flag, or not
+pub record NamesFlag (flag : Text) (words : List Text) (wanted : Bool) : Type 0 where
   pub names : KindNames
-  pub named : option_map (λ (entered : Text × List Row). progress_at entered.1) (subcommand_of (the_command names) words) ≡ Some wanted
+  pub named : option_map (λ (entered : Text × List Row). is_given_at flag entered.1) (subcommand_of (the_command names) words) ≡ Some wanted
 
 -- the command does not take the words
 pub record IsNotTaken (words : List Text) : Type 0 where

@@ -1,10 +1,12 @@
 -- What a wish asks for of the bytes on standard input.
-use Rattle.std.specs.Prelude.{ℕ, List}
+use Rattle.std.specs.Prelude.{ℕ, List, Option}
 use Rattle.locks.specs.declared.Lines.{Lines}
 use Rattle.qolb_script.specs.declared.report.Report.{Report}
 use Rattle.qolb_script.specs.WorkScript.{WorkScript}
 use Rattle.qolb_run.specs.declared.replay.Kind.TheVariants.{Plain}
-use Rattle.qolb_run.specs.declared.task.Task.TheVariants.{Replay}
+use Rattle.qolb_script.specs.Reasons.{Complaint, schedule_complaint, steps_complaint, work_complaint}
+use Rattle.qolb_run.specs.declared.task.Task.{Task}
+use Rattle.qolb_run.specs.declared.task.Task.TheVariants.{Replay, Steps, Work}
 use Rattle.qolb_run.specs.declared.report.TaskError.{TaskError}
 use Rattle.qolb_run.specs.Outcome.{Answers, IsRefused, MayEnd}
 use Rattle.qolb_draw.specs.Pictures.{IsPicture}
@@ -25,3 +27,13 @@ IsDenied (Draw form) input = IsRefused (Replay Plain) input
 abbrev pub MayDeny : Wish → List ℕ → TaskError → Type 0
 MayDeny (Answer task) input error = MayEnd task input error
 MayDeny (Draw form) input error = MayEnd (Replay Plain) input error
+
+-- what is wrong with the bytes as what the wish takes, if they are refused
+abbrev pub complaint_of_task : Task → List ℕ → Option Complaint
+complaint_of_task (Replay kind) input = schedule_complaint input
+complaint_of_task (Steps detail) input = steps_complaint input
+complaint_of_task (Work kind lines waits) input = work_complaint kind input
+
+abbrev pub complaint : Wish → List ℕ → Option Complaint
+complaint (Answer task) input = complaint_of_task task input
+complaint (Draw form) input = schedule_complaint input

@@ -2,7 +2,7 @@
 ghost use Rattle.std.specs.Prelude.{◌≡◌, ◌≢◌, false, map, option_map, string_bytes, codes, IfOk, IfErr};
 ghost use Rattle.clap.specs.Words.{app_of, found_of, kind_of, new_app, rows_of, rule_of};
 ghost use Rattle.qolb.specs.CommandLine as spec;
-ghost use Rattle.qolb.specs.CommandLine.{KindNames, NamesProgress, NamesWish, IsNotTaken, draw_command, bare_command, kind_rule, replay_command, steps_command, work_command, the_command};
+ghost use Rattle.qolb.specs.CommandLine.{KindNames, NamesFlag, NamesWish, IsNotTaken, draw_command, bare_command, kind_rule, replay_command, steps_command, work_command, the_command};
 
 use clap::error::ErrorKind;
 use clap::{Arg, ArgAction, ArgMatches, Command, Error};
@@ -125,24 +125,27 @@ pub enum Wish {
     Draw(Form),
 }
 
-/// What the words ask for, and whether standard error is to say how far it is.
+/// What the words ask for, and whether standard error is to say how far it is, and what is wrong with a script that is refused.
 #[derive(Clone, Copy, Debug, PartialEq, Eq)]
 pub struct Request {
     pub wish: Wish,
     pub progress: bool,
+    pub explain: bool,
 }
 
 /// What the words ask for, with the program's name first.
 pub fn parse_args(alloc: Global, words: &[String]) -> Result<Request, Error>
     ensures wish { IfOk result (λ request. NamesWish (map string_bytes words.now) request.wish) }
-    ensures progress { IfOk result (λ request. NamesProgress (map string_bytes words.now) request.progress) }
+    ensures progress { IfOk result (λ request. NamesFlag (codes "progress") (map string_bytes words.now) request.progress) }
+    ensures explain { IfOk result (λ request. NamesFlag (codes "explain") (map string_bytes words.now) request.explain) }
     ensures usage { IfErr result (λ error. kind_of error ≢ ErrorKind.OutOfMemory → IsNotTaken (map string_bytes words.now)) }
 {
     let matches = command(alloc)?.try_get_matches_from(words)?;
     match matches.subcommand() {
         Some((name, arguments)) => Ok(Request {
             wish: wish_at(name, arguments),
-            progress: progress_at(arguments),
+            progress: is_given_at("progress", arguments),
+            explain: is_given_at("explain", arguments),
         }),
         None => unreachable!(),
     }
@@ -159,18 +162,18 @@ fn wish_at(name: &str, arguments: &ArgMatches<'_>) -> Wish
     }
 }
 
-/// Whether standard error is to say how far it is, by these arguments.
-fn progress_at(arguments: &ArgMatches<'_>) -> bool
-    ensures { result ≡ spec.progress_at (rows_of (found_of arguments.now)) }
+/// Whether a flag is given, by these arguments.
+fn is_given_at(flag: &str, arguments: &ArgMatches<'_>) -> bool
+    ensures { result ≡ spec.is_given_at flag.now (rows_of (found_of arguments.now)) }
 {
-    progress_of(arguments.get_str("progress"))
+    is_given(arguments.get_str(flag))
 }
 
-/// The same by the value of `--progress`.
-fn progress_of(progress: Option<&str>) -> bool
-    ensures { result ≡ spec.progress_of (option_map (λ n. n.now) progress.entry) }
+/// The same by its value.
+fn is_given(value: Option<&str>) -> bool
+    ensures { result ≡ spec.is_given (option_map (λ n. n.now) value.entry) }
 {
-    match progress {
+    match value {
         Some("true") => true,
         _ => false,
     }
@@ -295,7 +298,8 @@ fn replay<'a>(alloc: Global, kinds: &'a [&'a str]) -> Result<Command<'a>, AllocE
     Command::new(alloc, "replay")
         .about("Replays the schedule script on standard input, and prints what each call answers")
         .after_help(REPLAY)
-        .arg(kind_argument(alloc, kinds, REPLAYED_HELP).required(true))
+        .arg(kind_argument(alloc, kinds, REPLAYED_HELP).required(true))?
+        .arg(explain(alloc))
 }
 
 /// To run a step script.
@@ -311,7 +315,8 @@ fn steps<'a>(alloc: Global) -> Result<Command<'a>, AllocError>
             alloc,
             "rank",
             "Prints after each word how many productive events can follow each other from there",
-        ))
+        ))?
+        .arg(explain(alloc))
 }
 
 /// Work of workers, by this name, over lines of these kinds.
@@ -338,7 +343,8 @@ fn work<'a>(
             alloc,
             "progress",
             "Says on standard error, once a second, how many of all jobs are done",
-        ))
+        ))?
+        .arg(explain(alloc))
 }
 
 /// To draw a schedule.
@@ -350,7 +356,8 @@ fn draw<'a>(alloc: Global) -> Result<Command<'a>, AllocError>
             "Draws the schedule script on standard input: how each node stands after each command",
         )
         .after_help(DRAW)
-        .arg(flag(alloc, "svg", "Draws an SVG in place of plain text"))
+        .arg(flag(alloc, "svg", "Draws an SVG in place of plain text"))?
+        .arg(explain(alloc))
 }
 
 /// An argument without a value: `--name`.
@@ -362,6 +369,18 @@ fn flag<'a>(alloc: Global, name: &'a str, help: &'a str) -> Arg<'a>
         .long(name)
         .help(help)
         .action(ArgAction::SetTrue)
+}
+
+/// `--explain`.
+fn explain<'a>(alloc: Global) -> Arg<'a>
+    ensures rule { rule_of result ≡ spec.flag_rule (codes "explain") }
+    ensures local { result.global ≡ false }
+{
+    flag(
+        alloc,
+        "explain",
+        "Says under `bad line N` what is wrong with that line",
+    )
 }
 
 /// `--kind`, with one of these names.

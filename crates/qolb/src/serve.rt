@@ -1,5 +1,5 @@
 //! The program behind its words: it does what they ask for, and says how that ended.
-ghost use Rattle.std.specs.Prelude.{◌≡◌, ◌≢◌, ◌≤◌, ◌↔◌, ℕ, List, true, Err, map, string_bytes, IfSome, IfErr, IfOk, OnOk};
+ghost use Rattle.std.specs.Prelude.{◌≡◌, ◌≢◌, ◌≤◌, ◌↔◌, ℕ, List, true, Err, Some, None, map, string_bytes, IfSome, IfErr, IfOk, OnOk, MatchOption};
 ghost use Rattle.std.specs.Io.KnownBytes.{Appends};
 ghost use Rattle.qolb_script.specs.Watched.{inner_of, has_failed};
 ghost use Rattle.qolb.specs.CommandLine.{NamesWish, IsNotTaken};
@@ -7,7 +7,7 @@ ghost use Rattle.qolb_run.specs.Outcome.{Answers, IsReplyOver, MayEnd};
 ghost use Rattle.qolb_draw.specs.Pictures.{IsPicture};
 ghost use Rattle.qolb_run.specs.declared.task.Task.TheVariants as task;
 ghost use Rattle.qolb_run.specs.declared.replay.Kind.TheVariants as kind;
-ghost use Rattle.qolb.specs.Wishes.{Grants, IsDenied, MayDeny};
+ghost use Rattle.qolb.specs.Wishes.{Grants, IsDenied, MayDeny, complaint};
 ghost use Rattle.qolb.specs.Status.{status_of};
 ghost use Rattle.qolb.specs.declared.command_line.Wish.{Wish};
 
@@ -15,10 +15,12 @@ use crate::command_line::{Request, Wish, parse_args};
 use clap::error::ErrorKind;
 use qolb_draw::{Form, draw_schedule};
 use qolb_run::{
-    AlwaysOpen, DoneOver, Lines, Locks, Progress, ReplayError, Task, TaskError, Waits, report_work,
-    run_schedule, run_steps_with,
+    AlwaysOpen, DoneOver, Lines, Locks, Progress, ReplayError, Task, TaskError, Waits, read_all,
+    report_work, run_schedule, run_steps_with,
 };
-use qolb_script::{ScriptError, Watched, WorkKind};
+use qolb_script::{
+    Complaint, ScriptError, Watched, WorkKind, explain_schedule, explain_steps, explain_work,
+};
 use std::alloc::Global;
 use std::io::{self, Read, Write};
 use std::rt::Clock;
@@ -53,14 +55,60 @@ pub fn serve<T: Threads + Wait + Clock + Eprint + Sync, R: Read, W: Write, E: Wr
             return 2;
         }
     };
-    let text = match answer(rt, alloc, request, reader) {
+    let text = match answer_or_refuse(rt, alloc, request, reader) {
         Ok(text) => text,
-        Err(error) => return fail(err, error),
+        Err(refusal) => return refuse(err, request.wish, refusal),
     };
     if out.write_all(&text).is_err() {
         return fail(err, TaskError::Replay(ReplayError::Write));
     }
     0
+}
+
+/// Why nothing was done, and the script, if what is wrong with it is to be told.
+#[derive(Drop)]
+struct Refusal {
+    error: TaskError,
+    script: Option<Vec<u8>>,
+}
+
+/// What is wished, as a text in memory. The script is kept where it may have to be explained.
+fn answer_or_refuse<T: Threads + Wait + Clock + Eprint + Sync, R: Read>(
+    rt: &T,
+    alloc: Global,
+    request: Request,
+    reader: &mut R,
+) -> Result<Vec<u8>, Refusal>
+    ensures granted { IfOk result (λ text. IfSome (R.remaining reader.old) (λ script. Grants ⟦<Locks as DoneOver>⟧.done_over request.wish script text.items)) }
+    ensures denied { IfErr result (λ refusal. IfSome (R.remaining reader.old) (λ script. MayDeny request.wish script refusal.error)) }
+    ensures kept { IfErr result (λ refusal. IfSome refusal.script (λ kept. IfSome (R.remaining reader.old) (λ script. kept.items ≡ script))) }
+{
+    if !request.explain {
+        return match answer(rt, alloc, request, reader) {
+            Ok(text) => Ok(text),
+            Err(error) => Err(Refusal {
+                error,
+                script: None,
+            }),
+        };
+    }
+    let mut input = Watched::new(&mut *reader);
+    let script = match read_all(alloc, &mut input) {
+        Ok(script) => script,
+        Err(error) => {
+            return Err(Refusal {
+                error: TaskError::Replay(error),
+                script: None,
+            });
+        }
+    };
+    match answer(rt, alloc, request, &mut script.as_slice()) {
+        Ok(text) => Ok(text),
+        Err(error) => Err(Refusal {
+            error,
+            script: Some(script),
+        }),
+    }
 }
 
 /// What is wished, as a text in memory.
@@ -173,6 +221,32 @@ fn work<T: Threads + Wait + Clock + Eprint + Sync, R: Read, W: Write>(
         }
     }
     report_work(rt, alloc, &AlwaysOpen, input, output, kind, lines, waits)
+}
+
+/// Says why nothing was done and, if the script is there and is refused, what is wrong with it; answers the exit status.
+fn refuse<E: Write>(err: &mut E, wish: Wish, refusal: Refusal) -> u8
+    ensures { result ≡ status_of refusal.error }
+{
+    let status = fail(err, refusal.error);
+    if let (1, Some(script)) = (status, &refusal.script) {
+        if let Some(complaint) = complaint_of(wish, script) {
+            let _ = writeln!(err, "{complaint}");
+        }
+    }
+    status
+}
+
+/// What is wrong with the script that a wish is about, if it is refused.
+fn complaint_of<'a>(wish: Wish, script: &'a [u8]) -> Option<Complaint<'a>>
+    ensures { MatchOption result
+        (complaint wish script.now ≡ None)
+        (λ it. complaint wish script.now ≡ Some (it.number, it.line.now, it.reason)) }
+{
+    match wish {
+        Wish::Answer(Task::Replay(_)) | Wish::Draw(_) => explain_schedule(script),
+        Wish::Answer(Task::Steps(_)) => explain_steps(script),
+        Wish::Answer(Task::Work(kind, _, _)) => explain_work(script, kind),
+    }
 }
 
 /// Says why nothing was done, and answers the exit status.

@@ -27,7 +27,7 @@ const HANDED_OVER_DRAWN: &str =
     "line 0\n\n         12345678\nnode   1 HHHH>...\nnode   2 ..ww<HH.\n\n. idle   w waits   t its turn has come   H holds   > hands over to <\nx withdrawn   c told that the line is closed   - closed\n";
 
 /// The words of each subcommand, a script, and what is written.
-pub(super) static RUNS: [(&[&str], &str, &str); 12] = [
+pub(super) static RUNS: [(&[&str], &str, &str); 13] = [
     (&["replay", "--kind", "plain"], HAND_OVER, HANDED_OVER),
     (&["replay", "--kind", "ring"], HAND_OVER, HANDED_OVER),
     (&["replay", "--kind", "link"], HAND_OVER, HANDED_OVER),
@@ -40,6 +40,7 @@ pub(super) static RUNS: [(&[&str], &str, &str); 12] = [
     (&["bank", "--kind", "ticket"], BANK, BANK_REPORT),
     (&["bank"], BANK, BANK_REPORT),
     (&["draw"], HAND_OVER, HANDED_OVER_DRAWN),
+    (&["steps", "--explain"], LATE_LINK, LINKED),
 ];
 
 /// How many bytes a read or a write moves at most.

@@ -92,8 +92,101 @@ fn replays_and_refuses_scripts(rt: HostRuntime) -> Result<(), Fail> {
     Ok(())
 }
 
+/// Words with `--explain`, scripts that are refused, and what is told of them: of each thing that can be wrong with a line but that it is
+/// past the most, which takes long.
+static EXPLAINED: [(&[&str], &str, &str); 14] = [
+    (
+        &["replay", "--kind", "plain"],
+        "",
+        "bad line 1\nno line has a word, and a script begins with a header\n",
+    ),
+    (
+        &["replay", "--kind", "ring"],
+        "nodes 2 lines 1\n\n  enq\t1 0\u{e9}\0\u{7f}~\\ \n",
+        "bad line 3\n      enq\\x091 0\\xc3\\xa9\\x00\\x7f~\\ \na byte is neither a space nor a visible ASCII character\n",
+    ),
+    (
+        &["replay", "--kind", "link"],
+        "nodes 2 lines 1\nenq 1 0\nask 1 0",
+        "bad line 3\n    ask 1 0\nword 1 is unknown\n",
+    ),
+    (
+        &["replay", "--kind", "ticket"],
+        "nodes 2 lines 1\nenq 1\n",
+        "bad line 2\n    enq 1\nwrong number of words\n",
+    ),
+    (
+        &["replay", "--kind", "plain"],
+        "nodes 2 lines 1\nenq  3 0\n",
+        "bad line 2\n    enq  3 0\nword 2 is no number from 1 to 2\n",
+    ),
+    (
+        &["draw"],
+        "nodes 2 lines 1\nwrite 1 0 0 abc\n",
+        "bad line 2\n    write 1 0 0 abc\nword 5 is not hex, of two digits a byte\n",
+    ),
+    (
+        &["draw", "--svg"],
+        "nodes 2 lines 1\nwrite 1 0 63 ffff\n",
+        "bad line 2\n    write 1 0 63 ffff\nthe bytes of word 5 do not fit: a line has 64\n",
+    ),
+    (
+        &["steps"],
+        "nodes 2\nenq 1\n",
+        "bad line 2\n    enq 1\nword 1 is unknown\n",
+    ),
+    (
+        &["steps", "--rank"],
+        "nodes 0\n",
+        "bad line 1\n    nodes 0\nword 2 is no number from 1 to 200\n",
+    ),
+    (
+        &["board"],
+        "board workers 3\n1 give 2\n",
+        "bad line 2\n    1 give 2\nword 2 is unknown\n",
+    ),
+    (
+        &["board", "--sleep"],
+        "bank workers 3 lines 1\n",
+        "bad line 1\n    bank workers 3 lines 1\nword 1 is unknown\n",
+    ),
+    (
+        &["bank"],
+        "bank workers 3 lines 2\n1 move 0 16 5\n",
+        "bad line 2\n    1 move 0 16 5\nword 4 is no number from 0 to 15\n",
+    ),
+    (
+        &["bank", "--kind", "ring"],
+        "board workers 3\n",
+        "bad line 1\n    board workers 3\nword 1 is unknown\n",
+    ),
+    (
+        &["bank"],
+        "bank workers 1 lines 1 lines 1\n",
+        "bad line 1\n    bank workers 1 lines 1 lines 1\nwrong number of words\n",
+    ),
+];
+
+#[test]
+fn explains_what_was_wrong(rt: HostRuntime) -> Result<(), Fail> {
+    let alloc = rt.alloc();
+    for (words, script, told) in &EXPLAINED {
+        let mut all: Vec<&str> = Vec::new(alloc);
+        for word in *words {
+            all.push(*word)?;
+        }
+        let (first, _) = told.split_once('\n').ok_or("a line")?;
+        let plain = format!(in alloc; "{first}\n")?;
+        expect(&rt, alloc, all.as_slice(), *script, (1, "", plain.as_str()))?;
+        all.push("--explain")?;
+        expect(&rt, alloc, all.as_slice(), *script, (1, "", *told))?;
+    }
+    Ok(())
+}
+
 /// Words that are not taken, and what the complaint names.
-static NOT_TAKEN: [(&[&str], &str); 30] = [
+static NOT_TAKEN: [(&[&str], &str); 31] = [
+    (&["replay", "--explain"], "--kind"),
     (&[], "subcommand"),
     (&["replay"], "--kind"),
     (&["replay", "--kind"], "--kind"),
@@ -131,14 +224,23 @@ static NOT_TAKEN: [(&[&str], &str); 30] = [
 
 /// What the help of each subcommand tells of, among else.
 static HELPS: [(&str, &[&str]); 5] = [
-    ("replay", &["--kind <KIND>", "nodes N lines L"]),
-    ("steps", &["prepend 1", "nodes N ", "--rank"]),
+    ("replay", &["--kind <KIND>", "nodes N lines L", "--explain"]),
+    ("steps", &["prepend 1", "nodes N ", "--rank", "--explain"]),
     (
         "board",
-        &["[default: link]", "1 put 9", "--sleep", "--progress"],
+        &[
+            "[default: link]",
+            "1 put 9",
+            "--sleep",
+            "--progress",
+            "--explain",
+        ],
     ),
-    ("bank", &["[default: link]", "1 move 0 3 4", "--sleep"]),
-    ("draw", &["--svg", "node   1 HH>."]),
+    (
+        "bank",
+        &["[default: link]", "1 move 0 3 4", "--sleep", "--explain"],
+    ),
+    ("draw", &["--svg", "node   1 HH>.", "--explain"]),
 ];
 
 #[test]

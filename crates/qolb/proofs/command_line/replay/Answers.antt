@@ -10,4 +10,5 @@ returns c =
     let local_is : c.required.result.global ≡ false = ap (λ (a : Arg). a.global) c.required.ensures ∙ c.kind_argument.ensures.local in
     let rule_is : rule_of c.required.result ≡ record (kind_rule c.args.kinds) { required = true } = ap rule_of c.required.ensures ∙ ap (λ (r : Rule). record r { required = true }) c.kind_argument.ensures.rule in
     let named_is : app_of c.after_help.result ≡ new_app (codes "replay") = search rules in
-    IfOk-weaker c.arg.result _ _ (λ r h. h.shape local_is ∙ ap₂ with_rule named_is rule_is) c.arg.ensures
+    let kind_is : app_of c.in_ok-arg.field-0 ≡ with_rule (new_app (codes "replay")) (record (kind_rule c.args.kinds) { required = true }) = c.in_ok-arg.ensures.shape local_is ∙ ap₂ with_rule named_is rule_is in
+    IfOk-weaker c.arg-2.result _ _ (λ r h. h.shape c.explain.ensures.local ∙ ap₂ with_rule kind_is c.explain.ensures.rule) c.arg-2.ensures

@@ -9,9 +9,9 @@ returns-in-Err-2-clause-usage g c = λ _.
     let other : kind_of c.in-Err-2.error ≢ OutOfMemory = search rules in
     c.in-Err-2.ensures.usage other
 
-pub returns-in-Err-answer-clause-refused : goal.returns-in-Err-answer-clause-refused
-returns-in-Err-answer-clause-refused g c one = (
+pub returns-in-Err-answer_or_refuse-clause-refused : goal.returns-in-Err-answer_or_refuse-clause-refused
+returns-in-Err-answer_or_refuse-clause-refused g c one = (
   c.in-Ok.request.wish,
   c.in-Ok.ensures.wish,
-  known_denied c.in-Ok.request.wish c.in-Err-answer.error (g.R.Read.remaining c.args.reader.now) c.in-Err-answer.ensures.denied (sym c.fail-in-Err-answer.ensures ∙ one),
+  known_denied c.in-Ok.request.wish c.in-Err-answer_or_refuse.refusal.error (g.R.Read.remaining c.args.reader.now) c.in-Err-answer_or_refuse.ensures.denied (sym c.refuse.ensures ∙ one),
 )
