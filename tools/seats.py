@@ -1,0 +1,104 @@
+#!/usr/bin/env python3
+"""Goes through runs of include/lock.c itself, with two and three threads, on a model of the processor's memory (tools/seats).
+
+tools/seats.py [MOST]      runs of at most so many turns of the schedule, 2: two minutes of a processor. 3 takes one minute more
+
+A turn of the schedule is one of these: another thread goes on though this one could; a thread's time is over; a plain store stays in its thread's
+buffer, unseen by the others, or is seen from there before it must be. All runs with at most so many are made. Stores are seen as x86-64 has them: in
+their order, and at the latest before the thread's next step that reads and writes, or call of the system. What else a memory of C11 may do with
+sequentially consistent, releasing and acquiring steps is not tried; but two accesses race as C11 says, where neither happens before the other and one
+is plain: what a lock keeps about its holder, its waiters and its seats, and what it guards. The line is a model, each of whose calls takes one step,
+or two; that it does so is proved elsewhere.
+
+In no run may a thread sleep that nobody wakes, two have the lock at once, a node be called by two threads or out of its order, freed memory be touched,
+or an answer be wrong. Each lock that differs by one fault must fail in some run, or this program does not see what it is for. It ends with 1 at the first
+of these that is not so.
+"""
+
+import pathlib
+import subprocess
+import sys
+import tempfile
+
+ROOT = pathlib.Path(__file__).resolve().parent.parent
+SOURCE = (ROOT / "include/lock.c").read_text()
+RENAMED = [f"-D{name}=model_{short}" for name, short in (("malloc", "malloc"), ("free", "free"), ("syscall", "syscall"), ("sched_yield", "yield"), ("clock_gettime", "clock"))]
+
+LEAVING = "    atomic_store_explicit(&seat->state, LEAVING, memory_order_release);\n"
+FREED = "    atomic_store_explicit(&seat->state, FREE, memory_order_release);\n    ring(bell);\n"
+LOOK = "    unsigned word = atomic_load(&bell->word);\n    uint32_t got = look(me);\n"
+COUNT = "    atomic_fetch_add(&bell->sleepers, 1);\n"
+FAULTS = {
+    "nobody says that a seat is about to be free": (LEAVING, ""),
+    "a thread sleeps though it met such a seat": ("(me->seat || !me->met)", "1"),
+    "who leaves rings no bell": (FREED, FREED.replace("    ring(bell);\n", "")),
+    "a seat is freed by a relaxed store": (FREED, FREED.replace("_release", "_relaxed")),
+    "the bell is found after the seat is free": (FREED, FREED.replace("bell", "hall->bell")),
+    "who is told that it is closed frees its seat by a plain store": ("    atomic_exchange(&seat->state, FREE);\n    ring", "    atomic_store_explicit(&seat->state, FREE, memory_order_release);\n    ring"),
+    "the sleeper does not count itself": (COUNT + LOOK, LOOK),
+    "the word is read after the second look": (LOOK, "".join(reversed(LOOK.splitlines(True)))),
+    "there is no second look": (LOOK, LOOK.replace("look(me)", "QOLB_WAITING")),
+    "nothing is added to the word": ("    atomic_fetch_add(&bell->word, 1);\n", ""),
+    "one alone is woken": ("wake_at(&bell->word, INT32_MAX)", "wake_at(&bell->word, 1)"),
+    "a seat is taken without a look at whether it is free": ("state != FREE || !atomic_compare_exchange_strong(&seat->state, &state, TAKEN)", "atomic_exchange(&seat->state, TAKEN) == LEAVING"),
+    "the hall is found by a relaxed load": ("__atomic_load_n(&lock->own, __ATOMIC_ACQUIRE)", "__atomic_load_n(&lock->own, __ATOMIC_RELAXED)"),
+    "who is late keeps its seat": ("    } else if (me->seat) {\n", "    } else if (me->seat && got != QOLB_LATE) {\n"),
+    "a busy seat is asked no more": ("        atomic_store(&seat->state, FREE);\n    } else {", "    } else {"),
+    "a lock is closed while a seat is about to be free": ("if (state != LEAVING) {", "if (state != FREE) {"),
+    "who waits stands in the list after it has left": ("    stand(cond, hall, &me);\n    atomic_fetch_add(&hall->guests, 1);\n    leave_hall(hall, qolb_deqolb_proved_);\n", "    atomic_fetch_add(&hall->guests, 1);\n    leave_hall(hall, qolb_deqolb_proved_);\n    stand(cond, hall, &me);\n"),
+    "who is told is not woken": ("    wake_at(word, 1); /* the waiter may be gone */\n", ""),
+    "a condition's list has no guard": ("    if (!atomic_compare_exchange_strong(&guard->word, &was, 1))\n        while (atomic_exchange(&guard->word, 2)) sleep_at(&guard->word, 2, FOR_EVER);\n", "    (void)was;\n"),
+    "a guard wakes nobody": (" == 2) wake_at(&guard->word, 1);", " == 2) return;"),
+    "who is late stays in the condition's list": ("told != SIGNALLED && stand_no_more(cond, &me)", "0"),
+    "who was told stays in the lock's list": ("        stand_no_more_in(&me);\n", ""),
+    "a shut reads behind one that it told": ("        beside = it->beside;\n        tell(it, SHUT);\n", "        tell(it, SHUT);\n        beside = it->beside;\n"),
+    "a shut tells nobody": ("        tell(it, SHUT);\n", ""),
+}
+
+
+def replaced(text, old, new):
+    if text.count(old) != 1:
+        sys.exit(f"lock.c has this {text.count(old)} times, and not once: {old!r}")
+    return text.replace(old, new)
+
+
+def built(folder, source):
+    """The explorer over this lock."""
+    lock = folder / "lock.c"
+    lock.write_text(replaced(source, "YIELDS = 8", "YIELDS = 1"))
+    compiler = ["cc", "-std=c11", "-I", ROOT / "include", "-I", ROOT / "tools/seats"]
+    told = ["-fsanitize=thread", "-U__SANITIZE_THREAD__", f'-DLOCK="{lock}"', *RENAMED]
+    subprocess.run([*compiler, "-O1", *told, "-c", ROOT / "tools/seats/scenes.c", "-o", folder / "scenes.o"], check=True)
+    subprocess.run([*compiler, "-O2", ROOT / "tools/seats/explorer.c", ROOT / "tools/seats/line.c", folder / "scenes.o", "-o", folder / "explorer"], check=True)
+    return folder / "explorer"
+
+
+def run(explorer, most):
+    """What the runs told, and whether all went well."""
+    done = subprocess.run([explorer, str(most)], capture_output=True, text=True, check=False)
+    return done.stdout.splitlines(), done.returncode == 0
+
+
+def must_fail(folder, fault, source):
+    explorer = built(folder, source)
+    for most in (1, 2, 3):
+        told, well = run(explorer, most)
+        if not well:
+            print(f"{fault}: {told[-1] if told else 'it ended by a signal'}", flush=True)
+            return
+    sys.exit(f"{fault}: all runs go well")
+
+
+def main():
+    most = int(sys.argv[1]) if len(sys.argv) > 1 else 2
+    with tempfile.TemporaryDirectory() as name:
+        folder = pathlib.Path(name)
+        told, well = run(built(folder, SOURCE), most)
+        if not well:
+            sys.exit(f"as it is: {told[-1]}")
+        print(f"as it is: {sum(int(line.rsplit(' ', 2)[1]) for line in told):,} runs of {len(told)} scenes go well", flush=True)
+        for fault, (old, new) in FAULTS.items():
+            must_fail(folder, fault, replaced(SOURCE, old, new))
+
+
+main()

@@ -1,0 +1,46 @@
+#include <stddef.h>
+#include <stdint.h>
+#include <string.h>
+
+enum { THREADS = 3, MS = 1000000 };
+enum { PLAIN_READ, PLAIN_WRITE, READ, WRITE };
+
+/* How far each thread was when it was heard of last. Thread THREADS starts the others and joins them. */
+struct clock {
+    unsigned at[THREADS + 1];
+};
+
+/* What so many threads do at the same time, each by its number, over a lock of this kind and so many seats, which may be opened before. */
+struct scene {
+    const char *name;
+    void (*does)(int self);
+    uint32_t kind, seats;
+    int threads, opened;
+};
+
+/* What a thread has of its own in lock.c. */
+struct own {
+    uint64_t self;
+    unsigned last_seat;
+};
+
+/* In scenes.c: all scenes, and a last one without a name. */
+extern const struct scene scenes[];
+void set_up(const struct scene *scene);
+void check_end(const struct scene *scene);
+void change_thread(struct own *from, const struct own *to);
+int is_own(uintptr_t at);
+
+/* In explorer.c: ends the program where it is not so. */
+void must(int is_so, const char *what);
+#define MUST(it) must(it, #it)
+void __tsan_write_range(void *at, size_t size);
+void *model_malloc(size_t size);
+
+/* For line.c: another thread may be next; an access, which must come behind all that it races with; all stores of this thread are seen; what happened
+ * before, as a call takes it over or hands it on. */
+void step(int yields);
+void touch(const volatile void *where, unsigned size, int how);
+void show_all(void);
+void acquires(const struct clock *clock);
+void releases(struct clock *clock);

@@ -1,0 +1,93 @@
+/* A line in place of the proved one. Each of its calls takes one step, and that of a list that asks takes two; it lets all stores before it be seen,
+ * if it changes a word of the line. */
+#include "explorer.h"
+#include <qolb.h>
+
+enum { REQUESTS = 64 };
+struct node { struct line *line; enum { IDLE, QUEUED, HOLDING } state; int in_use, request, passed; };
+struct line {
+    struct node node[8];
+    int links, closed, head, tail, is_gone[REQUESTS], is_linking[REQUESTS + 1];
+    struct clock clock;
+};
+
+static struct node *begin(qolb_node *node, unsigned state) {
+    step(0);
+    touch(node, 8, PLAIN_WRITE);
+    struct node *it = node->own;
+    must(it && it->state == state && !it->in_use, "a node is called that does not allow it");
+    it->in_use = 1;
+    return it;
+}
+
+static uint32_t end(struct node *it, uint32_t answer) { return it->in_use = 0, answer; }
+
+static void pass_on(struct line *line) {
+    releases(&line->clock);
+    do line->head++; while (line->is_gone[line->head]);
+}
+
+/* What a look finds. A closed line is passed on. */
+static uint32_t found(struct node *it) {
+    if (it->line->head != it->request) return end(it, QOLB_WAITING);
+    acquires(&it->line->clock);
+    it->state = it->line->closed ? IDLE : HOLDING;
+    if (it->line->closed) show_all(), pass_on(it->line);
+    return end(it, it->line->closed ? QOLB_CLOSED : QOLB_GRANTED);
+}
+
+/* Busy are a node whose withdrawn request was not passed, and in a list one whose successor has not linked. */
+uint32_t qolb_enqolb_proved_(qolb_node *node) {
+    struct node *it = begin(node, IDLE);
+    struct line *line = it->line;
+    if (it->request >= line->head || line->is_linking[it->request + 1]) return end(it, QOLB_BUSY);
+    show_all();
+    MUST(line->tail + 1 < REQUESTS);
+    it->request = line->tail++;
+    line->is_linking[it->request] = line->links;
+    if (line->links && line->head != it->request) step(0);
+    line->is_linking[it->request] = 0;
+    it->state = QUEUED;
+    uint32_t got = found(it);
+    return got == QOLB_WAITING ? (uint32_t)QOLB_QUEUED : got;
+}
+
+uint32_t qolb_poll_proved_(qolb_node *node) { return found(begin(node, QUEUED)); }
+
+uint32_t qolb_wait_proved_(qolb_node *node, uint64_t polls) { return (void)polls, qolb_poll_proved_(node); }
+
+uint32_t qolb_withdraw_proved_(qolb_node *node) {
+    struct node *it = begin(node, QUEUED);
+    show_all();
+    uint32_t got = found(it);
+    if (got != QOLB_WAITING) return got;
+    it->line->is_gone[it->request] = 1, it->state = IDLE;
+    return QOLB_WITHDRAWN;
+}
+
+static uint32_t let_go(qolb_node *node, int closes) {
+    struct node *it = begin(node, HOLDING);
+    show_all();
+    it->line->closed |= closes, it->state = IDLE;
+    pass_on(it->line);
+    return end(it, QOLB_DONE);
+}
+
+uint32_t qolb_deqolb_proved_(qolb_node *node) { return let_go(node, 0); }
+uint32_t qolb_shut_proved_(qolb_node *node) { return let_go(node, 1); }
+
+uint32_t qolb_close_proved_(qolb_node *node) { return end(begin(node, IDLE), QOLB_DONE); }
+
+uint32_t qolb_open(uint32_t kind, uint64_t label, uint64_t nodes, uint64_t lease, const qolb_bytes *opening, qolb_node *out, size_t handles) {
+    struct line *line = model_malloc(sizeof *line);
+    (void)label, (void)lease, (void)opening;
+    MUST(nodes <= 8 && nodes <= handles);
+    memset(line, 0, sizeof *line);
+    line->links = kind == QOLB_LIST;
+    for (uint64_t k = 0; k < nodes; k++) {
+        line->node[k] = (struct node){line, IDLE, 0, -1, 0};
+        touch(&out[k], 8, PLAIN_WRITE);
+        out[k].own = &line->node[k];
+    }
+    return QOLB_DONE;
+}
