@@ -4,7 +4,7 @@
  *
  * Each ordinary mutex that the program locks gets a qolb_lock of its own, and each condition variable by which it waits with one a qolb_cond.
  * Recursive, error-checking, robust and shared mutexes stay the C library's. A thread that is cancelled while it waits at a condition ends once it is
- * told. A mutex that another thread unlocks than locked it stays locked.
+ * told. As the C library's, such a mutex is unlocked by any thread, and of one that is not locked an unlock changes nothing.
  *
  * QOLB_KIND=list makes them lists and QOLB_KIND=ticket ticket lines; else they are rings.
  *
@@ -14,7 +14,7 @@
 #include <dlfcn.h>
 #include <errno.h>
 #include <pthread.h>
-#include <qolb.h>
+#include <proved.h>
 #include <stdatomic.h>
 #include <stdio.h>
 #include <stdlib.h>
@@ -120,9 +120,9 @@ static int told(struct line *line, uint32_t got) {
 }
 
 static int unlock(struct line *line) {
-    if (!qolb_lock_turn(&line->lock)) return EPERM;
+    if (!qolb_lock_holder(&line->lock)) return 0;
     atomic_fetch_sub(&line->inside, 1);
-    qolb_lock_leave(&line->lock);
+    if (qolb_lock_leave(&line->lock) != QOLB_DONE) qolb_lock_leave_for_another_(&line->lock);
     return 0;
 }
 
@@ -202,14 +202,17 @@ static int lined(pthread_cond_t *condition) {
     return at >= 0 && atomic_load(&waited_with_line[at]) ? at : -1;
 }
 
+/* The C library's is told too: a thread may wait there with a mutex of its, and a signal may wake more than one. */
 int pthread_cond_signal(pthread_cond_t *condition) {
     int at = lined(condition);
-    return at < 0 ? real_cond_signal()(condition) : (int)qolb_cond_signal(&conds[at]);
+    if (at >= 0) qolb_cond_signal(&conds[at]);
+    return real_cond_signal()(condition);
 }
 
 int pthread_cond_broadcast(pthread_cond_t *condition) {
     int at = lined(condition);
-    return at < 0 ? real_cond_broadcast()(condition) : (int)qolb_cond_broadcast(&conds[at]);
+    if (at >= 0) qolb_cond_broadcast(&conds[at]);
+    return real_cond_broadcast()(condition);
 }
 
 /* ---- The report ---- */

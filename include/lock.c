@@ -360,6 +360,13 @@ uint32_t qolb_lock_leave(qolb_lock *lock) {
     return QOLB_DONE;
 }
 
+uint32_t qolb_lock_leave_for_another_(qolb_lock *lock) {
+    struct hall *hall = hall_of(lock);
+    if (!hall || !atomic_exchange(&hall->holder, 0)) return QOLB_MISUSE;
+    leave_hall(hall, qolb_deqolb_proved_);
+    return QOLB_DONE;
+}
+
 /* Takes all seats: false where one is taken. A seat whose thread is about to go is waited for. */
 static int take_all(struct hall *hall) {
     for (unsigned k = 0; k < hall->seats; k++) {

@@ -1,4 +1,4 @@
-/* Of the library's own files alone: the proved calls by the names that the archive has them under beside lock.c and calls.c (Makefile, proved.syms). */
+/* Of the library's own files, and of preload.c: the proved calls by the names that the archive has them under beside lock.c and calls.c (Makefile, proved.syms). */
 #ifndef QOLB_PROVED_H
 #define QOLB_PROVED_H
 
@@ -26,6 +26,10 @@ uint32_t qolb_version_proved_(void);
 /* A lent node is a handle whose lowest bit is set: with it off, it is the address of a lock's hall. No node of the library's lies at an odd address.
  * The node by which the calling thread holds that lock; NULL where it does not. */
 __attribute__((visibility("hidden"))) qolb_node *qolb_lent_(const qolb_node *node);
+
+/* As qolb_lock_leave, by any thread: whoever holds the lock leaves it. MISUSE where nobody does. For the mutexes of c_examples/preload.c, as those of the
+ * system are let go by any thread. */
+__attribute__((visibility("hidden"))) uint32_t qolb_lock_leave_for_another_(qolb_lock *lock);
 
 static inline int qolb_is_lent_(const qolb_node *node) { return (int)((uintptr_t)node->own & 1); }
 
