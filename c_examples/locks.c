@@ -11,6 +11,7 @@
 #include <stdio.h>
 #include <stdlib.h>
 #include <string.h>
+#include <sys/resource.h>
 #include <time.h>
 #include <unistd.h>
 
@@ -75,7 +76,7 @@ static void start(struct helper *it, void *(*work)(void *)) { MUST(pthread_creat
 
 static int of_a_closed_one(void) {
     qolb_bytes zeros = {{0}};
-    qolb_lock lock = QOLB_LOCK_INIT(2), none = QOLB_LOCK_INIT(0), many = QOLB_LOCK_INIT(201), odd = {NULL, 3, 2};
+    qolb_lock lock = QOLB_LOCK_INIT(2), none = QOLB_LOCK_INIT(0), many = QOLB_LOCK_INIT(201), odd = QOLB_LOCK_INIT_OF(3, 2);
     qolb_cond cond = QOLB_COND_INIT;
     WANT(qolb_lock_leave(&lock), QOLB_MISUSE);
     WANT(qolb_lock_shut(&lock), QOLB_MISUSE);
@@ -317,20 +318,97 @@ static void *is_cancelled(void *argument) {
     return NULL;
 }
 
-static int cancelled(void) {
+static void *is_cancelled_at_condition(void *argument) {
+    struct helper *me = argument;
+    MUST(qolb_lock_enter(me->lock), QOLB_GRANTED);
+    about_to_wait(me);
+    MUST(qolb_cond_wait(me->cond, me->lock), QOLB_GRANTED);
+    MUST(qolb_lock_leave(me->lock), QOLB_DONE);
+    me->self = 1;
+    pthread_testcancel();
+    return NULL;
+}
+
+static int cancelled(void *(*work)(void *)) {
     static qolb_lock lock = QOLB_LOCK_INIT(2);
-    struct helper thread = {.lock = &lock};
+    static qolb_cond cond = QOLB_COND_INIT;
+    struct helper thread = {.lock = &lock, .cond = &cond};
     void *ended;
-    WANT(qolb_lock_enter(&lock), QOLB_GRANTED);
-    start(&thread, is_cancelled);
+    if (work == is_cancelled) WANT(qolb_lock_enter(&lock), QOLB_GRANTED);
+    start(&thread, work);
     until_asleep(&thread);
     pthread_cancel(thread.id);
     usleep(20000);
-    WANT(qolb_lock_leave(&lock), QOLB_DONE);
+    if (work == is_cancelled) WANT(qolb_lock_leave(&lock), QOLB_DONE);
+    WANT(qolb_cond_signal(&cond), QOLB_DONE);
     pthread_join(thread.id, &ended);
     WANT(ended == PTHREAD_CANCELED, 1);
     WANT(thread.self, 1);
     WANT(qolb_lock_close(&lock), QOLB_DONE);
+    return 0;
+}
+
+/* Who waits for a second takes no processor: for a lock, for a seat of it, and at a condition. With a node it takes little, where its time is limited. */
+static double own_processor(void) {
+    struct rusage used;
+    getrusage(RUSAGE_THREAD, &used);
+    return (double)(used.ru_utime.tv_sec + used.ru_stime.tv_sec) + (double)(used.ru_utime.tv_usec + used.ru_stime.tv_usec) / 1e6;
+}
+
+static void *waits_a_second(void *argument) {
+    struct helper *me = argument;
+    double since = own_processor();
+    MUST(qolb_lock_enter_within(me->lock, 1000 * MS), QOLB_LATE);
+    me->processor = own_processor() - since;
+    return NULL;
+}
+
+static void *waits_a_second_at_condition(void *argument) {
+    struct helper *me = argument;
+    MUST(qolb_lock_enter(me->lock), QOLB_GRANTED);
+    double since = own_processor();
+    MUST(qolb_cond_wait_within(me->cond, me->lock, 1000 * MS), QOLB_LATE);
+    me->processor = own_processor() - since;
+    MUST(qolb_lock_leave(me->lock), QOLB_DONE);
+    return NULL;
+}
+
+static qolb_node waiting_node;
+
+static void *waits_a_second_with_a_node(void *argument) {
+    struct helper *me = argument;
+    double since = own_processor();
+    MUST(qolb_acquire_within(&waiting_node, 1000 * MS), QOLB_LATE);
+    me->processor = own_processor() - since;
+    return NULL;
+}
+
+static int waiters_take_no_processor(void) {
+    static qolb_lock held = QOLB_LOCK_INIT(2), free = QOLB_LOCK_INIT(2);
+    static qolb_cond cond = QOLB_COND_INIT;
+    static void *(*const works[])(void *) = {waits_a_second, waits_a_second, waits_a_second, waits_a_second_at_condition, waits_a_second_with_a_node};
+    qolb_bytes zeros = {{0}};
+    qolb_node nodes[2] = {{0}};
+    struct helper threads[5] = {{0}};
+    WANT(qolb_open(QOLB_TICKET, 1, 2, QOLB_NO_LEASE, &zeros, nodes, 2), QOLB_DONE);
+    WANT(qolb_acquire(&nodes[0]), QOLB_GRANTED);
+    waiting_node = qolb_move(&nodes[1]);
+    WANT(qolb_lock_enter(&held), QOLB_GRANTED);
+    for (int k = 0; k < 5; k++) {
+        threads[k].lock = k < 3 ? &held : &free;
+        threads[k].cond = &cond;
+        start(&threads[k], works[k]);
+    }
+    for (int k = 0; k < 5; k++) {
+        pthread_join(threads[k].id, NULL);
+        WANT(threads[k].processor < (k < 4 ? 0.1 : 0.5), 1);
+    }
+    WANT(qolb_lock_leave(&held), QOLB_DONE);
+    WANT(qolb_deqolb(&nodes[0]), QOLB_DONE);
+    WANT(qolb_close(&nodes[0]), QOLB_DONE);
+    WANT(qolb_close(&waiting_node), QOLB_DONE);
+    WANT(qolb_lock_close(&held), QOLB_DONE);
+    WANT(qolb_lock_close(&free), QOLB_DONE);
     return 0;
 }
 
@@ -591,7 +669,7 @@ static int of_kind(uint32_t kind) {
 
 int main(int argc, char **argv) {
     alarm(argc > 1 ? (unsigned)atoi(argv[1]) : 1200);
-    if (of_a_closed_one() || cancelled() || makers_and_takers()) return 1;
+    if (of_a_closed_one() || cancelled(is_cancelled) || cancelled(is_cancelled_at_condition) || waiters_take_no_processor() || makers_and_takers()) return 1;
     for (uint32_t kind = QOLB_RING; kind <= QOLB_TICKET; kind++)
         if (of_kind(kind)) return 1;
     return 0;

@@ -46,7 +46,8 @@ qolb::lock of_few_seats(3);
 long turns;
 
 bool counts() {
-    qolb::lock other;
+    qolb::lock other(64, QOLB_LIST);
+    WANT(other.native_handle()->kind == QOLB_LIST && other.native_handle()->seats == 64);
     for (int wave = 0; wave < 3; wave++) {
         together(threads, [&](int self) {
             for (int k = 0; k < rounds; k++) {
@@ -181,8 +182,9 @@ bool guards() {
     WANT(count.shut());
     WANT(throws<qolb::Closed>([&] { (void)count.load(); }));
     WANT(throws<qolb::Misuse>([] { qolb::guarded<int> none(0, 0); }));
-    qolb::guarded<Whole> whole(Whole(9));
+    qolb::guarded<Whole> whole(Whole(9), 2, QOLB_LIST);
     WANT(whole.load().bytes[63] == 9);
+    WANT(throws<qolb::Misuse>([] { qolb::guarded<int> none(0, 1, static_cast<qolb_kind>(3)); }));
     return true;
 }
 

@@ -3,7 +3,7 @@
 #[path = "../include/qolb.rs"]
 mod qolb;
 
-use qolb::{Answer, Condition, Lock, Mutex, RawQolb, Stopped};
+use qolb::{Answer, Condition, Kind, Lock, Mutex, RawQolb, Stopped};
 use std::panic;
 use std::thread;
 use std::time::{Duration, Instant};
@@ -12,7 +12,7 @@ const THREADS: u64 = 8;
 const ROUNDS: u64 = 1_000;
 const MS: Duration = Duration::from_millis(1);
 
-static WORDS: Mutex<Vec<u64>> = Mutex::with_seats(Vec::new(), 3);
+static WORDS: Mutex<Vec<u64>> = Mutex::of_kind(Vec::new(), Kind::List, 3);
 
 fn mutex_guards() {
     for _wave in 0..2 {
@@ -134,7 +134,7 @@ fn line_has_a_value() {
     turn.hits = 1;
     turn.shut();
     assert_eq!(lock.lock().err(), Some(Stopped::Closed));
-    let whole = Lock::new([3u64; 8]).unwrap();
+    let whole = Lock::of_kind([3u64; 8], Kind::Ring, 2).unwrap();
     whole.lock().unwrap()[7] = 4;
     assert_eq!(*whole.lock().unwrap(), [3, 3, 3, 3, 3, 3, 3, 4]);
 }

@@ -1,4 +1,5 @@
-/* What a line takes of the heap: the bytes that stay taken after qolb_open, by kind and number of nodes, as malloc_usable_size counts them. */
+/* What a line takes of the heap, and a lock: the bytes that stay taken after qolb_open and after a lock's first use, by kind and number of nodes or of seats,
+ * as malloc_usable_size counts them. */
 #include <malloc.h>
 #include <qolb.h>
 #include <stdio.h>
@@ -29,7 +30,7 @@ void __wrap_free(void *block) {
 
 int main(void) {
     static const char *const names[] = {"ring", "list", "ticket line"};
-    static const uint64_t nodes[] = {1, 2, 8, 50, 200};
+    static const uint64_t nodes[] = {1, 2, 8, 64, 200};
     for (uint32_t kind = QOLB_RING; kind <= QOLB_TICKET; kind++) {
         for (size_t k = 0; k < sizeof nodes / sizeof nodes[0]; k++) {
             qolb_bytes zeros = {{0}};
@@ -40,6 +41,10 @@ int main(void) {
             for (uint64_t n = 0; n < nodes[k]; n++)
                 if (qolb_close(&node[n]) != QOLB_DONE) return 1;
             if (taken != before) return 1;
+            qolb_lock lock = QOLB_LOCK_INIT_OF(kind, (uint32_t)nodes[k]);
+            if (taken != before || qolb_lock_enter(&lock) != QOLB_GRANTED || qolb_lock_leave(&lock) != QOLB_DONE) return 1;
+            printf("%-11s seats %3d bytes %zu\n", names[kind], (int)nodes[k], taken - before);
+            if (qolb_lock_close(&lock) != QOLB_DONE || taken != before) return 1;
         }
     }
     return 0;

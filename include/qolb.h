@@ -41,12 +41,18 @@
  *     qolb_lock_leave(&lock);
  *
  * So a pthread_mutex_t becomes a qolb_lock by its type, its initialiser and the names of its calls. A condition, qolb_cond, is for it what a
- * pthread_cond_t is for a mutex.
+ * pthread_cond_t is for a mutex. A lock that lies in a struct, as in a bucket of a table, starts as the same value:
+ *
+ *     bucket->lock = (qolb_lock)QOLB_LOCK_INIT(64);        // in C++ qolb_lock QOLB_LOCK_INIT(64)
+ *
+ * From its first use until qolb_lock_close a lock keeps its line's memory, whatever it guards: with 8 seats some 95 kilobytes of heap, 45 if it is a
+ * ring and 29 if it is a list; with 64 seats 110, 61 and 44. Where there are many locks, as one for each bucket of a table, take lists of few seats,
+ * QOLB_LOCK_INIT_OF(QOLB_LIST, 8). A lock that is never used takes nothing.
  *
  * A lock has a seat for each of its line's nodes. A thread that enters takes a free seat and asks at once, so those that have a seat are served first
  * come, first served. A thread that finds no free seat waits for one, asleep, and others that come later may find one before it: give a lock as many
- * seats as threads use it at a time. A seat takes 128 bytes, beside what its node takes. A thread whose time was over leaves its seat's node
- * busy (BUSY, below): that seat is passed over until the line has come to it.
+ * seats as threads use it at a time. A thread whose time was over leaves its seat's node busy (BUSY, below): that seat is passed over until the line has
+ * come to it.
  *
  * Only the thread that entered may leave. A thread that enters a lock which it holds waits for itself.
  * A thread that ends while it holds a lock releases nothing, and all others wait; qolb_lock_holder tells its number, which on Linux is that
@@ -91,7 +97,7 @@
  * - Pass no null pointer, no freed one, and no two arguments that overlap.
  * - One call at a time for a handle. Different handles, of one line too, may be called by different threads at the same time.
  * - Hand a handle to another thread by a lock, a thread's start or join, or a sequentially consistent atomic.
- * - Start a lock by QOLB_LOCK_INIT, a condition by QOLB_COND_INIT. Close a lock only where no thread is about to call it.
+ * - Start a lock by QOLB_LOCK_INIT or QOLB_LOCK_INIT_OF, a condition by QOLB_COND_INIT. Close a lock only where no thread is about to call it.
  * - Call nothing from a signal handler, nor in the forked child of a process with threads (PROCESSES, below).
  * - The program's malloc, realloc and free are of one allocator, which aligns as C asks.
  *
@@ -311,13 +317,14 @@ uint64_t qolb_label(qolb_node *node);
 /* What the node's last call left: a `qolb_node_state`. */
 uint32_t qolb_state(qolb_node *node);
 
-/* A lock. It is closed, if it is as its initialiser makes it: of so many seats, which must be a constant of 1 to 200, and of the kind QOLB_DEFAULT, with
- * 64 bytes of zeros. Only these calls read or change what is in it. */
+/* A lock. It is closed, if it is as its initialiser makes it: of so many seats, 1 to 200, and of the kind QOLB_DEFAULT or the one that is named, with 64
+ * bytes of zeros. Only these calls read or change what is in it. */
 typedef struct qolb_lock {
     void *own;
     uint32_t kind, seats;
 } qolb_lock;
 #define QOLB_LOCK_INIT(seats) {QOLB_NULL_, QOLB_DEFAULT, (seats)}
+#define QOLB_LOCK_INIT_OF(kind, seats) {QOLB_NULL_, (kind), (seats)}
 
 /* A condition: where holders of a lock leave it and wait until another says that there is news. Nothing has to be freed. */
 typedef struct qolb_cond {

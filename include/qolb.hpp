@@ -258,8 +258,8 @@ template <class Change> Got Node::with(Change change) {
 // thread that entered leaves. It may be destroyed where no thread holds it or waits for it; else what it has stays.
 class Lock {
   public:
-    // At most so many threads hold it or stand in its queue at one time, of 1 to 200; more wait for a seat.
-    explicit constexpr Lock(std::uint32_t seats = 64) noexcept : lock_{nullptr, QOLB_DEFAULT, seats} {}
+    // At most so many threads hold it or stand in its queue at one time, of 1 to 200; more wait for a seat. A list takes the least memory.
+    explicit constexpr Lock(std::uint32_t seats = 64, qolb_kind kind = QOLB_DEFAULT) noexcept : lock_{nullptr, static_cast<std::uint32_t>(kind), seats} {}
     Lock(const Lock &) = delete;
     Lock &operator=(const Lock &) = delete;
     ~Lock() { qolb_lock_close(&lock_); }
@@ -355,10 +355,10 @@ template <class T> class Guarded {
 
   public:
     // Throws std::bad_alloc, and Misuse where it has not 1 to 200 seats.
-    explicit Guarded(const T &value = T(), std::uint32_t seats = 64) : lock_(seats) {
+    explicit Guarded(const T &value = T(), std::uint32_t seats = 64, qolb_kind kind = QOLB_DEFAULT) {
         qolb_bytes bytes{};
         std::memcpy(bytes.byte, &value, sizeof value);
-        std::uint32_t got = qolb_lock_open(lock_.native_handle(), QOLB_DEFAULT, 0, seats, &bytes);
+        std::uint32_t got = qolb_lock_open(lock_.native_handle(), static_cast<std::uint32_t>(kind), 0, seats, &bytes);
         if (got == QOLB_NO_MEMORY) QOLB_THROW(std::bad_alloc());
         if (got != QOLB_DONE) QOLB_THROW(Misuse());
     }

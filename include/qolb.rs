@@ -584,8 +584,17 @@ impl RawQolb {
     ///
     /// Where `seats` is not 1 to 200.
     pub const fn new(seats: u32) -> RawQolb {
+        RawQolb::of_kind(Kind::Ticket, seats)
+    }
+
+    /// A lock over a line of this kind: a list takes the least memory.
+    ///
+    /// # Panics
+    ///
+    /// Where `seats` is not 1 to 200.
+    pub const fn of_kind(kind: Kind, seats: u32) -> RawQolb {
         assert!(seats >= 1 && seats <= 200, "a lock has 1 to 200 seats");
-        RawQolb(UnsafeCell::new(RawLock { own: null_mut(), kind: Kind::Ticket as u32, seats }))
+        RawQolb(UnsafeCell::new(RawLock { own: null_mut(), kind: kind as u32, seats }))
     }
 
     /// Enters, and waits as long as it takes: `Granted`, `Closed`; `NoMemory` at the first use.
@@ -664,7 +673,14 @@ impl<T> Mutex<T> {
     ///
     /// Where `seats` is not 1 to 200.
     pub const fn with_seats(value: T, seats: u32) -> Mutex<T> {
-        Mutex { raw: RawQolb::new(seats), value: UnsafeCell::new(value) }
+        Mutex::of_kind(value, Kind::Ticket, seats)
+    }
+
+    /// # Panics
+    ///
+    /// Where `seats` is not 1 to 200.
+    pub const fn of_kind(value: T, kind: Kind, seats: u32) -> Mutex<T> {
+        Mutex { raw: RawQolb::of_kind(kind, seats), value: UnsafeCell::new(value) }
     }
 
     pub fn into_inner(self) -> T {
@@ -811,10 +827,17 @@ impl<T: Copy + Send + 'static> Lock<T> {
     ///
     /// Where `seats` is not 1 to 200.
     pub fn with_seats(value: T, seats: u32) -> Result<Lock<T>, Answer> {
-        let lock = Lock { raw: RawQolb::new(seats), value: PhantomData };
+        Lock::of_kind(value, Kind::Ticket, seats)
+    }
+
+    /// # Panics
+    ///
+    /// Where `seats` is not 1 to 200.
+    pub fn of_kind(value: T, kind: Kind, seats: u32) -> Result<Lock<T>, Answer> {
+        let lock = Lock { raw: RawQolb::of_kind(kind, seats), value: PhantomData };
         let opening = bytes_of(value);
         // SAFETY: nobody else has the lock yet, and the bytes are there for the call.
-        match told(unsafe { qolb_lock_open(lock.raw.0.get(), Kind::Ticket as u32, 0, seats.into(), &opening) }) {
+        match told(unsafe { qolb_lock_open(lock.raw.0.get(), kind as u32, 0, seats.into(), &opening) }) {
             Answer::Done => Ok(lock),
             refused => Err(refused),
         }

@@ -120,6 +120,19 @@ def calls(text):
             yield told, uncommented(match[1])
 
 
+def types(text):
+    """Each run of types and constants that a comment stands above, as a caller reads them, with that comment."""
+    comment, struct, constant = r"/\*(?:(?!\*/).)*\*/", r"typedef struct \w+ \{[^}]*\} \w+;", r"#define QOLB_[A-Z_]+[A-Z][ (][^\n]*"
+    for match in re.finditer(rf"({comment})\n((?:(?:{struct}|{constant})\n)+)", text, re.S):
+        told = [re.sub(r"^#define (\w+(?:\([\w, ]*\))?).*", r"\1", made) for made in re.findall(f"{struct}|{constant}", match[2])]
+        yield told, uncommented(match[1])
+
+
+def declared(made):
+    """A declaration in bold, whose blanks a request would drop."""
+    return "\n".join(".B " + escaped(line).replace("    ", "\\ " * 4) for line in made.split("\n"))
+
+
 def values(text, name):
     """The names of an enum, each with its number and what is said of it."""
     body = re.search(rf"enum {name} {{(.*?)}};", text, re.S)[1]
@@ -143,6 +156,9 @@ def page_of_header():
     out.append(section("DESCRIPTION", parts.pop("DESCRIPTION")[1:]))
     example = parts.pop("EXAMPLE")
     out.append(section("WORDS", parts.pop("WORDS")))
+    out.append(".SH TYPES")
+    for told, said in types(rest):
+        out.append(".PP\n.nf\n" + "\n".join(map(declared, told)) + "\n.fi\n.RS 4\n" + "\n".join(escaped(line) for line in said) + "\n.RE")
     out.append(".SH CALLS")
     for told, said in calls(rest):
         out.append(".PP\n.nf\n" + "\n".join(f".B {escaped(made)}" for made in told) + "\n.fi\n.RS 4\n" + "\n".join(escaped(line) for line in said) + "\n.RE")
