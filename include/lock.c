@@ -72,7 +72,8 @@ static void wake_at(atomic_uint *word, int most) {
  *
  * Who is about to sleep adds itself to the bell's sleepers, reads the bell's word, looks once more at what it waits for, and sleeps while the word is
  * that. Who has something to tell does it first, and then looks at the sleepers. Each step is sequentially consistent, but for one (leave_hall), so
- * one of the two sees the other. tools/bells.py goes through all orders of these steps, and through those of ten protocols that differ by one. */
+ * one of the two sees the other. tools/bells.py goes through all orders of these steps, and through those of ten protocols that differ by one;
+ * tools/seats.py runs this file itself, on a model of the processor's memory. */
 
 struct bell {
     _Alignas(LINE) atomic_uint sleepers, word;
