@@ -1,7 +1,7 @@
 #!/usr/bin/env python3
 """Goes through runs of include/lock.c itself, with two and three threads, on a model of the processor's memory (tools/seats).
 
-tools/seats.py [MOST]      runs of at most so many turns of the schedule, 2: two minutes of a processor. 3 takes one minute more
+tools/seats.py [MOST]      runs of at most so many turns of the schedule, 2: two minutes of a processor. 3 takes one minute more. It wants GCC
 
 A turn of the schedule is one of these: another thread goes on though this one could; a thread's time is over; a plain store stays in its thread's
 buffer, unseen by the others, or is seen from there before it must be. All runs with at most so many are made. Stores are seen as x86-64 has them: in
