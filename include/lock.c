@@ -213,7 +213,7 @@ struct asking {
  * Asks with this seat's node: GRANTED, QUEUED or CLOSED, with the seat taken; else BUSY. A seat that is found busy is given back without a ring: while
  * any is busy there is a thread before it in the queue, which will ring. */
 static inline uint32_t ask_at(struct asking *me, struct seat *seat) {
-    unsigned state = atomic_load_explicit(&seat->state, memory_order_relaxed);
+    unsigned state = atomic_load(&seat->state);
     if (state != FREE || !atomic_compare_exchange_strong(&seat->state, &state, TAKEN)) {
         me->met |= state == LEAVING;
         return QOLB_BUSY;
