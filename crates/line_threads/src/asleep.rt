@@ -1,5 +1,5 @@
 //! Waiting for a line by waiters that sleep, with no time limit and with one.
-ghost use Rattle.std.specs.Prelude.{◌≡◌, ◌⊎◌, ◌+◌, ◌*◌, ◌≤◌, IsTrue, Option};
+ghost use Rattle.std.specs.Prelude.{◌≡◌, ◌⊎◌, ◌+◌, ◌*◌, ◌≤◌, IsTrue, Option, min};
 ghost use Rattle.std.specs.Duration.{as_nanos};
 ghost use Rattle.std.specs.declared.time.Instant.{Instant};
 ghost use Rattle.qolb_model.specs.PortStates.{may_ask};
@@ -67,10 +67,9 @@ impl Patience {
     }
 }
 
-/// How long a nap is that may take so much time.
+/// How long a nap is that may take so much time: all of it, if that is less than a nap's length.
 fn nap_within(at_most: Duration) -> Duration
-    ensures short { as_nanos result ≤ 200_000 }
-    ensures in_time { as_nanos result ≤ as_nanos at_most }
+    ensures { as_nanos result ≡ min 200_000 (as_nanos at_most) }
 {
     let short = Duration::from_micros(NAP_MICROS);
     if at_most.as_nanos() < short.as_nanos() {
