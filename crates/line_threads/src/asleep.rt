@@ -1,5 +1,5 @@
 //! Waiting for a line by waiters that sleep, with no time limit and with one.
-ghost use Rattle.std.specs.Prelude.{◌≡◌, ◌⊎◌, ◌+◌, ◌*◌, ◌≤◌, IsTrue, Option, min};
+ghost use Rattle.std.specs.Prelude.{◌≡◌, ◌⊎◌, ◌+◌, ◌≤◌, IsTrue, Option, min};
 ghost use Rattle.std.specs.Duration.{as_nanos};
 ghost use Rattle.std.specs.declared.time.Instant.{Instant};
 ghost use Rattle.qolb_model.specs.PortStates.{may_ask};
