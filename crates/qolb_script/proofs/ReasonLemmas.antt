@@ -1,5 +1,5 @@
 -- A script is refused for the line of which something is told.
-use Rattle.std.proofs.Common.{◌≡◌, ℕ, ◌+◌, nat_le, Bool, true, false, is_err, if◌then◌else◌, List, [], ◌∷◌, Option, Some, None, Result, Ok, Err, refl, sym, ◌∙◌}
+use Rattle.std.proofs.Common.{◌≡◌, ℕ, ◌+◌, nat_le, Bool, true, false, is_err, if◌then◌else◌, List, [], ◌∷◌, Option, Some, Result, Ok, Err, refl, ◌∙◌}
 use Rattle.qolb_script.specs.declared.command.Command.{Command}
 use Rattle.qolb_script.specs.declared.command_reader.Header.{Header}
 use Rattle.link_core.specs.declared.event.Event.{Event}
