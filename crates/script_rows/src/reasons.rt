@@ -462,8 +462,8 @@ fn tells_of_too_many_commands(rt: HostRuntime) -> Result<(), Fail> {
         }
         expect(&rt, "many", told(explain_schedule(&text)), wanted);
     }
-    let shown = shown(rt.alloc(), &text)?;
-    assert_eq!(rt; shown.as_str(), "    poll 1 0\nmore than 100,000 commands");
+    let told = shown(rt.alloc(), &text)?;
+    assert_eq!(rt; told.as_str(), "    poll 1 0\nmore than 100,000 commands");
     Ok(())
 }
 
