@@ -1,8 +1,5 @@
 -- What the outcomes of a run say of its task.
-use Rattle.std.proofs.Common.{◌≡◌, ◌<◌, ◌↔◌, ℕ, List, length, Option, Some, None, IfSome, IfErr, IsErrAnd, Result, Ok, Err, inl, inr, refl, sym, subst, ◌∙◌, arith}
-use Rattle.qolb_run.specs.declared.input.TheConstants.{MOST_BYTES}
-use Rattle.qolb_run.specs.declared.input.InputError.{InputError}
-use Rattle.qolb_run.specs.declared.input.InputError.TheVariants as input
+use Rattle.std.proofs.Common.{◌≡◌, ◌↔◌, ℕ, List, Option, Some, None, IfSome, IfErr, IsErrAnd, Result, Ok, Err, inl, inr, sym, subst, arith}
 use Rattle.qolb_run.specs.declared.replay.Kind.TheVariants.{Plain}
 use Rattle.qolb_run.specs.declared.replay.ReplayError.{ReplayError}
 use Rattle.qolb_run.specs.declared.replay.ReplayError.TheVariants as error
@@ -10,7 +7,7 @@ use Rattle.qolb_run.specs.declared.report.TaskError.{TaskError}
 use Rattle.qolb_run.specs.declared.report.TaskError.TheVariants as ending
 use Rattle.qolb_run.specs.declared.task.Task.{Task}
 use Rattle.qolb_run.specs.declared.task.Task.TheVariants.{Replay}
-use Rattle.qolb_run.specs.Outcome.{MayFail, MayEnd, IsRefused, as_replay_error}
+use Rattle.qolb_run.specs.Outcome.{MayFail, MayEnd, IsRefused}
 use Rattle.qolb.specs.declared.command_line.Wish.{Wish}
 use Rattle.qolb.specs.declared.command_line.Wish.TheVariants.{Answer, Draw}
 use Rattle.qolb.specs.Wishes.{IsDenied, MayDeny}
@@ -48,22 +45,3 @@ pub replay_read : {T U : Type 0} (why : ReplayError) (Failed : Type 0) → (let 
 replay_read {T} why Failed h (Ok x) is = absurd is
 replay_read {T} why Failed h (Err e) is =
     (λ read. h.0 (let same : ending.Replay why ≡ ending.Replay error.Read = cc in cc same), λ failed. let same : why ≡ error.Read = (let was = h.1 failed in cc was) in cc same)
-
-may_be_unread : (wish : Wish) (why : InputError) (bytes : List ℕ) → (as_replay_error why ≡ error.Long → MOST_BYTES < length bytes) → MayDeny wish bytes (ending.Replay (as_replay_error why))
-may_be_unread (Answer task) input.Memory bytes long = tt
-may_be_unread (Answer task) input.Read bytes long = tt
-may_be_unread (Answer task) input.Long bytes long = long refl
-may_be_unread (Draw form) input.Memory bytes long = tt
-may_be_unread (Draw form) input.Read bytes long = tt
-may_be_unread (Draw form) input.Long bytes long = long refl
-
--- an input that could not be read whole may deny any wish
-pub unread : (wish : Wish) (e : ReplayError) (why : InputError) (known : Option (List ℕ)) → e ≡ as_replay_error why → (e ≡ error.Long → IfSome known (λ bytes. MOST_BYTES < length bytes))
-    → IfSome known (λ bytes. MayDeny wish bytes (ending.Replay e))
-unread wish e why None is long = tt
-unread wish e why (Some bytes) is long = subst (λ e. MayDeny wish bytes (ending.Replay e)) (sym is) (may_be_unread wish why bytes (λ so. long (is ∙ so)))
-
--- what holds of the bytes that were read holds of those that were known
-pub of_all : (P : List ℕ → Type 0) (known : Option (List ℕ)) (all : List ℕ) → IfSome known (λ bytes. all ≡ bytes) → P all → IfSome known P
-of_all P None all is p = tt
-of_all P (Some bytes) all is p = subst P is p
