@@ -2,7 +2,7 @@
 """Writes the manual pages: docs/man/qolb.3 from the text of include/qolb.h, and docs/man/qolb.1 from the help of the program.
 
     tools/man.py [PROGRAM]      writes both; without a program, and none at crates/qolb/out/qolb, qolb(3) alone
-    tools/man.py --check        whether qolb(3) is that of the header: writes nothing, and ends with 1 where it is not
+    tools/man.py --check [PROGRAM]      whether they are those of the header and the program: writes nothing, and ends with 1 where one is not
 """
 
 import pathlib
@@ -198,17 +198,20 @@ def page_of_program(program):
 
 
 def main():
-    page = page_of_header()
-    if sys.argv[1:] == ["--check"]:
-        if (PAGES / "qolb.3").read_text() != page:
-            sys.exit("man.py: docs/man/qolb.3 is not that of include/qolb.h: run tools/man.py")
-        return
-    (PAGES / "qolb.3").write_text(page)
-    program = pathlib.Path(sys.argv[1]) if len(sys.argv) > 1 else ROOT / "crates/qolb/out/qolb"
+    words = sys.argv[1:]
+    is_check = words[:1] == ["--check"]
+    named = words[1:] if is_check else words
+    program = pathlib.Path(named[0]) if named else ROOT / "crates/qolb/out/qolb"
+    pages = {"qolb.3": page_of_header()}
     if program.exists():
-        (PAGES / "qolb.1").write_text(page_of_program(program))
+        pages["qolb.1"] = page_of_program(program)
     else:
-        print(f"man.py: no program at {program}: qolb(3) alone was written", file=sys.stderr)
+        print(f"man.py: no program at {program}: qolb(3) alone was {'compared' if is_check else 'written'}", file=sys.stderr)
+    for name, page in pages.items():
+        if not is_check:
+            (PAGES / name).write_text(page)
+        elif (PAGES / name).read_text() != page:
+            sys.exit(f"man.py: docs/man/{name} is not what its source says: run tools/man.py")
 
 
 main()
