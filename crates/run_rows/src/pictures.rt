@@ -96,7 +96,7 @@ node   1 H
     let whole = format!(in rt.alloc(); "{blocks}{LETTERS}")?;
     assert_eq!(rt; picture, whole);
     for line in picture.lines() {
-        assert!(rt; line.len() <= 80);
+        assert!(rt; line.len() <= 79);
     }
     Ok(())
 }
