@@ -6,9 +6,9 @@ use std::fmt::Display;
 use std::io;
 use std::rt::Clock;
 use std::sync::Wait;
-use std::sync::atomic::{AtomicU64, Ordering};
+use std::sync::atomic::{AtomicBool, AtomicU64, Ordering};
 use std::test::Fail;
-use std::thread::Threads;
+use std::thread::{Threads, yield_now};
 use std::time::Duration;
 
 /// A clock whose second is set, and a standard error that expects these lines, one after another.
@@ -63,6 +63,86 @@ fn expecting<'a>(alloc: Global, expected: &'a [&'a str]) -> Console<'a> {
         came: AtomicU64::new(0),
         others: AtomicU64::new(0),
     }
+}
+
+/// How many seconds two workers meet in.
+const SECONDS: u64 = 1_000;
+
+/// A clock at which two workers meet: each reading waits for that of the other, and the n-th of each says n seconds. Before they meet it says
+/// that no second has gone by. It counts what is said.
+#[derive(Drop)]
+struct Meeting {
+    meets: AtomicBool,
+    readings: AtomicU64,
+    lines: AtomicU64,
+}
+
+impl Clock for Meeting {
+    fn monotonic(&self) -> io::Result<Duration> {
+        if !self.meets.load(Ordering::SeqCst) {
+            return Ok(Duration::ZERO);
+        }
+        let second = self.readings.fetch_add(1, Ordering::SeqCst) / 2;
+        // Until both have come.
+        for _ in 0..u64::MAX {
+            if self.readings.load(Ordering::SeqCst) / 2 > second {
+                break;
+            }
+            yield_now();
+        }
+        Ok(Duration::from_secs(second.saturating_add(1)))
+    }
+
+    fn since_1970(&self) -> io::Result<Duration> {
+        self.monotonic()
+    }
+}
+
+impl Eprint for Meeting {
+    fn eprint<D: Display + Drop>(&self, _value: D) -> io::Result<()> {
+        Ok(())
+    }
+
+    fn eprintln<D: Display + Drop>(&self, _value: D) -> io::Result<()> {
+        self.lines.fetch_add(1, Ordering::SeqCst);
+        Ok(())
+    }
+}
+
+/// Asks once in each second that the workers meet in.
+struct InEachSecond;
+
+impl<R: Wait, G: Gate> Work<R, G, u64> for InEachSecond {
+    type Back = bool;
+
+    ghost fits = { λ _ _ _ _. Unit {0} };
+
+    ghost done = { λ _ _ _ _. Unit {0} };
+
+    fn work(&self, _rt: &R, gate: &G, _place: usize, worker: u64) -> bool {
+        let mut may = true;
+        for at in 0..SECONDS {
+            may = may && gate.may(worker, at + 1);
+        }
+        may
+    }
+}
+
+#[test]
+fn two_workers_say_each_second_once(rt: HostRuntime) -> Result<(), Fail> {
+    let clock = Meeting {
+        meets: AtomicBool::new(false),
+        readings: AtomicU64::new(0),
+        lines: AtomicU64::new(0),
+    };
+    let gate = Progress::new(&clock)?;
+    gate.begins(2_000);
+    clock.meets.store(true, Ordering::SeqCst);
+    let workers = vec![in rt.alloc(); 1, 2]?;
+    let asked = together(&rt, rt.alloc(), &InEachSecond, &gate, workers).ok_or("threads")?;
+    assert!(rt; asked.iter().all(|may| *may));
+    assert_eq!(rt; clock.lines.load(Ordering::SeqCst), SECONDS);
+    Ok(())
 }
 
 /// How many jobs each of four workers does.
