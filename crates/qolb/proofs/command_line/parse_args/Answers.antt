@@ -1,5 +1,5 @@
 use Rattle.std.proofs.Common.{◌≡◌, List, codes, map, option_map, string_bytes, true, sym, ap, rules, ◌∙◌}
-use Rattle.clap.specs.Words.{App, Row, Text, app_of, is_simple, subcommand_of, subcommand_rows_of}
+use Rattle.clap.specs.Words.{App, Row, Text, app_of, found_of, is_simple, rows_of, subcommand_of, subcommand_rows_of}
 use Rattle.qolb.specs.CommandLine.{is_given_at, wish_at, the_command}
 use Rattle.qolb.proofs.CommandLines.{refused_words}
 use Rattle.qolb.proofs.command_line.parse_args.Goals as goal
@@ -25,6 +25,7 @@ returns-clause-progress c =
     let simple : is_simple (app_of c.in_ok-command.field-0) ≡ true = ap is_simple is in
     let rows : subcommand_rows_of c.in_ok-matches.matches ≡ subcommand_of (the_command names) (map string_bytes c.args.words.now) =
     (c.in_ok-matches.ensures.matches simple).1 ∙ ap (λ (a : App). subcommand_of a (map string_bytes c.args.words.now)) is in
+    let said : c.is_given_at.result ≡ is_given_at (codes "progress") (rows_of (found_of c.in-Some.arguments.now)) = c.is_given_at.ensures in
     record { names = names; named = ap (option_map (λ (entered : Text × List Row). is_given_at (codes "progress") entered.1)) (sym rows) ∙ search rules }
 
 pub returns-clause-explain : goal.returns-clause-explain
@@ -34,4 +35,5 @@ returns-clause-explain c =
     let simple : is_simple (app_of c.in_ok-command.field-0) ≡ true = ap is_simple is in
     let rows : subcommand_rows_of c.in_ok-matches.matches ≡ subcommand_of (the_command names) (map string_bytes c.args.words.now) =
     (c.in_ok-matches.ensures.matches simple).1 ∙ ap (λ (a : App). subcommand_of a (map string_bytes c.args.words.now)) is in
+    let said : c.is_given_at-in-Some.result ≡ is_given_at (codes "explain") (rows_of (found_of c.in-Some.arguments.now)) = c.is_given_at-in-Some.ensures in
     record { names = names; named = ap (option_map (λ (entered : Text × List Row). is_given_at (codes "explain") entered.1)) (sym rows) ∙ search rules }
