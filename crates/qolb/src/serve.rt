@@ -262,6 +262,8 @@ pub fn fail<E: Write>(err: &mut E, error: TaskError) -> u8
 }
 
 #[cfg(test)]
+mod helps;
+#[cfg(test)]
 mod hostile;
 #[cfg(test)]
 mod scarce;
