@@ -429,7 +429,11 @@ fn a_timeline_has_its_style_and_its_legend(rt: HostRuntime) -> Result<(), Fail> 
     for (bright, dim) in &COLOURS {
         assert!(rt; light.contains(*bright) && dark.contains(*dim), "{bright}");
     }
-    assert!(rt; light.contains(".withdrawn{fill:none;stroke:#8c959f;stroke-dasharray:3 2;pointer-events:all}"));
+    assert!(rt;
+        light.contains(
+            ".withdrawn{fill:none;stroke:#8c959f;stroke-dasharray:3 2;pointer-events:all}"
+        )
+    );
     for (begin, shape) in &SIGNS {
         let sign = format!(in alloc;
             "{begin}<rect class='point' x='-8' y='-12' width='16' height='24'/>{shape}\n"
