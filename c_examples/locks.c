@@ -7,6 +7,7 @@
 #include <pthread.h>
 #include <qolb.h>
 #include <sched.h>
+#include <signal.h>
 #include <stdatomic.h>
 #include <stdio.h>
 #include <stdlib.h>
@@ -417,7 +418,7 @@ static void *waits_at_condition(void *argument) {
     struct helper *me = argument;
     MUST(qolb_lock_enter(me->lock), QOLB_GRANTED);
     about_to_wait(me);
-    me->got = qolb_cond_wait_within(me->cond, me->lock, me->nanoseconds ? me->nanoseconds : UINT64_MAX);
+    me->got = me->nanoseconds ? qolb_cond_wait_within(me->cond, me->lock, me->nanoseconds) : qolb_cond_wait(me->cond, me->lock);
     if (me->got == QOLB_CLOSED) return NULL;
     guarded.order[guarded.served++] = me->self;
     MUST(qolb_lock_leave(me->lock), QOLB_DONE);
@@ -492,6 +493,31 @@ static int told_in_order(uint32_t kind) {
     return 0;
 }
 
+/* A signal of the system ends the sleep of who waits at a condition, and tells it nothing: it waits on. */
+static void does_nothing(int signal) { (void)signal; }
+
+static int interrupted(uint64_t nanoseconds) {
+    static qolb_lock lock = QOLB_LOCK_INIT(2);
+    static qolb_cond cond = QOLB_COND_INIT;
+    struct helper thread = {.lock = &lock, .cond = &cond, .nanoseconds = nanoseconds};
+    struct sigaction interrupts = {.sa_handler = does_nothing}; /* without SA_RESTART */
+    WANT(sigaction(SIGUSR1, &interrupts, NULL), 0);
+    guarded.served = 0;
+    start(&thread, waits_at_condition);
+    until_asleep(&thread);
+    for (int k = 0; k < 2; k++) {
+        WANT(pthread_kill(thread.id, SIGUSR1), 0);
+        usleep(50000);
+        WANT(served_by(&lock, 0), 0);
+    }
+    WANT(qolb_cond_signal(&cond), QOLB_DONE);
+    pthread_join(thread.id, NULL);
+    WANT(thread.got, QOLB_GRANTED);
+    WANT(guarded.served, 1);
+    WANT(qolb_lock_close(&lock), QOLB_DONE);
+    return 0;
+}
+
 /* A box of one place between makers and takers, some of whom wait at most so long. */
 static struct {
     qolb_lock lock;
@@ -508,7 +534,7 @@ static void *makes(void *argument) {
         MUST(qolb_lock_enter(&box.lock), QOLB_GRANTED);
         while (box.has) {
             uint32_t got = me->self ? qolb_cond_wait(&box.empty, &box.lock) : qolb_cond_wait_within(&box.empty, &box.lock, 50000);
-            if (got != QOLB_LATE) MUST(got, QOLB_GRANTED);
+            if (me->self || got != QOLB_LATE) MUST(got, QOLB_GRANTED);
         }
         box.has = 1;
         box.value = k;
@@ -525,7 +551,7 @@ static void *takes(void *argument) {
         MUST(qolb_lock_enter(&box.lock), QOLB_GRANTED);
         while (!box.has) {
             uint32_t got = me->self ? qolb_cond_wait(&box.full, &box.lock) : qolb_cond_wait_within(&box.full, &box.lock, 50000);
-            if (got != QOLB_LATE) MUST(got, QOLB_GRANTED);
+            if (me->self || got != QOLB_LATE) MUST(got, QOLB_GRANTED);
         }
         box.has = 0;
         box.sum += box.value;
@@ -669,7 +695,8 @@ static int of_kind(uint32_t kind) {
 
 int main(int argc, char **argv) {
     alarm(argc > 1 ? (unsigned)atoi(argv[1]) : 1200);
-    if (of_a_closed_one() || cancelled(is_cancelled) || cancelled(is_cancelled_at_condition) || waiters_take_no_processor() || makers_and_takers()) return 1;
+    if (of_a_closed_one() || cancelled(is_cancelled) || cancelled(is_cancelled_at_condition) || interrupted(0) || interrupted(UINT64_MAX)) return 1;
+    if (waiters_take_no_processor() || makers_and_takers()) return 1;
     for (uint32_t kind = QOLB_RING; kind <= QOLB_TICKET; kind++)
         if (of_kind(kind)) return 1;
     return 0;
