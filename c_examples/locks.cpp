@@ -2,6 +2,7 @@
 // with time limits, shut, and misused. Prints nothing but what went wrong.
 #include <qolb.hpp>
 
+#include <atomic>
 #include <chrono>
 #include <condition_variable>
 #include <cstdint>
@@ -144,6 +145,38 @@ bool condition_ends() {
     return true;
 }
 
+// Whoever is notified was told, also within a limit. A limit ends a wait that is notified again and again, and begins once. At its end, without any
+// notice, what is so is told.
+bool condition_tells() {
+    qolb::lock lock;
+    qolb::Condition cond;
+    std::unique_lock<qolb::lock> held(lock);
+    std::thread notifies([&] {
+        std::lock_guard<qolb::lock> turn(lock); // so the other waits
+        cond.notify_one();
+    });
+    bool told = cond.wait_for(held, 60s);
+    notifies.join();
+    WANT(told);
+    std::atomic<bool> over{false};
+    std::thread repeats([&] {
+        for (int k = 0; k < 800 && !over; k++) {
+            cond.notify_all();
+            std::this_thread::sleep_for(5ms);
+        }
+    });
+    auto since = std::chrono::steady_clock::now();
+    bool is_so = cond.wait_for(held, 100ms, [] { return false; });
+    auto took = std::chrono::steady_clock::now() - since;
+    over = true;
+    repeats.join();
+    WANT(!is_so);
+    WANT(took >= 100ms && took < 2s);
+    int asked = 0;
+    WANT(cond.wait_for(held, 30ms, [&] { return ++asked == 2; }));
+    return true;
+}
+
 struct Count {
     long hits;
     double sum;
@@ -180,6 +213,7 @@ bool guards() {
     count.store(Count{1, 2, 'c'});
     WANT(count.load().sum == 2);
     WANT(count.shut());
+    WANT(!count.shut());
     WANT(throws<qolb::Closed>([&] { (void)count.load(); }));
     WANT(throws<qolb::Misuse>([] { qolb::guarded<int> none(0, 0); }));
     qolb::guarded<Whole> whole(Whole(9), 2, QOLB_LIST);
@@ -192,6 +226,6 @@ bool guards() {
 
 int main() {
     alarm(1200);
-    bool right = counts() && answers() && hands_over<qolb::Condition>() && hands_over<std::condition_variable_any>() && condition_ends() && guards();
+    bool right = counts() && answers() && hands_over<qolb::Condition>() && hands_over<std::condition_variable_any>() && condition_ends() && condition_tells() && guards();
     return right ? 0 : 1;
 }

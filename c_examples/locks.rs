@@ -98,6 +98,15 @@ fn conditions() {
     assert!(!told && since.elapsed() >= 20 * MS);
     drop(held);
     thread::scope(|scope| {
+        let held = place.lock().unwrap();
+        scope.spawn(|| {
+            drop(place.lock().unwrap()); // so the other waits
+            changed.notify_one();
+        });
+        let (_held, told) = changed.wait_for(held, 60_000 * MS).unwrap();
+        assert!(told);
+    });
+    thread::scope(|scope| {
         let waiter = scope.spawn(|| changed.wait(place.lock().unwrap()).err());
         thread::sleep(20 * MS);
         place.lock().unwrap().shut();
