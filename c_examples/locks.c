@@ -349,7 +349,7 @@ static int cancelled(void *(*work)(void *)) {
     return 0;
 }
 
-/* Who waits for a second takes no processor: for a lock, for a seat of it, and at a condition. With a node it takes little, where its time is limited. */
+/* Who waits for a second takes no processor: for a lock, for a seat of it, at a condition, and with a node. */
 static double own_processor(void) {
     struct rusage used;
     getrusage(RUSAGE_THREAD, &used);
@@ -402,7 +402,7 @@ static int waiters_take_no_processor(void) {
     }
     for (int k = 0; k < 5; k++) {
         pthread_join(threads[k].id, NULL);
-        WANT(threads[k].processor < (k < 4 ? 0.1 : 0.5), 1);
+        WANT(threads[k].processor < 0.1, 1);
     }
     WANT(qolb_lock_leave(&held), QOLB_DONE);
     WANT(qolb_deqolb(&nodes[0]), QOLB_DONE);
