@@ -1,5 +1,5 @@
-/* One line that several objects wait for and release: this program, an object that was built with an older header, a library that the program opens at run
- * time, and calls that it finds by their names. Whoever lets the line go wakes whoever sleeps. Prints nothing but what went wrong. */
+/* One line that several objects wait for and release: this program, an object that was built with an older header, a library that the program opens at
+ * run time, and calls that it finds by their names. Whoever lets the line go wakes whoever sleeps. Prints nothing but what went wrong. */
 #define _GNU_SOURCE
 #include "beside.h"
 #include <dlfcn.h>
@@ -64,11 +64,11 @@ static int wakes(uint32_t kind, int waits_by, int lets_go_by, int is_limited, in
     WANT(pthread_create(&waiter.id, NULL, waits, &waiter), 0);
     if (waits_by == OLDER) usleep(2000);
     else until_asleep(&waiter.number);
-    double since = seconds();
+    double since = seconds(CLOCK_MONOTONIC);
     WANT(shuts ? of[lets_go_by].shut(&n[0]) : of[lets_go_by].deqolb(&n[0]), QOLB_DONE);
     pthread_join(waiter.id, NULL);
     WANT(waiter.got, shuts ? QOLB_CLOSED : QOLB_GRANTED);
-    WANT(seconds() - since < 10, 1);
+    WANT(seconds(CLOCK_MONOTONIC) - since < 10, 1);
     WANT(qolb_close(&n[0]) + qolb_close(&waiter.node), QOLB_DONE);
     return 0;
 }

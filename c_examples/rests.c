@@ -1,5 +1,5 @@
-/* How who waits rests between looks, with a node, for a lock and at a condition, by a clock that the program moves on: how often it asks and looks, how
- * often it gives the processor away, how long it sleeps, and when it is late; what it answers where the line comes, or is closed, between the last
+/* How who waits rests between looks, with a node, for a lock and at a condition, by a clock that the program moves on: how often it asks and looks,
+ * how often it gives the processor away, how long it sleeps, and when it is late; what it answers where the line comes, or is closed, between the last
  * look and the withdrawal; and which calls wake those that sleep.
  * Linked with --wrap for clock_gettime, nanosleep, sched_yield, syscall and for the proved calls that ask, look and withdraw. Prints nothing but what
  * went wrong. */
@@ -445,7 +445,8 @@ int main(void) {
     alarm(60); /* who never looks at the clock, or never rests, does not end */
     now = 5000000000;
     for (uint32_t kind = QOLB_RING; kind <= QOLB_TICKET; kind++)
-        if (rests(kind) || withdraws_late(kind, 0) || withdraws_late(kind, 1) || each_passes_on(kind) || lock_rests(kind) || woken_for_nothing(kind)) return 1;
+        if (rests(kind) || withdraws_late(kind, 0) || withdraws_late(kind, 1) || each_passes_on(kind) || lock_rests(kind) || woken_for_nothing(kind))
+            return 1;
     WANT(wrong, 0);
     return 0;
 }

@@ -1,12 +1,11 @@
-/* Threads that wait with nodes sleep, and whatever lets their line go wakes them: releases, closings, and calls that are told of one; few threads and many,
- * with withdrawals and time limits.
+/* Threads that wait with nodes sleep, and whatever lets their line go wakes them: releases, closings, and calls that are told of one; few threads and
+ * many, with withdrawals and time limits.
  *
  *   build/waits [SECONDS]     1200: where a turn is lost, who waits for it does not end, and the program is ended after so many
  *
  * Prints nothing but what went wrong. The thread sanitizer sees the data, and must be quiet. */
 #define _GNU_SOURCE
 #include <qolb.h>
-#include <stdint.h>
 #include <string.h>
 
 #include "waiters.h"
@@ -41,10 +40,10 @@ static uint32_t acquires(qolb_node *node, int how) {
 static void *waits(void *argument) {
     struct waiter *me = argument;
     about_to_wait(&me->number);
-    double since = seconds();
+    double since = seconds(CLOCK_MONOTONIC);
     struct used before = used();
     me->got = acquires(&me->node, me->how);
-    me->ended = seconds();
+    me->ended = seconds(CLOCK_MONOTONIC);
     struct used after = used();
     me->used = (struct used){after.processor - before.processor, after.sleeps - before.sleeps};
     me->lasted = me->ended - since;
@@ -70,7 +69,7 @@ static int takes_no_processor(uint32_t kind) {
     for (int k = 0; k < WAITERS; k++) start(&waiters[k], &n[k], hows[k]);
     pthread_join(waiters[2].id, NULL);
     usleep(100000);
-    double released = seconds();
+    double released = seconds(CLOCK_MONOTONIC);
     WANT(qolb_deqolb(&n[WAITERS]), QOLB_DONE);
     for (int k = 0; k < WAITERS; k++) {
         int is_late = hows[k] == A_SECOND;
@@ -148,9 +147,9 @@ static struct {
 
 /* Asleep, so that the other has a processor, or awake, so that the end is as near to the time as can be. */
 static void holds_for(uint32_t draw) {
-    double until = seconds() + (5 + draw % 120) / 1e6;
+    double until = seconds(CLOCK_MONOTONIC) + (5 + draw % 120) / 1e6;
     if (draw / 128 % 2) usleep(draw % 120);
-    while (seconds() < until) continue;
+    while (seconds(CLOCK_MONOTONIC) < until) continue;
 }
 
 static void *races(void *argument) {
