@@ -57,7 +57,7 @@ static void start(struct waiter *it, qolb_node *node, int how) {
 }
 
 /* A second's wait takes no processor: it sleeps once, though it would look 5,000 times if it looked every 200 us. A node that is busy does that, and
- * takes little. When the line is released each has it at once, and none is late but the one whose second is over. */
+ * takes little. When the line is released each has it soon, and none is late but the one whose second is over. */
 static int takes_no_processor(uint32_t kind) {
     static const int hows[] = {AS_LONG_AS_IT_TAKES, A_MINUTE, A_SECOND, AS_LONG_AS_IT_TAKES, A_MINUTE};
     enum { WAITERS = 5, BUSY = 3 };
@@ -76,7 +76,7 @@ static int takes_no_processor(uint32_t kind) {
         if (!is_late) pthread_join(waiters[k].id, NULL);
         WANT(waiters[k].got, is_late ? QOLB_LATE : QOLB_GRANTED);
         WANT(waiters[k].lasted >= 1, 1);
-        WANT(is_late ? waiters[k].lasted < 2 : waiters[k].ended - released < 1, 1);
+        WANT((is_late ? waiters[k].lasted - 1 : waiters[k].ended - released) < 5, 1); /* others may have the processors meanwhile */
         WANT(waiters[k].used.processor < (k < BUSY ? 0.1 : 0.5), 1);
         if (k < BUSY) WANT(waiters[k].used.sleeps < 100, 1);
         WANT(qolb_close(&waiters[k].node), QOLB_DONE);

@@ -192,7 +192,8 @@ pub struct Node(UnsafeCell<Handle>);
 // SAFETY: the library has it proved that a handle may go to another thread. No call takes a `&Node`, so nothing is shared.
 unsafe impl Send for Node {}
 
-/// Opens a line, which closes at the turn that is the lease's last, if it has one. Its nodes come in their order.
+/// Opens a line, which closes at the turn that is the lease's last, if it has one. Its nodes come in their order. Give each line a label of its own:
+/// waiters of lines of one label wake each other for nothing.
 pub fn open(kind: Kind, label: u64, nodes: u64, lease: Option<u64>, opening: &Bytes) -> Result<Vec<Node>, Answer> {
     let mut handles: Vec<Handle> = (0..200).map(|_| Handle { own: null_mut() }).collect();
     // 2^64 - 1 stands for no lease; as a lease it is never used up.
