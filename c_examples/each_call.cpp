@@ -1,12 +1,14 @@
 // Each call of a node in each of its states, over a line of each kind: what it answers or throws, and where the node stands then. Linked with --wrap for
-// clock_gettime and nanosleep, so that no time passes but in sleeps. Prints nothing but what went wrong.
+// clock_gettime and syscall, so that no time passes but in sleeps with a limit. Prints nothing but what went wrong.
 #include <qolb.hpp>
 
 #include <chrono>
+#include <cstdarg>
 #include <cstdio>
 #include <functional>
 #include <mutex>
 #include <string>
+#include <sys/syscall.h>
 #include <thread>
 #include <time.h>
 #include <unistd.h>
@@ -24,8 +26,21 @@ extern "C" int __wrap_clock_gettime(clockid_t, struct timespec *out) {
     return 0;
 }
 
-extern "C" int __wrap_nanosleep(const struct timespec *time, struct timespec *) {
-    now += static_cast<std::uint64_t>(time->tv_sec) * 1000000000 + static_cast<std::uint64_t>(time->tv_nsec);
+extern "C" long __real_syscall(long number, ...);
+
+// The library's calls of the system: sleeping at a word, and waking those that do.
+extern "C" long __wrap_syscall(long number, ...) {
+    constexpr int wait = 128;
+    if (number != SYS_futex) return __real_syscall(number);
+    va_list rest;
+    va_start(rest, number);
+    void *word = va_arg(rest, void *);
+    int what = va_arg(rest, int);
+    unsigned value = va_arg(rest, unsigned);
+    const struct timespec *most = va_arg(rest, const struct timespec *);
+    va_end(rest);
+    if (what != wait || !most) return __real_syscall(number, word, what, value, most, nullptr, 0);
+    now += static_cast<std::uint64_t>(most->tv_sec) * 1000000000 + static_cast<std::uint64_t>(most->tv_nsec);
     return 0;
 }
 

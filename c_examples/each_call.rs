@@ -161,6 +161,27 @@ fn each_call(kind: Kind) {
     }
 }
 
+/// What each answer is called where it is printed, by `Display`.
+#[rustfmt::skip]
+const TEXTS: [(Answer, &str); 16] = [
+    (Answer::Done, "done"),
+    (Answer::Granted, "the node holds the line"),
+    (Answer::Queued, "the request waits"),
+    (Answer::Waiting, "the request waits still"),
+    (Answer::Linking, "the request stands behind another, and is not linked yet"),
+    (Answer::Withdrawn, "the request is withdrawn"),
+    (Answer::Closed, "the line is closed"),
+    (Answer::Busy, "the node's last request is not cleared away yet, or others have the line"),
+    (Answer::Misuse, "the node does not allow the call"),
+    (Answer::NoMemory, "out of memory"),
+    (Answer::BadNodes, "a line has 1 to 200 nodes"),
+    (Answer::BadLease, "a lease has at least one turn"),
+    (Answer::BadKind, "no such kind of line"),
+    (Answer::TooFew, "fewer handles than nodes"),
+    (Answer::Occupied, "one of the handles has a node"),
+    (Answer::Late, "the time is over, and the request is withdrawn"),
+];
+
 /// `?` takes what opening and a lock refuse, in a function whose error is any.
 fn asks(nodes: u64, shuts: bool) -> Result<u64, Box<dyn Error>> {
     let mut opened = qolb::open(Kind::Ring, LABEL, nodes, None, &Bytes([0; 64]))?;
@@ -173,6 +194,10 @@ fn asks(nodes: u64, shuts: bool) -> Result<u64, Box<dyn Error>> {
 }
 
 fn says() {
+    for (answer, text) in TEXTS {
+        assert_eq!(answer.to_string(), text);
+    }
+    assert_eq!(Stopped::Closed.to_string(), "the line is closed");
     assert_eq!(asks(1, false).unwrap(), 5);
     assert_eq!(asks(201, false).unwrap_err().to_string(), "a line has 1 to 200 nodes");
     assert_eq!(asks(1, true).unwrap_err().to_string(), "the line is closed");

@@ -1,12 +1,15 @@
-/* How the calls that wait rest between their looks, by a clock that the program moves on: which clock they ask, how often they ask and look, how often
- * they give the processor away, how long they sleep, and when they are late; and what they answer where the line comes, or is closed, between the
- * last look and the withdrawal.
- * Linked with --wrap for clock_gettime, nanosleep, sched_yield, pthread_setcancelstate and for the calls that ask, look and withdraw. Prints nothing
- * but what went wrong. */
-#define _POSIX_C_SOURCE 200809L
-#include <pthread.h>
+/* How who waits rests between looks, with a node, for a lock and at a condition, by a clock that the program moves on: how often it asks and looks,
+ * how often it gives the processor away, how long it sleeps, and when it is late; what it answers where the line comes, or is closed, between the last
+ * look and the withdrawal; and which calls wake those that sleep.
+ * Linked with --wrap for clock_gettime, nanosleep, sched_yield, syscall and for the proved calls that ask, look and withdraw. Prints nothing but what
+ * went wrong. */
+#define _GNU_SOURCE
 #include <qolb.h>
+#include <stdarg.h>
+#include <stdatomic.h>
 #include <stdio.h>
+#include <stdlib.h>
+#include <sys/syscall.h>
 #include <time.h>
 #include <unistd.h>
 
@@ -19,179 +22,422 @@
         }                                                                                      \
     } while (0)
 
-/* The time, in nanoseconds; the rests since `begins`; how often the node asked and looked since then, and how long it spun; and what no waiting call
- * may do. */
-static uint64_t now, yields, sleeps, first, longest, asks, spins, spun, looks, wrong;
+enum { US = 1000, MS = 1000000 };
+#define NEVER UINT64_MAX
 
-/* Who holds the line releases it, or shuts it, where the clock is asked at this time or later, where the processor is given away for so many times, or
- * where a request is about to be withdrawn. */
+/* The time, in nanoseconds; and since `begins` how often the clock was asked, the rests and how long the longest sleep may have lasted, how often the
+ * node asked and looked and how long it spun, how often sleepers were woken, and what nobody may do who waits. */
+static uint64_t now, clocks, yields, sleeps, longest, asks, spins, spun, looks, wakes, wrong;
+
+/* What happens where the clock is asked at this time or later, where the processor is given away for so many times, during so many sleeps, or where a
+ * request is about to be withdrawn. It happens once. */
 static struct {
-    qolb_node *node;
-    uint64_t at, at_yield;
-    int shuts, at_withdrawal;
-} holder;
+    void (*does)(void);
+    uint64_t at, at_yield, at_sleep;
+    int at_withdrawal;
+} event;
 
-/* Whether the thread may be cancelled. */
-static int cancels = PTHREAD_CANCEL_ENABLE;
+uint32_t __real_qolb_enqolb_proved_(qolb_node *node);
+uint32_t __real_qolb_wait_proved_(qolb_node *node, uint64_t polls);
+uint32_t __real_qolb_poll_proved_(qolb_node *node);
+uint32_t __real_qolb_withdraw_proved_(qolb_node *node);
+long __real_syscall(long number, ...);
 
-uint32_t __real_qolb_enqolb(qolb_node *node);
-uint32_t __real_qolb_wait(qolb_node *node, uint64_t polls);
-uint32_t __real_qolb_poll(qolb_node *node);
-uint32_t __real_qolb_withdraw(qolb_node *node);
-
-static void lets_go(void) {
-    uint32_t got = holder.shuts ? qolb_shut(holder.node) : qolb_deqolb(holder.node);
-    if (got != QOLB_DONE) wrong++;
-    holder.node = NULL;
+static void happens(void) {
+    void (*does)(void) = event.does;
+    event.does = NULL;
+    if (does) does();
 }
 
 int __wrap_clock_gettime(clockid_t clock, struct timespec *out) {
     if (clock != CLOCK_MONOTONIC) wrong++;
-    if (holder.node && now >= holder.at) lets_go();
+    clocks++;
+    if (now >= event.at) happens();
     out->tv_sec = (time_t)(now / 1000000000);
     out->tv_nsec = (long)(now % 1000000000);
     return 0;
 }
 
 int __wrap_nanosleep(const struct timespec *time, struct timespec *left) {
-    uint64_t slept = (uint64_t)time->tv_sec * 1000000000 + (uint64_t)time->tv_nsec;
-    if (left || time->tv_nsec >= 1000000000 || cancels != PTHREAD_CANCEL_DISABLE) wrong++;
-    if (!sleeps++) first = slept;
-    if (slept > longest) longest = slept;
-    now += slept;
+    (void)time, (void)left;
+    wrong++;
     return 0;
 }
 
 int __wrap_sched_yield(void) {
-    if (++yields == holder.at_yield && holder.node) lets_go();
+    if (++yields == event.at_yield) happens();
     return 0;
 }
 
-int __wrap_pthread_setcancelstate(int state, int *old) {
-    *old = cancels;
-    cancels = state;
+/* A sleep without a limit ends for no reason, and so does one in which something happens; any other takes its time. */
+static void sleep_for(const struct timespec *most) {
+    uint64_t lasts = most ? (uint64_t)most->tv_sec * 1000000000 + (uint64_t)most->tv_nsec : NEVER;
+    if (most && (most->tv_nsec < 0 || most->tv_nsec >= 1000000000)) wrong++;
+    if (lasts > longest) longest = lasts;
+    if (++sleeps == event.at_sleep) happens();
+    else if (most) now += lasts;
+    if (sleeps > 5000) puts("sleeps for ever"), exit(1);
+}
+
+long __wrap_syscall(long number, ...) {
+    if (number != SYS_futex) return __real_syscall(number);
+    va_list rest;
+    va_start(rest, number);
+    atomic_uint *word = va_arg(rest, atomic_uint *);
+    int what = va_arg(rest, int);
+    unsigned value = va_arg(rest, unsigned);
+    const struct timespec *most = va_arg(rest, const struct timespec *);
+    va_end(rest);
+    if (what == 128 /* FUTEX_WAIT_PRIVATE */) {
+        if (atomic_load(word) == value) sleep_for(most);
+    } else if (what == 129 /* FUTEX_WAKE_PRIVATE */) {
+        wakes++;
+    } else {
+        wrong++;
+    }
     return 0;
 }
 
-uint32_t __wrap_qolb_enqolb(qolb_node *node) {
+uint32_t __wrap_qolb_enqolb_proved_(qolb_node *node) {
     asks++;
-    return __real_qolb_enqolb(node);
+    return __real_qolb_enqolb_proved_(node);
 }
 
-uint32_t __wrap_qolb_wait(qolb_node *node, uint64_t polls) {
+uint32_t __wrap_qolb_wait_proved_(qolb_node *node, uint64_t polls) {
     spins++;
     spun += polls;
-    return __real_qolb_wait(node, polls);
+    return __real_qolb_wait_proved_(node, polls);
 }
 
-uint32_t __wrap_qolb_poll(qolb_node *node) {
+uint32_t __wrap_qolb_poll_proved_(qolb_node *node) {
     looks++;
-    return __real_qolb_poll(node);
+    return __real_qolb_poll_proved_(node);
 }
 
-uint32_t __wrap_qolb_withdraw(qolb_node *node) {
-    if (holder.node && holder.at_withdrawal) lets_go();
-    return __real_qolb_withdraw(node);
+uint32_t __wrap_qolb_withdraw_proved_(qolb_node *node) {
+    if (event.at_withdrawal) happens();
+    return __real_qolb_withdraw_proved_(node);
 }
 
-static void begins(qolb_node *node, uint64_t at, uint64_t at_yield, int shuts) {
-    yields = sleeps = first = longest = asks = spins = spun = looks = 0;
-    holder.node = node;
-    holder.at = at;
-    holder.at_yield = at_yield;
-    holder.shuts = shuts;
-    holder.at_withdrawal = 0;
+static void begins(void (*does)(void)) {
+    clocks = yields = sleeps = longest = asks = spins = spun = looks = wakes = 0;
+    event.does = does;
+    event.at = NEVER;
+    event.at_yield = event.at_sleep = 0;
+    event.at_withdrawal = 0;
 }
 
-static int rests(uint32_t kind) {
-    qolb_bytes zeros = {{0}};
-    qolb_node n[2] = {{0}};
-    WANT(qolb_open(kind, 1, 2, QOLB_NO_LEASE, &zeros, n, 2), QOLB_DONE);
-    WANT(qolb_acquire(&n[0]), QOLB_GRANTED);
-    /* In vain for 20 ms, while it waits and while it is busy: late to the nanosecond. It yields 16 times, and sleeps 1, 2, 4, .. 128 us and then
-     * 200 us at a time, the last time for what is left. Waiting, it looks 64 times and then once after each rest; busy, it asks again after each. */
-    for (int busy = 0; busy < 2; busy++) {
+/* ---- With a node ---- */
+
+static qolb_node *holder;
+
+static void releases(void) {
+    if (qolb_deqolb(holder) != QOLB_DONE) wrong++;
+}
+
+static void shuts(void) {
+    if (qolb_shut(holder) != QOLB_DONE) wrong++;
+}
+
+/* In vain, while the first node holds the line. */
+static int late(qolb_node *n) {
+    /* For 20 ms, while it waits and while it is busy: late to the nanosecond. Waiting, it looks 64 times, 8 times more and yields before each of these,
+     * looks once more, and sleeps as long as it may. Busy, it asks again 8 times, and then every 200 us. */
+    for (unsigned busy = 0; busy < 2; busy++) {
         uint64_t since = now;
-        begins(NULL, 0, 0, 0);
-        WANT(qolb_acquire_within(&n[1], 20000000), QOLB_LATE);
-        WANT(now - since, 20000000);
-        WANT(yields, 16);
-        WANT(first, 1000);
-        WANT(longest, 200000);
-        WANT(sleeps, 8 + 99);
-        WANT(asks, busy ? 1 + 16 + 8 + 99 : 1);
+        begins(NULL);
+        WANT(qolb_acquire_within(&n[1], 20 * MS), QOLB_LATE);
+        WANT(now - since, 20 * MS);
+        WANT(yields, 8);
+        WANT(sleeps, busy ? 100 : 1);
+        WANT(longest, busy ? 200 * US : 20 * MS);
+        WANT(asks, busy ? 1 + 8 + 100 : 1);
         WANT(spins, !busy);
         WANT(spun, busy ? 0 : 64);
-        WANT(looks, busy ? 0 : 16 + 8 + 99);
+        WANT(looks, busy ? 0 : 8 + 1);
         WANT(qolb_state(&n[1]), QOLB_STATE_ROLLED);
     }
-    /* No time at all: it asks nevertheless. */
-    begins(NULL, 0, 0, 0);
-    WANT(qolb_acquire_within(&n[1], 0), QOLB_LATE);
+    /* For less than a nap; and for no time at all: it asks nevertheless, and looks if it waits. */
+    uint64_t since = now;
+    WANT(qolb_acquire_within(&n[1], 50 * US), QOLB_LATE);
+    WANT(now - since, 50 * US);
+    for (unsigned k = 1; k < 3; k++) {
+        begins(NULL);
+        WANT(qolb_acquire_within(&n[k], 0), QOLB_LATE);
+        WANT(asks, 1);
+        WANT(spun, k == 1 ? 0 : 64);
+        WANT(yields + sleeps + looks, 0);
+        WANT(qolb_state(&n[k]), QOLB_STATE_ROLLED);
+    }
+    return 0;
+}
+
+/* It waits as long as it takes, and asks no clock: it sleeps, and if it is woken for no reason it looks anew. Who lets go wakes it, by one call. */
+static int sleeps_on(qolb_node *n, int limited) {
+    holder = &n[0];
+    begins(releases);
+    event.at_sleep = 3;
+    WANT(limited ? qolb_acquire_within(&n[1], UINT64_MAX) : qolb_acquire(&n[1]), QOLB_GRANTED);
+    WANT(clocks, 0);
+    WANT(yields, 3 * 8);
+    WANT(sleeps, 3);
+    WANT(longest, NEVER);
     WANT(asks, 1);
-    WANT(yields + sleeps, 0);
-    /* Busy at first, however often it must ask. */
-    begins(&n[0], UINT64_MAX, 1000, 0);
-    WANT(qolb_acquire(&n[1]), QOLB_GRANTED);
-    WANT(yields, 1000);
-    WANT(asks, 1001);
-    WANT(spins + looks, 0);
-    /* It waits as long as it takes, and gives the processor away between looks. */
-    begins(&n[1], UINT64_MAX, 1000, 0);
+    WANT(spins, 4);
+    WANT(spun, 4 * 64);
+    WANT(looks, 3 * 9);
+    WANT(wakes, 1);
+    WANT(qolb_deqolb(&n[1]), QOLB_DONE);
     WANT(qolb_acquire(&n[0]), QOLB_GRANTED);
-    WANT(yields, 1000);
-    WANT(sleeps, 0);
-    WANT(asks, 1);
-    WANT(spins, 1);
-    WANT(spun, 64);
-    WANT(looks, 1000);
-    /* Granted at once it neither looks nor rests. */
-    WANT(qolb_deqolb(&n[0]), QOLB_DONE);
-    begins(NULL, 0, 0, 0);
+    return 0;
+}
+
+/* The line comes while it waits: while it sleeps with the longest limit, while it yields, and while it is busy. */
+static int granted(qolb_node *n) {
+    holder = &n[0];
+    begins(releases);
+    event.at_sleep = 1;
+    WANT(qolb_acquire_within(&n[1], UINT64_MAX - 1), QOLB_GRANTED);
+    WANT(longest, UINT64_MAX - 1);
+    WANT(sleeps, 1);
+    WANT(wakes, 1);
+    holder = &n[1];
+    begins(releases);
+    event.at_yield = 5;
+    WANT(qolb_acquire(&n[0]), QOLB_GRANTED);
+    WANT(yields, 5);
+    WANT(looks, 5);
+    WANT(sleeps + wakes, 0);
+    WANT(qolb_try(&n[1]), QOLB_BUSY);
+    holder = &n[0];
+    begins(releases);
+    event.at_sleep = 1000;
+    WANT(qolb_acquire(&n[1]), QOLB_GRANTED);
+    WANT(yields, 8);
+    WANT(sleeps, 1000);
+    WANT(longest, 200 * US);
+    WANT(asks, 1 + 8 + 1000);
+    WANT(spins + looks + wakes + clocks, 0);
+    WANT(qolb_deqolb(&n[1]), QOLB_DONE);
+    return 0;
+}
+
+/* Granted at once it neither looks nor rests; a try asks once, and does neither. A release that nobody waits for asks nothing of the system. */
+static int at_once(qolb_node *n) {
+    begins(NULL);
     WANT(qolb_acquire(&n[1]), QOLB_GRANTED);
     WANT(qolb_deqolb(&n[1]), QOLB_DONE);
     WANT(qolb_acquire_within(&n[0], 1), QOLB_GRANTED);
     WANT(asks, 2);
-    WANT(spins + looks + yields + sleeps, 0);
-    /* A try asks once, looks never and does not rest. */
-    begins(NULL, 0, 0, 0);
     WANT(qolb_try(&n[1]), QOLB_BUSY);
-    WANT(asks, 1);
-    WANT(spins + looks + yields + sleeps, 0);
+    WANT(asks, 3);
+    WANT(qolb_deqolb(&n[0]), QOLB_DONE);
+    WANT(spins + looks + yields + sleeps + wakes, 0);
+    return 0;
+}
+
+/* The time is over, and the line comes before the request is taken back: it is granted. Or it is closed: it is told. */
+static int at_the_end(qolb_node *n) {
+    WANT(qolb_acquire(&n[1]), QOLB_GRANTED);
+    holder = &n[1];
+    begins(releases);
+    event.at = now + MS;
+    WANT(qolb_acquire_within(&n[0], MS), QOLB_GRANTED);
+    WANT(qolb_state(&n[0]), QOLB_STATE_HOLDING);
+    holder = &n[0];
+    begins(shuts);
+    event.at = now + MS;
+    WANT(qolb_acquire_within(&n[1], MS), QOLB_CLOSED);
+    WANT(qolb_state(&n[1]), QOLB_STATE_SHUT);
+    return 0;
+}
+
+static int rests(uint32_t kind) {
+    qolb_bytes zeros = {{0}};
+    qolb_node n[3] = {{0}};
+    WANT(qolb_open(kind, 1, 3, QOLB_NO_LEASE, &zeros, n, 3), QOLB_DONE);
+    WANT(qolb_acquire(&n[0]), QOLB_GRANTED);
+    if (late(n)) return 1;
     WANT(qolb_deqolb(&n[0]), QOLB_DONE);
     WANT(qolb_acquire(&n[0]), QOLB_GRANTED);
-    /* As long as a number can say; a turn is seen within 200 us. */
-    uint64_t at = now + 3000000000;
-    begins(&n[0], at, 0, 0);
-    WANT(qolb_acquire_within(&n[1], UINT64_MAX), QOLB_GRANTED);
-    WANT(now >= at && now - at <= 400000, 1);
-    /* The time is over, and the line comes before the request is taken back: it is granted. */
-    begins(&n[1], now + 1000000, 0, 0);
-    WANT(qolb_acquire_within(&n[0], 1000000), QOLB_GRANTED);
-    WANT(qolb_state(&n[0]), QOLB_STATE_HOLDING);
-    /* Or it is closed: it is told. */
-    begins(&n[0], now + 1000000, 0, 1);
-    WANT(qolb_acquire_within(&n[1], 1000000), QOLB_CLOSED);
-    WANT(qolb_state(&n[1]), QOLB_STATE_SHUT);
-    for (int k = 0; k < 2; k++) WANT(qolb_close(&n[k]), QOLB_DONE);
-    WANT(wrong, 0);
-    WANT(cancels, PTHREAD_CANCEL_ENABLE);
+    if (sleeps_on(n, 0) || sleeps_on(n, 1) || granted(n) || at_once(n) || at_the_end(n)) return 1;
+    for (int k = 0; k < 3; k++) WANT(qolb_close(&n[k]), QOLB_DONE);
     return 0;
 }
 
 /* A try that finds, where it takes its request back, that the line has come, or is closed. */
-static int withdraws_late(uint32_t kind, int shuts) {
+static int withdraws_late(uint32_t kind, int is_shut) {
     qolb_bytes zeros = {{0}};
     qolb_node n[2] = {{0}};
     WANT(qolb_open(kind, 1, 2, QOLB_NO_LEASE, &zeros, n, 2), QOLB_DONE);
     WANT(qolb_acquire(&n[0]), QOLB_GRANTED);
-    begins(&n[0], UINT64_MAX, 0, shuts);
-    holder.at_withdrawal = 1;
-    WANT(qolb_try(&n[1]), shuts ? QOLB_CLOSED : QOLB_GRANTED);
-    WANT(qolb_state(&n[1]), shuts ? QOLB_STATE_SHUT : QOLB_STATE_HOLDING);
-    if (!shuts) WANT(qolb_deqolb(&n[1]), QOLB_DONE);
+    holder = &n[0];
+    begins(is_shut ? shuts : releases);
+    event.at_withdrawal = 1;
+    WANT(qolb_try(&n[1]), is_shut ? QOLB_CLOSED : QOLB_GRANTED);
+    WANT(qolb_state(&n[1]), is_shut ? QOLB_STATE_SHUT : QOLB_STATE_HOLDING);
+    if (!is_shut) WANT(qolb_deqolb(&n[1]), QOLB_DONE);
     for (int k = 0; k < 2; k++) WANT(qolb_close(&n[k]), QOLB_DONE);
-    WANT(wrong, 0);
+    return 0;
+}
+
+/* ---- Who wakes: whoever is told that the line is closed, and so passes that on ---- */
+
+static qolb_node *teller;
+static uint32_t (*tells)(qolb_node *node);
+static uint32_t was_told;
+static uint64_t woke;
+
+static uint32_t waits(qolb_node *node) { return qolb_wait(node, 1); }
+static uint32_t acquires(qolb_node *node) { return qolb_acquire(node); }
+static uint32_t acquires_within(qolb_node *node) { return qolb_acquire_within(node, MS); }
+
+/* While one sleeps: the teller makes its call, before which its line may be shut. */
+static void is_told(void) {
+    uint64_t before;
+    if (holder) shuts();
+    before = wakes;
+    was_told = tells(teller);
+    woke = wakes - before;
+}
+
+/* The second node stands before one that sleeps, and looks, withdraws or links only after the line was shut. */
+static int passes_on(uint32_t kind, uint32_t (*call)(qolb_node *node), int links) {
+    qolb_bytes zeros = {{0}};
+    qolb_node n[3] = {{0}};
+    WANT(qolb_open(kind, 1, 3, QOLB_NO_LEASE, &zeros, n, 3), QOLB_DONE);
+    WANT(qolb_acquire(&n[0]), QOLB_GRANTED);
+    WANT(links ? qolb_prepend(&n[1]) : qolb_enqolb(&n[1]), links ? QOLB_LINKING : QOLB_QUEUED);
+    holder = &n[0];
+    teller = &n[1];
+    tells = call;
+    begins(is_told);
+    event.at_sleep = 1;
+    WANT(qolb_acquire(&n[2]), QOLB_CLOSED);
+    WANT(was_told, QOLB_CLOSED);
+    WANT(woke, 1);
+    for (int k = 0; k < 3; k++) WANT(qolb_close(&n[k]), QOLB_DONE);
+    return 0;
+}
+
+/* Who asks where the line is closed is told at once, and may have passed that on to one that stands behind it. Here nobody does, and one that sleeps at
+ * the same bell, by another line of that label, is woken for nothing. */
+static int asks_a_closed_one(uint32_t kind, uint32_t (*call)(qolb_node *node)) {
+    qolb_bytes zeros = {{0}};
+    qolb_node n[2] = {{0}}, closed = {0};
+    WANT(qolb_open(kind, 1, 2, QOLB_NO_LEASE, &zeros, n, 2), QOLB_DONE);
+    WANT(qolb_open(kind, 1, 1, QOLB_NO_LEASE, &zeros, &closed, 1), QOLB_DONE);
+    WANT(qolb_acquire(&closed), QOLB_GRANTED);
+    WANT(qolb_shut(&closed), QOLB_DONE);
+    WANT(qolb_acquire(&n[0]), QOLB_GRANTED);
+    holder = NULL;
+    teller = &closed;
+    tells = call;
+    begins(is_told);
+    event.at_sleep = 1;
+    WANT(qolb_acquire_within(&n[1], MS), QOLB_LATE);
+    WANT(was_told, QOLB_CLOSED);
+    WANT(woke, 1);
+    WANT(sleeps, 2);
+    WANT(qolb_deqolb(&n[0]), QOLB_DONE);
+    for (int k = 0; k < 2; k++) WANT(qolb_close(&n[k]), QOLB_DONE);
+    WANT(qolb_close(&closed), QOLB_DONE);
+    return 0;
+}
+
+static int each_passes_on(uint32_t kind) {
+    if (passes_on(kind, qolb_poll, 0) || passes_on(kind, waits, 0) || passes_on(kind, qolb_withdraw, 0)) return 1;
+    if (asks_a_closed_one(kind, qolb_enqolb) || asks_a_closed_one(kind, acquires) || asks_a_closed_one(kind, acquires_within)) return 1;
+    return kind == QOLB_LIST && (passes_on(kind, qolb_link, 1) || asks_a_closed_one(kind, qolb_prepend));
+}
+
+/* ---- For a lock, and at a condition ---- */
+
+static qolb_lock *held;
+
+static void leaves(void) {
+    if (qolb_lock_leave(held) != QOLB_DONE) wrong++;
+}
+
+/* In vain for 20 ms, for a turn and for want of a seat; it looks as with a node. */
+static int late_for_lock(qolb_lock *lock, unsigned has_seat) {
+    uint64_t since = now;
+    begins(NULL);
+    WANT(qolb_lock_enter_within(lock, 20 * MS), QOLB_LATE);
+    WANT(now - since, 20 * MS);
+    WANT(yields, 8);
+    WANT(sleeps, 1);
+    WANT(longest, 20 * MS);
+    WANT(asks, has_seat);
+    WANT(spun, has_seat ? 64 : 0);
+    WANT(looks, has_seat ? 8 + 1 : 0);
+    return 0;
+}
+
+static int lock_rests(uint32_t kind) {
+    qolb_lock lock = {NULL, kind, 3}, narrow = {NULL, kind, 1};
+    qolb_cond cond = QOLB_COND_INIT;
+    WANT(qolb_lock_enter(&lock), QOLB_GRANTED);
+    WANT(qolb_lock_enter(&narrow), QOLB_GRANTED);
+    if (late_for_lock(&lock, 1) || late_for_lock(&narrow, 0)) return 1;
+    WANT(qolb_lock_leave(&narrow), QOLB_DONE);
+    /* As long as it takes, by the seat that is not busy. */
+    held = &lock;
+    begins(leaves);
+    event.at_sleep = 2;
+    WANT(qolb_lock_enter(&lock), QOLB_GRANTED);
+    WANT(clocks, 0);
+    WANT(yields, 2 * 8);
+    WANT(sleeps, 2);
+    WANT(longest, NEVER);
+    WANT(spun, 3 * 64);
+    WANT(wakes, 1);
+    uint64_t since = now;
+    begins(NULL);
+    WANT(qolb_cond_wait_within(&cond, &lock, 20 * MS), QOLB_LATE);
+    WANT(now - since, 20 * MS);
+    WANT(sleeps, 1);
+    WANT(longest, 20 * MS);
+    WANT(yields + wakes, 0);
+    WANT(qolb_lock_leave(&lock), QOLB_DONE);
+    WANT(qolb_lock_close(&lock), QOLB_DONE);
+    WANT(qolb_lock_close(&narrow), QOLB_DONE);
+    return 0;
+}
+
+/* ---- Woken for nothing: the time that is left goes on ---- */
+
+static void time_passes(void) { now += 5 * MS; }
+
+static int has_what_is_left(uint64_t since) {
+    WANT(now - since, 20 * MS);
+    WANT(sleeps, 2);
+    WANT(longest, 20 * MS);
+    return 0;
+}
+
+static int woken_for_nothing(uint32_t kind) {
+    qolb_bytes zeros = {{0}};
+    qolb_node n[2] = {{0}};
+    qolb_lock lock = {NULL, kind, 2};
+    qolb_cond cond = QOLB_COND_INIT;
+    WANT(qolb_open(kind, 1, 2, QOLB_NO_LEASE, &zeros, n, 2), QOLB_DONE);
+    WANT(qolb_acquire(&n[0]), QOLB_GRANTED);
+    WANT(qolb_lock_enter(&lock), QOLB_GRANTED);
+    for (int way = 0; way < 3; way++) {
+        uint64_t since = now;
+        begins(time_passes);
+        event.at_sleep = 1;
+        WANT(way == 0   ? qolb_acquire_within(&n[1], 20 * MS)
+             : way == 1 ? qolb_lock_enter_within(&lock, 20 * MS)
+                        : qolb_cond_wait_within(&cond, &lock, 20 * MS),
+             QOLB_LATE);
+        if (has_what_is_left(since)) return 1;
+    }
+    WANT(qolb_deqolb(&n[0]), QOLB_DONE);
+    WANT(qolb_lock_leave(&lock), QOLB_DONE);
+    WANT(qolb_lock_close(&lock), QOLB_DONE);
+    for (int k = 0; k < 2; k++) WANT(qolb_close(&n[k]), QOLB_DONE);
     return 0;
 }
 
@@ -199,6 +445,8 @@ int main(void) {
     alarm(60); /* who never looks at the clock, or never rests, does not end */
     now = 5000000000;
     for (uint32_t kind = QOLB_RING; kind <= QOLB_TICKET; kind++)
-        if (rests(kind) || withdraws_late(kind, 0) || withdraws_late(kind, 1)) return 1;
+        if (rests(kind) || withdraws_late(kind, 0) || withdraws_late(kind, 1) || each_passes_on(kind) || lock_rests(kind) || woken_for_nothing(kind))
+            return 1;
+    WANT(wrong, 0);
     return 0;
 }

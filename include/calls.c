@@ -1,22 +1,132 @@
 /* The calls on nodes, as the library exports them: each is the proved one, but for a node that a lock has lent (qolb_lock_turn). By that one its
- * holder reads and writes the line, and every call that would move the node on is misuse: its lock would not know of it. */
+ * holder reads and writes the line, and every call that would move the node on is misuse: its lock would not know of it.
+ *
+ * The calls that wait for a turn are here too, and all that let a line go ring its bell (bells.h). This is tested, not proved. */
+#define _GNU_SOURCE
+#include "bells.h"
 #include "proved.h"
+#include <sched.h>
 
-#define MOVES(call)                                                                        \
-    uint32_t call(qolb_node *node) {                                                       \
-        return qolb_is_lent_(node) ? (uint32_t)QOLB_MISUSE : call##_proved_(node);         \
+/* Nanoseconds for which a node sleeps at most that is busy: nobody rings for it. */
+enum { NAP = 200000 };
+
+/* ---- Letting a line go ---- */
+
+/* How many sleep at bells of lines, in all. A release looks here, and no further while there are none. */
+static struct {
+    _Alignas(LINE) atomic_uint sleepers;
+} anywhere;
+
+/* All nodes of a line share a label; lines of one label share a bell too, and then wake each other's waiters for nothing. */
+static struct bell *bell_of(qolb_node *node) { return &qolb_line_bells_[qolb_label_proved_(node) * 0x9e3779b97f4a7c15 >> 32 & (BELLS - 1)]; }
+
+__attribute__((noinline)) static uint32_t rung(qolb_node *node, uint32_t got) {
+    ring(bell_of(node));
+    return got;
+}
+
+/* What a call answered that let the line go. The look comes behind that: the proved call hands the line over by an instruction that lets no load pass. */
+static inline uint32_t let_go(qolb_node *node, uint32_t got) { return atomic_load(&anywhere.sleepers) ? rung(node, got) : got; }
+
+/* What any other call answered. Who is told that the line is closed has passed that on. */
+static inline uint32_t told(qolb_node *node, uint32_t got) { return got == QOLB_CLOSED ? let_go(node, got) : got; }
+
+#define MOVES(call, then)                                                                          \
+    uint32_t call(qolb_node *node) {                                                               \
+        return qolb_is_lent_(node) ? (uint32_t)QOLB_MISUSE : then(node, call##_proved_(node));     \
     }
 
-MOVES(qolb_enqolb)
-MOVES(qolb_poll)
-MOVES(qolb_withdraw)
-MOVES(qolb_prepend)
-MOVES(qolb_link)
-MOVES(qolb_deqolb)
-MOVES(qolb_shut)
-MOVES(qolb_close)
+MOVES(qolb_enqolb, told)
+MOVES(qolb_poll, told)
+MOVES(qolb_withdraw, told)
+MOVES(qolb_prepend, told)
+MOVES(qolb_link, told)
+MOVES(qolb_deqolb, let_go)
+MOVES(qolb_shut, let_go)
 
-uint32_t qolb_wait(qolb_node *node, uint64_t polls) { return qolb_is_lent_(node) ? (uint32_t)QOLB_MISUSE : qolb_wait_proved_(node, polls); }
+uint32_t qolb_wait(qolb_node *node, uint64_t polls) {
+    return qolb_is_lent_(node) ? (uint32_t)QOLB_MISUSE : told(node, qolb_wait_proved_(node, polls));
+}
+
+uint32_t qolb_close(qolb_node *node) { return qolb_is_lent_(node) ? (uint32_t)QOLB_MISUSE : qolb_close_proved_(node); }
+
+/* ---- Waiting for a turn ---- */
+
+/* Looks 64 times, and gives the processor away 8 times with a look after each, while there is time: GRANTED, CLOSED, WAITING. */
+static uint32_t look_a_while(qolb_node *node, const struct limit *limit) {
+    uint32_t got = qolb_wait_proved_(node, LOOKS);
+    for (int k = 0; got == QOLB_WAITING && k < YIELDS && left(limit); k++) {
+        sched_yield();
+        got = qolb_poll_proved_(node);
+    }
+    return got;
+}
+
+static uint32_t sleep_at_bell(qolb_node *node, const struct limit *limit) {
+    struct bell *bell = bell_of(node);
+    atomic_fetch_add(&bell->sleepers, 1);
+    atomic_fetch_add(&anywhere.sleepers, 1);
+    unsigned word = atomic_load(&bell->word);
+    uint32_t got = qolb_poll_proved_(node);
+    uint64_t time = got == QOLB_WAITING ? left(limit) : 0;
+    if (time) qolb_sleep_at_(&bell->word, word, time);
+    atomic_fetch_sub(&anywhere.sleepers, 1);
+    atomic_fetch_sub(&bell->sleepers, 1);
+    return got;
+}
+
+static uint32_t give_up(qolb_node *node) {
+    uint32_t got = qolb_withdraw_proved_(node);
+    return got == QOLB_WITHDRAWN ? (uint32_t)QOLB_LATE : got;
+}
+
+/* Waits until the request comes to its turn: GRANTED, CLOSED, LATE. */
+static uint32_t await(qolb_node *node, const struct limit *limit) {
+    for (;;) {
+        uint32_t got = look_a_while(node, limit);
+        if (got == QOLB_WAITING && left(limit)) got = sleep_at_bell(node, limit);
+        if (got != QOLB_WAITING) return got;
+        if (left(limit) == 0) return give_up(node);
+    }
+}
+
+static void nap(uint64_t most) {
+    atomic_uint nobody_rings = 0;
+    qolb_sleep_at_(&nobody_rings, 0, most < NAP ? most : NAP);
+}
+
+/* Asks again and again while the node is busy: what asking answers in the end, or LATE. */
+static uint32_t ask_again(qolb_node *node, const struct limit *limit) {
+    uint32_t got = QOLB_BUSY;
+    for (unsigned k = 0; got == QOLB_BUSY; k++) {
+        uint64_t time = left(limit);
+        if (time == 0) return QOLB_LATE;
+        if (k < YIELDS) sched_yield();
+        else nap(time);
+        got = qolb_enqolb_proved_(node);
+    }
+    return got;
+}
+
+/* Of a node that has asked and was not granted the line at once: what the waiting call answers. */
+__attribute__((noinline)) static uint32_t acquired(qolb_node *node, uint32_t got, struct limit limit) {
+    if (got == QOLB_BUSY) got = ask_again(node, &limit);
+    if (got == QOLB_QUEUED) got = await(node, &limit);
+    return told(node, got);
+}
+
+static inline uint32_t acquire(qolb_node *node, uint64_t nanoseconds) {
+    if (qolb_is_lent_(node)) return QOLB_MISUSE;
+    struct limit limit = from_now(nanoseconds);
+    uint32_t got = qolb_enqolb_proved_(node);
+    return got == QOLB_GRANTED ? got : acquired(node, got, limit);
+}
+
+uint32_t qolb_acquire(qolb_node *node) { return acquire(node, FOR_EVER); }
+
+uint32_t qolb_acquire_within(qolb_node *node, uint64_t nanoseconds) { return acquire(node, nanoseconds); }
+
+/* ---- The others ---- */
 
 /* The node that a call is for: of a lent one the holder's, if the caller is the holder, else NULL. */
 static inline qolb_node *meant(qolb_node *node) { return qolb_is_lent_(node) ? qolb_lent_(node) : node; }

@@ -1,24 +1,19 @@
 /* The lock for threads that come and go, and its conditions (qolb.h, LOCKS). Tested, not proved; each step on the line is a proved call.
  *
  * A lock has a hall: a line, and for each of its nodes a seat. A thread that enters takes a free seat, asks with its node, and waits for its turn; it
- * gives the seat back when it leaves. All who wait for a turn or for a seat of a lock sleep at one bell, which is rung whenever a seat is given
- * back. The bells lie in the library and not in the hall, so that who rings touches nothing that the next holder may have freed. */
+ * gives the seat back when it leaves. All who wait for a turn or for a seat of a lock sleep at one bell (bells.h), which is rung whenever a seat is
+ * given back. */
 #define _GNU_SOURCE
+#include "bells.h"
 #include "proved.h"
 #include <sched.h>
-#include <stdatomic.h>
 #include <stdlib.h>
-#include <time.h>
-#include <unistd.h>
 #ifdef __linux__
 #include <sys/syscall.h>
+#include <unistd.h>
 #endif
 
-/* How often a waiter looks, with a pause between two looks, and how often it then gives the processor away, before it sleeps. */
-enum { LOOKS = 64, YIELDS = 8 };
-enum { BELLS = 256, GUARDS = 64, MOST_SEATS = 200, LINE = 64 };
-
-#define FOR_EVER UINT64_MAX
+enum { GUARDS = 64, MOST_SEATS = 200 };
 
 /* In a program that can be opened at run time by the GNU C library there is room for so few bytes; others may have none. */
 #ifdef __GLIBC__
@@ -26,70 +21,6 @@ enum { BELLS = 256, GUARDS = 64, MOST_SEATS = 200, LINE = 64 };
 #else
 #define BY_THREAD static _Thread_local
 #endif
-
-/* ---- Time, and sleeping at a word ---- */
-
-struct limit {
-    uint64_t since, nanoseconds;
-};
-
-static uint64_t now(void) {
-    struct timespec time;
-    clock_gettime(CLOCK_MONOTONIC, &time);
-    return (uint64_t)time.tv_sec * 1000000000 + (uint64_t)time.tv_nsec;
-}
-
-static struct limit from_now(uint64_t nanoseconds) {
-    return (struct limit){nanoseconds == FOR_EVER ? 0 : now(), nanoseconds};
-}
-
-static uint64_t left(const struct limit *limit) {
-    if (limit->nanoseconds == FOR_EVER) return FOR_EVER;
-    uint64_t spent = now() - limit->since;
-    return spent < limit->nanoseconds ? limit->nanoseconds - spent : 0;
-}
-
-/* Sleeps while the word has this value, at most so long; it may end for no reason. No cancellation point. */
-static void sleep_at(atomic_uint *word, unsigned value, uint64_t nanoseconds) {
-#ifdef __linux__
-    struct timespec most = {(time_t)(nanoseconds / 1000000000), (long)(nanoseconds % 1000000000)};
-    syscall(SYS_futex, word, 128 /* FUTEX_WAIT_PRIVATE */, value, nanoseconds == FOR_EVER ? NULL : &most, NULL, 0);
-#else
-    if (atomic_load(word) == value) qolb_sleep_(nanoseconds < QOLB_LONGEST_SLEEP_ ? nanoseconds : QOLB_LONGEST_SLEEP_);
-#endif
-}
-
-/* Wakes at most so many that sleep at the word, which need not be there any more. */
-static void wake_at(atomic_uint *word, int most) {
-#ifdef __linux__
-    syscall(SYS_futex, word, 129 /* FUTEX_WAKE_PRIVATE */, most, NULL, NULL, 0);
-#else
-    (void)word, (void)most;
-#endif
-}
-
-/* ---- Bells ----
- *
- * Who is about to sleep adds itself to the bell's sleepers, reads the bell's word, looks once more at what it waits for, and sleeps while the word is
- * that. Who has something to tell does it first, and then looks at the sleepers. Each step is sequentially consistent, but for one (leave_hall), so
- * one of the two sees the other. tools/bells.py goes through all orders of these steps, and through those of ten protocols that differ by one;
- * tools/seats.py runs this file itself, on a model of the processor's memory. */
-
-struct bell {
-    _Alignas(LINE) atomic_uint sleepers, word;
-};
-
-static struct bell bells[BELLS];
-static atomic_uint opened_halls;
-
-static void toll(struct bell *bell) {
-    atomic_fetch_add(&bell->word, 1);
-    wake_at(&bell->word, INT32_MAX);
-}
-
-static inline void ring(struct bell *bell) {
-    if (atomic_load(&bell->sleepers)) toll(bell);
-}
 
 /* ---- Halls and seats ---- */
 
@@ -103,6 +34,8 @@ struct seat {
     _Alignas(QOLB_NODE_ALIGN) qolb_node node;
     atomic_uint state;
 };
+
+static atomic_uint opened_halls;
 
 struct hall {
     _Alignas(QOLB_NODE_ALIGN) void *block; /* what malloc gave */
@@ -149,7 +82,7 @@ static struct hall *made_of(qolb_node *nodes, unsigned seats) {
     if (!block) return NULL;
     struct hall *hall = (struct hall *)(((uintptr_t)block + QOLB_NODE_ALIGN - 1) / QOLB_NODE_ALIGN * QOLB_NODE_ALIGN);
     hall->block = block;
-    hall->bell = &bells[atomic_fetch_add(&opened_halls, 1) % BELLS];
+    hall->bell = &qolb_lock_bells_[atomic_fetch_add(&opened_halls, 1) % BELLS];
     hall->seats = seats;
     hall->lent.own = (void *)((uintptr_t)hall | 1);
     atomic_init(&hall->holder, 0);
@@ -259,7 +192,7 @@ static uint32_t sleep_at_bell(struct asking *me, const struct limit *limit) {
     unsigned word = atomic_load(&bell->word);
     uint32_t got = look(me);
     uint64_t time = got == QOLB_WAITING && (me->seat || !me->met) ? left(limit) : 0;
-    if (time) sleep_at(&bell->word, word, time);
+    if (time) qolb_sleep_at_(&bell->word, word, time);
     atomic_fetch_sub(&bell->sleepers, 1);
     return got;
 }
@@ -442,12 +375,12 @@ static struct guard *guard_of(const qolb_cond *cond) {
     struct guard *guard = &guards[(uintptr_t)cond / sizeof *cond * 0x9e3779b97f4a7c15 >> 32 & (GUARDS - 1)];
     unsigned was = 0;
     if (!atomic_compare_exchange_strong(&guard->word, &was, 1))
-        while (atomic_exchange(&guard->word, 2)) sleep_at(&guard->word, 2, FOR_EVER);
+        while (atomic_exchange(&guard->word, 2)) qolb_sleep_at_(&guard->word, 2, FOR_EVER);
     return guard;
 }
 
 static void unguard(struct guard *guard) {
-    if (atomic_exchange(&guard->word, 0) == 2) wake_at(&guard->word, 1);
+    if (atomic_exchange(&guard->word, 0) == 2) qolb_wake_at_(&guard->word, 1);
 }
 
 /* The condition's last waiter; written under its guard. */
@@ -496,7 +429,7 @@ static int tell(struct waiter *waiter, unsigned what) {
     unsigned nothing = NOTHING;
     atomic_uint *word = &waiter->told;
     if (!atomic_compare_exchange_strong(word, &nothing, what)) return 0;
-    wake_at(word, 1); /* the waiter may be gone */
+    qolb_wake_at_(word, 1); /* the waiter may be gone */
     return 1;
 }
 
@@ -506,7 +439,7 @@ static unsigned await_word(struct waiter *me, uint64_t nanoseconds) {
         unsigned told = atomic_load(&me->told);
         uint64_t time = told ? 0 : left(&limit);
         if (time == 0) return told;
-        sleep_at(&me->told, NOTHING, time);
+        qolb_sleep_at_(&me->told, NOTHING, time);
     }
 }
 

@@ -64,7 +64,7 @@
  * The holder may use the line's 64 bytes too: qolb_lock_turn lends it the node, to read and to write the line with. To every other call that node is
  * misuse, and so it is after the holder has left.
  *
- * How a lock gives out its seats and how its threads sleep is tested, and not proved; every step on its line is a proved call.
+ * How a lock gives out its seats, and how threads sleep, is tested and not proved; every step on a line is a proved call.
  *
  * WORDS
  *
@@ -77,7 +77,8 @@
  * predecessor, successor: the nodes whose requests stand right before a node's own in the queue, and right behind.
  * withdrawn: a request that its node took back. It is passed when the line comes to it.
  * busy: a node whose last request is not cleared away yet, and which so may not ask again (BUSY, below).
- * label: a number of the caller's own, which qolb_label gives back. Give each line another: the thread sanitizer takes lines of one label for one.
+ * label: a number of the caller's own, which qolb_label gives back. Give each line another: waiters of lines of one label wake each other for nothing, and
+ * the thread sanitizer takes such lines for one.
  *
  * KINDS
  *
@@ -97,6 +98,7 @@
  * - Pass no null pointer, no freed one, and no two arguments that overlap.
  * - One call at a time for a handle. Different handles, of one line too, may be called by different threads at the same time.
  * - Hand a handle to another thread by a lock, a thread's start or join, or a sequentially consistent atomic.
+ * - Call for one line, or one lock, by one copy of the library: not by the static one in the program and another one in what it opens at run time.
  * - Start a lock by QOLB_LOCK_INIT or QOLB_LOCK_INIT_OF, a condition by QOLB_COND_INIT. Close a lock only where no thread is about to call it.
  * - Call nothing from a signal handler, nor in the forked child of a process with threads (PROCESSES, below).
  * - The program's malloc, realloc and free are of one allocator, which aligns as C asks.
@@ -114,14 +116,18 @@
  *
  * WAITING
  *
- * A thread that waits for a lock looks 64 times, gives the processor away 8 times, and then sleeps (on Linux by a futex) until somebody leaves the lock;
- * then it looks anew. One that waits at a condition sleeps at once.
+ * Of the calls on a node two wait for other threads: qolb_acquire and qolb_acquire_within. They look 64 times, with one pause of the processor between
+ * two looks (the instruction `pause`, some 10 to 140 cycles), give the processor away 8 times (sched_yield) with a look after each, and then sleep (on
+ * Linux by a futex, and elsewhere for 200 us at a time) until the line is let go; then they look anew. A thread that waits for a lock does the same.
+ * One that waits at a condition sleeps at once.
  *
- * No call on a node waits for another thread, but two that are in this header: qolb_acquire and qolb_acquire_within. They look 64 times,
- * with one pause of the processor between two looks (the instruction `pause`, some 10 to 140 cycles), and then give the processor away between
- * looks (sched_yield); qolb_acquire_within does so 16 times, and then sleeps between looks, first for 1 us and in the end for 200 us. So with much
- * work elsewhere it may see its turn up to 200 us late, and all who stand behind it wait that long too: when the line comes to a node, it is that
- * node's, whether it has looked or not.
+ * All that wait for a line sleep at one bell, as all that wait for a lock do. Whatever lets the line go rings it: qolb_deqolb, qolb_shut, and every call
+ * that answers CLOSED. So each release wakes all that sleep there, and those whose turn has not come look and sleep again. Lines of one label share a
+ * bell, and so do a few of different labels: they wake each other's waiters for nothing.
+ *
+ * No bell is rung for a node that is busy. It asks again 8 times, and gives the processor away between, and then asks every 200 us.
+ *
+ * When the line comes to a node, it is that node's, whether it has looked or not: all who stand behind it wait until it has woken up and had its turn.
  *
  * Nothing promises that a turn comes. It comes once each node before has been granted the line and has released it, or was withdrawn.
  *
@@ -159,6 +165,8 @@
  *
  *     struct worker { _Alignas(QOLB_NODE_ALIGN) qolb_node node; };
  *
+ * A call that lets a line go looks at one word more, and calls the system only where a thread sleeps that waits for a line.
+ *
  * No call but qolb_open, qolb_close, qolb_lock_open, qolb_lock_close and the first use of a lock uses the heap.
  *
  * SANITIZERS AND DEBUGGERS
@@ -183,7 +191,7 @@
 /* The version of this header. QOLB_VERSION is one number, 10000 for each major version, 100 for each minor one; qolb_version() is that of the
  * library that the program runs with. */
 #define QOLB_VERSION_MAJOR 1
-#define QOLB_VERSION_MINOR 3
+#define QOLB_VERSION_MINOR 4
 #define QOLB_VERSION_PATCH 0
 #define QOLB_VERSION (QOLB_VERSION_MAJOR * 10000 + QOLB_VERSION_MINOR * 100 + QOLB_VERSION_PATCH)
 
@@ -276,6 +284,14 @@ uint32_t qolb_poll(qolb_node *node) QOLB_LOOK;
 /* Looks at most `polls` times, with a pause between two. In the state QUEUED, with polls above 0: GRANTED, WAITING, CLOSED. Else MISUSE.
  * It spins meanwhile: with more threads than processors, wait for few polls, and give the processor away between two waits. */
 uint32_t qolb_wait(qolb_node *node, uint64_t polls) QOLB_LOOK;
+
+/* Asks, and waits as long as it takes, also while the node is busy. Where the node may ask: GRANTED, CLOSED. Else MISUSE. */
+uint32_t qolb_acquire(qolb_node *node) QOLB_LOOK;
+
+/* Asks, and waits at most so many nanoseconds, also while the node is busy; UINT64_MAX are as long as it takes. Where the node may ask: GRANTED,
+ * CLOSED, LATE. Else MISUSE.
+ * After LATE the node is withdrawn: it has no turn to come, and may ask again, but may be busy at first. It looks at least once. */
+uint32_t qolb_acquire_within(qolb_node *node, uint64_t nanoseconds) QOLB_LOOK;
 
 /* Takes the request back, unless it has come to its turn. In the state QUEUED: WITHDRAWN, GRANTED, CLOSED. Else MISUSE. */
 uint32_t qolb_withdraw(qolb_node *node) QOLB_LOOK;
@@ -394,7 +410,7 @@ static inline qolb_node qolb_move(qolb_node *from) {
 #endif
 #endif
 
-/* ---- Below: what the waiting calls and the sanitizer want. No name that ends in `_` is for callers. ---- */
+/* ---- Below: what the sanitizer wants. No name that ends in `_` is for callers. ---- */
 
 #ifdef QOLB_TSAN
 void __tsan_acquire(void *address);
@@ -415,6 +431,10 @@ static inline void qolb_gives_(qolb_node *node) {
 QOLB_LOOK static inline uint32_t qolb_enqolb_(qolb_node *node) { return qolb_took_(node, qolb_enqolb(node)); }
 QOLB_LOOK static inline uint32_t qolb_poll_(qolb_node *node) { return qolb_took_(node, qolb_poll(node)); }
 QOLB_LOOK static inline uint32_t qolb_wait_(qolb_node *node, uint64_t polls) { return qolb_took_(node, qolb_wait(node, polls)); }
+QOLB_LOOK static inline uint32_t qolb_acquire_(qolb_node *node) { return qolb_took_(node, qolb_acquire(node)); }
+QOLB_LOOK static inline uint32_t qolb_acquire_within_(qolb_node *node, uint64_t nanoseconds) {
+    return qolb_took_(node, qolb_acquire_within(node, nanoseconds));
+}
 QOLB_LOOK static inline uint32_t qolb_withdraw_(qolb_node *node) { return qolb_took_(node, qolb_withdraw(node)); }
 QOLB_LOOK static inline uint32_t qolb_prepend_(qolb_node *node) { return qolb_took_(node, qolb_prepend(node)); }
 QOLB_LOOK static inline uint32_t qolb_link_(qolb_node *node) { return qolb_took_(node, qolb_link(node)); }
@@ -455,6 +475,8 @@ QOLB_LOOK static inline uint32_t qolb_cond_wait_within_(qolb_cond *cond, qolb_lo
 #define qolb_enqolb qolb_enqolb_
 #define qolb_poll qolb_poll_
 #define qolb_wait qolb_wait_
+#define qolb_acquire qolb_acquire_
+#define qolb_acquire_within qolb_acquire_within_
 #define qolb_withdraw qolb_withdraw_
 #define qolb_prepend qolb_prepend_
 #define qolb_link qolb_link_
@@ -462,63 +484,7 @@ QOLB_LOOK static inline uint32_t qolb_cond_wait_within_(qolb_cond *cond, qolb_lo
 #define qolb_shut qolb_shut_
 #endif
 
-enum { QOLB_LOOKS_ = 64, QOLB_YIELDS_ = 16, QOLB_LONGEST_SLEEP_ = 200000 };
-
-/* The system's calls, by names of their own: a compiler that is told to keep to ISO C does not declare them, and with the system's headers in it this
- * one could not be imported as a header unit beside them. */
-struct qolb_time_ {
-    long seconds, nanoseconds;
-};
-int qolb_clock_gettime_(int clock, struct qolb_time_ *out) __asm__("clock_gettime");
-int qolb_nanosleep_(const struct qolb_time_ *time, struct qolb_time_ *left) __asm__("nanosleep");
-int qolb_sched_yield_(void) __asm__("sched_yield");
-int qolb_setcancelstate_(int state, int *old) __asm__("pthread_setcancelstate");
-
-/* Nanoseconds of a clock that nobody sets. */
-static inline uint64_t qolb_now_(void) {
-    struct qolb_time_ now;
-    qolb_clock_gettime_(1 /* CLOCK_MONOTONIC */, &now);
-    return QOLB_AS_(uint64_t, now.seconds) * 1000000000u + QOLB_AS_(uint64_t, now.nanoseconds);
-}
-
-/* Sleeps for less than a second. Who is cancelled meanwhile sleeps on: its request would stay in the queue. */
-static inline void qolb_sleep_(uint64_t nanoseconds) {
-    struct qolb_time_ time;
-    int cancels;
-    time.seconds = 0;
-    time.nanoseconds = QOLB_AS_(long, nanoseconds);
-    qolb_setcancelstate_(1 /* PTHREAD_CANCEL_DISABLE */, &cancels);
-    qolb_nanosleep_(&time, QOLB_NULL_);
-    qolb_setcancelstate_(cancels, &cancels);
-}
-
-/* The k-th rest between two looks of who waits at most so long since then. 0, and no rest, where the time is over. */
-static inline int qolb_rest_(unsigned k, uint64_t since, uint64_t nanoseconds) {
-    uint64_t spent = qolb_now_() - since, most;
-    if (spent >= nanoseconds) return 0;
-    if (k < QOLB_YIELDS_) {
-        qolb_sched_yield_();
-        return 1;
-    }
-    most = k - QOLB_YIELDS_ < 8 ? QOLB_AS_(uint64_t, 1000) << (k - QOLB_YIELDS_) : QOLB_AS_(uint64_t, QOLB_LONGEST_SLEEP_);
-    qolb_sleep_(most < nanoseconds - spent ? most : nanoseconds - spent);
-    return 1;
-}
-
 /* ---- For callers again. ---- */
-
-/* Asks, and waits as long as it takes, also while the node is busy. Where the node may ask: GRANTED, CLOSED. Else MISUSE. */
-QOLB_LOOK static inline uint32_t qolb_acquire(qolb_node *node) {
-    uint32_t got;
-    while ((got = qolb_enqolb(node)) == QOLB_BUSY) qolb_sched_yield_();
-    if (got != QOLB_QUEUED) return got;
-    got = qolb_wait(node, QOLB_LOOKS_);
-    while (got == QOLB_WAITING) {
-        qolb_sched_yield_();
-        got = qolb_poll(node);
-    }
-    return got;
-}
 
 /* Asks, and takes the request back if it is not granted at once. Where the node may ask: GRANTED, BUSY, CLOSED. Else MISUSE.
  * After BUSY the node has no turn to come, and may ask again; each try answers BUSY until the line has come to the request that was taken back. */
@@ -527,26 +493,6 @@ QOLB_LOOK static inline uint32_t qolb_try(qolb_node *node) {
     if (got != QOLB_QUEUED) return got;
     got = qolb_withdraw(node);
     return got == QOLB_WITHDRAWN ? QOLB_AS_(uint32_t, QOLB_BUSY) : got;
-}
-
-/* Asks, and waits at most so many nanoseconds, also while the node is busy. Where the node may ask: GRANTED, CLOSED, LATE. Else MISUSE.
- * After LATE the node is withdrawn: it has no turn to come, and may ask again, but may be busy at first. It looks at least once. */
-QOLB_LOOK static inline uint32_t qolb_acquire_within(qolb_node *node, uint64_t nanoseconds) {
-    uint64_t since = qolb_now_();
-    unsigned rests = 0;
-    uint32_t got;
-    while ((got = qolb_enqolb(node)) == QOLB_BUSY)
-        if (!qolb_rest_(rests++, since, nanoseconds)) return QOLB_LATE;
-    if (got != QOLB_QUEUED) return got;
-    got = qolb_wait(node, QOLB_LOOKS_);
-    while (got == QOLB_WAITING) {
-        if (!qolb_rest_(rests++, since, nanoseconds)) {
-            got = qolb_withdraw(node);
-            return got == QOLB_WITHDRAWN ? QOLB_AS_(uint32_t, QOLB_LATE) : got;
-        }
-        got = qolb_poll(node);
-    }
-    return got;
 }
 
 /* The name of an answer, as "QOLB_GRANTED"; "?" of a number that is none. */

@@ -36,8 +36,7 @@ use std::marker::PhantomData;
 use std::mem::MaybeUninit;
 use std::ops::{Deref, DerefMut};
 use std::ptr::{NonNull, null_mut};
-use std::thread;
-use std::time::{Duration, Instant};
+use std::time::Duration;
 
 /// How the nodes of a line wait. Take a ticket line, unless memory is short.
 #[derive(Clone, Copy, Debug, PartialEq, Eq)]
@@ -148,6 +147,8 @@ unsafe extern "C" {
     fn qolb_enqolb(node: &mut Handle) -> u32;
     fn qolb_poll(node: &mut Handle) -> u32;
     fn qolb_wait(node: &mut Handle, polls: u64) -> u32;
+    fn qolb_acquire(node: &mut Handle) -> u32;
+    fn qolb_acquire_within(node: &mut Handle, nanoseconds: u64) -> u32;
     fn qolb_withdraw(node: &mut Handle) -> u32;
     fn qolb_prepend(node: &mut Handle) -> u32;
     fn qolb_link(node: &mut Handle) -> u32;
@@ -176,18 +177,12 @@ unsafe extern "C" {
     fn qolb_cond_wait_within(cond: *mut RawCond, lock: *mut RawLock, nanoseconds: u64) -> u32;
     fn qolb_cond_signal(cond: *mut RawCond) -> u32;
     fn qolb_cond_broadcast(cond: *mut RawCond) -> u32;
-    fn pthread_setcancelstate(state: i32, old: &mut i32) -> i32;
 }
 
 /// The version of the library: 10,000 for each major version, 100 for each minor one.
 pub fn version() -> u32 {
     qolb_version()
 }
-
-/// How many looks come before a waiting call gives the processor away, and how many times it does before it sleeps, at most so long.
-const LOOKS: u64 = 64;
-const YIELDS: u32 = 16;
-const LONGEST_SLEEP: Duration = Duration::from_micros(200);
 
 /// A node of a line. A node that is dropped withdraws its request, or releases the line that it holds.
 ///
@@ -197,7 +192,8 @@ pub struct Node(UnsafeCell<Handle>);
 // SAFETY: the library has it proved that a handle may go to another thread. No call takes a `&Node`, so nothing is shared.
 unsafe impl Send for Node {}
 
-/// Opens a line, which closes at the turn that is the lease's last, if it has one. Its nodes come in their order.
+/// Opens a line, which closes at the turn that is the lease's last, if it has one. Its nodes come in their order. Give each line a label of its own:
+/// waiters of lines of one label wake each other for nothing.
 pub fn open(kind: Kind, label: u64, nodes: u64, lease: Option<u64>, opening: &Bytes) -> Result<Vec<Node>, Answer> {
     let mut handles: Vec<Handle> = (0..200).map(|_| Handle { own: null_mut() }).collect();
     // 2^64 - 1 stands for no lease; as a lease it is never used up.
@@ -318,19 +314,7 @@ impl Node {
     /// Asks, and waits as long as it takes, also while the node is busy: `Granted`, `Closed`, `Misuse`.
     #[must_use]
     pub fn acquire(&mut self) -> Answer {
-        let mut got = self.enqolb();
-        while got == Answer::Busy {
-            thread::yield_now();
-            got = self.enqolb();
-        }
-        if got == Answer::Queued {
-            got = self.wait(LOOKS);
-            while got == Answer::Waiting {
-                thread::yield_now();
-                got = self.poll();
-            }
-        }
-        got
+        told(unsafe { qolb_acquire(self.0.get_mut()) })
     }
 
     /// Asks, and takes the request back if it is not granted at once: `Granted`, `Busy`, `Closed`, `Misuse`.
@@ -346,31 +330,10 @@ impl Node {
     }
 
     /// Asks, and waits at most so long, also while the node is busy: `Granted`, `Late`, `Closed`, `Misuse`. After `Late` the node is withdrawn. It
-    /// looks at least once. Between looks it rests as `qolb.h` says.
+    /// looks at least once.
     #[must_use]
     pub fn acquire_for(&mut self, time: Duration) -> Answer {
-        let mut rests = Rests::new(time);
-        let mut got = self.enqolb();
-        while got == Answer::Busy {
-            if !rests.rest() {
-                return Answer::Late;
-            }
-            got = self.enqolb();
-        }
-        if got != Answer::Queued {
-            return got;
-        }
-        got = self.wait(LOOKS);
-        while got == Answer::Waiting {
-            if !rests.rest() {
-                return match self.withdraw() {
-                    Answer::Withdrawn => Answer::Late,
-                    got => got,
-                };
-            }
-            got = self.poll();
-        }
-        got
+        told(unsafe { qolb_acquire_within(self.0.get_mut(), nanoseconds(time)) })
     }
 
     /// Waits as long as it takes, and gives a guard that releases the line where it is dropped.
@@ -450,45 +413,6 @@ impl Drop for Guard<'_> {
     fn drop(&mut self) {
         self.0.deqolb();
     }
-}
-
-/// The rests between looks of a call that waits at most so long.
-struct Rests {
-    since: Instant,
-    time: Duration,
-    taken: u32,
-}
-
-impl Rests {
-    fn new(time: Duration) -> Rests {
-        Rests { since: Instant::now(), time, taken: 0 }
-    }
-
-    /// Gives the processor away, or sleeps. `false`, and no rest, where the time is over.
-    fn rest(&mut self) -> bool {
-        let left = self.time.saturating_sub(self.since.elapsed());
-        if left.is_zero() {
-            return false;
-        }
-        if self.taken < YIELDS {
-            thread::yield_now();
-        } else {
-            let longest = Duration::from_micros(1 << (self.taken - YIELDS).min(8)).min(LONGEST_SLEEP);
-            sleep(longest.min(left));
-        }
-        self.taken = (self.taken + 1).min(2 * YIELDS);
-        true
-    }
-}
-
-/// Sleeps. A thread that is cancelled meanwhile sleeps on: its request would stay in the queue.
-fn sleep(time: Duration) {
-    const DISABLE: i32 = 1;
-    let mut cancels = 0;
-    // SAFETY: the calls change this thread's own state alone, and the second sets it back.
-    unsafe { pthread_setcancelstate(DISABLE, &mut cancels) };
-    thread::sleep(time);
-    unsafe { pthread_setcancelstate(cancels, &mut cancels) };
 }
 
 fn stopped(answer: Answer) -> Stopped {

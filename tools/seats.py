@@ -1,5 +1,6 @@
 #!/usr/bin/env python3
-"""Goes through runs of include/lock.c itself, with two and three threads, on a model of the processor's memory (tools/seats).
+"""Goes through runs of include/lock.c, calls.c and bells.c themselves, with two and three threads that use a lock or have a node each, on a model of the
+processor's memory (tools/seats).
 
 tools/seats.py [MOST]      runs of at most so many turns of the schedule, 2: two minutes of a processor. 3 takes one minute more. It wants GCC
 
@@ -10,9 +11,9 @@ sequentially consistent, releasing and acquiring steps is not tried; but two acc
 is plain: what a lock keeps about its holder, its waiters and its seats, and what it guards. The line is a model, each of whose calls takes one step,
 or two; that it does so is proved elsewhere.
 
-In no run may a thread sleep that nobody wakes, two have the lock at once, a node be called by two threads or out of its order, freed memory be touched,
-or an answer be wrong. Each lock that differs by one fault must fail in some run, or this program does not see what it is for. It ends with 1 at the first
-of these that is not so.
+In no run may a thread sleep that nobody wakes, two have the lock or the line at once, a node be called by two threads or out of its order, freed memory be
+touched, or an answer be wrong. Each library that differs by one fault must fail in some run, or this program does not see what it is for. It ends with 1
+at the first of these that is not so.
 """
 
 import pathlib
@@ -21,13 +22,15 @@ import sys
 import tempfile
 
 ROOT = pathlib.Path(__file__).resolve().parent.parent
-SOURCE = (ROOT / "include/lock.c").read_text()
+SOURCES = {name: (ROOT / "include" / name).read_text() for name in ("lock.c", "calls.c", "bells.c", "bells.h")}
 RENAMED = [f"-D{name}=model_{short}" for name, short in (("malloc", "malloc"), ("free", "free"), ("syscall", "syscall"), ("sched_yield", "yield"), ("clock_gettime", "clock"))]
 
 LEAVING = "    atomic_store_explicit(&seat->state, LEAVING, memory_order_release);\n"
 FREED = "    atomic_store_explicit(&seat->state, FREE, memory_order_release);\n    ring(bell);\n"
 LOOK = "    unsigned word = atomic_load(&bell->word);\n    uint32_t got = look(me);\n"
 COUNT = "    atomic_fetch_add(&bell->sleepers, 1);\n"
+ANYWHERE = "    atomic_fetch_add(&anywhere.sleepers, 1);\n"
+NODE_LOOK = "    unsigned word = atomic_load(&bell->word);\n    uint32_t got = qolb_poll_proved_(node);\n"
 FAULTS = {
     "nobody says that a seat is about to be free": (LEAVING, ""),
     "a thread sleeps though it met such a seat": ("(me->seat || !me->met)", "1"),
@@ -39,37 +42,52 @@ FAULTS = {
     "the word is read after the second look": (LOOK, "".join(reversed(LOOK.splitlines(True)))),
     "there is no second look": (LOOK, LOOK.replace("look(me)", "QOLB_WAITING")),
     "nothing is added to the word": ("    atomic_fetch_add(&bell->word, 1);\n", ""),
-    "one alone is woken": ("wake_at(&bell->word, INT32_MAX)", "wake_at(&bell->word, 1)"),
+    "one alone is woken": ("qolb_wake_at_(&bell->word, INT32_MAX)", "qolb_wake_at_(&bell->word, 1)"),
     "a seat is taken without a look at whether it is free": ("state != FREE || !atomic_compare_exchange_strong(&seat->state, &state, TAKEN)", "atomic_exchange(&seat->state, TAKEN) == LEAVING"),
     "the hall is found by a relaxed load": ("__atomic_load_n(&lock->own, __ATOMIC_ACQUIRE)", "__atomic_load_n(&lock->own, __ATOMIC_RELAXED)"),
     "who is late keeps its seat": ("    } else if (me->seat) {\n", "    } else if (me->seat && got != QOLB_LATE) {\n"),
     "a busy seat is asked no more": ("        atomic_store(&seat->state, FREE);\n    } else {", "    } else {"),
     "a lock is closed while a seat is about to be free": ("if (state != LEAVING) {", "if (state != FREE) {"),
     "who waits stands in the list after it has left": ("    stand(cond, hall, &me);\n    atomic_fetch_add(&hall->guests, 1);\n    leave_hall(hall, qolb_deqolb_proved_);\n", "    atomic_fetch_add(&hall->guests, 1);\n    leave_hall(hall, qolb_deqolb_proved_);\n    stand(cond, hall, &me);\n"),
-    "who is told is not woken": ("    wake_at(word, 1); /* the waiter may be gone */\n", ""),
-    "a condition's list has no guard": ("    if (!atomic_compare_exchange_strong(&guard->word, &was, 1))\n        while (atomic_exchange(&guard->word, 2)) sleep_at(&guard->word, 2, FOR_EVER);\n", "    (void)was;\n"),
-    "a guard wakes nobody": (" == 2) wake_at(&guard->word, 1);", " == 2) return;"),
+    "who is told is not woken": ("    qolb_wake_at_(word, 1); /* the waiter may be gone */\n", ""),
+    "a condition's list has no guard": ("    if (!atomic_compare_exchange_strong(&guard->word, &was, 1))\n        while (atomic_exchange(&guard->word, 2)) qolb_sleep_at_(&guard->word, 2, FOR_EVER);\n", "    (void)was;\n"),
+    "a guard wakes nobody": (" == 2) qolb_wake_at_(&guard->word, 1);", " == 2) return;"),
     "who is late stays in the condition's list": ("told != SIGNALLED && stand_no_more(cond, &me)", "0"),
     "who was told stays in the lock's list": ("        stand_no_more_in(&me);\n", ""),
     "a shut reads behind one that it told": ("        beside = it->beside;\n        tell(it, SHUT);\n", "        tell(it, SHUT);\n        beside = it->beside;\n"),
     "a shut tells nobody": ("        tell(it, SHUT);\n", ""),
+    "nodes: the sleeper does not count itself at its bell": (COUNT + ANYWHERE, ANYWHERE),
+    "nodes: the sleeper does not count itself at any bell": (COUNT + ANYWHERE, COUNT),
+    "nodes: the word is read after the second look": (NODE_LOOK, "".join(reversed(NODE_LOOK.splitlines(True)))),
+    "nodes: there is no second look": (NODE_LOOK, NODE_LOOK.replace("qolb_poll_proved_(node)", "QOLB_WAITING")),
+    "nodes: the second look comes before the count": (COUNT + ANYWHERE + NODE_LOOK, NODE_LOOK.split("\n", 1)[1] + COUNT + ANYWHERE + NODE_LOOK.split("\n", 1)[0] + "\n"),
+    "nodes: who releases rings no bell": ("MOVES(qolb_deqolb, let_go)", "MOVES(qolb_deqolb, told)"),
+    "nodes: who is told that the line is closed rings no bell": ("got == QOLB_CLOSED ? let_go(node, got) : got", "(void)node, got"),
+    "nodes: who is told so while it waits rings no bell": ("    return told(node, got);\n", "    return got;\n"),
+    "nodes: who shuts the line rings no bell": ("MOVES(qolb_shut, let_go)", "MOVES(qolb_shut, told)"),
+    "nodes: who is late does not withdraw": ("uint32_t got = qolb_withdraw_proved_(node);", "uint32_t got = QOLB_WITHDRAWN;"),
 }
 
 
-def replaced(text, old, new):
-    if text.count(old) != 1:
-        sys.exit(f"lock.c has this {text.count(old)} times, and not once: {old!r}")
-    return text.replace(old, new)
+def replaced(sources, old, new):
+    """The sources with this in place of that, which must be there once in all."""
+    times = sum(text.count(old) for text in sources.values())
+    if times != 1:
+        sys.exit(f"the library has this {times} times, and not once: {old!r}")
+    return {name: text.replace(old, new) for name, text in sources.items()}
 
 
-def built(folder, source):
-    """The explorer over this lock."""
-    lock = folder / "lock.c"
-    lock.write_text(replaced(source, "YIELDS = 8", "YIELDS = 1"))
-    compiler = ["cc", "-std=c11", "-I", ROOT / "include", "-I", ROOT / "tools/seats"]
-    told = ["-fsanitize=thread", "-U__SANITIZE_THREAD__", f'-DLOCK="{lock}"', *RENAMED]
-    subprocess.run([*compiler, "-O1", *told, "-c", ROOT / "tools/seats/scenes.c", "-o", folder / "scenes.o"], check=True)
-    subprocess.run([*compiler, "-O2", ROOT / "tools/seats/explorer.c", ROOT / "tools/seats/line.c", folder / "scenes.o", "-o", folder / "explorer"], check=True)
+def built(folder, sources):
+    """The explorer over this library."""
+    for name, text in replaced(sources, "YIELDS = 8", "YIELDS = 1").items():
+        (folder / name).write_text(text)
+    compiler = ["cc", "-std=c11", "-I", folder, "-I", ROOT / "include", "-I", ROOT / "tools/seats"]
+    told = ["-fsanitize=thread", "-U__SANITIZE_THREAD__", f'-DLOCK="{folder}/lock.c"', *RENAMED]
+    objects = []
+    for source in (ROOT / "tools/seats/scenes.c", folder / "calls.c", folder / "bells.c"):
+        objects.append(folder / f"{source.stem}.o")
+        subprocess.run([*compiler, "-O1", *told, "-c", source, "-o", objects[-1]], check=True)
+    subprocess.run([*compiler, "-O2", ROOT / "tools/seats/explorer.c", ROOT / "tools/seats/line.c", *objects, "-o", folder / "explorer"], check=True)
     return folder / "explorer"
 
 
@@ -79,8 +97,8 @@ def run(explorer, most):
     return done.stdout.splitlines(), done.returncode == 0
 
 
-def must_fail(folder, fault, source):
-    explorer = built(folder, source)
+def must_fail(folder, fault, sources):
+    explorer = built(folder, sources)
     for most in (1, 2, 3):
         told, well = run(explorer, most)
         if not well:
@@ -93,12 +111,12 @@ def main():
     most = int(sys.argv[1]) if len(sys.argv) > 1 else 2
     with tempfile.TemporaryDirectory() as name:
         folder = pathlib.Path(name)
-        told, well = run(built(folder, SOURCE), most)
+        told, well = run(built(folder, SOURCES), most)
         if not well:
             sys.exit(f"as it is: {told[-1]}")
         print(f"as it is: {sum(int(line.rsplit(' ', 2)[1]) for line in told):,} runs of {len(told)} scenes go well", flush=True)
         for fault, (old, new) in FAULTS.items():
-            must_fail(folder, fault, replaced(SOURCE, old, new))
+            must_fail(folder, fault, replaced(SOURCES, old, new))
 
 
 main()

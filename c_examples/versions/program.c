@@ -1,5 +1,5 @@
-/* A program that is linked with the library of one release, and runs with that of another. With -DCALLS_OF_1_1 it makes calls that came with 1.1, and with
- * -DCALLS_OF_1_3 those that came with 1.3. */
+/* A program that is linked with the library of one release, and runs with that of another. With -DCALLS_OF_1_1 it makes calls that came with 1.1, and so
+ * with -DCALLS_OF_1_3 and -DCALLS_OF_1_4. */
 #include <qolb.h>
 #include <stdio.h>
 
@@ -8,13 +8,17 @@ int main(void) {
     qolb_node node = {0};
     puts("begins");
     fflush(stdout);
-    if (qolb_open(QOLB_RING, 7, 1, 3, &zeros, &node, 1) != QOLB_DONE || qolb_acquire(&node) != QOLB_GRANTED) return 2;
+    if (qolb_open(QOLB_RING, 7, 1, 3, &zeros, &node, 1) != QOLB_DONE || qolb_enqolb(&node) != QOLB_GRANTED) return 2;
 #ifdef CALLS_OF_1_1
     if (qolb_turns_left(&node) != 3 || qolb_label(&node) != 7 || qolb_version() < 10100) return 3;
 #endif
 #ifdef CALLS_OF_1_3
     static qolb_lock lock = QOLB_LOCK_INIT(2);
     if (qolb_lock_enter(&lock) != QOLB_GRANTED || qolb_lock_leave(&lock) != QOLB_DONE || qolb_lock_close(&lock) != QOLB_DONE) return 5;
+#endif
+#ifdef CALLS_OF_1_4
+    if (qolb_deqolb(&node) != QOLB_DONE || qolb_acquire_within(&node, 1) != QOLB_GRANTED) return 6;
+    if (qolb_deqolb(&node) != QOLB_DONE || qolb_acquire(&node) != QOLB_GRANTED || qolb_version() < 10400) return 7;
 #endif
     if (qolb_deqolb(&node) != QOLB_DONE || qolb_close(&node) != QOLB_DONE) return 4;
     puts("ends");

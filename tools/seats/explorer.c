@@ -264,7 +264,9 @@ long model_syscall(long number, ...) {
     uint32_t value = va_arg(rest, uint32_t);
     step(0);
     show_all();
-    if (what == 128) sleeps(word, value, va_arg(rest, void *) != NULL);
+    const struct timespec *time = what == 128 ? va_arg(rest, const struct timespec *) : NULL;
+    if (time && time->tv_sec == 0 && time->tv_nsec < MS) step(1); /* a nap, from which nobody wakes it */
+    else if (what == 128) sleeps(word, value, time != NULL);
     else wakes(word, (int)value);
     va_end(rest);
     return 0;

@@ -10,12 +10,14 @@ struct clock {
     unsigned at[THREADS + 1];
 };
 
-/* What so many threads do at the same time, each by its number, over a lock of this kind and so many seats, which may be opened before. */
+/* What so many threads do at the same time, each by its number, over a lock of this kind and so many seats, which is opened at its first use or before; or
+ * with a node each of a line of this kind. */
+enum { AT_FIRST_USE, BEFORE, WITH_NODES };
 struct scene {
     const char *name;
     void (*does)(int self);
     uint32_t kind, seats;
-    int threads, opened;
+    int threads, opens;
 };
 
 /* What a thread has of its own in lock.c. */

@@ -91,3 +91,15 @@ uint32_t qolb_open(uint32_t kind, uint64_t label, uint64_t nodes, uint64_t lease
     }
     return QOLB_DONE;
 }
+
+/* Asking in halves, reading and writing are in no scene. All lines have one label. */
+uint32_t qolb_prepend_proved_(qolb_node *node) { return (void)node, MUST(0), 0; }
+uint32_t qolb_link_proved_(qolb_node *node) { return (void)node, MUST(0), 0; }
+uint32_t qolb_read_proved_(qolb_node *node, qolb_bytes *out) { return (void)node, (void)out, MUST(0), 0; }
+uint32_t qolb_write_proved_(qolb_node *node, uint64_t mask, const qolb_bytes *bytes) { return (void)node, (void)mask, (void)bytes, MUST(0), 0; }
+uint32_t qolb_read_lane_proved_(qolb_node *node, uint64_t lane, uint64_t *out) { return (void)node, (void)lane, (void)out, MUST(0), 0; }
+uint32_t qolb_write_lane_proved_(qolb_node *node, uint64_t lane, uint64_t value) { return (void)node, (void)lane, (void)value, MUST(0), 0; }
+uint64_t qolb_turns_left_proved_(qolb_node *node) { return (void)node, MUST(0), 0; }
+uint64_t qolb_number_proved_(qolb_node *node) { return (void)node, MUST(0), 0; }
+uint64_t qolb_label_proved_(qolb_node *node) { return (void)node, 1; }
+uint32_t qolb_state_proved_(qolb_node *node) { return (void)node, MUST(0), 0; }

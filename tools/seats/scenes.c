@@ -1,9 +1,10 @@
-/* What threads do with a lock in the runs that explorer.c makes. The lock, include/lock.c or one that differs by a fault, is in here too; all is built with
- * -fsanitize=thread, by which the compiler tells of each access to memory by a call, and explorer.c is what answers those calls. */
+/* What threads do with a lock, or with a node each, in the runs that explorer.c makes. The lock, include/lock.c or one that differs by a fault, is in here
+ * too; it, calls.c and bells.c are built with -fsanitize=thread, by which the compiler tells of each access to memory by a call, and explorer.c is what
+ * answers those calls. */
 #include LOCK
 #include "explorer.h"
 
-static struct { qolb_lock lock; qolb_cond cond; int turns, inside, users, has; } it;
+static struct { qolb_lock lock; qolb_cond cond; struct { _Alignas(QOLB_NODE_ALIGN) qolb_node node; } of[THREADS]; int turns, inside, users, has; } it;
 
 static void turn(void) {
     MUST(it.inside++ == 0);
@@ -87,37 +88,110 @@ static void waits_until_shut(int self) {
     uses_its_stack();
 }
 
+/* ---- Threads that have a node each ---- */
+
+static void releases_turn(int self) {
+    turn();
+    MUST(qolb_deqolb(&it.of[self].node) == QOLB_DONE);
+}
+
+static void acquires_once(int self) {
+    MUST(qolb_acquire(&it.of[self].node) == QOLB_GRANTED);
+    releases_turn(self);
+}
+
+static void acquires_twice(int self) { acquires_once(self), acquires_once(self); }
+
+static void acquires_in_time(int self) {
+    uint32_t got = self ? qolb_acquire_within(&it.of[self].node, MS) : qolb_acquire(&it.of[self].node);
+    if (got == QOLB_LATE) return;
+    MUST(got == QOLB_GRANTED);
+    releases_turn(self);
+}
+
+static void acquires_in_time_and_again(int self) { acquires_in_time(self), acquires_once(self); }
+
+/* As one of an older program: it looks on, gives the processor away, and sleeps nowhere. */
+static uint32_t looks_on(int self) {
+    qolb_node *node = &it.of[self].node;
+    uint32_t got = qolb_enqolb(node);
+    while (got == QOLB_QUEUED || got == QOLB_WAITING) {
+        sched_yield();
+        got = qolb_poll(node);
+    }
+    return got;
+}
+
+static void one_looks_on(int self) {
+    MUST((self == 1 ? looks_on(1) : qolb_acquire(&it.of[self].node)) == QOLB_GRANTED);
+    releases_turn(self);
+}
+
+static void one_withdraws(int self) {
+    uint32_t got = self == 1 ? qolb_try(&it.of[1].node) : qolb_acquire(&it.of[self].node);
+    if (got == QOLB_BUSY) return;
+    MUST(got == QOLB_GRANTED);
+    releases_turn(self);
+}
+
+static void shuts_line(int self, uint32_t got) {
+    if (got == QOLB_CLOSED) return;
+    MUST(got == QOLB_GRANTED);
+    turn();
+    MUST((self ? qolb_deqolb : qolb_shut)(&it.of[self].node) == QOLB_DONE);
+}
+
+static void one_shuts(int self) { shuts_line(self, qolb_acquire(&it.of[self].node)); }
+
+static void one_shuts_and_one_looks_on(int self) { shuts_line(self, self == 1 ? looks_on(1) : qolb_acquire(&it.of[self].node)); }
+
 const struct scene scenes[] = {
-    {"each enters, at the first use", enters, QOLB_TICKET, 3, 2, 0},
-    {"three enter", enters, QOLB_TICKET, 3, 3, 1},
-    {"three enter, who link", enters, QOLB_LIST, 2, 3, 1},
-    {"three want the only seat", enters, QOLB_TICKET, 1, 3, 1},
-    {"two want two seats twice, and link", enters_twice, QOLB_LIST, 2, 2, 1},
-    {"two want the only seat twice", enters_twice, QOLB_TICKET, 1, 2, 1},
-    {"two are late", is_late, QOLB_TICKET, 2, 3, 1},
-    {"one is late and comes again", is_late_and_comes_again, QOLB_TICKET, 2, 2, 1},
-    {"one tries", tries, QOLB_TICKET, 2, 3, 1},
-    {"one shuts", shuts, QOLB_TICKET, 3, 3, 1},
-    {"one shuts, and there is one seat", shuts, QOLB_TICKET, 1, 3, 1},
-    {"the last frees", last_frees, QOLB_TICKET, 2, 3, 1},
-    {"two wait at a condition, one not for ever", waits, QOLB_TICKET, 3, 3, 1},
-    {"two wait at a condition until one shuts", waits_until_shut, QOLB_TICKET, 3, 3, 1},
+    {"each enters, at the first use", enters, QOLB_TICKET, 3, 2, AT_FIRST_USE},
+    {"three enter", enters, QOLB_TICKET, 3, 3, BEFORE},
+    {"three enter, who link", enters, QOLB_LIST, 2, 3, BEFORE},
+    {"three want the only seat", enters, QOLB_TICKET, 1, 3, BEFORE},
+    {"two want two seats twice, and link", enters_twice, QOLB_LIST, 2, 2, BEFORE},
+    {"two want the only seat twice", enters_twice, QOLB_TICKET, 1, 2, BEFORE},
+    {"two are late", is_late, QOLB_TICKET, 2, 3, BEFORE},
+    {"one is late and comes again", is_late_and_comes_again, QOLB_TICKET, 2, 2, BEFORE},
+    {"one tries", tries, QOLB_TICKET, 2, 3, BEFORE},
+    {"one shuts", shuts, QOLB_TICKET, 3, 3, BEFORE},
+    {"one shuts, and there is one seat", shuts, QOLB_TICKET, 1, 3, BEFORE},
+    {"the last frees", last_frees, QOLB_TICKET, 2, 3, BEFORE},
+    {"two wait at a condition, one not for ever", waits, QOLB_TICKET, 3, 3, BEFORE},
+    {"two wait at a condition until one shuts", waits_until_shut, QOLB_TICKET, 3, 3, BEFORE},
+    {"nodes: three acquire", acquires_once, QOLB_TICKET, 3, 3, WITH_NODES},
+    {"nodes: three acquire, who link", acquires_once, QOLB_LIST, 3, 3, WITH_NODES},
+    {"nodes: two acquire twice", acquires_twice, QOLB_TICKET, 2, 2, WITH_NODES},
+    {"nodes: two acquire twice, and link", acquires_twice, QOLB_LIST, 2, 2, WITH_NODES},
+    {"nodes: two are late", acquires_in_time, QOLB_TICKET, 3, 3, WITH_NODES},
+    {"nodes: one is late and comes again", acquires_in_time_and_again, QOLB_TICKET, 2, 2, WITH_NODES},
+    {"nodes: one looks on", one_looks_on, QOLB_TICKET, 3, 3, WITH_NODES},
+    {"nodes: one withdraws", one_withdraws, QOLB_TICKET, 3, 3, WITH_NODES},
+    {"nodes: one shuts", one_shuts, QOLB_TICKET, 3, 3, WITH_NODES},
+    {"nodes: one shuts, and one looks on", one_shuts_and_one_looks_on, QOLB_TICKET, 3, 3, WITH_NODES},
     {NULL, NULL, 0, 0, 0, 0},
 };
 
 /* Before each run all is as where the program starts. */
 void set_up(const struct scene *scene) {
-    memset(bells, 0, sizeof bells), memset(guards, 0, sizeof guards), memset(&it, 0, sizeof it);
+    static const qolb_bytes zeros;
+    qolb_node nodes[THREADS] = {{0}};
+    memset(qolb_lock_bells_, 0, sizeof qolb_lock_bells_), memset(qolb_line_bells_, 0, sizeof qolb_line_bells_);
+    memset(guards, 0, sizeof guards), memset(&it, 0, sizeof it);
     opened_halls = 0;
     self = 0, last_seat = 0;
     it.lock.kind = scene->kind, it.lock.seats = scene->seats, it.users = scene->threads;
-    if (scene->opened) MUST(qolb_lock_open(&it.lock, scene->kind, 0, scene->seats, &(qolb_bytes){{0}}) == QOLB_DONE);
+    if (scene->opens == BEFORE) MUST(qolb_lock_open(&it.lock, scene->kind, 0, scene->seats, &zeros) == QOLB_DONE);
+    if (scene->opens != WITH_NODES) return;
+    MUST(qolb_open(scene->kind, 0, (uint64_t)scene->threads, QOLB_NO_LEASE, &zeros, nodes, THREADS) == QOLB_DONE);
+    for (int k = 0; k < scene->threads; k++) it.of[k].node = nodes[k];
 }
 
 /* All threads have ended. */
 void check_end(const struct scene *scene) {
-    MUST(scene->does != enters || it.turns == scene->threads);
-    MUST(scene->does != enters_twice || it.turns == 2 * scene->threads);
+    MUST((scene->does != enters && scene->does != acquires_once) || it.turns == scene->threads);
+    MUST((scene->does != enters_twice && scene->does != acquires_twice) || it.turns == 2 * scene->threads);
     MUST(!it.lock.own || hall_of(&it.lock)->waits == NULL);
     MUST(qolb_lock_holder(&it.lock) == 0 && it.inside == 0 && it.cond.own == NULL);
     MUST(qolb_lock_close(&it.lock) == QOLB_DONE && it.lock.own == NULL);

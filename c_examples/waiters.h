@@ -1,0 +1,73 @@
+/* For tests of threads that wait: what a program wants to be so, the time, and whether a thread sleeps. */
+#ifndef WAITERS_H
+#define WAITERS_H
+
+#include <pthread.h>
+#include <sched.h>
+#include <stdatomic.h>
+#include <stdint.h>
+#include <stdio.h>
+#include <stdlib.h>
+#include <sys/resource.h>
+#include <time.h>
+#include <unistd.h>
+
+enum { US = 1000, MS = 1000000 };
+
+#define WANT(call, wanted)                                                                     \
+    do {                                                                                       \
+        unsigned long long got_ = (unsigned long long)(call);                                  \
+        if (got_ != (unsigned long long)(wanted)) {                                            \
+            printf("line %d: %s gave %llu\n", __LINE__, #call, got_);                          \
+            return 1;                                                                          \
+        }                                                                                      \
+    } while (0)
+
+/* For a thread that cannot answer. */
+#define MUST(call, wanted)                                                                     \
+    do {                                                                                       \
+        unsigned long long got_ = (unsigned long long)(call);                                  \
+        if (got_ != (unsigned long long)(wanted)) {                                            \
+            printf("line %d: %s gave %llu\n", __LINE__, #call, got_);                          \
+            exit(1);                                                                           \
+        }                                                                                      \
+    } while (0)
+
+static inline double seconds(clockid_t clock) {
+    struct timespec time;
+    clock_gettime(clock, &time);
+    return (double)time.tv_sec + (double)time.tv_nsec / 1e9;
+}
+
+/* What the calling thread has used: seconds of a processor, and how often it gave it away to sleep. */
+struct used {
+    double processor;
+    long sleeps;
+};
+
+static inline struct used used(void) {
+    struct rusage it;
+    getrusage(RUSAGE_THREAD, &it);
+    return (struct used){(double)(it.ru_utime.tv_sec + it.ru_stime.tv_sec) + (double)(it.ru_utime.tv_usec + it.ru_stime.tv_usec) / 1e6, it.ru_nvcsw};
+}
+
+/* A thread says its number right before it waits, and so it sleeps nowhere else. */
+static inline void about_to_wait(atomic_int *number) { atomic_store(number, gettid()); }
+
+/* Until the thread that says this number sleeps, or has ended: then it has asked. */
+static inline void until_asleep(atomic_int *number) {
+    char name[64], state = 'R';
+    while (atomic_load(number) == 0) sched_yield();
+    snprintf(name, sizeof name, "/proc/self/task/%d/stat", atomic_load(number));
+    while (state != 'S') {
+        FILE *stat = fopen(name, "r");
+        if (!stat) return;
+        if (fscanf(stat, "%*d (%*[^)]) %c", &state) != 1) state = 'R';
+        fclose(stat);
+        usleep(200);
+    }
+}
+
+static inline uint32_t drawn(uint32_t *seed) { return (*seed = *seed * 1664525 + 1013904223) >> 8; }
+
+#endif
