@@ -30,7 +30,7 @@ With --log it tries nothing: it reads what a run of `rt ci` or `rt must-fail` sa
 `answer`, `goal` (one that the tactics no longer prove, by whatever name), `names`, `limit` (the prover gave up), ALIVE or BROKEN. With --record, too,
 those lines go to RECORD, for edits of which it has none with the same sum: the run must have been one of this very checkout.
 
-  tools/edits.py [--jobs N] [--only WORD] [--anew] [--proved] [--keep FOLDER] [CRATE ..]
+  tools/edits.py [--jobs N] [--only WORD] [--anew] [--proved] [--not-in-gate] [--keep FOLDER] [CRATE ..]
   tools/edits.py --log FILE [--record] [--only WORD] [CRATE ..]
 """
 
@@ -74,6 +74,7 @@ class Body:
             self.touches = {self.crate.name}
         # Bodies of one batch are tried one after another.
         self.batch = file.name if self.is_patch else self.crate.name
+        self.in_gate = file.parent.name == "must-fail"
 
     def takes_all_memory(self):
         return self.is_patch and self.head["Test"].rpartition("::")[2] in left_out(self.crate)
@@ -91,7 +92,8 @@ class Record:
 
     def __init__(self, crates):
         self.crates, self.sums = crates, {}
-        self.kit = subprocess.run(["rt", "version"], capture_output=True, text=True).stdout
+        # Not the kit's own name: kits of one logic prove alike.
+        self.logic = subprocess.run(["rt", "version"], capture_output=True, text=True).stdout.partition("logic ")[2]
         git = lambda *words: subprocess.run(["git", *words], cwd=ROOT, capture_output=True, text=True).stdout.strip()
         self.commit = git("rev-parse", "--short", "HEAD") + ("+" if git("status", "--porcelain", "crates") else "")
 
@@ -104,7 +106,7 @@ class Record:
         return self.sums[name]
 
     def sum(self, body):
-        parts = [self.kit, body.text, *(self.of_crate(it) for it in [*below(self.crates, body.crate.name), body.crate.name])]
+        parts = [self.logic, body.text, *(self.of_crate(it) for it in [*below(self.crates, body.crate.name), body.crate.name])]
         return hashlib.sha256("\n".join(parts).encode()).hexdigest()[:12]
 
     def read(self):
@@ -268,7 +270,7 @@ def try_all(crates, bodies, record, args):
     lost = []
 
     def start(name, _jobs):
-        more = ["--anew"] * args.anew + ["--proved"] * args.proved + (["--keep", args.keep] if args.keep else [])
+        more = ["--anew"] * args.anew + ["--proved"] * args.proved + ["--not-in-gate"] * args.not_in_gate + (["--keep", args.keep] if args.keep else [])
         return spawn([sys.executable, __file__, "--batch", name, "--only", args.only, *more], ROOT)
 
     def ended(name, status, _seconds):
@@ -288,6 +290,7 @@ def main():
     parser.add_argument("--only", default="", help="only bodies whose names contain this")
     parser.add_argument("--anew", action="store_true", help="also those that were tried as they are")
     parser.add_argument("--proved", action="store_true", help="also those whose tests must be proved to be run")
+    parser.add_argument("--not-in-gate", action="store_true", help="not those of must-fail/, which a run of the gate tries (--log)")
     parser.add_argument("--keep", type=os.path.abspath, help="where to keep what was said, a file a body")
     parser.add_argument("--log", help="the log of a run of rt ci or rt must-fail")
     parser.add_argument("--record", action="store_true", help="keep what the log says of edits that are not known")
@@ -301,7 +304,8 @@ def main():
     record = Record(crates)
     bodies = [it for it in bodies_of(crates, args.names, args.only) if not args.batch or it.batch == args.batch]
     is_known = lambda body: not args.anew and (record.known(body) or ["BROKEN"])[0] != "BROKEN"
-    left = [it for it in bodies if not is_known(it) and (args.proved or not it.takes_all_memory())]
+    is_meant = lambda body: (args.proved or not body.takes_all_memory()) and not (args.not_in_gate and body.in_gate)
+    left = [it for it in bodies if is_meant(it) and not is_known(it)]
     if args.batch:
         return try_batch(crates, left, record, args)
     done = not left or try_all(crates, left, record, args)

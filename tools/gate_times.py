@@ -4,10 +4,11 @@
     tools/gate_times.py [--anew] [--folder CHECKOUT] [--log FILE] [NAME ..]
     tools/gate_times.py --functions [NAME ..]
 
-It starts `rt ci` (with `--anew` and the names, if given) in the checkout, with RT_JOBS as .ci/run sets it, and looks at its processes in /proc twice
-a second. The kinds: the crate's proof; that of its tests; the seed, a check which its wrong bodies begin with; the wrong bodies. A check that ends
-loses what it took since the last look; the total is the system's own count. The longest chain is that of checks of which each waits for the one
-before, in processor minutes, which are minutes by the clock where each check has one job. What `rt ci` says goes to the log. It ends as `rt ci` does.
+It starts `rt ci` (with the names, if given) in the checkout, with RT_JOBS as .ci/run sets it, and looks at its processes in /proc twice a second.
+With `--anew` it takes nothing from earlier runs: a toolchain that keeps what passed is told so, and any other keeps nothing. The kinds: the crate's
+proof; that of its tests; the seed, a check which its wrong bodies begin with, where the toolchain makes one; the wrong bodies. A check that ends loses
+what it took since the last look; the total is the system's own count. The longest chain is that of checks of which each waits for the one before, in
+processor minutes, which are minutes by the clock where each check has one job. What `rt ci` says goes to the log. It ends as `rt ci` does.
 
 With --functions it checks each crate that is named (all, if none is) at one job, over nothing kept, with its tests, and says which twenty functions
 take the prover longest, as tools/times.py does. Crates below must be proved (tools/prove). Times are by the clock: let nothing else run.
@@ -141,7 +142,8 @@ def table(crates, watch):
 def gate(args, crates):
     """Runs the gate, watched; its status."""
     jobs = os.environ.get("RT_JOBS") or str(lanes())
-    words = ["rt", "ci", *["--anew"] * args.anew, *args.names]
+    keeps = "--anew" in subprocess.run(["rt", "help"], capture_output=True, text=True).stderr
+    words = ["rt", "ci", *["--anew"] * (args.anew and keeps), *args.names]
     began = time.monotonic()
     with open(args.log, "w") as log:
         running = spawn(["env", f"RT_JOBS={jobs}", *words], args.folder, log)
