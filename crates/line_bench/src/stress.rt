@@ -1,5 +1,6 @@
 //! Nodes that ask, look, withdraw, write and release at random, until one of them closes the line.
-ghost use Rattle.std.specs.Prelude.{◌≡◌, ◌≢◌, abs_diff, IsTrue};
+ghost use Rattle.std.specs.Prelude.{◌≡◌, ◌≢◌, IsTrue};
+ghost use Rattle.std.specs.Int.{abs_diff};
 ghost use Rattle.qolb_model.specs.PortStates.{may_ask};
 ghost use Rattle.qolb_model.specs.Turns.{IsGranted};
 

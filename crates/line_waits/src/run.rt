@@ -1,5 +1,6 @@
 //! A run: a line is opened, its nodes take their turns together, the line is taken apart, and what came of it is printed.
-ghost use Rattle.std.specs.Prelude.{◌≡◌, ◌≤◌, ◌*◌, ◌/◌, abs_diff, max, IfOk};
+ghost use Rattle.std.specs.Prelude.{◌≡◌, ◌≤◌, ◌*◌, ◌/◌, max, IfOk};
+ghost use Rattle.std.specs.Int.{abs_diff};
 ghost use Rattle.std.specs.Duration.{as_nanos};
 
 use crate::turns::{Plan, Turns, Waiter};
