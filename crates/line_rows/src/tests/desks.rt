@@ -9,7 +9,7 @@ use crate::desks::{
 };
 use crate::opened::{open_zeros, with_last, with_two};
 use crate::transfers::{ACCOUNTS, PAID_IN, Settled, transfer_at_random};
-use crate::tries::Tries;
+use crate::tries::Thrice;
 use hoard::{GRAIN, Siege};
 use line_accounts::{AccountLaw, Desk, Reply, SettleError};
 use line_lanes::Line64;
@@ -350,22 +350,18 @@ where
     assert_eq!(rt; beside_a_holder::<L>(alloc), Some(want));
 }
 
-/// What node 2 and the desk of node 1 answer while node 2 has the line, and how often node 1 was busy.
-fn at_a_busy_desk<L: OpenLine<AccountLaw> + Sleeping<AccountLaw> + Drop>(
-    alloc: Global,
-) -> Option<(Enq, [Reply; 4], u64)>
+/// What node 2 and the desk of node 1 answer while node 2 has the line.
+fn at_a_busy_desk<L: OpenLine<AccountLaw> + Drop>(alloc: Global) -> Option<(Enq, [Reply; 4])>
 where
     L::Port: Drop,
 {
-    let tries = Tries::none();
     let (line, port, mut other) = shared_accounts::<L>(alloc, None)?;
-    let line = HookedLine::with(&tries, line);
     let (lines, mut desk) = over_one(alloc, line, port)?;
-    let (asked, answers) = busy(&lines, &mut desk, &lines[0], &mut other, 10);
-    Some((asked, answers, tries.count()))
+    Some(busy(&lines, &mut desk, &lines[0], &mut other, 10))
 }
 
-/// However patient they are, a payment and a transfer ask once for a line at which the desk's node is busy.
+/// However patient they are, two payments and a transfer ask once each for a line at which the desk's node is busy: a line that lets nobody go
+/// who asks more often.
 pub(super) fn a_busy_desk_asks_once<
     R: Abort,
     L: OpenLine<AccountLaw> + Sleeping<AccountLaw> + Drop,
@@ -374,8 +370,8 @@ where
     L::Port: Drop,
 {
     let answers = [Reply::Late, Reply::Busy, Reply::Busy, Reply::Busy];
-    let want = Some((Enq::Granted, answers, 3));
-    assert_eq!(rt; at_a_busy_desk::<L>(alloc), want);
+    let want = Some((Enq::Granted, answers));
+    assert_eq!(rt; at_a_busy_desk::<HookedLine<Thrice, L>>(alloc), want);
 }
 
 /// What node 2 and the desk of node 1 answer over two lines, the second with a lease of one turn, which a transfer that waits for the
