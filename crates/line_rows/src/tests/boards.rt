@@ -132,10 +132,10 @@ where
 }
 
 /// However patient it is, a node that is busy asks once.
-pub(super) fn a_busy_node_asks_once<
-    R: Abort,
-    L: OpenLine<BoardLaw> + Sleeping<BoardLaw> + Drop,
->(rt: &R, alloc: Global)
+pub(super) fn a_busy_node_asks_once<R: Abort, L: OpenLine<BoardLaw> + Sleeping<BoardLaw> + Drop>(
+    rt: &R,
+    alloc: Global,
+)
 where
     L::Port: Drop,
 {

@@ -4,8 +4,8 @@ ghost use Rattle.line_accounts.specs.Desks.{IsDeskOver};
 ghost use Rattle.line_accounts.specs.NewDesks.{IsNewPort};
 
 use crate::desks::{
-    a_day, across, busy, found_by, late, leased, limits, lower_line_first, over, over_one, over_two,
-    settle_with,
+    a_day, across, busy, found_by, late, leased, limits, lower_line_first, over, over_one,
+    over_two, settle_with,
 };
 use crate::opened::{open_zeros, with_last, with_two};
 use crate::transfers::{ACCOUNTS, PAID_IN, Settled, transfer_at_random};
