@@ -7,12 +7,14 @@ processors.
 A failed read must end with status 4, `read fault` and nothing on standard output; a failed write with 4 and `write fault`; a refused script
 or command line with its own status whatever becomes of standard output and error; no run by a signal. Words that are no text are refused.
 Scripts of 100,000 commands, events and jobs, and pictures of 20 million letters, are answered whole. Workers sleep while they wait where that
-is asked for, and else not: by how often they give their processor up of their own. Work says how far it is where that is asked for. Needs Linux.
+is asked for, and else not: by how often they give their processor up of their own. Where nobody sleeps a release wakes nobody, by the calls
+of the system that strace tells, if it is installed. Work says how far it is where that is asked for. Needs Linux.
 """
 
 import os
 import re
 import resource
+import shutil
 import signal
 import socket
 import subprocess
@@ -228,10 +230,11 @@ def largest_picture(program):
 
 
 # Jobs of so many workers at one line, a turn of the line each. Whoever waits awake gives the processor up a hundred times at most, other than to
-# who wants it; whoever sleeps, for each wait that is long.
+# who wants it; whoever sleeps, for each wait that is long. A run in which nobody sleeps makes few calls that wake: at the ends of its threads.
 CROWD = 8
 TURNS = 12_000
 FEW_SLEEPS = 1_000
+FEW_WAKES = 100
 
 
 def crowded_script(task):
@@ -257,6 +260,25 @@ def sleepers(program):
                 if (slept > FEW_SLEEPS) != bool(words):
                     raise Wrong(f"{task} of {kind} {words}: {slept} times")
         print(f"{task}: {CROWD} workers sleep, and do not, as it is asked for", flush=True)
+
+
+def nobody_is_woken(program):
+    """Awake workers make few calls that wake, as each thread's end does, and none for each turn: a release looks for sleepers before it wakes."""
+    strace = shutil.which("strace")
+    if not strace or subprocess.run([strace, "-o", os.devnull, "true"], capture_output=True).returncode:
+        print("whom awake workers wake was not looked at: there is no strace, or it may not trace", flush=True)
+        return
+    script = crowded_script("board")
+    for kind in LOCKS:
+        with tempfile.NamedTemporaryFile() as calls:
+            told = ["-f", "-qq", "-e", "trace=futex", "-o", calls.name]
+            found = run(strace, [*told, program, "board", "--kind", kind], script)
+            wakes = calls.read().count(b"FUTEX_WAKE")
+        if not is_right(answer_to("board", script), found):
+            raise Wrong(f"a board of {kind} under strace: {found}")
+        if wakes > FEW_WAKES:
+            raise Wrong(f"awake workers of {kind} wake {wakes} times")
+    print(f"{CROWD} awake workers wake nobody", flush=True)
 
 
 def progress_is_told(program):
@@ -324,6 +346,7 @@ def main():
         longest_scripts(program)
         largest_picture(program)
         sleepers(program)
+        nobody_is_woken(program)
         progress_is_told(program)
         many_workers(program)
     except Wrong as wrong:

@@ -150,7 +150,10 @@ def apply_edit(crate, text):
 
 
 def harmless(text):
-    """The same edit made harmless, where it adds a condition: one that never holds, or always."""
+    """The same edit made harmless: as it says itself (`harmless: TEXT` below `new:`), or where it adds a condition, with one that never holds, or always."""
+    said = re.sub(r"^new: .*\nharmless: (.*)$", r"new: \1", text, flags=re.M)
+    if said != text:
+        return said
     lines = text.splitlines()
     for place, line in enumerate(lines):
         found = re.match(r"(new: .*?) (\|\||&&) (.+?)( \{|;|)$", line)

@@ -7,6 +7,8 @@ import re
 NAMES_ALONE = re.compile(r"is not in scope|has no field|has no `|was not admitted")
 # The compiler refused the text, before any goal.
 NO_CODE = re.compile(r"^.*\berror\[[\w-]+\].*$", re.M)
+# Declarations that rest on others which were refused: these, and those.
+UNCHECKED = re.compile(r"^\./proofs/(\S+)/Answers\.antt:\d+:\d+: error: \d+ declarations? that depends? on (.*?), which \w+ rejected, \w+ not checked: (.*)$", re.M)
 VERDICT = re.compile(r"^logic=", re.M)
 
 
@@ -43,6 +45,10 @@ def by_check(log, goals):
     log = re.sub(r"^so far: ", "", log, flags=re.M)
     refused = re.findall(r"^\./proofs/(\S+)/(?:Answers|Invariants)\.antt:\d+:\d+: error: `([^`]+)`(.*)$", log, re.M)
     answers = {(folder, goal) for folder, goal, why in refused if not NAMES_ALONE.search(why)}
+    # An answer rests on a lemma beside it that no longer holds.
+    for folder, lemmas, rest in UNCHECKED.findall(log):
+        if any((folder, lemma) in answers for lemma in re.findall(r"`([^`]+)`", lemmas)):
+            answers |= {(folder, goal) for goal in re.split(r",\s*", rest.strip())}
     gone = "no longer" in log or re.search(r"Answers\.antt:\d+:\d+: error: .*(is not in scope|has no `)", log)
     held = sorted((folder, goal) for folder, goal in answers if goal in goals.get(folder, set()))
     if held:

@@ -6,6 +6,7 @@ ghost use Rattle.qolb_model.specs.PortStates.{may_ask};
 
 mod asking;
 mod law;
+mod pace;
 mod rounds;
 mod run;
 mod stress;
@@ -16,6 +17,7 @@ use clap::{Arg, ArgAction, ArgMatches, Command};
 use law::Rising;
 use line_lanes::lane;
 use locks::{Lines, LinkLine, NAMES, RingLine, TicketLine};
+use pace::Pace;
 use qolb_model::{LineSync, OpenLine};
 use rounds::Rounds;
 use run::{RunError, open, run_task};
@@ -239,15 +241,14 @@ where
 {
     let start = Instant::now(rt)?;
     let last = run_task(rt, alloc, line, ports, &Rounds { rounds })?;
-    let nanos = start.elapsed(rt)?.as_nanos().max(1);
-    let sum = lane(&last, 0);
-    let all = (u128::from(threads) * u128::from(rounds)).max(1);
-    let tenths = nanos * 10 / all;
-    let each_second = all.saturating_mul(1_000_000_000) / nanos;
+    let pace = Pace::of(threads, rounds, start.elapsed(rt)?);
     println!(rt;
-        "threads {threads} rounds {all} lane sum {sum} ns a round {}.{} rounds a second {each_second}",
-        tenths / 10,
-        tenths % 10
+        "threads {threads} rounds {} lane sum {} ns a round {}.{} rounds a second {}",
+        pace.rounds,
+        lane(&last, 0),
+        pace.tenths / 10,
+        pace.tenths % 10,
+        pace.each_second
     )?;
     Ok(())
 }
@@ -275,7 +276,7 @@ where
     let last = run_task(rt, alloc, line, ports, &task)?;
     let counts = task.counts();
     let late = task.asking().late_links();
-    let lost = counts.grants.abs_diff(lane(&last, 0));
+    let lost = counts.lost(lane(&last, 0));
     println!(rt;
         "threads {threads} rounds {} grants {} withdrawals {} busy {} late links {late} told {} lost {lost}",
         counts.rounds, counts.grants, counts.withdrawals, counts.busy, counts.told

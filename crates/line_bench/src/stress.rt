@@ -1,5 +1,6 @@
 //! Nodes that ask, look, withdraw, write and release at random, until one of them closes the line.
 ghost use Rattle.std.specs.Prelude.{◌≡◌, ◌≢◌, IsTrue};
+ghost use Rattle.std.specs.Int.{abs_diff};
 ghost use Rattle.qolb_model.specs.PortStates.{may_ask};
 ghost use Rattle.qolb_model.specs.Turns.{IsGranted};
 
@@ -30,6 +31,15 @@ pub struct Counts {
     pub busy: u64,
     /// How often it was told that the line is closed.
     pub told: u64,
+}
+
+impl Counts {
+    /// How far this number in the first lane is from the number of additions.
+    pub fn lost(&self, added: u64) -> u64
+        ensures { result ≡ abs_diff self.now.grants added }
+    {
+        self.grants.abs_diff(added)
+    }
 }
 
 /// The nodes' work: until the time is over, and then until the line is closed.

@@ -72,6 +72,28 @@ pub fn late_node<L: LineSync<BoardLaw>>(
     Some(([late, busy, stored], state, takes))
 }
 
+/// While another holds the line, a put that gives up at once, and then a put and a take with so much patience. `None` where the other is not
+/// granted the line.
+pub fn busy_node<L: LineSync<BoardLaw>>(
+    line: &L,
+    holder: &mut L::Port,
+    port: &mut L::Port,
+    patience: u64,
+) -> Option<([Put; 2], Take)>
+    requires belongs_holder { L.belongs line.now holder.old }
+    requires belongs { L.belongs line.now port.old }
+    requires state_holder { IsTrue (may_ask (L.view holder.old).state) }
+    requires state { IsTrue (may_ask (L.view port.old).state) }
+{
+    match line.enqolb(holder) {
+        Enq::Granted => {}
+        _ => return None,
+    }
+    let late = put(line, port, 5, 0);
+    let busy = put(line, port, 6, patience);
+    Some(([late, busy], take(line, port, patience)))
+}
+
 /// A put, two takes, the port's state, and then a put and a take: over a line with a lease of three turns.
 pub fn three_turns<L: LineSync<BoardLaw>>(
     line: &L,

@@ -156,6 +156,27 @@ pub fn late<L: LineSync<AccountLaw>>(
     (asked, [paid, moved, again, taken])
 }
 
+/// While another node holds the line of account 0, a payment into it that gives up at once, and then one into it, one out of it and a transfer
+/// with so much patience.
+pub fn busy<L: LineSync<AccountLaw>>(
+    lines: &[L],
+    desk: &mut Desk<L>,
+    line: &L,
+    other: &mut L::Port,
+    patience: u64,
+) -> (Enq, [Reply; 4])
+    requires over { IsDeskOver L.belongs L.view lines.now desk.old }
+    requires other { L.belongs line.now other.old }
+    requires quiet { IsTrue (may_ask (L.view other.old).state) }
+{
+    let asked = line.enqolb(other);
+    let late = deposit(lines, desk, 0, 10, 0);
+    let paid = deposit(lines, desk, 0, 10, patience);
+    let taken = take_out(lines, desk, 0, 10, patience);
+    let moved = transfer(lines, desk, 0, 1, 10, patience);
+    (asked, [late, paid, taken, moved])
+}
+
 /// A deposit and a transfer, the two turns of the first line's lease; then a deposit there, and a payment out of the second line.
 pub fn leased<L: LineSync<AccountLaw>>(lines: &[L], desk: &mut Desk<L>) -> [Reply; 4]
     requires { IsDeskOver L.belongs L.view lines.now desk.old }

@@ -17,3 +17,5 @@ mod producers;
 mod tests;
 #[cfg(test)]
 mod transfers;
+#[cfg(test)]
+mod tries;

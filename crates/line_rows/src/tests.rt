@@ -7,7 +7,7 @@ mod desks;
 use line_accounts::AccountLaw;
 use line_board::BoardLaw;
 use link_line::LinkLine;
-use qolb_model::{Free, OpenLine};
+use qolb_model::{Free, OpenLine, Sleeping};
 use ring_line::RingLine;
 use std::alloc::Global;
 use std::process::Abort;
@@ -17,16 +17,17 @@ use std::thread::Threads;
 use ticket_line::TicketLine;
 
 /// Each row of the board, over lines of this type.
-fn each_board<R: Threads + Wait + Sync + Abort, L: OpenLine<BoardLaw> + Sync + Drop>(
-    rt: &R,
-    alloc: Global,
-) -> Result<(), Fail>
+fn each_board<
+    R: Threads + Wait + Sync + Abort,
+    L: OpenLine<BoardLaw> + Sleeping<BoardLaw> + Sync + Drop,
+>(rt: &R, alloc: Global) -> Result<(), Fail>
 where
     L::Port: Send + Drop,
 {
     boards::tasks_are_taken_in_their_order::<R, L>(rt, alloc)?;
     boards::tasks_lie_in_the_line::<R, L>(rt, alloc);
     boards::a_late_node_is_busy_until_it_is_passed::<R, L>(rt, alloc);
+    boards::a_busy_node_asks_once::<R, L>(rt, alloc);
     boards::a_lease_ends_a_board::<R, L>(rt, alloc);
     boards::each_task_is_taken_once::<R, L>(rt, alloc)
 }
@@ -40,11 +41,10 @@ enum Part {
 }
 
 /// The part, over lines of this type.
-fn try_desks<R: Threads + Wait + Sync + Abort, L: OpenLine<AccountLaw> + Sync + Drop>(
-    rt: &R,
-    alloc: Global,
-    part: Part,
-) -> Result<(), Fail>
+fn try_desks<
+    R: Threads + Wait + Sync + Abort,
+    L: OpenLine<AccountLaw> + Sleeping<AccountLaw> + Sync + Drop,
+>(rt: &R, alloc: Global, part: Part) -> Result<(), Fail>
 where
     L::Port: Send + Drop,
 {
@@ -57,10 +57,10 @@ where
 }
 
 /// Each row of desks, over lines of this type.
-fn each_desk<R: Threads + Wait + Sync + Abort, L: OpenLine<AccountLaw> + Sync + Drop>(
-    rt: &R,
-    alloc: Global,
-) -> Result<(), Fail>
+fn each_desk<
+    R: Threads + Wait + Sync + Abort,
+    L: OpenLine<AccountLaw> + Sleeping<AccountLaw> + Sync + Drop,
+>(rt: &R, alloc: Global) -> Result<(), Fail>
 where
     L::Port: Send + Drop,
 {
@@ -72,6 +72,7 @@ where
     desks::a_transfer_keeps_the_limit::<R, L>(rt, alloc);
     desks::a_lease_closes_the_line::<R, L>(rt, alloc);
     desks::a_late_transfer_moves_nothing::<R, L>(rt, alloc);
+    desks::a_busy_desk_asks_once::<R, L>(rt, alloc);
     desks::the_lower_line_is_asked_for_first::<R, L>(rt, alloc, 0, 9);
     desks::the_lower_line_is_asked_for_first::<R, L>(rt, alloc, 9, 0);
     desks::what_was_paid_in_is_settled::<R, L>(rt, alloc)

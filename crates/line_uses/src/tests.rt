@@ -1,5 +1,5 @@
-//! The uses, over all lines. What is tried is written for any line, and each lock is named once: it takes the prover some seconds to see that
-//! a lock is a line, wherever it is named.
+//! The uses, over all lines. What is tried is written for any line, and the locks are named in one place: it takes the prover some seconds to
+//! see that a lock is a line, wherever it is named.
 mod again;
 mod asleep;
 mod counted;
@@ -15,10 +15,9 @@ use crate::{counter, fair, mailbox, seats};
 use counted::Counting;
 use held::for_nodes;
 use line_threads::{Got, HookedLine, acquire};
-use link_line::LinkLine;
+use locks::{ALL, Lines, over_named};
 use parked::NoHooks;
 use qolb_model::{Free, OpenLine, PortState};
-use ring_line::RingLine;
 use seats::House;
 use std::alloc::Global;
 use std::process::Abort;
@@ -26,7 +25,6 @@ use std::rt::Clock;
 use std::sync::Wait;
 use std::test::Fail;
 use std::thread::Threads;
-use ticket_line::TicketLine;
 
 /// What is tried over lines of one type.
 #[derive(Clone, Copy)]
@@ -92,39 +90,26 @@ where
     Ok(())
 }
 
-fn over_rings<R: Threads + Wait + Clock + Abort + Sync>(
+/// The row over lines of this name.
+fn over<R: Threads + Wait + Clock + Abort + Sync>(
     rt: &R,
     alloc: Global,
+    lines: Lines,
     row: Row,
 ) -> Result<(), Fail> {
-    try_over::<_, RingLine<Free>>(rt, alloc, row)
+    over_named!(lines, try_over, [R], [Free], (rt, alloc, row))
 }
 
-fn over_lists<R: Threads + Wait + Clock + Abort + Sync>(
-    rt: &R,
-    alloc: Global,
-    row: Row,
-) -> Result<(), Fail> {
-    try_over::<_, LinkLine<Free>>(rt, alloc, row)
-}
-
-fn over_ticket_lines<R: Threads + Wait + Clock + Abort + Sync>(
-    rt: &R,
-    alloc: Global,
-    row: Row,
-) -> Result<(), Fail> {
-    try_over::<_, TicketLine<Free>>(rt, alloc, row)
-}
-
-/// The row over each lock.
+/// The row over each lock that there is.
 fn over_each<R: Threads + Wait + Clock + Abort + Sync>(
     rt: &R,
     alloc: Global,
     row: Row,
 ) -> Result<(), Fail> {
-    over_rings(rt, alloc, row)?;
-    over_lists(rt, alloc, row)?;
-    over_ticket_lines(rt, alloc, row)
+    for lines in ALL {
+        over(rt, alloc, lines, row)?;
+    }
+    Ok(())
 }
 
 /// Three threads count to 3,000; a line has 1 to 200 nodes.
@@ -153,6 +138,11 @@ where
         let found = seats::sell::<R, H>(rt, alloc, clerks, customers);
         assert_eq!(rt; found, sold, "by {clerks} clerks to {customers} each");
     }
+}
+
+/// The house over lines of this name.
+fn sell_over<R: Threads + Wait + Abort + Sync>(rt: &R, alloc: Global, lines: Lines) {
+    over_named!(lines, the_house_is_sold_out, [R], [House], (rt, alloc))
 }
 
 /// A line of one node: its node is granted it, closes it, and is then told so. What it was answered, with its state after each.
@@ -239,10 +229,9 @@ fn a_value_lies_in_its_lane(rt: HostRuntime) -> Result<(), Fail> {
 
 #[test]
 fn no_more_seats_are_sold_than_there_are(rt: HostRuntime) -> Result<(), Fail> {
-    let alloc = rt.alloc();
-    the_house_is_sold_out::<_, RingLine<House>>(&rt, alloc);
-    the_house_is_sold_out::<_, LinkLine<House>>(&rt, alloc);
-    the_house_is_sold_out::<_, TicketLine<House>>(&rt, alloc);
+    for lines in ALL {
+        sell_over(&rt, rt.alloc(), lines);
+    }
     Ok(())
 }
 
@@ -263,17 +252,17 @@ fn a_late_node_asks_again(rt: HostRuntime) -> Result<(), Fail> {
 
 #[test]
 fn waiters_sleep_at_a_ring(rt: HostRuntime) -> Result<(), Fail> {
-    over_rings(&rt, rt.alloc(), Row::Waits)
+    over(&rt, rt.alloc(), Lines::Ring, Row::Waits)
 }
 
 #[test]
 fn waiters_sleep_at_a_list(rt: HostRuntime) -> Result<(), Fail> {
-    over_lists(&rt, rt.alloc(), Row::Waits)
+    over(&rt, rt.alloc(), Lines::Link, Row::Waits)
 }
 
 #[test]
 fn waiters_sleep_at_a_ticket_line(rt: HostRuntime) -> Result<(), Fail> {
-    over_ticket_lines(&rt, rt.alloc(), Row::Waits)
+    over(&rt, rt.alloc(), Lines::Ticket, Row::Waits)
 }
 
 #[test]

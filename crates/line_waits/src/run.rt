@@ -1,4 +1,8 @@
 //! A run: a line is opened, its nodes take their turns together, the line is taken apart, and what came of it is printed.
+ghost use Rattle.std.specs.Prelude.{◌≡◌, ◌≤◌, ◌*◌, ◌/◌, max, IfOk};
+ghost use Rattle.std.specs.Int.{abs_diff};
+ghost use Rattle.std.specs.Duration.{as_nanos};
+
 use crate::turns::{Plan, Turns, Waiter};
 use line_lanes::{Line64, lane};
 use line_threads::together::together;
@@ -30,18 +34,35 @@ pub enum RunError {
 #[derive(Clone, Copy)]
 struct Came {
     turns: u64,
-    /// How far the first lane is from the number of turns.
-    lost: u64,
+    /// The number in the first lane.
+    added: u64,
     /// From before the first thread was started until the line was taken apart.
     time: Duration,
     longest: Duration,
 }
 
 impl Came {
+    /// How far the first lane is from the number of turns.
+    fn lost(&self) -> u64
+        ensures { result ≡ abs_diff self.now.turns self.now.added }
+    {
+        self.turns.abs_diff(self.added)
+    }
+
+    /// The turns a second, rounded down.
+    fn each_second(&self) -> u128
+        ensures { result ≡ self.now.turns * 1_000_000_000 / max (as_nanos self.now.time) 1 }
+    {
+        u128::from(self.turns) * 1_000_000_000 / self.time.as_nanos().max(1)
+    }
+
     /// A lost addition is an error, and so is a run without a turn: each node asks once at least.
-    fn check(&self) -> Result<(), RunError> {
-        if self.lost > 0 {
-            Err(RunError::Lost(self.lost))
+    fn check(&self) -> Result<(), RunError>
+        ensures none_lost { IfOk result (λ _. self.now.added ≡ self.now.turns) }
+        ensures some { IfOk result (λ _. 1 ≤ self.now.turns) }
+    {
+        if self.added != self.turns {
+            Err(RunError::Lost(self.lost()))
         } else if self.turns == 0 {
             Err(RunError::NoTurns)
         } else {
@@ -66,7 +87,8 @@ pub fn try_each<R: Threads + Wait + Clock + Print + Sync>(
             let came = run_over(rt, alloc, lines, plan)?;
             println!(rt;
                 "{lines:?} {waiter:?} threads {} lost {}",
-                plan.threads, came.lost
+                plan.threads,
+                came.lost()
             )?;
             came.check()?;
         }
@@ -82,13 +104,13 @@ pub fn measure<R: Threads + Wait + Clock + Print + Sync>(
     plan: Plan,
 ) -> anyhow::Result<()> {
     let came = run_over(rt, alloc, lines, plan)?;
-    let each_second = u128::from(came.turns) * 1_000_000_000 / came.time.as_nanos().max(1);
     println!(rt;
-        "threads {} us a turn {} turns {} lost {} turns a second {each_second} longest wait us {}",
+        "threads {} us a turn {} turns {} lost {} turns a second {} longest wait us {}",
         plan.threads,
         plan.turn.as_micros(),
         came.turns,
-        came.lost,
+        came.lost(),
+        came.each_second(),
         came.longest.as_micros()
     )?;
     came.check()?;
@@ -130,10 +152,9 @@ where
         Ok(last) => last,
         Err(back) => return Err(RunError::Finish(back.why).into()),
     };
-    let turns = work.turns();
     Ok(Came {
-        turns,
-        lost: turns.abs_diff(lane(&last, 0)),
+        turns: work.turns(),
+        added: lane(&last, 0),
         time: start.elapsed(rt)?,
         longest: work.longest(),
     })

@@ -1,6 +1,6 @@
 //! Replays of scripts by lines of each kind.
 use linked_list_allocator::LocalHeap;
-use locks::TicketLine;
+use locks::{ALL, Lines, TicketLine};
 use qolb_model::{Free, OpenLine};
 use qolb_run::{Kind, ReplayError, read_all, run_schedule, run_schedule_over};
 use qolb_script::{ScriptError, Watched};
@@ -9,7 +9,26 @@ use std::io;
 use std::io::{Read, Write};
 use std::test::Fail;
 
-static KINDS: [Kind; 4] = [Kind::Plain, Kind::Ring, Kind::Link, Kind::Ticket];
+pub(crate) static KINDS: [Kind; 4] = [Kind::Plain, Kind::Ring, Kind::Link, Kind::Ticket];
+
+/// The kind of lines that nodes share by this lock.
+fn kind_of(lines: Lines) -> Kind {
+    match lines {
+        Lines::Ring => Kind::Ring,
+        Lines::Link => Kind::Link,
+        Lines::Ticket => Kind::Ticket,
+    }
+}
+
+#[test]
+fn kinds_are_the_plain_one_and_each_lock(rt: HostRuntime) -> Result<(), Fail> {
+    assert_eq!(rt; KINDS.len(), ALL.len() + 1);
+    assert_eq!(rt; KINDS[0], Kind::Plain);
+    for (lines, kind) in ALL.iter().zip(KINDS.iter().skip(1)) {
+        assert_eq!(rt; *kind, kind_of(*lines));
+    }
+    Ok(())
+}
 
 /// What a replay of the script writes.
 fn reply_to(alloc: Global, script: &str, kind: Kind) -> Result<String, Fail> {

@@ -1,4 +1,5 @@
 //! Replays in a room of memory: lines of each type take what is theirs.
+use crate::replays::KINDS;
 use hoard::Siege;
 use locks::TicketLine;
 use qolb_model::Free;
@@ -16,6 +17,15 @@ static BY_SIZE: [Kind; 4] = [Kind::Plain, Kind::Link, Kind::Ring, Kind::Ticket];
 
 /// Rooms, in KB, in each of which eight lines of one kind more find place.
 static ROOMS: [usize; 4] = [300, 490, 750, 1_200];
+
+#[test]
+fn each_kind_has_its_size(rt: HostRuntime) -> Result<(), Fail> {
+    assert_eq!(rt; BY_SIZE.len(), KINDS.len());
+    for kind in &KINDS {
+        assert!(rt; BY_SIZE.contains(kind), "{kind:?}");
+    }
+    Ok(())
+}
 
 /// What comes of a replay of eight lines for 200 nodes, of this kind, in a room of so many KB.
 fn replayed(

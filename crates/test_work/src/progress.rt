@@ -3,6 +3,7 @@ use line_threads::together::{Work, together};
 use qolb_run::{Gate, Progress};
 use std::alloc::Global;
 use std::fmt::Display;
+use std::hint::spin_loop;
 use std::io;
 use std::rt::Clock;
 use std::sync::Wait;
@@ -65,11 +66,19 @@ fn expecting<'a>(alloc: Global, expected: &'a [&'a str]) -> Console<'a> {
     }
 }
 
-/// How many seconds two workers meet in.
-const SECONDS: u64 = 1_000;
+/// How many seconds two workers meet in, and how often two begin anew: on a busy machine some of them get two processors.
+const SECONDS: u64 = 200;
+
+const PAIRS: u32 = 30;
+
+/// How many pauses one of them is later than the other at most.
+const PAUSES: u64 = 64;
 
 /// A clock at which two workers meet: each reading waits for that of the other, and the n-th of each says n seconds. Before they meet it says
 /// that no second has gone by. It counts what is said.
+///
+/// Whoever comes last to a meeting would go on some steps before the other, which has to see it. So it pauses, a little longer in each second,
+/// and in some of them both go on at the same time.
 #[derive(Drop)]
 struct Meeting {
     meets: AtomicBool,
@@ -82,19 +91,36 @@ impl Clock for Meeting {
         if !self.meets.load(Ordering::SeqCst) {
             return Ok(Duration::ZERO);
         }
-        let second = self.readings.fetch_add(1, Ordering::SeqCst) / 2;
-        // Until both have come.
-        for _ in 0..u64::MAX {
-            if self.readings.load(Ordering::SeqCst) / 2 > second {
-                break;
+        let reading = self.readings.fetch_add(1, Ordering::SeqCst);
+        let second = reading / 2;
+        if reading % 2 == 0 {
+            self.wait_for_the_other(second);
+        } else {
+            for _ in 0..second % PAUSES {
+                spin_loop();
             }
-            yield_now();
         }
         Ok(Duration::from_secs(second.saturating_add(1)))
     }
 
     fn since_1970(&self) -> io::Result<Duration> {
         self.monotonic()
+    }
+}
+
+impl Meeting {
+    /// Waits until both have come in this second: at first awake, so as to see it at once, and then while others have the processor.
+    fn wait_for_the_other(&self, second: u64) {
+        for waits in 0..u64::MAX {
+            if self.readings.load(Ordering::SeqCst) / 2 > second {
+                return;
+            }
+            if waits < 1_000 {
+                spin_loop();
+            } else {
+                yield_now();
+            }
+        }
     }
 }
 
@@ -128,20 +154,30 @@ impl<R: Wait, G: Gate> Work<R, G, u64> for InEachSecond {
     }
 }
 
-#[test]
-fn two_workers_say_each_second_once(rt: HostRuntime) -> Result<(), Fail> {
+/// How many lines two workers say that meet in each second. `None` if a thread was refused, or one of them might not do a job.
+fn said_by_two<T: Threads + Wait + Sync>(rt: &T, alloc: Global) -> Option<u64> {
     let clock = Meeting {
         meets: AtomicBool::new(false),
         readings: AtomicU64::new(0),
         lines: AtomicU64::new(0),
     };
-    let gate = Progress::new(&clock)?;
-    gate.begins(2_000);
+    let gate = Progress::new(&clock).ok()?;
+    gate.begins(1_000);
     clock.meets.store(true, Ordering::SeqCst);
-    let workers = vec![in rt.alloc(); 1, 2]?;
-    let asked = together(&rt, rt.alloc(), &InEachSecond, &gate, workers).ok_or("threads")?;
-    assert!(rt; asked.iter().all(|may| *may));
-    assert_eq!(rt; clock.lines.load(Ordering::SeqCst), SECONDS);
+    let workers = vec![in alloc; 1, 2].ok()?;
+    let asked = together(rt, alloc, &InEachSecond, &gate, workers)?;
+    if asked.iter().all(|may| *may) {
+        Some(clock.lines.load(Ordering::SeqCst))
+    } else {
+        None
+    }
+}
+
+#[test]
+fn two_workers_say_each_second_once(rt: HostRuntime) -> Result<(), Fail> {
+    for _ in 0..PAIRS {
+        assert_eq!(rt; said_by_two(&rt, rt.alloc()), Some(SECONDS));
+    }
     Ok(())
 }
 

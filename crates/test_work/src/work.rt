@@ -1,7 +1,7 @@
 //! Workers that share lines, over lines of each kind, awake and asleep.
 ghost use Rattle.std.specs.Prelude.{◌<◌};
 
-use locks::{ALL, Lines};
+use locks::{ALL, Lines, NAMES};
 use qolb_run::{AlwaysOpen, Gate, RunError, Waits, run_work, run_work_with};
 use qolb_script::{Report, WorkKind, read_work};
 use std::alloc::Global;
@@ -35,6 +35,7 @@ pub(crate) fn expect<R: Threads + Wait + Abort + Sync, G: Gate + Sync>(
 #[test]
 fn all_locks_are_these(rt: HostRuntime) -> Result<(), Fail> {
     assert_eq!(rt; ALL, [Lines::Ring, Lines::Link, Lines::Ticket]);
+    assert_eq!(rt; NAMES, ["ring", "link", "ticket"]);
     Ok(())
 }
 

@@ -2,11 +2,13 @@
 ghost use Rattle.std.specs.Prelude.{IfSome};
 ghost use Rattle.line_accounts.specs.NewDesks.{IsNewPort};
 
-use crate::boards::{eight_tasks, late_node, three_turns, two_tasks};
+use crate::boards::{busy_node, eight_tasks, late_node, three_turns, two_tasks};
 use crate::opened::{open_zeros, with_last, with_two};
 use crate::producers::{Handed, hand_over};
+use crate::tries::Tries;
 use line_board::{BoardLaw, Put, Take};
-use qolb_model::{OpenLine, PortState};
+use line_threads::HookedLine;
+use qolb_model::{OpenLine, PortState, Sleeping};
 use std::alloc::Global;
 use std::process::Abort;
 use std::sync::Wait;
@@ -113,6 +115,32 @@ where
     let takes = [Take::Task(5), Take::Empty];
     let want = Some((puts, PortState::Rolled, takes));
     assert_eq!(rt; a_late_node::<L>(alloc), want);
+}
+
+/// What a busy node is answered, and how often it was busy.
+fn a_busy_node<L: OpenLine<BoardLaw> + Sleeping<BoardLaw> + Drop>(
+    alloc: Global,
+) -> Option<([Put; 2], Take, u64)>
+where
+    L::Port: Drop,
+{
+    let tries = Tries::none();
+    let (line, mut holder, mut port) = shared_board::<L>(alloc)?;
+    let line = HookedLine::with(&tries, line);
+    let (puts, found) = busy_node(&line, &mut holder, &mut port, 10)?;
+    Some((puts, found, tries.count()))
+}
+
+/// However patient it is, a node that is busy asks once.
+pub(super) fn a_busy_node_asks_once<R: Abort, L: OpenLine<BoardLaw> + Sleeping<BoardLaw> + Drop>(
+    rt: &R,
+    alloc: Global,
+)
+where
+    L::Port: Drop,
+{
+    let want = Some(([Put::Late, Put::Busy], Take::Busy, 2));
+    assert_eq!(rt; a_busy_node::<L>(alloc), want);
 }
 
 /// What a board with a lease of three turns answers.

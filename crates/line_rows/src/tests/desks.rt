@@ -4,15 +4,17 @@ ghost use Rattle.line_accounts.specs.Desks.{IsDeskOver};
 ghost use Rattle.line_accounts.specs.NewDesks.{IsNewPort};
 
 use crate::desks::{
-    a_day, across, found_by, late, leased, limits, lower_line_first, over, over_one, over_two,
-    settle_with,
+    a_day, across, busy, found_by, late, leased, limits, lower_line_first, over, over_one,
+    over_two, settle_with,
 };
 use crate::opened::{open_zeros, with_last, with_two};
 use crate::transfers::{ACCOUNTS, PAID_IN, Settled, transfer_at_random};
+use crate::tries::Thrice;
 use hoard::{GRAIN, Siege};
 use line_accounts::{AccountLaw, Desk, Reply, SettleError};
 use line_lanes::Line64;
-use qolb_model::{Enq, LineSync, OpenLine};
+use line_threads::HookedLine;
+use qolb_model::{Enq, LineSync, OpenLine, Sleeping};
 use std::alloc::Global;
 use std::process::Abort;
 use std::sync::Wait;
@@ -346,6 +348,30 @@ where
         refusal: Some((SettleError::Missing { line: 0, node: 2 }, Some((2, 1)))),
     };
     assert_eq!(rt; beside_a_holder::<L>(alloc), Some(want));
+}
+
+/// What node 2 and the desk of node 1 answer while node 2 has the line.
+fn at_a_busy_desk<L: OpenLine<AccountLaw> + Drop>(alloc: Global) -> Option<(Enq, [Reply; 4])>
+where
+    L::Port: Drop,
+{
+    let (line, port, mut other) = shared_accounts::<L>(alloc, None)?;
+    let (lines, mut desk) = over_one(alloc, line, port)?;
+    Some(busy(&lines, &mut desk, &lines[0], &mut other, 10))
+}
+
+/// However patient they are, two payments and a transfer ask once each for a line at which the desk's node is busy: a line that lets nobody go
+/// who asks more often.
+pub(super) fn a_busy_desk_asks_once<
+    R: Abort,
+    L: OpenLine<AccountLaw> + Sleeping<AccountLaw> + Drop,
+>(rt: &R, alloc: Global)
+where
+    L::Port: Drop,
+{
+    let answers = [Reply::Late, Reply::Busy, Reply::Busy, Reply::Busy];
+    let want = Some((Enq::Granted, answers));
+    assert_eq!(rt; at_a_busy_desk::<HookedLine<Thrice, L>>(alloc), want);
 }
 
 /// What node 2 and the desk of node 1 answer over two lines, the second with a lease of one turn, which a transfer that waits for the

@@ -24,15 +24,50 @@ enum Again {
     Within(Duration),
 }
 
-/// How often a node was to ask and was busy.
+/// How often whoever sleeps is busy before it naps between two tries.
+const AWAKE: u64 = 72;
+
+/// Less than a nap, in nanoseconds.
+const HASTE: u64 = 100_000;
+
+/// How often a node was to ask and was busy, and how often that was in haste: so soon after the last time that it had not napped in between,
+/// though it was busy often enough before.
 #[derive(Drop)]
-struct Tries {
+struct Tries<'r, R> {
+    clock: &'r R,
     count: AtomicU64,
+    hasty: AtomicU64,
+    /// When it was busy last, in nanoseconds.
+    last: AtomicU64,
 }
 
-impl Hooks for &Tries {
+impl<'r, R: Clock> Tries<'r, R> {
+    fn none(clock: &'r R) -> Tries<'r, R> {
+        Tries {
+            clock,
+            count: AtomicU64::new(0),
+            hasty: AtomicU64::new(0),
+            last: AtomicU64::new(0),
+        }
+    }
+
+    /// The time in nanoseconds, and 0 where the clock can't be read.
+    fn nanos(&self) -> u64 {
+        match self.clock.monotonic() {
+            Ok(time) => u64::try_from(time.as_nanos()).unwrap_or(u64::MAX),
+            Err(_) => 0,
+        }
+    }
+}
+
+impl<R: Clock> Hooks for &Tries<'_, R> {
     fn asked_in_vain<K: Keep, L: Sleeping<K>>(&self, _line: &L, _port: &L::Port) {
-        self.count.fetch_add(1, Ordering::SeqCst);
+        let before = self.count.fetch_add(1, Ordering::SeqCst);
+        let now = self.nanos();
+        let last = self.last.swap(now, Ordering::SeqCst);
+        if before > AWAKE && now.saturating_sub(last) < HASTE {
+            self.hasty.fetch_add(1, Ordering::SeqCst);
+        }
     }
 }
 
@@ -62,12 +97,20 @@ impl<R: Wait + Clock, L: Sleeping<Free>> Scene<R, L> for Asking {
     }
 }
 
-/// Whether node 1 of a new line had it, and node 2 after it, which was busy so often.
+/// Whether each of two nodes had the line, and how often the second was busy, and in haste.
+#[derive(Clone, Copy, Debug)]
+struct Found {
+    had: bool,
+    busy: u64,
+    hasty: u64,
+}
+
+/// Node 1 of a new line has it, and node 2 asks again until it has it after it.
 fn ask_again<R: Threads + Wait + Clock + Sync, L: OpenLine<Free> + Sleeping<Free> + Sync + Drop>(
     rt: &R,
     alloc: Global,
     again: Again,
-) -> Result<(bool, u64), OpenError>
+) -> Result<Found, OpenError>
 where
     L::Port: Send + Drop,
 {
@@ -75,17 +118,19 @@ where
         again,
         late: AtomicU64::new(0),
     };
-    let tries = Tries {
-        count: AtomicU64::new(0),
-    };
+    let tries = Tries::none(rt);
     let (line, ports) = L::open_with(alloc, 1, for_nodes(2))?;
     let line = HookedLine::with(&tries, line);
     let had = all_see(rt, alloc, &line, ports, &asking);
-    Ok((had, tries.count.load(Ordering::SeqCst)))
+    Ok(Found {
+        had,
+        busy: tries.count.load(Ordering::SeqCst),
+        hasty: tries.hasty.load(Ordering::SeqCst),
+    })
 }
 
-/// In each manner, over lines of this type. Whoever sleeps naps between its tries: in 30 milliseconds it is busy some hundred times, and
-/// without a nap some hundred thousand times.
+/// In each manner, over lines of this type. Whoever sleeps naps between its tries, each time for 200 microseconds, so that it is busy some
+/// hundred times in 30 milliseconds, and in haste at most where a nap ends early; without naps it is so many thousand times.
 pub(super) fn each_manner<
     R: Threads + Wait + Clock + Abort + Sync,
     L: OpenLine<Free> + Sleeping<Free> + Sync + Drop,
@@ -96,10 +141,10 @@ where
     let within = Again::Within(Duration::from_secs(20));
     for again in [Again::Awake, Again::Asleep, within] {
         let found = ask_again::<R, L>(rt, alloc, again);
-        let had = found.is_ok_and(|(had, busy)| {
+        let held = found.is_ok_and(|found| {
             let naps = !matches!(again, Again::Awake);
-            had && busy > 0 && (busy < 5_000 || !naps)
+            found.had && found.busy > 0 && (found.hasty < 5 || !naps)
         });
-        assert!(rt; had, "{again:?}: {found:?}");
+        assert!(rt; held, "{again:?}: {found:?}");
     }
 }

@@ -151,26 +151,6 @@ impl<R> Clock for Ticking<'_, R> {
     }
 }
 
-/// A clock of which it is noted how often it is read.
-#[derive(Drop)]
-struct NotedClock<'r, R> {
-    clock: &'r R,
-    readings: AtomicU64,
-}
-
-impl<R: Wait> Wait for NotedClock<'_, R> {}
-
-impl<R: Clock> Clock for NotedClock<'_, R> {
-    fn monotonic(&self) -> io::Result<Duration> {
-        self.readings.fetch_add(1, Ordering::SeqCst);
-        self.clock.monotonic()
-    }
-
-    fn since_1970(&self) -> io::Result<Duration> {
-        self.clock.since_1970()
-    }
-}
-
 /// A new line of two nodes, whose sleeps are noted, and its ports.
 fn open_noted<'n, L: OpenLine<Free> + Sleeping<Free>>(
     alloc: Global,
@@ -405,26 +385,6 @@ where
     let notes = Notes::none();
     assert_eq!(rt; renew::<R, L>(rt, alloc, &notes), Ok((true, AT_MOST + 1)));
     assert_eq!(rt; (notes.busy(), notes.looks()), (BUSY, 151));
-}
-
-/// It naps between its tries: in 50 milliseconds it reads the clock some hundred times, and without a nap some hundred thousand times.
-fn a_busy_node_naps<R: Wait + Clock + Abort, L: OpenLine<Free> + Sleeping<Free> + Drop>(
-    rt: &R,
-    alloc: Global,
-)
-where
-    L::Port: Drop,
-{
-    let notes = Notes::none();
-    let clock = NotedClock {
-        clock: rt,
-        readings: AtomicU64::new(0),
-    };
-    let at_most = Duration::from_millis(50);
-    let got = ask_in_vain::<_, _, L>(rt, &clock, alloc, &notes, at_most);
-    assert_eq!(rt; got, Some(Within::Late));
-    let readings = clock.readings.load(Ordering::SeqCst);
-    assert!(rt; readings < 1_000, "{readings} readings");
 }
 
 /// Node 2 looks twice in vain at a line whose waiters sleep, and once more when node 1 has let go. Whether each answer was as it has to be.
@@ -672,7 +632,6 @@ where
     no_time_is_over_at_once::<R, L>(rt, alloc);
     a_busy_node_keeps_to_its_time::<R, L>(rt, alloc);
     a_limit_does_not_begin_again::<R, L>(rt, alloc);
-    a_busy_node_naps::<R, L>(rt, alloc);
     each_look_in_vain_sleeps_once::<R, L>(rt, alloc);
     no_withdrawal_sleeps::<R, L>(rt, alloc);
     a_long_wait_sleeps::<R, L>(rt, alloc);
