@@ -7,3 +7,4 @@ pub mod Outs
 pub mod Lines
 pub mod Refusing
 pub mod SameRuns
+pub mod Covering
