@@ -8,3 +8,5 @@ pub mod Lines
 pub mod Refusing
 pub mod SameRuns
 pub mod Covering
+pub mod StepTexts
+pub mod Watching
