@@ -26,19 +26,10 @@ const BANK_REPORT: &str = "in 10\nout 1\ntotal 9\n";
 const HANDED_OVER_DRAWN: &str =
     "line 0\n\n         12345678\nnode   1 HHHH>...\nnode   2 ..ww<HH.\n\n. idle   w waits   t its turn has come   H holds   > hands over to <\nx withdrawn   c told that the line is closed   - closed\n";
 
-const LATE_LINK_DRAWN: &str = "r.  1: reset 1: went; the line lies at home
-H.  2: prepend 1: granted; the line lies in the hand of node 1
-Hr  3: reset 2: went; the line lies in the hand of node 1
-Hl  4: prepend 2: went; the line lies in the hand of node 1
-ml  5: home 1: went; the line lies in the hand of node 1
-Ll  6: done 1: released; the line lies in the mailbox of node 1
-Ll  7: load 1: busy; the line lies in the mailbox of node 1
-LH  8: link 2: granted; the line lies in the hand of node 2
-.H  9: load 1: free; the line lies in the hand of node 2
+const EARLY: &str = "nodes 1\nlink 1\n";
 
-. Idle   r Ready   l Linking   w Queued   H Holding   h Leaving   m Marking
-g Granting   f Freeing   L Left   x Rolled   - Shut
-";
+const EARLY_DRAWN: &str =
+    ".  1: link 1: refused; the line lies at home\n\n. Idle   r Ready   l Linking   w Queued   H Holding   h Leaving   m Marking\ng Granting   f Freeing   L Left   x Rolled   - Shut\n";
 
 /// The words of each subcommand, a script, and what is written.
 pub(super) static RUNS: [(&[&str], &str, &str); 14] = [
@@ -54,7 +45,7 @@ pub(super) static RUNS: [(&[&str], &str, &str); 14] = [
     (&["bank", "--kind", "ticket"], BANK, BANK_REPORT),
     (&["bank"], BANK, BANK_REPORT),
     (&["draw"], HAND_OVER, HANDED_OVER_DRAWN),
-    (&["draw", "--steps"], LATE_LINK, LATE_LINK_DRAWN),
+    (&["draw", "--steps"], EARLY, EARLY_DRAWN),
     (&["steps", "--explain"], LATE_LINK, LINKED),
 ];
 
