@@ -5,11 +5,12 @@ use Rattle.qolb_run.specs.declared.replay.ReplayError.{ReplayError}
 use Rattle.qolb_run.specs.declared.replay.ReplayError.TheVariants as error
 use Rattle.qolb_run.specs.declared.report.TaskError.{TaskError}
 use Rattle.qolb_run.specs.declared.report.TaskError.TheVariants as ending
+use Rattle.qolb_run.specs.declared.task.Detail.TheVariants.{Words}
 use Rattle.qolb_run.specs.declared.task.Task.{Task}
-use Rattle.qolb_run.specs.declared.task.Task.TheVariants.{Replay}
+use Rattle.qolb_run.specs.declared.task.Task.TheVariants.{Replay, Steps}
 use Rattle.qolb_run.specs.Outcome.{MayFail, MayEnd, IsRefused}
 use Rattle.qolb.specs.declared.command_line.Wish.{Wish}
-use Rattle.qolb.specs.declared.command_line.Wish.TheVariants.{Answer, Draw}
+use Rattle.qolb.specs.declared.command_line.Wish.TheVariants.{Answer, Draw, DrawSteps}
 use Rattle.qolb.specs.Wishes.{IsDenied, MayDeny}
 use Rattle.qolb.specs.Status.{replay_status, status_of}
 
@@ -27,6 +28,7 @@ fault task (ending.Stalled worker) input h one = absurd (omega arith)
 denied : (wish : Wish) (e : TaskError) (input : List ℕ) → MayDeny wish input e → status_of e ≡ 1 → IsDenied wish input
 denied (Answer task) e input h one = fault task e input h one
 denied (Draw form) e input h one = fault (Replay Plain) e input h one
+denied (DrawSteps form) e input h one = fault (Steps Words) e input h one
 
 -- a status of 1 tells of a script that is refused
 pub known_denied : (wish : Wish) (e : TaskError) (known : Option (List ℕ)) → IfSome known (λ input. MayDeny wish input e) → status_of e ≡ 1 → IfSome known (IsDenied wish)

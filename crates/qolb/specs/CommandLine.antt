@@ -13,7 +13,7 @@ use Rattle.locks.specs.declared.Lines.TheVariants as lines
 use Rattle.qolb_draw.specs.declared.draw.Form.{Form}
 use Rattle.qolb_draw.specs.declared.draw.Form.TheVariants as form
 use Rattle.qolb.specs.declared.command_line.Wish.{Wish}
-use Rattle.qolb.specs.declared.command_line.Wish.TheVariants.{Answer, Draw}
+use Rattle.qolb.specs.declared.command_line.Wish.TheVariants.{Answer, Draw, DrawSteps}
 use Rattle.qolb_run.specs.declared.task.Detail.{Detail}
 use Rattle.qolb_run.specs.declared.task.Detail.TheVariants as detail
 use Rattle.qolb_run.specs.declared.task.Waits.{Waits}
@@ -73,16 +73,16 @@ work_or_progress name names = with_rule (work_or_sleep name names) (flag_rule (c
 abbrev pub work_command : Text → Names → App
 work_command name names = explaining (work_or_progress name names)
 
--- `draw [--svg] [--explain]`
+-- `draw [--svg] [--steps] [--explain]`
 abbrev pub draw_command : App
-draw_command = explaining (with_rule (new_app (codes "draw")) (flag_rule (codes "svg")))
+draw_command = explaining (with_rule (with_rule (new_app (codes "draw")) (flag_rule (codes "svg"))) (flag_rule (codes "steps")))
 
 -- the program's command without its subcommands: it needs one, and has a version
 abbrev pub bare_command : App
 bare_command = let app = new_app (codes "qolb") in record app { top = record app.top { subcommand_required = true; has_version = true } }
 
 -- the program's command: `replay --kind KIND`, `steps [--rank]`, `board [--kind KIND] [--sleep] [--progress]`, `bank` with the same, or
--- `draw [--svg]`; each also with `--explain`
+-- `draw [--svg] [--steps]`; each also with `--explain`
 abbrev pub replay_or_steps : Names → App
 replay_or_steps replayed = with_subcommand (with_subcommand bare_command (replay_command replayed).top) steps_command.top
 
@@ -138,9 +138,16 @@ form_of (Some value) = if bytes_eq value (codes "true") then form.Svg else form.
 abbrev pub form_at : List Row → Form
 form_at rows = form_of (first_of (codes "svg") rows)
 
+-- what is drawn: a schedule, or with `--steps` a step script
+abbrev pub drawing_of : Bool → Form → Wish
+drawing_of steps form = if steps then DrawSteps form else Draw form
+
+abbrev pub drawing_at : List Row → Wish
+drawing_at rows = drawing_of (is_given_at (codes "steps") rows) (form_at rows)
+
 -- what a subcommand asks for, with these arguments
 abbrev pub wish_at : Text × List Row → Wish
-wish_at entered = if bytes_eq entered.0 (codes "draw") then Draw (form_at entered.1) else Answer (task_at entered)
+wish_at entered = if bytes_eq entered.0 (codes "draw") then drawing_at entered.1 else Answer (task_at entered)
 
 -- the words ask for this
 pub record NamesWish (words : List Text) (wanted : Wish) : Type 0 where

@@ -101,7 +101,8 @@ it prints in 10, out 1, total 9.";
 const DRAW: &str =
     "The script, on standard input, is a schedule, as of `qolb replay`. Each line is drawn as a
 row for each node that calls on it, with a letter for each command on the line: how the
-node stands after it.
+node stands after it. A step script is drawn as a line for each event: a letter for each
+node, its point after the event; what the event told; and where the line lies.
 
 Example: with
   nodes 2 lines 1
@@ -123,6 +124,8 @@ pub enum Wish {
     Answer(Task),
     /// To draw a schedule.
     Draw(Form),
+    /// To draw a step script.
+    DrawSteps(Form),
 }
 
 /// What the words ask for, and whether standard error is to say how far it is, and what is wrong with a script that is refused.
@@ -156,9 +159,27 @@ fn wish_at(name: &str, arguments: &ArgMatches<'_>) -> Wish
     ensures { result ≡ spec.wish_at (name.now, rows_of (found_of arguments.now)) }
 {
     if name == "draw" {
-        Wish::Draw(form_at(arguments))
+        drawing_at(arguments)
     } else {
         Wish::Answer(task_at(name, arguments))
+    }
+}
+
+/// What is drawn, by these arguments.
+fn drawing_at(arguments: &ArgMatches<'_>) -> Wish
+    ensures { result ≡ spec.drawing_at (rows_of (found_of arguments.now)) }
+{
+    drawing_of(is_given_at("steps", arguments), form_at(arguments))
+}
+
+/// What is drawn in this form: a schedule, or a step script.
+fn drawing_of(steps: bool, form: Form) -> Wish
+    ensures { result ≡ spec.drawing_of steps form }
+{
+    if steps {
+        Wish::DrawSteps(form)
+    } else {
+        Wish::Draw(form)
     }
 }
 
@@ -347,7 +368,7 @@ fn work<'a>(
         .arg(explain(alloc))
 }
 
-/// To draw a schedule.
+/// To draw a schedule or a step script.
 fn draw<'a>(alloc: Global) -> Result<Command<'a>, AllocError>
     ensures { IfOk result (λ r. app_of r ≡ draw_command) }
 {
@@ -357,6 +378,11 @@ fn draw<'a>(alloc: Global) -> Result<Command<'a>, AllocError>
         )
         .after_help(DRAW)
         .arg(flag(alloc, "svg", "Draws an SVG in place of plain text"))?
+        .arg(flag(
+            alloc,
+            "steps",
+            "Draws a step script, as of `qolb steps`, in place of a schedule",
+        ))?
         .arg(explain(alloc))
 }
 

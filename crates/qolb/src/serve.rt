@@ -5,6 +5,8 @@ ghost use Rattle.qolb_script.specs.Watched.{inner_of, has_failed};
 ghost use Rattle.qolb.specs.CommandLine.{NamesWish, IsNotTaken};
 ghost use Rattle.qolb_run.specs.Outcome.{Answers, IsReplyOver, MayEnd};
 ghost use Rattle.qolb_draw.specs.Pictures.{IsPicture};
+ghost use Rattle.qolb_draw.specs.StepPictures.{IsStepPicture};
+ghost use Rattle.qolb_run.specs.declared.task.Detail.TheVariants as detail;
 ghost use Rattle.qolb_run.specs.declared.task.Task.TheVariants as task;
 ghost use Rattle.qolb_run.specs.declared.replay.Kind.TheVariants as kind;
 ghost use Rattle.qolb.specs.Wishes.{Grants, IsDenied, MayDeny, complaint};
@@ -13,7 +15,7 @@ ghost use Rattle.qolb.specs.declared.command_line.Wish.{Wish};
 
 use crate::command_line::{Request, Wish, parse_args};
 use clap::error::ErrorKind;
-use qolb_draw::{Form, draw_schedule};
+use qolb_draw::{Form, draw_schedule, draw_steps};
 use qolb_run::{
     AlwaysOpen, DoneOver, Lines, Locks, Progress, ReplayError, Task, TaskError, Waits, read_all,
     report_work, run_schedule, run_steps_with,
@@ -152,6 +154,7 @@ fn grant<T: Threads + Wait + Clock + Eprint + Sync, R: Read, W: Write>(
     match request.wish {
         Wish::Answer(task) => run(rt, alloc, task, request.progress, input, output),
         Wish::Draw(form) => draw(alloc, form, input, output),
+        Wish::DrawSteps(form) => draw_of_steps(alloc, form, input, output),
     }
 }
 
@@ -170,6 +173,23 @@ fn draw<R: Read, W: Write>(
     ensures memory { result ≢ Err (TaskError.Replay (ReplayError.Script ScriptError.Memory)) }
 {
     Ok(draw_schedule(alloc, input, output, form)?)
+}
+
+/// Draws a step script.
+fn draw_of_steps<R: Read, W: Write>(
+    alloc: Global,
+    form: Form,
+    input: &mut Watched<R>,
+    output: &mut Watched<W>,
+) -> Result<(), TaskError>
+    ensures drawn { OnOk result (IfSome (R.remaining (inner_of input.old)) (λ script. (text : List ℕ) × IsStepPicture form script text × Appends (W.contents (inner_of output.old)) (W.contents (inner_of output.new)) text)) }
+    ensures refused { IfErr result (λ error. IfSome (R.remaining (inner_of input.old)) (λ script. MayEnd (task.Steps detail.Words) script error)) }
+    ensures unwritten { IfErr result (λ error. error ≢ TaskError.Replay ReplayError.Write → output.new ≡ output.old) }
+    ensures read_fault { (result ≡ Err (TaskError.Replay ReplayError.Read)) ↔ (has_failed input.new ≡ true) }
+    ensures write_fault { result ≡ Err (TaskError.Replay ReplayError.Write) → has_failed output.new ≡ true }
+    ensures memory { result ≢ Err (TaskError.Replay (ReplayError.Script ScriptError.Memory)) }
+{
+    Ok(draw_steps(alloc, input, output, form)?)
 }
 
 /// Does the task; work says how far it is, if that is wished.
@@ -244,7 +264,7 @@ fn complaint_of<'a>(wish: Wish, script: &'a [u8]) -> Option<Complaint<'a>>
 {
     match wish {
         Wish::Answer(Task::Replay(_)) | Wish::Draw(_) => explain_schedule(script),
-        Wish::Answer(Task::Steps(_)) => explain_steps(script),
+        Wish::Answer(Task::Steps(_)) | Wish::DrawSteps(_) => explain_steps(script),
         Wish::Answer(Task::Work(kind, _, _)) => explain_work(script, kind),
     }
 }

@@ -7,3 +7,6 @@ pub mod Outs
 pub mod Lines
 pub mod Refusing
 pub mod SameRuns
+pub mod Covering
+pub mod StepTexts
+pub mod Watching

@@ -4,7 +4,7 @@ use Rattle.std.specs.Prelude.{codes}
 use Rattle.std.specs.List.{flat_map, range_with_len}
 use Rattle.qolb_script.specs.Script.{Script}
 use Rattle.qolb_draw.specs.Svg.{columns_on, line_begin, line_svg, rows_on, svg_head, svg_of, texts, top_of, widest}
-use Rattle.qolb_draw.specs.declared.svg.TheConstants.{TAIL}
+use Rattle.qolb_draw.specs.declared.svg.TheConstants.{LEGEND, TAIL}
 use Rattle.qolb_draw.specs.Timelines.{timeline_of}
 use Rattle.qolb_draw.proofs.Outs.{top_more, widest_more}
 use Rattle.qolb_draw.proofs.Rows.{piece_pushed}
@@ -32,8 +32,8 @@ line_placed script number lines after piece top top' width width' rows columns h
       low = omega arith;
     }
 
-pub whole : (script : Script) (number : ℕ) (lines : List ℕ) (top width : ℕ) → HasLines script number lines top width → number ≡ script.lines → svg_head width top ++ lines ++ TAIL.now ≡ svg_of script
+pub whole : (script : Script) (number : ℕ) (lines : List ℕ) (top width : ℕ) → HasLines script number lines top width → number ≡ script.lines → svg_head width top ++ LEGEND.now ++ lines ++ TAIL.now ≡ svg_of script
 whole script number lines top width had end =
-    ap (λ w. svg_head w top ++ lines ++ TAIL.now) (had.width_is ∙ ap (widest script) end)
-    ∙ ap (λ t. svg_head (widest script script.lines) t ++ lines ++ TAIL.now) (had.top_is ∙ ap (top_of script) end)
-    ∙ ap (λ ls. svg_head (widest script script.lines) (top_of script script.lines) ++ ls ++ TAIL.now) (had.lines_are ∙ ap (λ n. flat_map (line_svg script) (range_with_len 0 n)) end)
+    ap (λ w. svg_head w top ++ LEGEND.now ++ lines ++ TAIL.now) (had.width_is ∙ ap (widest script) end)
+    ∙ ap (λ t. svg_head (widest script script.lines) t ++ LEGEND.now ++ lines ++ TAIL.now) (had.top_is ∙ ap (top_of script) end)
+    ∙ ap (λ ls. svg_head (widest script script.lines) (top_of script script.lines) ++ LEGEND.now ++ ls ++ TAIL.now) (had.lines_are ∙ ap (λ n. flat_map (line_svg script) (range_with_len 0 n)) end)

@@ -5,6 +5,7 @@ use Rattle.qolb_run.specs.declared.input.TheConstants.{MOST_BYTES}
 use Rattle.qolb_run.specs.declared.replay.ReplayError.{ReplayError}
 use Rattle.qolb_run.specs.declared.replay.ReplayError.TheVariants as error
 use Rattle.qolb_run.specs.declared.replay.Kind.TheVariants as kind
+use Rattle.qolb_run.specs.declared.task.Task.{Task}
 use Rattle.qolb_run.specs.declared.task.Task.TheVariants as task
 use Rattle.qolb_run.specs.Outcome.{MayFail}
 use Rattle.qolb_script.specs.Script.{Script, script_of}
@@ -17,8 +18,8 @@ may_fail_to_write None input script is fits read = tt
 may_fail_to_write (Some rest) input script is fits read =
     (reply_of script, record { fits = subst (λ (i : List ℕ). length i ≤ MOST_BYTES) is fits; reply = ap (λ (i : List ℕ). replied (script_of i)) (sym is) ∙ ap replied read })
 
--- an error of a write is one that a replay may have
-pub refused_to_write : (r : Result (Unit {0}) ReplayError) (remaining : Option (List ℕ)) → IsErrAnd r (λ e. e ≡ error.Write) → IfSome remaining (λ rest. MayFail (task.Replay kind.Plain) rest error.Write)
-    → IfErr r (λ e. IfSome remaining (λ rest. MayFail (task.Replay kind.Plain) rest e))
-refused_to_write (Ok u) remaining is may = tt
-refused_to_write (Err e) remaining is may = subst (λ (x : ReplayError). IfSome remaining (λ rest. MayFail (task.Replay kind.Plain) rest x)) (sym is) may
+-- an error of a write is one that a run of the script may have
+pub refused_to_write : (what : Task) (r : Result (Unit {0}) ReplayError) (remaining : Option (List ℕ)) → IsErrAnd r (λ e. e ≡ error.Write) → IfSome remaining (λ rest. MayFail what rest error.Write)
+    → IfErr r (λ e. IfSome remaining (λ rest. MayFail what rest e))
+refused_to_write what (Ok u) remaining is may = tt
+refused_to_write what (Err e) remaining is may = subst (λ (x : ReplayError). IfSome remaining (λ rest. MayFail what rest x)) (sym is) may

@@ -1,5 +1,5 @@
 -- Lemmas on the shapes of a timeline, and on the texts that they become.
-use Rattle.std.proofs.Common.{◌≡◌, ℕ, suc, ◌+◌, ◌-◌, ◌*◌, ◌<◌, ◌≤◌, cond, Bool, true, false, List, [], ◌∷◌, ◌++◌, length, map, not, take, get_or, refl, sym, ap, ◌∙◌, subst, arith, append_assoc, append-nil, ne_eqb, ◌==◌, Option, Some}
+use Rattle.std.proofs.Common.{◌≡◌, ℕ, suc, ◌+◌, ◌-◌, ◌<◌, ◌≤◌, cond, Bool, true, false, List, [], ◌∷◌, ◌++◌, length, map, not, take, get_or, refl, sym, ap, ◌∙◌, subst, arith, append_assoc, append-nil, ne_eqb, ◌==◌, Option, Some}
 use Rattle.std.specs.Prelude.{codes}
 use Rattle.std.specs.List.{flat_map, range_with_len}
 use Rattle.std.proofs.Math.Seq.{take-append_seam}

@@ -5,4 +5,7 @@ pub mod Timelines
 pub mod Following
 pub mod Grids
 pub mod Svg
+pub mod StepShapes
+pub mod StepSvg
+pub mod StepPictures
 pub mod Laws

@@ -1,6 +1,6 @@
 -- The picture of a schedule as plain text, for each line, in blocks of commands, a row of marks for each node that calls on it; and in either form.
 -- (Of this project.)
-use Rattle.std.specs.Prelude.{◌≡◌, ℕ, ◌+◌, ◌-◌, ◌≤◌, ◌*◌, ◌/◌, ◌%◌, ◌==◌, nat_lt, nat_le, if◌then◌else◌, List, [], ◌∷◌, ◌++◌, length, map, filter, flat_map, take, drop, replicate, codes, Result, Ok, Err}
+use Rattle.std.specs.Prelude.{◌≡◌, ℕ, ◌+◌, ◌-◌, ◌≤◌, ◌*◌, ◌/◌, ◌%◌, nat_lt, nat_le, if◌then◌else◌, List, [], ◌∷◌, ◌++◌, length, map, filter, flat_map, take, drop, replicate, codes, Result, Ok, Err}
 use Rattle.std.specs.List.{range_with_len, slice_index_or}
 use Rattle.qolb_run.specs.declared.input.TheConstants.{MOST_BYTES}
 use Rattle.qolb_script.specs.declared.error.ScriptError.{ScriptError}

@@ -1,5 +1,5 @@
 -- The timeline of a schedule as an SVG. A column is 32 pixels wide and a row 40 high. (Of this project.)
-use Rattle.std.specs.Prelude.{ℕ, ◌+◌, ◌-◌, ◌*◌, ◌/◌, ◌%◌, ◌==◌, max, nat_lt, if◌then◌else◌, List, [], ◌∷◌, ◌++◌, length, map, fold, flat_map, take, sum_by, codes, decimal, slice_index}
+use Rattle.std.specs.Prelude.{ℕ, ◌+◌, ◌-◌, ◌*◌, ◌/◌, ◌%◌, ◌==◌, max, nat_lt, if◌then◌else◌, List, [], ◌∷◌, ◌++◌, length, fold, flat_map, take, sum_by, codes, decimal, slice_index}
 use Rattle.std.specs.List.{range_with_len}
 use Rattle.qolb_model.specs.declared.answer.Out.TheVariants as out
 use Rattle.qolb_script.specs.declared.command.Command.{Command}
@@ -13,7 +13,7 @@ use Rattle.qolb_script.specs.Script.{Script}
 use Rattle.qolb_draw.specs.declared.bar.Stand.{Stand}
 use Rattle.qolb_draw.specs.declared.bar.Stand.TheVariants as stand
 use Rattle.qolb_draw.specs.declared.event.Event.{Event}
-use Rattle.qolb_draw.specs.declared.svg.TheConstants.{STYLE, TAIL}
+use Rattle.qolb_draw.specs.declared.svg.TheConstants.{LEGEND, STYLE, TAIL}
 use Rattle.qolb_draw.specs.LineRuns.{steps_on, callers}
 use Rattle.qolb_draw.specs.Timelines.{Shape, Lane, Bar, Name, Number, Arrow, Bytes, Call, places_in, timeline_of}
 
@@ -155,9 +155,9 @@ line_begin top line = field (codes "<g transform='translate(0,") top ++ field (c
 abbrev pub line_svg : Script → ℕ → List ℕ
 line_svg script line = line_begin (top_of script line) line ++ texts (timeline_of script line) ++ codes "</g>\n"
 
--- the whole: its size, its colours and the legend, and the lines
+-- the whole: its size and colours, the legend, and the lines
 abbrev pub svg_head : ℕ → ℕ → List ℕ
 svg_head width height = field (codes "<svg xmlns='http://www.w3.org/2000/svg' width='") width ++ field (codes "' height='") height ++ STYLE.now
 
 abbrev pub svg_of : Script → List ℕ
-svg_of script = svg_head (widest script script.lines) (top_of script script.lines) ++ flat_map (line_svg script) (range_with_len 0 script.lines) ++ TAIL.now
+svg_of script = svg_head (widest script script.lines) (top_of script script.lines) ++ LEGEND.now ++ flat_map (line_svg script) (range_with_len 0 script.lines) ++ TAIL.now

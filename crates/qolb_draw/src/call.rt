@@ -126,7 +126,7 @@ pub fn push_command<A: Allocator>(
 }
 
 /// Appends what a write has behind its line.
-fn push_written<A: Allocator>(
+pub fn push_written<A: Allocator>(
     alloc: A,
     text: &mut Vec<u8, A>,
     command: &Command,

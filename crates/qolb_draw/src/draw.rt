@@ -20,7 +20,7 @@ use std::io::{Read, Write};
 /// What a picture is written as.
 #[derive(Clone, Copy, Debug, PartialEq, Eq)]
 pub enum Form {
-    /// Plain text, of at most 79 characters a line.
+    /// Plain text.
     Text,
     /// A timeline as an SVG.
     Svg,
@@ -91,7 +91,7 @@ fn timeline<A: Allocator + Copy>(alloc: A, schedule: &Schedule<A>) -> Result<Vec
         top += 60 + 40 * rows;
         width = wider(width, 128 + 32 * grid.numbers.len() as u64);
     }
-    let svg = svg::svg_of(alloc, width, top, lines.as_slice())?;
+    let svg = svg::svg_of(alloc, width, top, svg::LEGEND, lines.as_slice())?;
     Ok(svg)
 }
 

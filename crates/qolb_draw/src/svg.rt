@@ -9,8 +9,7 @@ use crate::event::Event;
 use itoa::Buffer;
 use std::alloc::{AllocError, Allocator};
 
-/// What stands between the picture's height and its first line: the colours, on a light and on a dark page, the signs of commands, and the
-/// legend.
+/// What stands between the picture's height and its legend: the colours, on a light and on a dark page, and the signs of commands.
 pub const STYLE: &[u8] = b"' font-family='monospace' font-size='12'>
 <style>
 svg{background:#fff}text{fill:#1f2328}.small{font-size:9px;text-anchor:middle}
@@ -28,7 +27,11 @@ svg{background:#fff}text{fill:#1f2328}.small{font-size:9px;text-anchor:middle}
 <g id='told'><rect class='point' x='-8' y='-12' width='16' height='24'/><path d='M0 -6L6 0L0 6L-6 0z'/></g>
 <g id='misuse'><rect class='point' x='-8' y='-12' width='16' height='24'/><path d='M0 -7V2M0 4V7'/></g>
 </defs>
-<rect class='waits' x='8' y='8' width='32' height='16'/><text x='46' y='20'>waits</text>
+";
+
+/// The legend of a timeline.
+pub const LEGEND: &[u8] =
+    b"<rect class='waits' x='8' y='8' width='32' height='16'/><text x='46' y='20'>waits</text>
 <rect class='turn' x='112' y='8' width='32' height='16'/><text x='150' y='20'>may take its turn</text>
 <rect class='holds' x='304' y='8' width='32' height='16'/><text x='342' y='20'>holds the line</text>
 <rect class='withdrawn' x='476' y='8' width='32' height='16'/><text x='514' y='20'>has withdrawn</text>
@@ -226,14 +229,15 @@ pub fn push_line_begin<A: Allocator>(
     Ok(())
 }
 
-/// The whole picture, of this size, over the lines.
+/// The whole picture, of this size and with this legend, over the lines.
 pub fn svg_of<A: Allocator>(
     alloc: A,
     width: u64,
     height: u64,
+    legend: &[u8],
     lines: &[u8],
 ) -> Result<Vec<u8, A>, AllocError>
-    ensures { IfOk result (λ svg. svg.items ≡ spec.svg_head width height ++ lines.now ++ TAIL.now) }
+    ensures { IfOk result (λ svg. svg.items ≡ spec.svg_head width height ++ legend.now ++ lines.now ++ TAIL.now) }
 {
     let mut svg = Vec::new(alloc);
     push_field(
@@ -243,6 +247,7 @@ pub fn svg_of<A: Allocator>(
     )?;
     push_field(&mut svg, b"' height='", height)?;
     svg.extend_from_slice(STYLE)?;
+    svg.extend_from_slice(legend)?;
     svg.extend_from_slice(lines)?;
     svg.extend_from_slice(TAIL)?;
     Ok(svg)

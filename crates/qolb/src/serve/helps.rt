@@ -87,9 +87,11 @@ static LINES: [(&str, &[&str]); 5] = [
         "draw",
         &[
             "      --svg      Draws an SVG in place of plain text",
+            "      --steps    Draws a step script, as of `qolb steps`, in place of a schedule",
             "The script, on standard input, is a schedule, as of `qolb replay`. Each line is drawn as a",
             "row for each node that calls on it, with a letter for each command on the line: how the",
-            "node stands after it.",
+            "node stands after it. A step script is drawn as a line for each event: a letter for each",
+            "node, its point after the event; what the event told; and where the line lies.",
         ],
     ),
 ];

@@ -26,8 +26,13 @@ const BANK_REPORT: &str = "in 10\nout 1\ntotal 9\n";
 const HANDED_OVER_DRAWN: &str =
     "line 0\n\n         12345678\nnode   1 HHHH>...\nnode   2 ..ww<HH.\n\n. idle   w waits   t its turn has come   H holds   > hands over to <\nx withdrawn   c told that the line is closed   - closed\n";
 
+const EARLY: &str = "nodes 1\nlink 1\n";
+
+const EARLY_DRAWN: &str =
+    ".  1: link 1: refused; the line lies at home\n\n. Idle   r Ready   l Linking   w Queued   H Holding   h Leaving   m Marking\ng Granting   f Freeing   L Left   x Rolled   - Shut\n";
+
 /// The words of each subcommand, a script, and what is written.
-pub(super) static RUNS: [(&[&str], &str, &str); 13] = [
+pub(super) static RUNS: [(&[&str], &str, &str); 14] = [
     (&["replay", "--kind", "plain"], HAND_OVER, HANDED_OVER),
     (&["replay", "--kind", "ring"], HAND_OVER, HANDED_OVER),
     (&["replay", "--kind", "link"], HAND_OVER, HANDED_OVER),
@@ -40,6 +45,7 @@ pub(super) static RUNS: [(&[&str], &str, &str); 13] = [
     (&["bank", "--kind", "ticket"], BANK, BANK_REPORT),
     (&["bank"], BANK, BANK_REPORT),
     (&["draw"], HAND_OVER, HANDED_OVER_DRAWN),
+    (&["draw", "--steps"], EARLY, EARLY_DRAWN),
     (&["steps", "--explain"], LATE_LINK, LINKED),
 ];
 

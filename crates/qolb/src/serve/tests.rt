@@ -94,7 +94,7 @@ fn replays_and_refuses_scripts(rt: HostRuntime) -> Result<(), Fail> {
 
 /// Words with `--explain`, scripts that are refused, and what is told of them: of each thing that can be wrong with a line but that it is
 /// past the most, which takes long.
-static EXPLAINED: [(&[&str], &str, &str); 14] = [
+static EXPLAINED: [(&[&str], &str, &str); 15] = [
     (
         &["replay", "--kind", "plain"],
         "",
@@ -134,6 +134,11 @@ static EXPLAINED: [(&[&str], &str, &str); 14] = [
         &["steps"],
         "nodes 2\nenq 1\n",
         "bad line 2\n    enq 1\nword 1 is unknown\n",
+    ),
+    (
+        &["draw", "--steps"],
+        "nodes 2\nload\n",
+        "bad line 2\n    load\nwrong number of words\n",
     ),
     (
         &["steps", "--rank"],
@@ -240,7 +245,7 @@ static HELPS: [(&str, &[&str]); 5] = [
         "bank",
         &["[default: link]", "1 move 0 3 4", "--sleep", "--explain"],
     ),
-    ("draw", &["--svg", "node   1 HH>.", "--explain"]),
+    ("draw", &["--svg", "--steps", "node   1 HH>.", "--explain"]),
 ];
 
 #[test]
@@ -314,12 +319,13 @@ fn the_version_names_each_lock(rt: HostRuntime) -> Result<(), Fail> {
 }
 
 /// The words of a task of each name.
-static TASKS: [&[&str]; 5] = [
+static TASKS: [&[&str]; 6] = [
     &["replay", "--kind", "link"],
     &["steps"],
     &["board"],
     &["bank"],
     &["draw"],
+    &["draw", "--steps"],
 ];
 
 #[test]
@@ -495,10 +501,11 @@ fn tells_who_stalled(rt: HostRuntime) -> Result<(), Fail> {
 }
 
 /// Words that no drawing takes.
-static NO_DRAWING: [&[&str]; 3] = [
+static NO_DRAWING: [&[&str]; 4] = [
     &["draw", "--kind"],
     &["draw", "plain"],
     &["draw", "--svg=1"],
+    &["draw", "--steps=1"],
 ];
 
 /// A hand-over of which a picture is drawn.
@@ -522,12 +529,30 @@ fn draws_schedules_as_an_svg(rt: HostRuntime) -> Result<(), Fail> {
     Ok(())
 }
 
+/// A step script of which a picture is drawn.
+const STEPPED: &str = "nodes 1\nreset 1\nprepend 1\nhome 1\n";
+
+#[test]
+fn draws_step_scripts(rt: HostRuntime) -> Result<(), Fail> {
+    let (status, out, err) = told(&rt, rt.alloc(), &["draw", "--steps"], STEPPED)?;
+    assert_eq!(rt; (status, err.as_str()), (0, ""));
+    assert!(rt; out.starts_with("r  1: reset 1: went; the line lies at home\n"));
+    let words = ["draw", "--svg", "--steps"];
+    let (status, out, err) = told(&rt, rt.alloc(), words.as_slice(), STEPPED)?;
+    assert_eq!(rt; (status, err.as_str()), (0, ""));
+    let title = "<title>2: prepend 1: granted</title>";
+    assert!(rt; out.starts_with("<svg ") && out.contains(title));
+    Ok(())
+}
+
 /// Scripts that neither a drawing nor the core of reversed links takes, as their second line is bad or has a number out of range.
-static FAULTY: [(&[&str], &str); 4] = [
+static FAULTY: [(&[&str], &str); 6] = [
     (&["draw"], "nodes 2 lines 1\nenq 3 0"),
     (&["draw"], "nodes 2 lines 1\nenq 1"),
     (&["steps"], "nodes 2\nreset 3\n"),
     (&["steps"], "nodes 2\nreset\n"),
+    (&["draw", "--steps"], "nodes 2\nreset 3\n"),
+    (&["draw", "--steps", "--svg"], "nodes 2\nreset\n"),
 ];
 
 #[test]

@@ -1,5 +1,4 @@
-use Rattle.std.proofs.Common.{◌≡◌, ap, ◌∙◌, true, false, arith, eq-eqb, ne_eqb}
-use Rattle.line_lanes.specs.Mask.{is_masked}
+use Rattle.std.proofs.Common.{ap, ◌∙◌, arith, eq-eqb, ne_eqb}
 use Rattle.qolb_draw.proofs.Shapes.{place_kept, place_left_out, all_places}
 use Rattle.qolb_draw.proofs.call.places.Goals as goal
 use Rattle.qolb_draw.proofs.call.places.Goals.{then-mask-place-eq1+in_ok-push, else-mask-place-eq1}

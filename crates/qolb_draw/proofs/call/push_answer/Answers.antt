@@ -1,4 +1,4 @@
-use Rattle.std.proofs.Common.{◌≡◌, ◌-◌, ◌++◌, ◌∷◌, [], length, ap, ◌∙◌, arith, length-append}
+use Rattle.std.proofs.Common.{◌≡◌, ◌-◌, ◌++◌, ◌∷◌, [], length, ap, arith, length-append}
 use Rattle.std.specs.Vec.{vec_len}
 use Rattle.qolb_script.specs.Said.{said_words}
 use Rattle.qolb_draw.proofs.Shapes.{last_taken}

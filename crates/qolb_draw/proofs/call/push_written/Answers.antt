@@ -1,4 +1,4 @@
-use Rattle.std.proofs.Common.{get_or, ap, ◌∙◌, ◌++◌, sym}
+use Rattle.std.proofs.Common.{get_or, ap, ◌∙◌, ◌++◌}
 use Rattle.qolb_draw.specs.Svg.{hex_of}
 use Rattle.qolb_draw.proofs.Shapes.{written_pushed}
 use Rattle.qolb_draw.proofs.call.push_written.Goals as goal

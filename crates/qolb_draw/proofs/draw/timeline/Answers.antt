@@ -1,5 +1,5 @@
 use Rattle.std.proofs.Common.{◌≡◌, ℕ, List, ◌++◌, length, refl, ap, ◌∙◌, arith}
-use Rattle.qolb_draw.specs.declared.svg.TheConstants.{TAIL}
+use Rattle.qolb_draw.specs.declared.svg.TheConstants.{LEGEND, TAIL}
 use Rattle.qolb_draw.specs.Svg.{svg_head}
 use Rattle.qolb_draw.proofs.Lines.{line_placed, no_lines, whole}
 use Rattle.qolb_draw.proofs.Outs.{columns_found, event_count, rows_found, timeline_found}
@@ -24,4 +24,4 @@ loop-number-preserved g c =
 pub returns : goal.returns
 returns g c =
     let end : c.loop-number.number ≡ c.args.schedule.now.lines = omega (arith, c.lines-number-end.ensures.lines) in
-    c.in_ok-svg.ensures ∙ ap (λ (ls : List ℕ). svg_head c.loop-number.width c.loop-number.top ++ ls ++ TAIL.now) c.as_slice.ensures.value ∙ whole c.args.schedule.now _ _ _ _ c.loop-number.invariant end
+    c.in_ok-svg.ensures ∙ ap (λ (ls : List ℕ). svg_head c.loop-number.width c.loop-number.top ++ LEGEND.now ++ ls ++ TAIL.now) c.as_slice.ensures.value ∙ whole c.args.schedule.now _ _ _ _ c.loop-number.invariant end

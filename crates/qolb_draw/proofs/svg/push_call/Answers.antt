@@ -1,7 +1,7 @@
-use Rattle.std.proofs.Common.{ℕ, List, ◌++◌, ◌-◌, ◌+◌, ◌*◌}
+use Rattle.std.proofs.Common.{ℕ, List, ◌++◌}
 use Rattle.std.specs.Prelude.{codes}
 use Rattle.qolb_script.specs.Said.{said_words}
-use Rattle.qolb_draw.specs.Svg.{class_of, command_words, field, name_y, sign_of, words_of, x_of, y_of}
+use Rattle.qolb_draw.specs.Svg.{command_words, field, sign_of, x_of, y_of}
 use Rattle.qolb_draw.proofs.Shapes.{onward}
 use Rattle.qolb_draw.proofs.svg.push_call.Goals as goal
 

@@ -1,7 +1,7 @@
-use Rattle.std.proofs.Common.{◌≡◌, ◌<◌, ℕ, ◌+◌, ◌-◌, ◌*◌, ◌∷◌, ◌++◌, length, true, sym, ap, ◌∙◌, subst, arith}
+use Rattle.std.proofs.Common.{◌≡◌, ◌<◌, ℕ, ◌+◌, ◌-◌, ◌*◌, ◌∷◌, ◌++◌, length, sym, ap, ◌∙◌, subst, arith}
 use Rattle.std.proofs.lemmas.List.{get_or_default}
 use Rattle.qolb_draw.specs.declared.mark.Mark.TheVariants as mark
-use Rattle.qolb_draw.specs.Grids.{bars_out_of, mark_out_of, stands_out_of}
+use Rattle.qolb_draw.specs.Grids.{bars_out_of, stands_out_of}
 use Rattle.qolb_draw.specs.Svg.{texts}
 use Rattle.qolb_draw.specs.Timelines.{stand_of}
 use Rattle.qolb_draw.proofs.Rows.{place_within}

@@ -1,4 +1,4 @@
-use Rattle.std.proofs.Common.{get_or, ap, ◌∙◌}
+use Rattle.std.proofs.Common.{get_or, ap}
 use Rattle.std.proofs.lemmas.List.{get_or_default}
 use Rattle.qolb_draw.specs.Svg.{texts}
 use Rattle.qolb_draw.specs.Timelines.{column_shapes, no_event}

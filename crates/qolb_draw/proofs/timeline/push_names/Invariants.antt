@@ -1,4 +1,4 @@
-use Rattle.std.proofs.Common.{◌≡◌, ◌++◌, ◌*◌, map}
+use Rattle.std.proofs.Common.{◌≡◌, ◌++◌, ◌*◌}
 use Rattle.std.specs.List.{flat_map, range_with_len}
 use Rattle.qolb_draw.specs.declared.timeline.TheConstants.{NAMED_EVERY}
 use Rattle.qolb_draw.specs.Svg.{name_text}

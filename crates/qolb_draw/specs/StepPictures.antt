@@ -1,0 +1,83 @@
+-- The picture of a step script in either form. (Of this project.)
+use Rattle.std.specs.Prelude.{◌≡◌, ◌≤◌, ℕ, ◌+◌, max, List, [], ◌∷◌, ◌++◌, length, map, flat_map, drop, codes, Ok}
+use Rattle.std.specs.List.{range_with_len}
+use Rattle.link_core.specs.declared.event.Event.{Event}
+use Rattle.link_core.specs.declared.point.Point.{Point}
+use Rattle.link_core.specs.declared.point.Point.TheVariants as at
+use Rattle.link_core.specs.declared.state.State.{State}
+use Rattle.link_core.specs.State.{first, point}
+use Rattle.qolb_run.specs.declared.input.TheConstants.{MOST_BYTES}
+use Rattle.qolb_run.specs.StepRuns.{line_of}
+use Rattle.qolb_script.specs.StepScript.{StepScript, steps_of}
+use Rattle.qolb_draw.specs.declared.draw.Form.{Form}
+use Rattle.qolb_draw.specs.declared.draw.Form.TheVariants as form
+use Rattle.qolb_draw.specs.declared.step_text.TheConstants.{LETTERS}
+use Rattle.qolb_draw.specs.declared.step_svg.TheConstants.{STEPS_LEGEND}
+use Rattle.qolb_draw.specs.declared.svg.TheConstants.{TAIL}
+use Rattle.qolb_draw.specs.Svg.{svg_head}
+use Rattle.qolb_draw.specs.StepShapes.{Seen, Watches, event_shapes, lane_shapes}
+use Rattle.qolb_draw.specs.StepSvg.{place_words, step_texts, step_x, step_y, told_words}
+
+-- the letter of a point
+abbrev pub letter_at : Point → ℕ
+letter_at at.Idle = 46
+letter_at at.Ready = 114
+letter_at (at.Linking n) = 108
+letter_at at.Queued = 119
+letter_at at.Holding = 72
+letter_at (at.Leaving n) = 104
+letter_at (at.Marking n) = 109
+letter_at (at.Granting n) = 103
+letter_at at.Freeing = 102
+letter_at at.Left = 76
+letter_at at.Rolled = 120
+letter_at at.Shut = 45
+
+-- the letters of all nodes, that of node 1 first
+abbrev pub letters_of : State → List ℕ
+letters_of c = map (λ k. letter_at (point c (k + 1))) (range_with_len 0 c.nodes)
+
+-- as plain text: how each node stands after the event, the event and what it told, and where the line lies
+abbrev pub event_line : ℕ → Seen → List ℕ
+event_line column seen = letters_of seen.after ++ codes "  " ++ told_words column seen.event seen.told ++ codes "; " ++ place_words seen.after.place ++ codes "\n"
+
+-- an event that these follow, in a form
+abbrev pub event_in : Form → ℕ → Seen → List Event → List ℕ
+event_in form.Text column seen rest = event_line column seen
+event_in form.Svg column seen rest = step_texts (event_shapes column seen rest)
+
+-- what was seen of some events, from a column on
+abbrev pub events_in : Form → ℕ → List Event → List Seen → List ℕ
+events_in form column events [] = []
+events_in form column events (seen ∷ all) = event_in form column seen (drop 1 events) ++ events_in form (column + 1) (drop 1 events) all
+
+-- the rows, and how wide and high the whole is
+abbrev pub lanes_text : ℕ → ℕ → List ℕ
+lanes_text nodes columns = flat_map (λ row. step_texts (lane_shapes columns row)) (range_with_len 0 (nodes + 1))
+
+abbrev pub step_width : ℕ → ℕ
+step_width columns = max 800 (step_x columns + 32)
+
+abbrev pub step_height : ℕ → ℕ
+step_height nodes = 64 + step_y nodes + 36
+
+-- the picture of a script of which this was seen
+abbrev pub steps_in : Form → StepScript → List Seen → List ℕ
+steps_in form.Text script all = events_in form.Text 0 script.events all ++ LETTERS.now
+steps_in form.Svg script all =
+    svg_head (step_width (length script.events)) (step_height script.nodes) ++ STEPS_LEGEND.now
+    ++ (lanes_text script.nodes (length script.events) ++ events_in form.Svg 0 script.events all ++ codes "</g>\n") ++ TAIL.now
+
+-- the text is a picture of a run of the script
+pub record IsDrawn (form : Form) (script : StepScript) (text : List ℕ) : Type 0 where
+  pub all : List Seen
+  pub last : State
+  pub runs : Watches (first (line_of script)) script.events all last
+  pub text_is : text ≡ steps_in form script all
+
+-- the bytes are a step script, and this is its picture
+pub record IsStepPicture (form : Form) (input text : List ℕ) : Type 0 where
+  pub fits : length input ≤ MOST_BYTES
+  pub script : StepScript
+  pub read : steps_of input ≡ Ok script
+  pub drawn : IsDrawn form script text

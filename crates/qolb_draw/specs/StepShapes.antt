@@ -1,0 +1,84 @@
+-- The picture of a step script: which shapes it has, and where. A column is an event, counted from 0. Row 0 is the home word, and row n is
+-- node n with its entry. (Of this project.)
+use Rattle.std.specs.Prelude.{ℕ, ◌+◌, ◌*◌, ◌==◌, ◌&&◌, not, Bool, true, if◌then◌else◌, List, [], ◌∷◌, ◌++◌, map, flat_map, Option, Some, None}
+use Rattle.std.specs.List.{range_with_len, slice_index_or}
+use Rattle.link_core.specs.declared.entry.Entry.{Entry}
+use Rattle.link_core.specs.declared.event.Event.{Event}
+use Rattle.link_core.specs.declared.place.Place.{Place}
+use Rattle.link_core.specs.declared.point.Point.{Point}
+use Rattle.link_core.specs.declared.state.State.{State}
+use Rattle.link_core.specs.declared.told.Told.{Told}
+use Rattle.link_core.specs.declared.told.NotEnabled.{NotEnabled}
+use Rattle.link_core.specs.State.{empty, entry, point}
+use Rattle.link_core.specs.Steps.{Step, IsRefused, node_of}
+use Rattle.qolb_draw.specs.declared.timeline.TheConstants.{NAMED_EVERY}
+use Rattle.qolb_draw.specs.Timelines.{name_count}
+
+-- an event with what it told, if it was enabled, and the core before it and after it
+pub record Seen : Type 0 where
+  pub event : Event
+  pub told : Option Told
+  pub before : State
+  pub after : State
+
+-- These events were made one after another, from the first core to the last. One that was not enabled tells nothing and changes nothing.
+pub data Watches (from : State) : List Event → List Seen → State → Type 0 where
+  nothing : Watches from [] [] from
+  made : {events : List Event} {all : List Seen} {before after : State} (event : Event) (what : Told) → Watches from events all before → Step before event what after → Watches from (events ++ event ∷ []) (all ++ record { event = event; told = Some what; before = before; after = after } ∷ []) after
+  refused : {events : List Event} {all : List Seen} {before : State} (event : Event) (why : NotEnabled) → Watches from events all before → IsRefused before event why → Watches from (events ++ event ∷ []) (all ++ record { event = event; told = None; before = before; after = before } ∷ []) before
+
+pub data StepShape : Type 0 where
+  -- the thin line of a row, through so many columns
+  Lane : (row columns : ℕ) → StepShape
+  -- the name of a row
+  Name : (row column : ℕ) → StepShape
+  -- the number of an event
+  Number : (column : ℕ) → StepShape
+  -- a node is at this point, from one column to another
+  At : (node start end : ℕ) → Point → StepShape
+  -- the line lies here, for a column
+  Lies : (column : ℕ) → Place → StepShape
+  -- the home word has become this
+  Home : (column word : ℕ) → StepShape
+  -- the entry of a node has become this
+  Word : (column node : ℕ) → Entry → StepShape
+  -- an event, with what it told
+  Act : (column : ℕ) → Event → Option Told → StepShape
+
+-- a row, whose name stands again and again
+abbrev pub lane_shapes : ℕ → ℕ → List StepShape
+lane_shapes columns row = Lane row columns ∷ map (λ k. Name row (NAMED_EVERY * k)) (range_with_len 0 (name_count columns))
+
+-- how many of these events come before the next one of a node
+abbrev pub until : ℕ → List Event → ℕ
+until n [] = 0
+until n (event ∷ rest) = if node_of event == n then 0 else until n rest + 1
+
+-- the home word, where it is another
+abbrev pub home_shapes : ℕ → ℕ → ℕ → List StepShape
+home_shapes column was is = if is == was then [] else Home column is ∷ []
+
+-- the entries of all nodes, that of node 1 first
+abbrev pub entries_of : State → List Entry
+entries_of c = map (λ k. entry c (k + 1)) (range_with_len 0 c.nodes)
+
+abbrev pub is_same_flag : Bool → Bool → Bool
+is_same_flag true b = b
+is_same_flag a b = not b
+
+abbrev pub is_same_entry : Entry → Entry → Bool
+is_same_entry a b = is_same_flag a.granted b.granted && (is_same_flag a.rolled b.rolled && (is_same_flag a.done b.done && (is_same_flag a.freed b.freed && (a.link == b.link))))
+
+-- the entries that are others
+abbrev pub word_shapes : ℕ → ℕ → Entry → Entry → List StepShape
+word_shapes column node was is = if is_same_entry was is then [] else Word column node is ∷ []
+
+abbrev pub words_shapes : ℕ → List Entry → State → List StepShape
+words_shapes column were c = flat_map (λ k. word_shapes column (k + 1) (slice_index_or were k empty) (entry c (k + 1))) (range_with_len 0 c.nodes)
+
+-- what is shown of an event that these follow: the node's point until its next event, where the line lies, which words have changed, and what
+-- it told
+abbrev pub event_shapes : ℕ → Seen → List Event → List StepShape
+event_shapes column seen rest =
+    Number column ∷ At (node_of seen.event) column (column + (until (node_of seen.event) rest + 1)) (point seen.after (node_of seen.event)) ∷ Lies column seen.after.place ∷ []
+    ++ home_shapes column seen.before.home seen.after.home ++ words_shapes column (entries_of seen.before) seen.after ++ Act column seen.event seen.told ∷ []

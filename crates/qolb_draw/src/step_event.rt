@@ -1,0 +1,184 @@
+//! What a picture of a step script shows of an event.
+ghost use Rattle.std.specs.Prelude.{◌≡◌, ◌++◌, ◌+◌, ◌≤◌, ◌<◌, length, OnOk, IfOk};
+ghost use Rattle.qolb_model.specs.declared.terms.TheConstants.{MOST_NODES};
+ghost use Rattle.qolb_script.specs.declared.schedule.TheConstants.{MOST_COMMANDS};
+ghost use Rattle.link_core.specs.declared.state.State.{State};
+ghost use Rattle.link_core.specs.State.{IsNode};
+ghost use Rattle.link_core.specs.Steps.{node_of};
+ghost use Rattle.qolb_draw.specs.StepPictures.{event_in};
+ghost use Rattle.qolb_draw.specs.StepShapes.{Seen};
+ghost use Rattle.qolb_draw.specs.StepShapes as spec;
+ghost use Rattle.qolb_draw.specs.StepSvg.{step_texts};
+
+use crate::draw::Form;
+use crate::step_svg::{push_act, push_at, push_home, push_lies, push_step_number, push_word};
+use crate::step_text::push_event_line;
+use link_core::{Core, Entry, Event, Told};
+use std::alloc::{AllocError, Allocator};
+
+/// The words of a line: the home word, and the entries of all nodes, that of node 1 first.
+#[derive(Drop)]
+pub struct Words<A: Allocator> {
+    pub home: u64,
+    pub entries: Vec<Entry, A>,
+}
+
+/// The words as they are.
+pub fn words_of<A: Allocator>(alloc: A, core: &Core) -> Result<Words<A>, AllocError>
+    ensures home { IfOk result (λ words. words.home ≡ core.now.home) }
+    ensures entries { IfOk result (λ words. words.entries.items ≡ spec.entries_of core.now) }
+{
+    let entries = entries_of(alloc, core)?;
+    Ok(Words {
+        home: core.home(),
+        entries,
+    })
+}
+
+/// The entries of all nodes, that of node 1 first.
+fn entries_of<A: Allocator>(alloc: A, core: &Core) -> Result<Vec<Entry, A>, AllocError>
+    ensures { IfOk result (λ entries. entries.items ≡ spec.entries_of core.now) }
+{
+    let mut entries = Vec::new(alloc);
+    for before in 0..core.nodes() {
+        entries.push(core.entry(before + 1))?;
+    }
+    Ok(entries)
+}
+
+/// How many of these events come before the next one of a node.
+fn until(node: u64, rest: &[Event]) -> u32
+    requires { length rest.now ≤ MOST_COMMANDS }
+    ensures is { result ≡ spec.until node rest.now }
+    ensures few { result ≤ length rest.now }
+{
+    for place in 0..rest.len() {
+        if rest[place].node() == node {
+            return place as u32;
+        }
+    }
+    rest.len() as u32
+}
+
+/// The flags are the same.
+fn is_same_flag(one: bool, other: bool) -> bool
+    ensures { result ≡ spec.is_same_flag one other }
+{
+    if one { other } else { !other }
+}
+
+/// The entries are the same.
+fn is_same_entry(one: &Entry, other: &Entry) -> bool
+    ensures { result ≡ spec.is_same_entry one.now other.now }
+{
+    is_same_flag(one.granted, other.granted)
+        && is_same_flag(one.rolled, other.rolled)
+        && is_same_flag(one.done, other.done)
+        && is_same_flag(one.freed, other.freed)
+        && one.link == other.link
+}
+
+/// Appends what the home word has become, if it is another.
+fn push_other_home<A: Allocator>(
+    svg: &mut Vec<u8, A>,
+    column: u32,
+    was: u64,
+    is: u64,
+) -> Result<(), AllocError>
+    ensures { OnOk result (svg.new.items ≡ svg.old.items ++ step_texts (spec.home_shapes column was is)) }
+{
+    if is != was {
+        push_home(svg, column, is)?;
+    }
+    Ok(())
+}
+
+/// Appends what the entry of a node has become, if it is another.
+fn push_other_word<A: Allocator>(
+    svg: &mut Vec<u8, A>,
+    column: u32,
+    node: u64,
+    was: &Entry,
+    is: &Entry,
+) -> Result<(), AllocError>
+    requires { node ≤ MOST_NODES }
+    ensures { OnOk result (svg.new.items ≡ svg.old.items ++ step_texts (spec.word_shapes column node was.now is.now)) }
+{
+    if !is_same_entry(was, is) {
+        push_word(svg, column, node, is)?;
+    }
+    Ok(())
+}
+
+/// Appends what the entries have become that are others than these.
+fn push_other_words<A: Allocator>(
+    svg: &mut Vec<u8, A>,
+    column: u32,
+    were: &[Entry],
+    core: &Core,
+) -> Result<(), AllocError>
+    requires nodes { core.now.nodes ≤ MOST_NODES }
+    requires size { length were.now ≡ core.now.nodes }
+    ensures { OnOk result (svg.new.items ≡ svg.old.items ++ step_texts (spec.words_shapes column were.now core.now)) }
+{
+    for before in 0..core.nodes() {
+        let entry = core.entry(before + 1);
+        push_other_word(svg, column, before + 1, &were[before as usize], &entry)?;
+    }
+    Ok(())
+}
+
+/// Appends the shapes of an event, made in this column at these words, that left the core so and that these follow.
+fn push_event_shapes<A: Allocator>(
+    alloc: A,
+    svg: &mut Vec<u8, A>,
+    column: u32,
+    event: &Event,
+    told: Option<Told>,
+    words: &Words<A>,
+    core: &Core,
+    rest: &[Event],
+) -> Result<(), AllocError>
+    requires node { IsNode core.now (node_of event.now) }
+    requires nodes { core.now.nodes ≤ MOST_NODES }
+    requires size { length words.now.entries.items ≡ core.now.nodes }
+    requires column { column ≤ MOST_COMMANDS }
+    requires rest { length rest.now ≤ MOST_COMMANDS }
+    ensures { OnOk result ((s : State) → words.now.home ≡ s.home → words.now.entries.items ≡ spec.entries_of s → let seen : Seen = record { event = event.now; told = told; before = s; after = core.now } in svg.new.items ≡ svg.old.items ++ step_texts (spec.event_shapes column seen rest.now)) }
+{
+    let node = event.node();
+    let end = column + (until(node, rest) + 1);
+    push_step_number(svg, column)?;
+    push_at(svg, node, column, end, core.point(node))?;
+    push_lies(svg, column, core.place())?;
+    push_other_home(svg, column, words.home, core.home())?;
+    push_other_words(svg, column, &words.entries, core)?;
+    push_act(alloc, svg, column, event, told)?;
+    Ok(())
+}
+
+/// Appends the event in this form.
+pub fn push_event<A: Allocator>(
+    alloc: A,
+    text: &mut Vec<u8, A>,
+    form: Form,
+    column: u32,
+    event: &Event,
+    told: Option<Told>,
+    words: &Words<A>,
+    core: &Core,
+    rest: &[Event],
+) -> Result<(), AllocError>
+    requires node { IsNode core.now (node_of event.now) }
+    requires nodes { core.now.nodes ≤ MOST_NODES }
+    requires size { length words.now.entries.items ≡ core.now.nodes }
+    requires column { column ≤ MOST_COMMANDS }
+    requires rest { length rest.now ≤ MOST_COMMANDS }
+    ensures { OnOk result ((s : State) → words.now.home ≡ s.home → words.now.entries.items ≡ spec.entries_of s → let seen : Seen = record { event = event.now; told = told; before = s; after = core.now } in text.new.items ≡ text.old.items ++ event_in form column seen rest.now) }
+{
+    match form {
+        Form::Text => push_event_line(alloc, text, column, event, told, core)?,
+        Form::Svg => push_event_shapes(alloc, text, column, event, told, words, core, rest)?,
+    }
+    Ok(())
+}

@@ -1,0 +1,130 @@
+//! Pictures of step scripts: what a reader gives is drawn, and the picture written.
+ghost use Rattle.std.specs.Prelude.{◌≡◌, ◌≢◌, ◌↔◌, ◌++◌, ℕ, List, true, Ok, Err, OnOk, IfOk, IfErr, IfSome, false};
+ghost use Rattle.std.specs.Io.KnownBytes.{Appends};
+ghost use Rattle.link_core.specs.declared.state.State.{State};
+ghost use Rattle.link_core.specs.State.{first};
+ghost use Rattle.qolb_script.specs.Watched.{inner_of, has_failed};
+ghost use Rattle.qolb_run.specs.Outcome.{MayFail};
+ghost use Rattle.qolb_run.specs.StepRuns.{line_of};
+ghost use Rattle.qolb_run.specs.declared.task.Task.TheVariants as task;
+ghost use Rattle.qolb_run.specs.declared.task.Detail.TheVariants as detail;
+ghost use Rattle.qolb_draw.specs.StepPictures.{IsDrawn, IsStepPicture, events_in};
+ghost use Rattle.qolb_draw.specs.StepShapes.{Seen, Watches};
+ghost use Rattle.qolb_draw.specs.declared.draw.Form.TheVariants as form;
+
+use crate::draw::Form;
+use crate::step_event::{push_event, words_of};
+use crate::step_svg::{STEPS_LEGEND, push_lanes, step_height, step_width};
+use crate::step_text::LETTERS;
+use crate::svg::svg_of;
+use line_lanes::Line64;
+use link_core::Core;
+use qolb_model::Terms;
+use qolb_run::{ReplayError, read_input};
+use qolb_script::{ScriptError, Steps, Watched, read_steps};
+use std::alloc::{AllocError, Allocator};
+use std::io::{Read, Write};
+
+/// Draws the step script that the reader gives, and writes its picture in this form, by a core of reversed links: for each event at which
+/// point its node is then, which words it changed, and where the line lies.
+///
+/// The whole input is read first, and the picture is built whole before its first byte is written: with every error but `Write`
+/// nothing was written. An error comes just where a run of the script has it.
+pub fn draw_steps<A: Allocator, R: Read, W: Write>(
+    alloc: A,
+    reader: &mut Watched<R>,
+    writer: &mut Watched<W>,
+    form: Form,
+) -> Result<(), ReplayError>
+    ensures ok { OnOk result (IfSome (R.remaining (inner_of reader.old)) (λ input. (text : List ℕ) × IsStepPicture form input text × Appends (W.contents (inner_of writer.old)) (W.contents (inner_of writer.new)) text)) }
+    ensures refused { IfErr result (λ error. IfSome (R.remaining (inner_of reader.old)) (λ input. MayFail (task.Steps detail.Words) input error)) }
+    ensures unwritten { IfErr result (λ error. error ≢ ReplayError.Write → writer.new ≡ writer.old) }
+    ensures read_fault { (result ≡ Err ReplayError.Read) ↔ (has_failed reader.new ≡ true) }
+    ensures write_fault { result ≡ Err ReplayError.Write → has_failed writer.new ≡ true }
+    ensures written { OnOk result (has_failed writer.new ≡ false) }
+    ensures memory { result ≢ Err (ReplayError.Script ScriptError.Memory) }
+{
+    let input = read_input(&alloc, reader)?;
+    let steps = read_steps(&alloc, input.as_slice())?;
+    let text = picture_in(&alloc, &steps, form)?;
+    writer.write_all(text.as_slice())?;
+    Ok(())
+}
+
+/// The picture of a step script in this form.
+fn picture_in<A: Allocator + Copy>(
+    alloc: A,
+    steps: &Steps<A>,
+    form: Form,
+) -> Result<Vec<u8, A>, AllocError>
+    ensures { IfOk result (λ text. IsDrawn form steps.now text.items) }
+{
+    match form {
+        Form::Text => lines(alloc, steps),
+        Form::Svg => timeline(alloc, steps),
+    }
+}
+
+/// The picture of a step script, as plain text.
+fn lines<A: Allocator + Copy>(alloc: A, steps: &Steps<A>) -> Result<Vec<u8, A>, AllocError>
+    ensures { IfOk result (λ text. IsDrawn form.Text steps.now text.items) }
+{
+    let mut text = Vec::new(alloc);
+    push_events(alloc, &mut text, steps, Form::Text)?;
+    text.extend_from_slice(LETTERS)?;
+    Ok(text)
+}
+
+/// The picture of a step script, as an SVG.
+fn timeline<A: Allocator + Copy>(alloc: A, steps: &Steps<A>) -> Result<Vec<u8, A>, AllocError>
+    ensures { IfOk result (λ svg. IsDrawn form.Svg steps.now svg.items) }
+{
+    let mut shapes = Vec::new(alloc);
+    let columns = steps.events().len();
+    push_lanes(&mut shapes, steps.nodes(), columns)?;
+    push_events(alloc, &mut shapes, steps, Form::Svg)?;
+    shapes.extend_from_slice(b"</g>\n")?;
+    let width = step_width(columns as u32);
+    let height = step_height(steps.nodes());
+    let svg = svg_of(alloc, width, height, STEPS_LEGEND, shapes.as_slice())?;
+    Ok(svg)
+}
+
+/// Appends the events of a script in this form, each made on the core that those before it left.
+fn push_events<A: Allocator + Copy>(
+    alloc: A,
+    text: &mut Vec<u8, A>,
+    steps: &Steps<A>,
+    form: Form,
+) -> Result<(), AllocError>
+    ensures { OnOk result ((all : List Seen) × (last : State) × Watches (first (line_of steps.now)) steps.now.events all last × (text.new.items ≡ text.old.items ++ events_in form 0 steps.now.events all)) }
+{
+    let terms = Terms {
+        nodes: steps.nodes(),
+        opening: Line64::zero(),
+        lease: steps.lease(),
+    };
+    let Some(mut core) = Core::with_terms(terms) else {
+        unreachable!();
+    };
+    let events = steps.events();
+    let mut words = words_of(alloc, &core)?;
+    for column in 0..events.len() {
+        let event = events[column];
+        let told = core.step(event).ok();
+        let rest = &events[column + 1..];
+        push_event(
+            alloc,
+            text,
+            form,
+            column as u32,
+            &event,
+            told,
+            &words,
+            &core,
+            rest,
+        )?;
+        words = words_of(alloc, &core)?;
+    }
+    Ok(())
+}
