@@ -38,8 +38,8 @@ pub const LEGEND: &[u8] =
 <path class='arrow' d='M24 32V50'/><text x='46' y='46'>hands over</text>
 <use href='#call' x='144' y='42'/><text x='156' y='46'>a call</text>
 <use href='#out' x='228' y='42'/><text x='240' y='46'>withdraws</text>
-<use href='#told' x='330' y='42'/><text x='342' y='46'>is told of the close</text>
-<use href='#misuse' x='508' y='42'/><text x='520' y='46'>may not</text>
+<use href='#told' x='330' y='42'/><text x='342' y='46'>is told: line closed</text>
+<use href='#misuse' x='508' y='42'/><text x='520' y='46'>not allowed</text>
 ";
 
 /// What stands behind the last line.

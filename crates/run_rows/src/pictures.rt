@@ -271,7 +271,7 @@ fn each_allocation_is_refused(rt: HostRuntime) -> Result<(), Fail> {
 
 /// What a timeline has behind its legend.
 fn body_of(svg: &str) -> Option<&str> {
-    svg.split_once("may not</text>\n").map(|parts| parts.1)
+    svg.split_once("not allowed</text>\n").map(|parts| parts.1)
 }
 
 #[test]
@@ -389,8 +389,8 @@ const LEGEND: &str =
 <path class='arrow' d='M24 32V50'/><text x='46' y='46'>hands over</text>
 <use href='#call' x='144' y='42'/><text x='156' y='46'>a call</text>
 <use href='#out' x='228' y='42'/><text x='240' y='46'>withdraws</text>
-<use href='#told' x='330' y='42'/><text x='342' y='46'>is told of the close</text>
-<use href='#misuse' x='508' y='42'/><text x='520' y='46'>may not</text>
+<use href='#told' x='330' y='42'/><text x='342' y='46'>is told: line closed</text>
+<use href='#misuse' x='508' y='42'/><text x='520' y='46'>not allowed</text>
 ";
 
 /// The colours of a light page and of a dark one.
