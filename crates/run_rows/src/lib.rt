@@ -8,4 +8,6 @@ mod replays;
 #[cfg(test)]
 mod scarce;
 #[cfg(test)]
+mod step_pictures;
+#[cfg(test)]
 mod steps;
