@@ -62,7 +62,7 @@ def by_check(log, goals):
         return "search", two(same)
     if open_goals:
         return "new", two(open_goals)
-    first = next((line for line in log.splitlines() if "error" in line or ": no proof" in line or ": not proved" in line), "")
+    first = next((line for line in log.splitlines() if ": error" in line or ": no proof" in line or ": not proved" in line), "")
     return "names", ("gone: " if gone else "") + first[:160]
 
 
