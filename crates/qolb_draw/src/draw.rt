@@ -29,7 +29,7 @@ pub enum Form {
 /// Draws the schedule that the reader gives, and writes its picture in this form, by the answers of plain lines.
 ///
 /// The whole input is read first, and the picture is built whole before its first byte is written: with every error but `Write`
-/// nothing was written. An error comes just where a replay of plain lines has it.
+/// nothing was written. An error comes only where a replay of plain lines may have it.
 pub fn draw_schedule<A: Allocator, R: Read, W: Write>(
     alloc: A,
     reader: &mut Watched<R>,

@@ -29,7 +29,7 @@ use std::io::{Read, Write};
 /// point its node is then, which words it changed, and where the line lies.
 ///
 /// The whole input is read first, and the picture is built whole before its first byte is written: with every error but `Write`
-/// nothing was written. An error comes just where a run of the script has it.
+/// nothing was written. An error comes only where a run of the script may have it.
 pub fn draw_steps<A: Allocator, R: Read, W: Write>(
     alloc: A,
     reader: &mut Watched<R>,
