@@ -10,7 +10,7 @@ ghost use Rattle.shared_line.specs.Steps.{SameSeat, HasSlot, HasNoSlot};
 ghost use Rattle.link_line.specs.Links.{At};
 ghost use Rattle.link_line.specs.Stances.{lets_go_in, turn_word};
 ghost use Rattle.link_line.specs.Words as layout;
-ghost use Rattle.link_line.specs.Steps.{IsSeatOf, IsAt, IsSeatOfNode, Alone, known_of, GoesOn, Went, MayLetGo};
+ghost use Rattle.link_line.specs.Steps.{IsSeatOf, IsAt, IsSeatOfNode, IsSized, Alone, known_of, GoesOn, Went, MayLetGo};
 ghost use Rattle.link_line.specs.Releases.{AreFew, HandsOn, NamesTurn, LetsLineGo, WalksOn, AreNodesAt, FreesAll};
 
 use crate::rule::{Ground, LinkSeat};
@@ -42,7 +42,7 @@ pub(crate) fn release<K: Keep>(
     node: u64,
     closed: bool,
 ) -> Released
-    requires seat { IsSeatOfNode ground.now.table_id node seat.old }
+    requires seat { IsSeatOfNode ground.now.key.terms.nodes ground.now.table_id node seat.old }
     requires alone { Alone seat.old.me }
     requires none_passed { (known_of seat.old).own.passed ≡ [] }
     requires nodes { (1 ≤ (known_of seat.old).view.terms.nodes) × ((known_of seat.old).view.terms.nodes ≤ MOST_NODES) }
@@ -51,7 +51,7 @@ pub(crate) fn release<K: Keep>(
     ensures went { Went K.allows seat.old seat.new result.steps }
     ensures lets_go { (y : Parcel) → HasSlot seat.old y → LetsLineGo (known_of seat.old) y result.state (known_of seat.new) }
     ensures counted { lets_go_in (length (known_of seat.old).view.ends) (length (known_of seat.new).view.ends) result.steps }
-    ensures to_wake { result.to_wake.word < layout.word_count }
+    ensures to_wake { result.to_wake.word < layout.word_count ground.now.key.terms.nodes }
     ensures wakes { result.to_wake.word ≡ turn_word (known_of seat.new).view }
     ensures bound { result.steps + 3 ≤ 4 * (known_of seat.old).view.terms.nodes }
 {
@@ -90,14 +90,15 @@ fn hand_on<K: Keep>(
     granted: &mut usize,
     at: u64,
 ) -> Handed
-    requires table { IsSeatOf ground.now.table_id seat.old }
+    requires table { IsSeatOf ground.now.key.terms.nodes ground.now.table_id seat.old }
     requires alone { Alone seat.old.me }
-    requires high { at ≤ MOST_NODES }
+    requires high { layout.IsWithin ground.now.key.terms.nodes at }
+    requires size { IsSized ground.now.key.terms.nodes seat.old }
     requires few { AreFew steps.old }
     requires parcel { (y : Parcel) × HasSlot seat.old y × MayLetGo K.allows (known_of seat.old) y at }
     ensures same { SameSeat seat.old seat.new }
     ensures handed { (n : ℕ) × (steps.new ≡ steps.old + n) × GoesOn K.allows seat.old.me seat.new.me n × ((y : Parcel) → HasSlot seat.old y → HandsOn seat.old y seat.new n result) }
-    ensures within { granted.new < layout.word_count }
+    ensures within { granted.new < layout.word_count ground.now.key.terms.nodes }
     ensures names { NamesTurn (known_of seat.new) granted.new result }
 {
     *granted = HOME;
@@ -133,15 +134,16 @@ fn walk<K: Keep>(
     granted: &mut usize,
     first: u64,
 ) -> u64
-    requires table { IsSeatOf ground.now.table_id seat.old }
+    requires table { IsSeatOf ground.now.key.terms.nodes ground.now.table_id seat.old }
     requires ready { IsAt (Leaving first) seat.old }
-    requires high { first ≤ MOST_NODES }
+    requires high { layout.IsWithin ground.now.key.terms.nodes first }
     requires passed { (known_of seat.old).own.passed ≡ length (known_of seat.old).view.ends ∷ [] }
     requires others { AreOfOthers (known_of seat.old).view.node (known_of seat.old).view.order (known_of seat.old).own.passed }
     requires first { (r : Request) × At (known_of seat.old).view.order (length (known_of seat.old).view.ends) r × (r.node ≡ first) }
     requires nodes { (2 ≤ (known_of seat.old).view.terms.nodes) × ((known_of seat.old).view.terms.nodes ≤ MOST_NODES) }
+    requires size { IsSized ground.now.key.terms.nodes seat.old }
     requires few { steps ≤ 6 }
-    requires within { granted.old < layout.word_count }
+    requires within { granted.old < layout.word_count ground.now.key.terms.nodes }
     requires parcel { HasSlot seat.old (known_of seat.old).own.line }
     requires state { (known_of seat.old).view.state ≡ states.left_by (known_of seat.old).own.line.closed }
     ensures same { SameSeat seat.old seat.new }
@@ -149,7 +151,7 @@ fn walk<K: Keep>(
     ensures goes_on { (n : ℕ) × (result ≡ steps + n) × GoesOn K.allows seat.old.me seat.new.me n }
     ensures walks_on { WalksOn (known_of seat.old) (known_of seat.new) }
     ensures counted { (n : ℕ) × (result ≡ steps + n) × (4 * length (known_of seat.new).view.ends ≤ 4 * length (known_of seat.old).view.ends + n + 2) × (n + 4 * length (known_of seat.old).view.ends ≤ 4 * length (known_of seat.new).view.ends) }
-    ensures within { granted.new < layout.word_count }
+    ensures within { granted.new < layout.word_count ground.now.key.terms.nodes }
     ensures names { granted.new ≡ turn_word (known_of seat.new).view }
     ensures bound { result + 6 ≤ steps + 4 * (known_of seat.old).view.terms.nodes }
 {
@@ -167,11 +169,12 @@ fn walk<K: Keep>(
 
 /// Frees the nodes of all requests that were passed, in their order.
 fn free_passed<K: Keep>(ground: &Ground<K>, seat: &mut LinkSeat, nodes: &[u64])
-    requires table { IsSeatOf ground.now.table_id seat.old }
+    requires table { IsSeatOf ground.now.key.terms.nodes ground.now.table_id seat.old }
     requires ready { IsAt Freeing seat.old }
+    requires size { IsSized ground.now.key.terms.nodes seat.old }
     requires some { (known_of seat.old).own.passed ≢ [] }
     requires many { length nodes.now ≡ length (known_of seat.old).own.passed }
-    requires nodes { AreNodesAt (known_of seat.old).view.order (known_of seat.old).own.passed nodes.now }
+    requires nodes { AreNodesAt (known_of seat.old).view (known_of seat.old).own.passed nodes.now }
     ensures slot { seat.new.me.1 ≡ seat.old.me.1 }
     ensures went { Went K.allows seat.old seat.new (length nodes.now) }
     ensures frees { FreesAll (known_of seat.old) (known_of seat.new) }

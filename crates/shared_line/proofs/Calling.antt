@@ -22,11 +22,12 @@ use Rattle.qolb_model.proofs.Writes.{bytes_after-release}
 use Rattle.qolb_model.proofs.Going.{continues_sound, sound_goes, asks_goes, joined_goes}
 use Rattle.shared_line.specs.declared.queue.Asked.{Asked}
 use Rattle.shared_line.specs.declared.queue.Asked.TheVariants as asked
+use Rattle.shared_line.specs.declared.rule.Entry.{Entry}
 use Rattle.shared_line.specs.declared.rule.Parcel.{Parcel}
 use Rattle.shared_line.specs.declared.rule.Setup.{Setup}
 use Rattle.shared_line.specs.Entries.{LineSeat}
 use Rattle.shared_line.specs.Phases.{Phases}
-use Rattle.shared_line.specs.Steps.{SameSeat, entry_of, sole, HasLine, write_of, own_end, Carries, Went}
+use Rattle.shared_line.specs.Steps.{SameSeat, entry_of, nodes_of, sole, HasLine, write_of, own_end, Carries, Went}
 use Rattle.shared_line.specs.Ports.{Standing, standing, Holds, IsPort, BelongsTo, IsSeated, IsPutBack}
 use Rattle.shared_line.proofs.Letting.{carries_served, holds_written}
 
@@ -103,7 +104,7 @@ module _ {O : Type 0} {q : Phases O} {label node : ℕ} {p : Standing} (s : Line
 
   -- a holder's turns: the line is put back into it, closed or not
   module _ {good : List ℕ → Type 0} {allows : List ℕ → List ℕ → Type 0} {key : Setup} {table_id : TableId} (b : BelongsTo good allows key table_id p) (held : p.view.state ≡ shows.Holding)
-      (shut closed : Bool) (is_shut : closed ≡ (shut || is_one y.turns_left)) (u : LineSeat O) (same : SameSeat s u) (entries : u.me.0 ≡ s.me.0) (back : (z : Parcel) × q.lays mark z u.me.1 × IsPutBack y closed z) where
+      (shut closed : Bool) (is_shut : closed ≡ (shut || is_one y.turns_left)) (u : LineSeat O) (same : SameSeat s u) (entries : u.me.0 ≡ s.me.0) (back : (z : Parcel) × q.lays (nodes_of q.fresh s) mark z u.me.1 × IsPutBack y closed z) where
     its : Holds q s y mark
     its = holds_of held
 
@@ -113,13 +114,16 @@ module _ {O : Type 0} {q : Phases O} {label node : ℕ} {p : Standing} (s : Line
     pub put_closes : closed ≡ closes (entry_of q.fresh s).view.terms.lease (entry_of q.fresh s).view.ends shut
     put_closes = is_shut ∙ ap (λ b. shut || b) (ap is_one its.turns ∙ last-is_one (entry_of q.fresh s).view.terms.lease (entry_of q.fresh s).view.ends)
 
+    pub put_lays : q.lays (nodes_of q.fresh u) mark back.0 u.me.1
+    put_lays = subst (λ (e : Entry O). q.lays e.view.terms.nodes mark back.0 u.me.1) (sym entry) back.1
+
     pub put_has : (z : Parcel) → HasLine q.holding q.refused mark (entry_of q.fresh u) z
     put_has z = subst (λ e. HasLine q.holding q.refused mark e z) (sym entry) (record { holds = λ _. its.at; refuses = λ shut. let e : true ≡ false = sym shut ∙ its.is_open in absurd (cc e) })
 
-    pub put_carries : MayRelease allows p.view p.turn → (z : Parcel) × q.lays mark z u.me.1 × HasLine q.holding q.refused mark (entry_of q.fresh u) z × Carries allows (entry_of q.fresh u).view z × (z.closed ≡ closed)
+    pub put_carries : MayRelease allows p.view p.turn → (z : Parcel) × q.lays (nodes_of q.fresh u) mark z u.me.1 × HasLine q.holding q.refused mark (entry_of q.fresh u) z × Carries allows (entry_of q.fresh u).view z × (z.closed ≡ closed)
     put_carries may = (
       back.0,
-      back.1,
+      put_lays,
       put_has back.0,
       subst (λ e. Carries allows e.view back.0) (sym entry)
           (carries_served allows (entry_of q.fresh s).view y back.0 shut its.is_open its.turns its.merged (subst (λ (x : Standing). MayRelease allows x.view x.turn) (sym is) may) (subst (λ c. IsPutBack y c back.0) put_closes back.2)),

@@ -12,13 +12,16 @@ use std::alloc::Global;
 use std::collections::LinkedList;
 use std::marker::PhantomData;
 
-/// How many words a line's table has: those of its queue.
+/// How many words a line's table has, and by which number the calls find them: those of its queue, for so many nodes.
 #[derive(Drop)]
 pub struct Width<K: Keep, Q: Discipline<K>> {
     pub(crate) words: usize,
+    pub(crate) nodes: u64,
+    pub(crate) size: u64,
     /// As the table that all its threads share, so that the line may go wherever that may.
     pub(crate) of: PhantomData<Ground<K, Q>>,
-    ghost sized: { words ≡ Q.Discipline.word_count },
+    ghost sized: { words ≡ Q.Discipline.word_count nodes },
+    ghost fits: { size ≡ Q.Discipline.size_for nodes },
     ghost some: { 0 < words },
 }
 
@@ -37,6 +40,7 @@ pub struct Line<K: Keep, Q: Discipline<K>, W: Waking = Sleepers> {
     ghost sized: { table.shared.table_id.words ≡ width.words },
     ghost labelled: { label ≡ table.shared.key.label },
     ghost counted: { nodes ≡ table.shared.key.terms.nodes },
+    ghost for_nodes: { width.nodes ≡ nodes },
     ghost some_nodes: { 1 ≤ nodes },
     ghost few_nodes: { nodes ≤ MOST_NODES },
 }

@@ -101,11 +101,11 @@ impl<K: Keep, Q: Discipline<K>> Line<K, Q> {
         low: u32,
         at_most: Duration,
     )
-        requires seat { IsSeatOfNode Q.word_count self.now.table.shared.table_id Q.phases.fresh node seat.now }
+        requires seat { IsSeatOfNode Q.word_count self.now.table.shared.key.terms.nodes self.now.table.shared.table_id Q.phases.fresh node seat.now }
         requires rests { Rests Q.phases PortState.Queued mark seat.now }
         requires not_come { Q.may_come mark low ≡ false }
     {
-        let word = Q::awaited(node, mark);
+        let word = Q::awaited(&self.table.shared, self.width.size, node, mark);
         self.table.shared.park_timeout(rt, word, low, at_most);
     }
 }
@@ -114,7 +114,7 @@ impl<K: Keep, Q: Discipline<K>> Sleeping<K> for Line<K, Q> {
     /// It is counted before its sleep begins, and a release looks at the count after its grant. So either the sleep finds the grant, or the
     /// release finds a sleeper; and as the sleep begins only where the word is what was seen, a wake between look and sleep is not slept over.
     fn sleep<R: Wait>(&self, rt: &R, port: &Port<Q>, at_most: Duration) {
-        let word = Q::awaited(port.node, port.mark);
+        let word = Q::awaited(&self.table.shared, self.width.size, port.node, port.mark);
         self.sleepers.count.fetch_add(1, Ordering::SeqCst);
         let low = (self.table.shared.peek(word) % (1 << 32)) as u32;
         if !Q::may_have_come(port.mark, low) {
@@ -128,7 +128,7 @@ impl<K: Keep, Q: Discipline<K>, W: Waking> Line<K, Q, W> {
     /// Wakes who sleeps at the word that was granted.
     #[inline(always)]
     pub(crate) fn wake(&self, to_wake: ToWake)
-        requires { to_wake.word < Q.word_count }
+        requires { to_wake.word < Q.word_count self.now.table.shared.key.terms.nodes }
     {
         let ToWake { word } = to_wake;
         self.sleepers.wake(&self.table.shared, word);

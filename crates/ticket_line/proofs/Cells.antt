@@ -6,7 +6,8 @@ use Rattle.atomic_table.proofs.Lists.{one_turn}
 use Rattle.qolb_model.specs.declared.terms.TheConstants.{MOST_NODES}
 use Rattle.qolb_model.proofs.Updates.{put, put_here, put_else}
 use Rattle.array_line.specs.declared.words.TheConstants.{CELLS}
-use Rattle.array_line.specs.Words.{ticket_of, cell_of}
+use Rattle.array_line.specs.Words.{ticket_of}
+use Rattle.ticket_line.specs.Words.{cell_of}
 use Rattle.array_line.proofs.Taking.{Takes, StaysBehind, cells_apart}
 use Rattle.array_line.proofs.Roll.{Withdraws}
 use Rattle.array_line.proofs.Grant.{GrantsNext}
@@ -18,18 +19,18 @@ use Rattle.ticket_line.proofs.Numbers.{granted_ticket, withdrawn_ticket, not_gra
 
 -- a granted cell has the own ticket, by which nobody waits, and whoever takes the line leaves it that number
 pub takes_by : (waits : ℕ → ℕ → Type 0) (place n : ℕ) (change : ℕ → ℕ) → (waits place (granted place) → ⊥)
-    → ((word : ℕ) → word ≡ granted place → change word / UNIT ≡ number place) → Takes TicketCells waits place n change
+    → ((word : ℕ) → word ≡ granted place → change word / UNIT ≡ number place) → Takes CELLS TicketCells waits place n change
 takes_by waits place n change own keeps cleared marks says low free c = (
   (λ w. own (subst (waits place) (c.granted refl) w)),
   record {
     kept = refl;
     turn = ap (λ q. q / UNIT) (put_here says (cell_of place) (change (says (cell_of place)))) ∙ keeps (says (cell_of place)) (c.granted refl);
     granted = λ e. absurd (omega arith);
-    later = λ k a b. subst (IsLater (place + k) (marks (place + k))) (sym (put_else says (cell_of place) (change (says (cell_of place))) (cell_of (place + k)) (cells_apart place k a b))) (c.later k a b);
+    later = λ k a b. subst (IsLater (place + k) (marks (place + k))) (sym (put_else says (cell_of place) (change (says (cell_of place))) (cell_of (place + k)) (cells_apart CELLS place k a b))) (c.later k a b);
   },
 )
 
-pub takes : (place n : ℕ) (change : ℕ → ℕ) → ((word : ℕ) → word ≡ granted place → change word / UNIT ≡ number place) → Takes TicketCells is_other place n change
+pub takes : (place n : ℕ) (change : ℕ → ℕ) → ((word : ℕ) → word ≡ granted place → change word / UNIT ≡ number place) → Takes CELLS TicketCells is_other place n change
 takes place n change = takes_by is_other place n change (λ other. other (sym (granted_ticket place)))
 
 -- as by a look, and by a withdrawal that comes too late
@@ -45,14 +46,14 @@ later_at ended hand place cleared marks says below near c = let k : ended + (pla
     subst (λ q. IsLater q (marks q) (says (cell_of q))) k (c.later (place - ended) (omega arith) (omega arith))
 
 -- so it does not say that the turn has come, nor does its lower half
-pub stays_half : (place : ℕ) → StaysBehind TicketCells is_granted_half place
+pub stays_half : (place : ℕ) → StaysBehind CELLS TicketCells is_granted_half place
 stays_half place ended hand cleared marks says below near free c e = not_granted_half place (marks place) (says (cell_of place)) (later_at ended hand place cleared marks says below near c) free (e ∙ ap (λ k. k % 2 ^ 32) (granted_ticket place))
 
-pub stays : (place : ℕ) → StaysBehind TicketCells is_granted place
+pub stays : (place : ℕ) → StaysBehind CELLS TicketCells is_granted place
 stays place ended hand cleared marks says below near free c e = not_granted place (marks place) (says (cell_of place)) (later_at ended hand place cleared marks says below near c) free (e ∙ granted_ticket place)
 
 -- the own number is written into the own cell, with the node
-pub withdraws : (place n new : ℕ) → new ≡ withdrawn (ticket_of place) n → Withdraws TicketCells place n (λ _. new)
+pub withdraws : (place n new : ℕ) → new ≡ withdrawn (ticket_of place) n → Withdraws CELLS TicketCells place n (λ _. new)
 withdraws place n new add ended hand cleared marks says low high below near free c = record {
   kept = c.kept;
   turn = ap (λ q. q / UNIT) at_turn ∙ c.turn;
@@ -76,7 +77,7 @@ withdraws place n new add ended hand cleared marks says low high below near free
     }
 
 -- the next number is written into the next cell
-pub grants : (ended new : ℕ) (cleared : Bool) → new ≡ granted (ticket_of (ended + 1)) → GrantsNext TicketCells withdrawn_by withdrawn_by ended cleared (λ _. new)
+pub grants : (ended new : ℕ) (cleared : Bool) → new ≡ granted (ticket_of (ended + 1)) → GrantsNext CELLS TicketCells withdrawn_by withdrawn_by ended cleared (λ _. new)
 grants ended new cleared is hand marks says far c = (
   (λ free. (
     by_nobody (ended + 1) (marks (ended + 1)) (says (cell_of (ended + 1))) found free,
@@ -120,4 +121,4 @@ grants ended new cleared is hand marks says far c = (
     old k a b (no ne) = let n : ended + (k + 1) ≡ ended + 1 + k = omega arith in subst (λ q. IsLater q (marks q) (says (cell_of q))) n (c.later (k + 1) (omega arith) (omega arith))
 
     later_cells : (k : ℕ) → 0 < k → k < CELLS → IsLater (ended + 1 + k) (marks (ended + 1 + k)) (put says (cell_of (ended + 1)) new (cell_of (ended + 1 + k)))
-    later_cells k a b = subst (IsLater (ended + 1 + k) (marks (ended + 1 + k))) (sym (put_else says (cell_of (ended + 1)) new (cell_of (ended + 1 + k)) (cells_apart (ended + 1) k a b))) (old k a b (ℕ_discrete (k + 1) CELLS))
+    later_cells k a b = subst (IsLater (ended + 1 + k) (marks (ended + 1 + k))) (sym (put_else says (cell_of (ended + 1)) new (cell_of (ended + 1 + k)) (cells_apart CELLS (ended + 1) k a b))) (old k a b (ℕ_discrete (k + 1) CELLS))

@@ -5,7 +5,8 @@ use lib.Pow.{mod-mod-pow}
 use Rattle.atomic_table.proofs.Lists.{one_turn}
 use Rattle.qolb_model.specs.declared.terms.TheConstants.{MOST_NODES}
 use Rattle.array_line.specs.declared.words.TheConstants.{CELLS}
-use Rattle.array_line.specs.Words.{ticket_of, cell_of}
+use Rattle.array_line.specs.Words.{ticket_of}
+use Rattle.ticket_line.specs.Words.{cell_of}
 use Rattle.ticket_line.specs.declared.words.TheConstants.{UNIT, NUMBERS}
 use Rattle.ticket_line.specs.Words.{ticket_after, number, granted, withdrawn, withdrawn_by, number_before}
 use Rattle.ticket_line.specs.Ticket.{IsLater}

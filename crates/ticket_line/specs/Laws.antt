@@ -7,7 +7,10 @@ use Rattle.shared_line.specs.Slots.{Slots}
 use Rattle.qolb_model.specs.declared.terms.TheConstants.{MOST_NODES}
 use Rattle.array_line.specs.declared.words.TheConstants.{CELLS}
 use Rattle.array_line.specs.Stances.{most}
-use Rattle.array_line.specs.Words.{cell_at, cell_of, cells_in, ticket_at, ticket_of}
+use Rattle.array_line.specs.Words.{cell_at, cells_in, ticket_at, ticket_of}
+use Rattle.ticket_line.specs.Words.{cell_of}
+use Rattle.shared_line.specs.declared.rule.Setup.{Setup}
+use Rattle.qolb_model.specs.Opening.{MayOpen}
 use Rattle.array_line.proofs.Slots.{MayPark, stays_home}
 use Rattle.ticket_line.specs.Words.{AreFirst, ticket_after}
 use Rattle.ticket_line.specs.Slots.{berths, slot_of, last}
@@ -52,3 +55,7 @@ may_park ticket z x slots is = subst (MayPark berths) (sym is) (λ homes deep. (
   refl,
   λ k h. stays_home (set homes (slot_of (ticket_after ticket)) (some z)) (slot_of ticket) k x (stays_home homes (slot_of (ticket_after ticket)) k z h),
 ))
+
+-- there are more cells than nodes
+pub enough : (about : Setup) → MayOpen about.terms → about.terms.nodes < CELLS
+enough about may = let few = may.nodes.few in omega arith

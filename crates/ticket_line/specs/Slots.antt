@@ -1,12 +1,13 @@
 -- Where a ticket line keeps its line: in a slot of each cell.
 use Rattle.std.specs.Prelude.{◌≡◌, ◌⊎◌, ℕ, ◌*◌, List, [], ◌∷◌, Option, slice_index}
+use Rattle.std.proofs.Common.{lit<}
 use Rattle.shared_line.specs.declared.rule.Parcel.{Parcel}
 use Rattle.shared_line.specs.Slots.{Slots}
 use Rattle.array_line.specs.declared.words.TheConstants.{CELLS}
-use Rattle.array_line.specs.Words.{cell_of, ticket_of, ticket_at}
+use Rattle.array_line.specs.Words.{ticket_of, ticket_at}
 use Rattle.array_line.specs.Berths.{Berths}
 use Rattle.ticket_line.specs.declared.words.TheConstants.{SLOT_STRIDE}
-use Rattle.ticket_line.specs.Words.{ticket_after}
+use Rattle.ticket_line.specs.Words.{ticket_after, cell_of}
 
 -- the slot of a ticket's cell
 abbrev pub slot_of : ℕ → ℕ
@@ -30,6 +31,8 @@ lays ticket y slots = (x : Parcel) × (slots ≡ (slot_of (ticket_after ticket),
 -- of all that
 abbrev pub berths : Berths
 berths = record {
+  cells = CELLS;
+  some_cells = lit< tt;
   count = slot_count;
   lies = λ ended. slot_of (ticket_of ended);
   is_out = λ ended k. (k ≡ slot_of (ticket_of ended)) ⊎ (k ≡ slot_of (ticket_after (ticket_of ended)));

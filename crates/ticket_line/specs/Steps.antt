@@ -1,8 +1,10 @@
 -- What each step of a port tells it, where tickets have a say in it.
 use Rattle.std.specs.Prelude.{◌≡◌, ◌≢◌, ℕ, ◌+◌, ◌%◌, ◌^◌, List, length}
 use Rattle.atomic_table.specs.Table.{Step}
+use Rattle.atomic_table.specs.Seated.{TableId}
 use Rattle.shared_line.specs.declared.rule.Parcel.{Parcel}
 use Rattle.array_line.specs.Words.{ticket_of}
+use Rattle.array_line.specs.declared.words.TheConstants.{CELLS}
 use Rattle.array_line.specs.Array.{ArrayEntry}
 use Rattle.array_line.specs.Steps as array
 use Rattle.array_line.specs.Steps.{ArraySeat, Contents, entry_of}
@@ -18,6 +20,10 @@ turn_ticket seat = ticket_of (length (entry_of seat).view.ends)
 
 abbrev pub next_ticket : ArraySeat → ℕ
 next_ticket seat = ticket_of (length (entry_of seat).view.ends + 1)
+
+-- the seat is of the table of a line of so many nodes, and the node is its own
+abbrev pub IsSeatOfNode : ℕ → TableId → ℕ → ArraySeat → Type 0
+IsSeatOfNode nodes table_id node seat = array.IsSeatOfNode (λ _. CELLS) nodes table_id node seat
 
 -- A port's mark is its ticket. The request has not come to its turn, and is not withdrawn; it has come; and it has not, and is withdrawn.
 abbrev pub IsEarly : ℕ → ArrayEntry → Type 0

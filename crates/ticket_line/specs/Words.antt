@@ -34,4 +34,11 @@ number_before place = (place + 1 - CELLS) % NUMBERS
 
 -- nobody has asked: the first cell is granted to the first ticket, and all else is blank
 abbrev pub AreFirst : List ℕ → Type 0
-AreFirst words = array.AreFirst (granted 0) words
+AreFirst words = array.AreFirst CELLS (granted 0) words
+
+-- the cell of a ticket
+abbrev pub cell_of : ℕ → ℕ
+cell_of ticket = array.cell_of CELLS ticket
+
+abbrev pub word_count : ℕ
+word_count = array.word_count CELLS

@@ -1,7 +1,8 @@
 //! Partitioned tickets as a queue discipline.
 ghost use Rattle.std.specs.Prelude.{◌≡◌};
 ghost use Rattle.qolb_model.specs.PortStates as states;
-ghost use Rattle.array_line.specs.Words.{word_count, ticket_of};
+ghost use Rattle.array_line.specs.Words.{ticket_of};
+ghost use Rattle.ticket_line.specs.Words.{word_count};
 ghost use Rattle.array_line.proofs.Seats as seats;
 ghost use Rattle.array_line.proofs.Meets as meeting;
 ghost use Rattle.array_line.proofs.Lasting as lasting;
@@ -9,7 +10,7 @@ ghost use Rattle.ticket_line.specs.Words as layout;
 ghost use Rattle.ticket_line.specs.Slots as slots;
 ghost use Rattle.ticket_line.specs.Slots.{berths, last};
 ghost use Rattle.ticket_line.specs.Ticket.{TicketCells};
-ghost use Rattle.ticket_line.specs.Laws.{first_cells, first_slot, may_park, is_last};
+ghost use Rattle.ticket_line.specs.Laws.{first_cells, first_slot, enough, may_park, is_last};
 
 use crate::release::{release, renew};
 use crate::rule::{Ground, Ticket, TicketSeat};
@@ -23,39 +24,65 @@ use shared_line::{Asked, Discipline, Parcel, Released, Requested, ToWake};
 use std::alloc::{AllocError, Global};
 
 impl<K: Keep> Discipline<K> for Ticket {
-    ghost word_count = { word_count };
+    ghost word_count = { λ _. word_count };
 
-    ghost are_first = { layout.AreFirst };
+    ghost are_first = { λ _. layout.AreFirst };
 
-    fn first_words(alloc: Global) -> Result<Vec<u64>, AllocError> {
+    fn first_words(alloc: Global, _nodes: u64) -> Result<Vec<u64>, AllocError> {
         first_words(alloc, WORDS)
     }
 
-    ghost slot_count = { slots.slot_count };
+    ghost slot_count = { λ _. slots.slot_count };
 
-    ghost last = { last };
+    ghost last = { λ _. last };
 
-    fn slot_count() -> usize {
+    fn slot_count(_nodes: u64) -> usize {
         SLOTS
     }
 
+    ghost size_for = { λ nodes. nodes };
+
     #[inline]
-    fn take(ground: &Ground<K>, seat: &mut TicketSeat, mark: u64, parcel: &mut Parcel) {
+    fn size_for(nodes: u64) -> u64 {
+        nodes
+    }
+
+    #[inline]
+    fn take(
+        ground: &Ground<K>,
+        seat: &mut TicketSeat,
+        _size: u64,
+        mark: u64,
+        parcel: &mut Parcel,
+    ) {
         take(ground, seat, mark, parcel);
     }
 
     #[inline]
-    fn put(ground: &Ground<K>, seat: &mut TicketSeat, mark: u64, parcel: &Parcel, closed: bool) {
+    fn put(
+        ground: &Ground<K>,
+        seat: &mut TicketSeat,
+        _size: u64,
+        mark: u64,
+        parcel: &Parcel,
+        closed: bool,
+    ) {
         put(ground, seat, mark, parcel, closed);
     }
 
-    fn unlay(closed: Closed<Parcel, Global>) -> Parcel {
+    fn unlay(closed: Closed<Parcel, Global>, _nodes: u64) -> Parcel {
         unlay(closed)
     }
 
     /// Draws a ticket, and looks at its cell.
     #[inline]
-    fn ask(ground: &Ground<K>, seat: &mut TicketSeat, node: u64, state: PortState) -> Requested {
+    fn ask(
+        ground: &Ground<K>,
+        seat: &mut TicketSeat,
+        _size: u64,
+        node: u64,
+        state: PortState,
+    ) -> Requested {
         let Some(renewing) = renew(ground, seat, node, state) else {
             return Requested {
                 answer: Asked::Busy,
@@ -77,12 +104,24 @@ impl<K: Keep> Discipline<K> for Ticket {
     }
 
     #[inline]
-    fn look(ground: &Ground<K>, seat: &mut TicketSeat, _node: u64, mark: u64) -> bool {
+    fn look(
+        ground: &Ground<K>,
+        seat: &mut TicketSeat,
+        _size: u64,
+        _node: u64,
+        mark: u64,
+    ) -> bool {
         load(ground, seat, mark)
     }
 
     #[inline]
-    fn roll(ground: &Ground<K>, seat: &mut TicketSeat, node: u64, mark: u64) -> bool {
+    fn roll(
+        ground: &Ground<K>,
+        seat: &mut TicketSeat,
+        _size: u64,
+        node: u64,
+        mark: u64,
+    ) -> bool {
         roll(ground, seat, mark, node)
     }
 
@@ -90,6 +129,7 @@ impl<K: Keep> Discipline<K> for Ticket {
     fn release(
         ground: &Ground<K>,
         seat: &mut TicketSeat,
+        _size: u64,
         _node: u64,
         mark: u64,
         closed: bool,
@@ -103,7 +143,7 @@ impl<K: Keep> Discipline<K> for Ticket {
     }
 
     #[inline]
-    fn awaited(_node: u64, mark: u64) -> usize {
+    fn awaited(_ground: &Ground<K>, _size: u64, _node: u64, mark: u64) -> usize {
         cell_word(mark)
     }
 
@@ -120,11 +160,11 @@ impl<K: Keep> Discipline<K> for Ticket {
 
     ghost slots = { seats.slot_count TicketCells berths K.good K.allows };
 
-    ghost starts = { λ about. seats.starts TicketCells berths K.good K.allows about (layout.granted 0) first_slot first_cells };
+    ghost starts = { λ about. seats.starts TicketCells berths K.good K.allows about (layout.granted 0) (enough about) first_slot first_cells };
 
     ghost meets = { meeting.meets_next TicketCells berths K.good K.allows };
 
-    ghost parks = { λ about id slots i m v mark _ is holding kept. meeting.parks_next TicketCells berths K.good K.allows about id slots i m v is holding (may_park mark kept.0 kept.1 m.1 kept.2) };
+    ghost parks = { λ about id slots i m v mark _ is holding kept. meeting.parks_next TicketCells berths K.good K.allows about id slots i m v is holding (λ _. may_park mark kept.0 kept.1 m.1 kept.2) };
 
     ghost finishes = { λ about es id words xs at_rest. lasting.final_line TicketCells berths K.good K.allows about es ticket_of at_rest last is_last id words xs };
 }

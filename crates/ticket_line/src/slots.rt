@@ -7,7 +7,7 @@ ghost use Rattle.shared_line.specs.declared.rule.Parcel.{Parcel};
 ghost use Rattle.shared_line.specs.Slots.{IsCopy};
 ghost use Rattle.shared_line.specs.Steps.{SameSeat};
 ghost use Rattle.shared_line.specs.Ports.{IsPutBack};
-ghost use Rattle.array_line.specs.Words.{word_count};
+ghost use Rattle.ticket_line.specs.Words.{word_count};
 ghost use Rattle.ticket_line.specs.Slots.{brings, keeps, lays, slot_count, last};
 
 use crate::rule::{Ground, TicketSeat};

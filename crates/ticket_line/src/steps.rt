@@ -6,10 +6,10 @@ ghost use Rattle.qolb_model.specs.Views.{own};
 ghost use Rattle.qolb_model.specs.declared.terms.TheConstants.{MOST_NODES};
 ghost use Rattle.shared_line.specs.declared.rule.Parcel.{Parcel};
 ghost use Rattle.shared_line.specs.Steps.{SameSeat, IsSeatOf, HasNoSlot};
-ghost use Rattle.array_line.specs.Words.{word_count};
+ghost use Rattle.ticket_line.specs.Words.{word_count};
 ghost use Rattle.array_line.specs.Array.{At};
-ghost use Rattle.array_line.specs.Steps.{IsAt, IsSeatOfNode, entry_of, Went, Draws, IsStill, CarriesNext, Ended, GoesHome, Passes, Frees, after_reset};
-ghost use Rattle.ticket_line.specs.Steps.{own_ticket, turn_ticket, next_ticket, HasCome, HasLaid, IsEarly, Comes, IsRolled};
+ghost use Rattle.array_line.specs.Steps.{IsAt, entry_of, Went, Draws, IsStill, CarriesNext, Ended, GoesHome, Passes, Frees, after_reset};
+ghost use Rattle.ticket_line.specs.Steps.{IsSeatOfNode, own_ticket, turn_ticket, next_ticket, HasCome, HasLaid, IsEarly, Comes, IsRolled};
 ghost use Rattle.array_line.specs.declared.own.Point.TheVariants.{Idle, Queued, Holding, Passing, Freeing, Rolled};
 
 use crate::plays::{Grant, Load, Roll};
@@ -53,7 +53,7 @@ pub(crate) fn roll<K: Keep>(
     ticket: u64,
     node: u64,
 ) -> bool
-    requires seat { IsSeatOfNode ground.now.table_id node seat.old }
+    requires seat { IsSeatOfNode ground.now.key.terms.nodes ground.now.table_id node seat.old }
     requires ready { IsAt Queued seat.old }
     requires slot { HasNoSlot seat.old }
     requires ticket { ticket ≡ own_ticket seat.old }
@@ -97,7 +97,7 @@ pub(crate) fn free<K: Keep>(ground: &Ground<K>, seat: &mut TicketSeat, node: u64
 
 /// Loads the own node's word: not 0 where the withdrawn request was passed and its node freed.
 pub(crate) fn load_node<K: Keep>(ground: &Ground<K>, seat: &mut TicketSeat, node: u64) -> u64
-    requires seat { IsSeatOfNode ground.now.table_id node seat.old }
+    requires seat { IsSeatOfNode ground.now.key.terms.nodes ground.now.table_id node seat.old }
     requires ready { IsAt Rolled seat.old }
     ensures slot { seat.new.me.1 ≡ seat.old.me.1 }
     ensures went { Went K.allows seat.old seat.new 1 }
@@ -108,7 +108,7 @@ pub(crate) fn load_node<K: Keep>(ground: &Ground<K>, seat: &mut TicketSeat, node
 
 /// Clears the own node's word.
 pub(crate) fn reset<K: Keep>(ground: &Ground<K>, seat: &mut TicketSeat, node: u64)
-    requires seat { IsSeatOfNode ground.now.table_id node seat.old }
+    requires seat { IsSeatOfNode ground.now.key.terms.nodes ground.now.table_id node seat.old }
     requires ready { IsAt Rolled seat.old }
     requires clear { Has (entry_of seat.old).view.clear (own (entry_of seat.old).view) }
     ensures same { SameSeat seat.old seat.new }

@@ -32,7 +32,7 @@ pub(crate) fn slot_of(ticket: u64) -> usize
 /// The word of a ticket's cell.
 #[inline]
 pub(crate) fn cell_word(ticket: u64) -> usize
-    ensures { result ≡ array.cell_at (array.cell_of ticket) }
+    ensures { result ≡ array.cell_at (layout.cell_of ticket) }
 {
     array_line::cell_word(ticket % CELLS)
 }
@@ -99,8 +99,8 @@ pub(crate) fn withdrawn_by(word: u64, ticket: u64) -> u64
 
 /// The words of a line that nobody has asked for: cell 0 is granted to ticket 0.
 pub(crate) fn first_words(alloc: Global, count: usize) -> Result<Vec<u64>, AllocError>
-    requires { count ≡ array.word_count }
-    ensures wide { IfOk result (λ words. length words.items ≡ array.word_count) }
+    requires { count ≡ layout.word_count }
+    ensures wide { IfOk result (λ words. length words.items ≡ layout.word_count) }
     ensures first { IfOk result (λ words. layout.AreFirst words.items) }
 {
     let mut words = vec![in alloc; 0u64; count]?;

@@ -1,5 +1,6 @@
 use Rattle.std.proofs.Common.{rules, arith, ap, sym, subst, ◌≡◌, ◌∙◌, ◌+◌, length, ⊎_elim}
-use Rattle.array_line.specs.Words.{cell_at, cell_of}
+use Rattle.array_line.specs.Words.{cell_at}
+use Rattle.ticket_line.specs.Words.{cell_of}
 use Rattle.array_line.specs.Array.{has_line, is_cleared}
 use Rattle.ticket_line.specs.Words as layout
 use Rattle.ticket_line.specs.Words.{granted}

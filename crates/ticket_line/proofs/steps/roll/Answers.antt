@@ -1,5 +1,6 @@
 use Rattle.std.proofs.Common.{rules, arith, ap, subst, ◌∙◌, ◌≤◌}
-use Rattle.array_line.specs.Words.{cell_at, cell_of, ticket_of}
+use Rattle.array_line.specs.Words.{cell_at, ticket_of}
+use Rattle.ticket_line.specs.Words.{cell_of}
 use Rattle.ticket_line.specs.Words.{withdrawn}
 use Rattle.qolb_model.specs.declared.terms.TheConstants.{MOST_NODES}
 use Rattle.array_line.specs.Steps.{entry_of}
