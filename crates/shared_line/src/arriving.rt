@@ -28,7 +28,7 @@ impl<K: Keep, Q: Discipline<K>, W: Waking> Line<K, Q, W> {
         closed: A,
     ) -> A
         requires seat { IsSeated K.good K.allows self.now.table.shared.key self.now.table.shared.table_id Q.phases.fresh node seat.old }
-        requires comes { HasArrived Q.phases mark seat.old }
+        requires comes { HasArrived Q.phases self.now.table.shared.key.terms.nodes mark seat.old }
         requires few { steps.old ≤ 4 }
         ensures seat { IsSeated K.good K.allows self.now.table.shared.key self.now.table.shared.table_id Q.phases.fresh node seat.new }
         ensures port { (label : ℕ) → (entry_of Q.phases.fresh seat.old).view.label ≡ label → IsPort Q.phases label node seat.new parcel.new mark state.new }
@@ -72,7 +72,7 @@ fn pass_on<K: Keep, Q: Discipline<K>>(
     requires size { size ≡ Q.size_for ground.now.key.terms.nodes }
     requires alone { Alone Q.phases.fresh seat.old.me }
     requires nodes { HasNodes (entry_of Q.phases.fresh seat.old).view }
-    requires comes { HasLaidClosed Q.phases mark seat.old }
+    requires comes { HasLaidClosed Q.phases ground.now.key.terms.nodes mark seat.old }
     ensures went { Went K.allows Q.phases.fresh seat.old seat.new result.steps }
     ensures count { (entry_of Q.phases.fresh seat.new).view.count ≡ (entry_of Q.phases.fresh seat.old).view.count }
     ensures told { IsPassedOn Q.phases seat.new result.state }

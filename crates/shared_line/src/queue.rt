@@ -20,7 +20,7 @@ ghost use Rattle.shared_line.specs.Phases.{Phases};
 ghost use Rattle.shared_line.specs.Answers.{IsSeatOfNode, HasNodes, Takes, Puts, MakesRequest, CountsRequest, PutsRequest, Looks, Rolls, LinksOn, HasLaid, HandsOver};
 ghost use Rattle.shared_line.specs.Turns.{SeesTurn};
 ghost use Rattle.shared_line.specs.Entries.{Contents, newcomers, AllRest, views_of};
-ghost use Rattle.shared_line.specs.Steps.{Alone, entry_of, nodes_of, Rests, Went, met, parked, Looked};
+ghost use Rattle.shared_line.specs.Steps.{Alone, entry_of, Rests, Went, met, parked, Looked};
 
 use crate::rule::{Ground, LineSeat, Parcel};
 use crate::sleeping::ToWake;
@@ -157,9 +157,9 @@ pub trait Discipline<K: Keep>: Ruled<K> {
         parcel: &mut Parcel,
     )
         requires table { seat.old.table_id ≡ ground.now.table_id }
-        requires size { size ≡ size_for (nodes_of Self.phases.fresh seat.old) }
-        requires came { (y : Parcel) × Self.phases.brings (nodes_of Self.phases.fresh seat.old) mark y seat.old.me.1 }
-        ensures { Takes Self.phases mark seat.old seat.new parcel.new };
+        requires size { size ≡ size_for ground.now.key.terms.nodes }
+        requires came { (y : Parcel) × Self.phases.brings ground.now.key.terms.nodes mark y seat.old.me.1 }
+        ensures { Takes Self.phases ground.now.key.terms.nodes mark seat.old seat.new parcel.new };
 
     /// Lays the line of a turn that is over for the next, closed where that is said.
     fn put(
@@ -171,10 +171,10 @@ pub trait Discipline<K: Keep>: Ruled<K> {
         closed: bool,
     )
         requires table { seat.old.table_id ≡ ground.now.table_id }
-        requires size { size ≡ size_for (nodes_of Self.phases.fresh seat.old) }
-        requires kept { Self.phases.keeps (nodes_of Self.phases.fresh seat.old) mark parcel.now.turns_left seat.old.me.1 }
+        requires size { size ≡ size_for ground.now.key.terms.nodes }
+        requires kept { Self.phases.keeps ground.now.key.terms.nodes mark parcel.now.turns_left seat.old.me.1 }
         requires left { parcel.now.turns_left ≢ Some 0 }
-        ensures { Puts Self.phases mark seat.old seat.new parcel.now closed };
+        ensures { Puts Self.phases ground.now.key.terms.nodes mark seat.old seat.new parcel.now closed };
 
     /// The line, out of a table that no thread shares any more.
     fn unlay(closed: Closed<Parcel, Global>, nodes: u64) -> Parcel
@@ -196,7 +196,7 @@ pub trait Discipline<K: Keep>: Ruled<K> {
         requires rests { (mark : ℕ) × Rests Self.phases state mark seat.old }
         requires may_ask { IsTrue (states.may_ask state) }
         ensures went { Went K.allows Self.phases.fresh seat.old seat.new result.steps }
-        ensures request { MakesRequest Self.phases result.mark state seat.old seat.new result.answer }
+        ensures request { MakesRequest Self.phases ground.now.key.terms.nodes result.mark state seat.old seat.new result.answer }
         ensures counted { CountsRequest Self.asks_in state result.answer result.steps };
 
     /// Looks whether the request has come to its turn.
@@ -211,7 +211,7 @@ pub trait Discipline<K: Keep>: Ruled<K> {
         requires size { size ≡ size_for ground.now.key.terms.nodes }
         requires rests { Rests Self.phases PortState.Queued mark seat.old }
         ensures went { Went K.allows Self.phases.fresh seat.old seat.new 1 }
-        ensures looks { Looks Self.phases mark seat.old seat.new result };
+        ensures looks { Looks Self.phases ground.now.key.terms.nodes mark seat.old seat.new result };
 
     /// Withdraws the request, unless it has come to its turn: whether it has.
     fn roll(
@@ -225,7 +225,7 @@ pub trait Discipline<K: Keep>: Ruled<K> {
         requires size { size ≡ size_for ground.now.key.terms.nodes }
         requires rests { Rests Self.phases PortState.Queued mark seat.old }
         ensures went { Went K.allows Self.phases.fresh seat.old seat.new 1 }
-        ensures rolls { Rolls Self.phases mark seat.old seat.new result };
+        ensures rolls { Rolls Self.phases ground.now.key.terms.nodes mark seat.old seat.new result };
 
     /// Lets the line go that was laid for the next, closed or not.
     fn release(
@@ -240,9 +240,9 @@ pub trait Discipline<K: Keep>: Ruled<K> {
         requires size { size ≡ size_for ground.now.key.terms.nodes }
         requires alone { Alone Self.phases.fresh seat.old.me }
         requires nodes { HasNodes (entry_of Self.phases.fresh seat.old).view }
-        requires line { HasLaid Self.phases mark K.allows closed seat.old }
+        requires line { HasLaid Self.phases ground.now.key.terms.nodes mark K.allows closed seat.old }
         ensures went { Went K.allows Self.phases.fresh seat.old seat.new result.steps }
-        ensures hands_over { HandsOver Self.phases mark seat.old seat.new result.state }
+        ensures hands_over { HandsOver Self.phases ground.now.key.terms.nodes mark seat.old seat.new result.state }
         ensures counted { Self.lets_go_in (length (entry_of Self.phases.fresh seat.old).view.ends) (length (entry_of Self.phases.fresh seat.new).view.ends) result.steps }
         ensures to_wake { result.to_wake.word < word_count ground.now.key.terms.nodes }
         ensures wakes { result.to_wake.word ≡ Self.turn_word (entry_of Self.phases.fresh seat.new).view }
@@ -300,7 +300,7 @@ pub trait Linked<K: Keep>: Discipline<K> {
         requires rests { (mark : ℕ) × Rests Self.phases state mark seat.old }
         requires may_ask { IsTrue (states.may_ask state) }
         ensures went { Went K.allows Self.phases.fresh seat.old seat.new result.steps }
-        ensures request { PutsRequest Self.phases result.mark state seat.old seat.new result.answer }
+        ensures request { PutsRequest Self.phases ground.now.key.terms.nodes result.mark state seat.old seat.new result.answer }
         ensures counted_busy { result.answer ≡ Asked.Busy → result.steps ≡ 1 }
         ensures counted { result.answer ≢ Asked.Busy → result.steps ≡ prepends_in state }
         ensures bound { result.steps ≤ 3 };
@@ -310,5 +310,5 @@ pub trait Linked<K: Keep>: Discipline<K> {
         requires seat { IsSeatOfNode Self.word_count ground.now.key.terms.nodes ground.now.table_id Self.phases.fresh node seat.old }
         requires rests { Rests Self.phases PortState.Linking mark seat.old }
         ensures went { Went K.allows Self.phases.fresh seat.old seat.new 1 }
-        ensures links { LinksOn Self.phases mark seat.old seat.new result };
+        ensures links { LinksOn Self.phases ground.now.key.terms.nodes mark seat.old seat.new result };
 }
