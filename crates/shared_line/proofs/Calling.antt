@@ -82,9 +82,9 @@ module _ {O : Type 0} (fresh : O) {p : Standing} (s : LineSeat O) (y : Parcel) (
   call_links_on {v = v} {w = w} links more same = call_links (record { count = same ∙ links.count; joined = joined_goes v w links.joined more same })
 
 -- it knows how many nodes the line has
-pub call_nodes : {O : Type 0} {fresh : O} {good : List ℕ → Type 0} {allows : List ℕ → List ℕ → Type 0} {key : Setup} {table_id : TableId} {p : Standing} (s : LineSeat O) (y : Parcel) (steps looks : ℕ) → BelongsTo good allows key table_id p → standing fresh s y steps looks ≡ p
+pub call_nodes : {O : Type 0} (fresh : O) {good : List ℕ → Type 0} {allows : List ℕ → List ℕ → Type 0} {key : Setup} {table_id : TableId} {p : Standing} (s : LineSeat O) (y : Parcel) (steps looks : ℕ) → BelongsTo good allows key table_id p → standing fresh s y steps looks ≡ p
     → nodes_of fresh s ≡ key.terms.nodes
-call_nodes s y steps looks b is = ap (λ (t : Terms). t.nodes) (ap (λ (x : Standing). x.view.terms) is ∙ b.sound.terms_are)
+call_nodes fresh s y steps looks b is = ap (λ (t : Terms). t.nodes) (ap (λ (x : Standing). x.view.terms) is ∙ b.sound.terms_are)
 
 -- a port between calls
 module _ {O : Type 0} {q : Phases O} {label node : ℕ} {p : Standing} (s : LineSeat O) (y : Parcel) (mark steps looks : ℕ) (state : PortState) (between : IsPort q label node s y mark state) (is : standing q.fresh s y steps looks ≡ p) where

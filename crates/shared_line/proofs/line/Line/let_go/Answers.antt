@@ -29,5 +29,5 @@ returns-clause-releases g c = let q = c.port.inside in let back = c.put.ensures.
 
 pub put-requires-clause-kept : goal.put-requires-clause-kept
 put-requires-clause-kept g c = let q = c.port.inside in
-    subst (λ (n : ℕ). g.Q.Shape.phases.keeps n q.mark q.parcel.turns_left q.seat.me.1) (call_nodes q.seat q.parcel q.steps q.looks.count c.requires.belongs c.port.view_is)
+    subst (λ (n : ℕ). g.Q.Shape.phases.keeps n q.mark q.parcel.turns_left q.seat.me.1) (call_nodes g.Q.Shape.phases.fresh q.seat q.parcel q.steps q.looks.count c.requires.belongs c.port.view_is)
     (holds_of q.seat q.parcel q.mark q.steps q.looks.count q.state c.port.invariant c.port.view_is c.requires.state).kept
