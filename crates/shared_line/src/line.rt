@@ -4,12 +4,9 @@ ghost use Rattle.qolb_model.specs.declared.terms.TheConstants.{MOST_NODES};
 
 use crate::port::Port;
 use crate::queue::Discipline;
-use crate::rule::{Entry, Ground, Parcel, Rule, Setup};
+use crate::rule::{Ground, LineTable};
 use crate::sleeping::{Sleepers, Waking};
-use atomic_table::Table;
 use qolb_model::Keep;
-use std::alloc::Global;
-use std::collections::LinkedList;
 use std::marker::PhantomData;
 
 /// How many words a line's table has, and by which number the calls find them: those of its queue, for so many nodes.
@@ -32,7 +29,7 @@ pub struct Width<K: Keep, Q: Discipline<K>> {
 /// most one open request.
 #[derive(Drop)]
 pub struct Line<K: Keep, Q: Discipline<K>, W: Waking = Sleepers> {
-    pub(crate) table: Table<Parcel, LinkedList<Entry<Q::Own>>, Setup, Rule<K, Q>, Global>,
+    pub(crate) table: LineTable<K, Q>,
     pub(crate) label: u64,
     pub(crate) nodes: u64,
     pub(crate) width: Width<K, Q>,
