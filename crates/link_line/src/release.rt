@@ -15,7 +15,7 @@ ghost use Rattle.link_line.specs.Releases.{AreFew, HandsOn, NamesTurn, LetsLineG
 
 use crate::rule::{Ground, LinkSeat};
 use crate::steps::{done, free, grant, home};
-use crate::words::{HOME, entry_word};
+use crate::words::{HOME, entry_word, linked_word};
 use arrayvec::ArrayVec;
 use qolb_model::{Keep, MOST_NODES, PortState};
 use shared_line::{Released, ToWake};
@@ -57,37 +57,39 @@ pub(crate) fn release<K: Keep>(
 {
     let mut steps = 0;
     let mut granted = HOME;
-    match hand_on(ground, seat, &mut steps, &mut granted, node) {
+    let mut behind = 0;
+    match hand_on(ground, seat, &mut steps, &mut granted, &mut behind, node) {
         Handed::On => Released {
             state: left_by(closed),
             steps,
-            to_wake: ToWake::at(granted),
+            to_wake: ToWake::at(granted, linked_word(behind)),
         },
         Handed::Left => Released {
             state: PortState::Left,
             steps,
-            to_wake: ToWake::at(granted),
+            to_wake: ToWake::at(granted, HOME),
         },
         Handed::Passed(first) => {
             let mut last = HOME;
-            let steps = walk(ground, seat, steps, &mut last, first);
+            let steps = walk(ground, seat, steps, &mut last, &mut behind, first);
             Released {
                 state: left_by(closed),
                 steps,
-                to_wake: ToWake::at(last),
+                to_wake: ToWake::at(last, linked_word(behind)),
             }
         }
     }
 }
 
 /// Lets the line go at the entry of the node `at`: home where nobody is behind it, else to the next request. `granted` is then the word that
-/// was granted, or the home word where none was.
+/// was granted, or the home word where none was; and `behind` the node that is linked to it, or 0.
 #[inline]
 fn hand_on<K: Keep>(
     ground: &Ground<K>,
     seat: &mut LinkSeat,
     steps: &mut u64,
     granted: &mut usize,
+    behind: &mut u64,
     at: u64,
 ) -> Handed
     requires table { IsSeatOf ground.now.key.terms.nodes ground.now.table_id seat.old }
@@ -114,7 +116,7 @@ fn hand_on<K: Keep>(
     }
     *steps += 1;
     *granted = entry_word(next);
-    if grant(ground, seat, next) {
+    if grant(ground, seat, behind, next) {
         Handed::Passed(next)
     } else {
         Handed::On
@@ -132,6 +134,7 @@ fn walk<K: Keep>(
     seat: &mut LinkSeat,
     steps: u64,
     granted: &mut usize,
+    behind: &mut u64,
     first: u64,
 ) -> u64
     requires table { IsSeatOf ground.now.key.terms.nodes ground.now.table_id seat.old }
@@ -160,7 +163,7 @@ fn walk<K: Keep>(
     let mut handed = Handed::Passed(first);
     while let Handed::Passed(node) = handed {
         passed.push(node);
-        handed = hand_on(ground, seat, &mut steps, granted, node);
+        handed = hand_on(ground, seat, &mut steps, granted, behind, node);
     }
     // Freed only now: a node that is freed may ask, and its new request must not be passed by this walk.
     free_passed(ground, seat, &passed);

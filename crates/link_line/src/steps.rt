@@ -145,8 +145,14 @@ pub(crate) fn done<K: Keep>(ground: &Ground<K>, seat: &mut LinkSeat, at: u64) ->
     link_of(ground.fetch_add::<Done<K>>(seat, entry_word(at), DONE))
 }
 
-/// Grants the entry of the next node: whether its request is withdrawn, so that it is passed.
-pub(crate) fn grant<K: Keep>(ground: &Ground<K>, seat: &mut LinkSeat, next: u64) -> bool
+/// Grants the entry of the next node: whether its request is withdrawn, so that it is passed. `behind` is then the node that is linked to
+/// that entry, or 0.
+pub(crate) fn grant<K: Keep>(
+    ground: &Ground<K>,
+    seat: &mut LinkSeat,
+    behind: &mut u64,
+    next: u64,
+) -> bool
     requires table { IsSeatOf ground.now.key.terms.nodes ground.now.table_id seat.old }
     requires ready { IsAt (Granting next) seat.old }
     requires high { layout.IsWithin ground.now.key.terms.nodes next }
@@ -157,7 +163,9 @@ pub(crate) fn grant<K: Keep>(ground: &Ground<K>, seat: &mut LinkSeat, next: u64)
     ensures names { result ≡ false → turn_word (known_of seat.new).view ≡ layout.entry_at next }
     ensures passes { result ≡ true → (seat.new.me.1 ≡ seat.old.me.1) × Passes (known_of seat.old) (known_of seat.new) next }
 {
-    is_rolled(ground.fetch_add::<Grant<K>>(seat, entry_word(next), GRANTED))
+    let found = ground.fetch_add::<Grant<K>>(seat, entry_word(next), GRANTED);
+    *behind = link_of(found);
+    is_rolled(found)
 }
 
 /// Frees the node of the first request that was passed and is not freed yet.

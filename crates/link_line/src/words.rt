@@ -41,6 +41,12 @@ pub(crate) fn entry_word(node: u64) -> usize
     ENTRY_STRIDE * node as usize
 }
 
+/// The entry word of a linked node, however large its number. That of 0 is the home word, at which nobody waits.
+#[inline]
+pub(crate) fn linked_word(node: u64) -> usize {
+    ENTRY_STRIDE.wrapping_mul(node as usize)
+}
+
 /// Whether the request of an entry has been granted.
 #[inline]
 pub(crate) fn is_granted(word: u64) -> bool

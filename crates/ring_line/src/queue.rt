@@ -14,7 +14,7 @@ ghost use Rattle.ring_line.specs.Laws.{first_cells, enough};
 use crate::release::{release, renew};
 use crate::rule::{Ground, Ring, RingSeat};
 use crate::steps::{draw, load, roll};
-use crate::words::{cell_of, first_words, is_granted};
+use crate::words::{cell_after, cell_of, first_words, is_granted};
 use array_line::{WORDS, cell_word};
 use atomic_table::Closed;
 use qolb_model::{Keep, PortState};
@@ -48,13 +48,7 @@ impl<K: Keep> Discipline<K> for Ring {
     }
 
     #[inline]
-    fn take(
-        ground: &Ground<K>,
-        seat: &mut RingSeat,
-        _size: u64,
-        _mark: u64,
-        parcel: &mut Parcel,
-    ) {
+    fn take(ground: &Ground<K>, seat: &mut RingSeat, _size: u64, _mark: u64, parcel: &mut Parcel) {
         take_alone(ground, seat, parcel);
     }
 
@@ -104,24 +98,12 @@ impl<K: Keep> Discipline<K> for Ring {
     }
 
     #[inline]
-    fn look(
-        ground: &Ground<K>,
-        seat: &mut RingSeat,
-        _size: u64,
-        _node: u64,
-        mark: u64,
-    ) -> bool {
+    fn look(ground: &Ground<K>, seat: &mut RingSeat, _size: u64, _node: u64, mark: u64) -> bool {
         load(ground, seat, mark)
     }
 
     #[inline]
-    fn roll(
-        ground: &Ground<K>,
-        seat: &mut RingSeat,
-        _size: u64,
-        node: u64,
-        mark: u64,
-    ) -> bool {
+    fn roll(ground: &Ground<K>, seat: &mut RingSeat, _size: u64, node: u64, mark: u64) -> bool {
         roll(ground, seat, mark, node)
     }
 
@@ -138,7 +120,7 @@ impl<K: Keep> Discipline<K> for Ring {
         Released {
             state: left_by(closed),
             steps: gone.steps,
-            to_wake: ToWake::at(cell_word(gone.cell)),
+            to_wake: ToWake::at(cell_word(gone.cell), cell_word(cell_after(gone.cell))),
         }
     }
 

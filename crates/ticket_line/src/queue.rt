@@ -16,7 +16,7 @@ use crate::release::{release, renew};
 use crate::rule::{Ground, Ticket, TicketSeat};
 use crate::slots::{put, take, unlay};
 use crate::steps::{draw, load, roll};
-use crate::words::{SLOTS, cell_word, first_words, is_granted_half};
+use crate::words::{SLOTS, cell_word, first_words, is_granted_half, ticket_after};
 use array_line::WORDS;
 use atomic_table::Closed;
 use qolb_model::{Keep, PortState};
@@ -138,7 +138,7 @@ impl<K: Keep> Discipline<K> for Ticket {
         Released {
             state: left_by(closed),
             steps: gone.steps,
-            to_wake: ToWake::at(cell_word(gone.ticket)),
+            to_wake: ToWake::at(cell_word(gone.ticket), cell_word(ticket_after(gone.ticket))),
         }
     }
 
