@@ -48,13 +48,7 @@ impl<K: Keep> Discipline<K> for Ring {
     }
 
     #[inline]
-    fn take(
-        ground: &Ground<K>,
-        seat: &mut RingSeat,
-        _size: u64,
-        _mark: u64,
-        parcel: &mut Parcel,
-    ) {
+    fn take(ground: &Ground<K>, seat: &mut RingSeat, _size: u64, _mark: u64, parcel: &mut Parcel) {
         take_alone(ground, seat, parcel);
     }
 
@@ -104,24 +98,12 @@ impl<K: Keep> Discipline<K> for Ring {
     }
 
     #[inline]
-    fn look(
-        ground: &Ground<K>,
-        seat: &mut RingSeat,
-        _size: u64,
-        _node: u64,
-        mark: u64,
-    ) -> bool {
+    fn look(ground: &Ground<K>, seat: &mut RingSeat, _size: u64, _node: u64, mark: u64) -> bool {
         load(ground, seat, mark)
     }
 
     #[inline]
-    fn roll(
-        ground: &Ground<K>,
-        seat: &mut RingSeat,
-        _size: u64,
-        node: u64,
-        mark: u64,
-    ) -> bool {
+    fn roll(ground: &Ground<K>, seat: &mut RingSeat, _size: u64, node: u64, mark: u64) -> bool {
         roll(ground, seat, mark, node)
     }
 
