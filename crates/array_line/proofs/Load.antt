@@ -98,12 +98,12 @@ module _ (cells : Cells) (berths : Berths) (good : List ℕ → Type 0) (allows 
         let here : i ≡ cell_at (cell_of berths.cells v.own.place) = word ∙ (ap (λ (t : Terms). cell_at (cell_of (cells_for t.nodes) v.own.place)) same ∙ ap (λ (c : ℕ). cell_at (cell_of c v.own.place)) (sym counted)) in
         let a = loads_next me slots i (v ∷ [], []) refl here s r deep at small in
         let knows : (sole a.0).view.terms ≡ about.terms = a.4.0.extends.terms ∙ same in (
-      a.0,
-      a.1,
-      a.2,
-      a.3,
-      record {
-        waits = λ n. let w = a.4.2 (not_yet (slice_index s.words i) n) in (w.0, subst (λ k. IsEarly mark_of k (sole a.0)) (sym is) w.1);
-        comes = λ c. let w = a.4.3 (now (slice_index s.words i) c) in (w.0, subst (λ (t : Terms). brings t.nodes mark w.0 (carried_after [] a.1)) (sym knows) (brought_so w.0 (carried_after [] a.1) w.1), subst (λ k. Comes mark_of k (sole a.0) w.0) (sym is) w.2);
-      },
-    )
+          a.0,
+          a.1,
+          a.2,
+          a.3,
+          record {
+            waits = λ n. let w = a.4.2 (not_yet (slice_index s.words i) n) in (w.0, subst (λ k. IsEarly mark_of k (sole a.0)) (sym is) w.1);
+            comes = λ c. let w = a.4.3 (now (slice_index s.words i) c) in (w.0, subst (λ (t : Terms). brings t.nodes mark w.0 (carried_after [] a.1)) (sym knows) (brought_so w.0 (carried_after [] a.1) w.1), subst (λ k. Comes mark_of k (sole a.0) w.0) (sym is) w.2);
+          },
+        )

@@ -42,13 +42,7 @@ impl<K: Keep> Discipline<K> for Links {
     }
 
     #[inline]
-    fn take(
-        ground: &Ground<K>,
-        seat: &mut LinkSeat,
-        _size: u64,
-        _mark: u64,
-        parcel: &mut Parcel,
-    ) {
+    fn take(ground: &Ground<K>, seat: &mut LinkSeat, _size: u64, _mark: u64, parcel: &mut Parcel) {
         take_alone(ground, seat, parcel);
     }
 
@@ -90,24 +84,12 @@ impl<K: Keep> Discipline<K> for Links {
     }
 
     #[inline]
-    fn look(
-        ground: &Ground<K>,
-        seat: &mut LinkSeat,
-        _size: u64,
-        node: u64,
-        _mark: u64,
-    ) -> bool {
+    fn look(ground: &Ground<K>, seat: &mut LinkSeat, _size: u64, node: u64, _mark: u64) -> bool {
         load(ground, seat, node)
     }
 
     #[inline]
-    fn roll(
-        ground: &Ground<K>,
-        seat: &mut LinkSeat,
-        _size: u64,
-        node: u64,
-        _mark: u64,
-    ) -> bool {
+    fn roll(ground: &Ground<K>, seat: &mut LinkSeat, _size: u64, node: u64, _mark: u64) -> bool {
         roll(ground, seat, node)
     }
 

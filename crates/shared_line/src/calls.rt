@@ -81,7 +81,13 @@ impl<K: Keep, Q: Discipline<K>, W: Waking> LineSync<K> for Line<K, Q, W> {
 
     fn enqolb(&self, port: &mut Port<Q>) -> Enq {
         let ground = &self.table.shared;
-        let made = Q::ask(ground, &mut port.seat, self.width.size, port.node, port.state);
+        let made = Q::ask(
+            ground,
+            &mut port.seat,
+            self.width.size,
+            port.node,
+            port.state,
+        );
         port.steps = made.steps;
         match made.answer {
             Asked::Busy => Enq::Busy,
@@ -111,7 +117,13 @@ impl<K: Keep, Q: Discipline<K>, W: Waking> LineSync<K> for Line<K, Q, W> {
         let ground = &self.table.shared;
         port.looks = port.looks.and_one();
         port.steps = 1;
-        if !Q::look(ground, &mut port.seat, self.width.size, port.node, port.mark) {
+        if !Q::look(
+            ground,
+            &mut port.seat,
+            self.width.size,
+            port.node,
+            port.mark,
+        ) {
             return Poll::Waiting;
         }
         self.arrive(
@@ -129,7 +141,13 @@ impl<K: Keep, Q: Discipline<K>, W: Waking> LineSync<K> for Line<K, Q, W> {
     fn withdraw(&self, port: &mut Port<Q>) -> Out {
         let ground = &self.table.shared;
         port.steps = 1;
-        if !Q::roll(ground, &mut port.seat, self.width.size, port.node, port.mark) {
+        if !Q::roll(
+            ground,
+            &mut port.seat,
+            self.width.size,
+            port.node,
+            port.mark,
+        ) {
             port.state = PortState::Rolled;
             return Out::Withdrawn;
         }
@@ -200,7 +218,14 @@ impl<K: Keep, Q: Discipline<K>, W: Waking> Line<K, Q, W> {
         let ground = &self.table.shared;
         let size = self.width.size;
         let closed = port.parcel.closes(shut);
-        Q::put(ground, &mut port.seat, size, port.mark, &port.parcel, closed);
+        Q::put(
+            ground,
+            &mut port.seat,
+            size,
+            port.mark,
+            &port.parcel,
+            closed,
+        );
         let gone = Q::release(ground, &mut port.seat, size, port.node, port.mark, closed);
         let Released {
             state,

@@ -1,4 +1,4 @@
-use Rattle.std.proofs.Common.{◌∙◌, ℕ, ap, sym, subst}
+use Rattle.std.proofs.Common.{◌∙◌, ℕ, ap, subst}
 use Rattle.shared_line.specs.Steps.{sole}
 use Rattle.shared_line.proofs.Turning.{put_then}
 use Rattle.shared_line.proofs.Calling.{call_nodes, holds_of, put_carries, let_go_releases, call_belongs}
