@@ -106,6 +106,7 @@ module _ (cells : Cells) (berths : Berths) (good : List ℕ → Type 0) (allows 
 
   ask_shown : (x : Past) (words : List ℕ) (homes : Homes) → Shown cells berths good allows about x words homes → Shown cells berths good allows about (ask_past x) (set words ticket_at ((slice_index words ticket_at + 1) % 2 ^ 64)) homes
   ask_shown x words homes h = let next : ℕ = (slice_index words ticket_at + 1) % 2 ^ 64 in record {
+    more = h.more;
     wide = length-set words ticket_at next ∙ h.wide;
     deep = h.deep;
     ticket = get_or-set_same words ticket_at next 0 (let w = h.wide in omega arith) ∙ ap (λ k. (k + 1) % 2 ^ 64) h.ticket ∙ mod-add-mod (length x.order) (2 ^ 64) 1 ∙ ap (λ k. k % 2 ^ 64) (sym (length-append x.order (new x ∷ [])));

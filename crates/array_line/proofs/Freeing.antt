@@ -155,7 +155,7 @@ module _ (cells : Cells) (berths : Berths) (good : List ℕ → Type 0) (allows 
         go (p ∷ l) = one
 
     free_shown : (words : List ℕ) (homes : Homes) (i : ℕ) → i ≡ node_at r.node → r.node ≤ MOST_NODES → Shown cells berths good allows about x words homes → Shown cells berths good allows about (free_past x) (set words i 1) homes
-    free_shown words homes i is high h = flag_shown cells berths good allows about x (clear_with (own v.view) ps (x.clear ++ r ∷ [])) words homes i r.node 1 is (f.nodes q r asked).0 high h
+    free_shown words homes i is high h = flag_shown cells berths good allows about x (clear_with (own v.view) ps (x.clear ++ r ∷ [])) words homes i r.node 1 is (f.nodes q r asked).0 (f.nodes q r asked).1 h
 
     learns_free : Continues allows v.view (free_entry x).view
     learns_free = continues good allows about x (free_past x) free_fine v.view.node v.view.node v (free_entry x) ok free_node refl (prefix_self v.view.order) (prefix_self v.view.ends) (wider ps)

@@ -52,11 +52,11 @@ some_list (p ∷ ps) q e = cc
 
 -- What a queue shows where so many requests have ended and the next cell is changed so, to grant it. Where nobody withdrew there, it reads 0 of
 -- what the cell said, and the line goes home; else it reads who withdrew, and the line stays in that hand.
-abbrev pub GrantsNext : Cells → (ℕ → ℕ → ℕ) → (ℕ → ℕ → ℕ) → ℕ → Bool → (ℕ → ℕ) → Type 0
-GrantsNext cells seen withdrawn_by ended cleared change = (hand : ℕ) (marks says : ℕ → ℕ) → marks (ended + CELLS) ≡ 0 → cells ended hand cleared marks says
-    → (marks (ended + 1) ≡ 0 → (seen (ended + 1) (says (cell_of (ended + 1))) ≡ 0) × cells (ended + 1) 0 false marks (put says (cell_of (ended + 1)) (change (says (cell_of (ended + 1))))))
+abbrev pub GrantsNext : ℕ → Cells → (ℕ → ℕ → ℕ) → (ℕ → ℕ → ℕ) → ℕ → Bool → (ℕ → ℕ) → Type 0
+GrantsNext count cells seen withdrawn_by ended cleared change = (hand : ℕ) (marks says : ℕ → ℕ) → marks (ended + count) ≡ 0 → cells ended hand cleared marks says
+    → (marks (ended + 1) ≡ 0 → (seen (ended + 1) (says (cell_of count (ended + 1))) ≡ 0) × cells (ended + 1) 0 false marks (put says (cell_of count (ended + 1)) (change (says (cell_of count (ended + 1))))))
     × (0 < marks (ended + 1) → marks (ended + 1) ≤ MOST_NODES → 0 < hand
-    → (seen (ended + 1) (says (cell_of (ended + 1))) ≢ 0) × (withdrawn_by (ended + 1) (says (cell_of (ended + 1))) ≡ marks (ended + 1)) × cells (ended + 1) hand false marks (put says (cell_of (ended + 1)) (change (says (cell_of (ended + 1))))))
+    → (seen (ended + 1) (says (cell_of count (ended + 1))) ≢ 0) × (withdrawn_by (ended + 1) (says (cell_of count (ended + 1))) ≡ marks (ended + 1)) × cells (ended + 1) hand false marks (put says (cell_of count (ended + 1)) (change (says (cell_of count (ended + 1))))))
 
 module _ (cells : Cells) (berths : Berths) (good : List ℕ → Type 0) (allows : List ℕ → List ℕ → Type 0) (about : Setup) (goes : (a b : List ℕ) → good a → allows a b → good b) (v : ArrayEntry) (has_it : has_line v.own.point ≡ true) (y : Parcel) (carries : CarriesNext allows v y) where
   abbrev Rule : ArrayState → Type 0
@@ -323,7 +323,7 @@ module _ (cells : Cells) (berths : Berths) (good : List ℕ → Type 0) (allows 
       (λ z. absurd (z.2 empty)) (at_turn about x v.view.node v ok has_it)
 
   -- the word i is that of the next cell, and becomes z
-  module _ (may_give : MayGive berths) (may_keep : MayKeep berths) (s : ArrayState) (r : Rule s) (me i z : ℕ) (at : get_elem? s.views me ≡ some (v ∷ [])) (word : i ≡ cell_at (cell_of (length v.view.ends + 1))) where
+  module _ (may_give : MayGive berths) (may_keep : MayKeep berths) (s : ArrayState) (r : Rule s) (me i z : ℕ) (at : get_elem? s.views me ≡ some (v ∷ [])) (word : i ≡ cell_at (cell_of berths.cells (length v.view.ends + 1))) where
     ok : NodeOk about r.past v.view.node v
     ok = mine_ok cells berths good allows about s r me v at
 
@@ -340,15 +340,15 @@ module _ (cells : Cells) (berths : Berths) (good : List ℕ → Type 0) (allows 
     next_is : length v.view.ends + 1 ≡ next
     next_is = ap (λ es. length es + 1) same_ends ∙ sym (longer r.past r.fine ok)
 
-    small : cell_of (length v.view.ends + 1) < CELLS
-    small = mod-lt (length v.view.ends + 1) (omega arith)
+    small : cell_of berths.cells (length v.view.ends + 1) < berths.cells
+    small = mod-lt (length v.view.ends + 1) berths.some_cells
 
     -- what the cells say, as far as the node knows the turn
     said : cells (length v.view.ends) r.past.hand (is_cleared v.own.point) r.past.marks (cells_in s.words)
     said = subst (λ (z : ℕ × Bool). cells z.0 r.past.hand z.1 r.past.marks (cells_in s.words)) (λ j. (length (sym same_ends j), was_cleared r.past r.fine ok j)) r.shown.said
 
-    far : r.past.marks (length v.view.ends + CELLS) ≡ 0
-    far = ap (λ es. r.past.marks (length es + CELLS)) same_ends ∙ blank cells berths good allows about s r
+    far : r.past.marks (length v.view.ends + berths.cells) ≡ 0
+    far = ap (λ es. r.past.marks (length es + berths.cells)) same_ends ∙ blank cells berths good allows about s r
 
     -- the slots in hand, in which the line is laid for the next
     module _ (slots : Slots) (laid : berths.lays (length v.view.ends) y slots) where
@@ -368,25 +368,25 @@ module _ (cells : Cells) (berths : Berths) (good : List ℕ → Type 0) (allows 
       abbrev pub kept : Homes
       kept = homes_after s.homes slots keeping.0
 
-      pub homes_rule : r.past.marks next ≡ 0 → cells (length v.view.ends + 1) 0 false r.past.marks (put (cells_in s.words) (cell_of (length v.view.ends + 1)) z)
+      pub homes_rule : r.past.marks next ≡ 0 → cells (length v.view.ends + 1) 0 false r.past.marks (put (cells_in s.words) (cell_of berths.cells (length v.view.ends + 1)) z)
           → Rule record { words = set s.words i z; homes = given; views = set s.views me (home_entry r.past ∷ []) }
       homes_rule free says = rule_step cells berths good allows about s r me v (home_entry r.past) (home_past r.past) (set s.words i z) given at refl
           (home_fine r.past r.fine ok above free)
-          (cell_shown cells berths good allows about r.past s.words s.homes given i (cell_of (length v.view.ends + 1)) z word small r.shown giving.2
+          (cell_shown cells berths good allows about r.past s.words s.homes given i (cell_of berths.cells (length v.view.ends + 1)) z word small r.shown giving.2
           0 false (r.past.ends ++ e ∷ []) (clear_with (own v.view) v.own.passed r.past.clear) r.past.marks r.past.passer
-          (subst (λ q. cells q 0 false r.past.marks (put (cells_in s.words) (cell_of (length v.view.ends + 1)) z)) next_is says)
+          (subst (λ q. cells q 0 false r.past.marks (put (cells_in s.words) (cell_of berths.cells (length v.view.ends + 1)) z)) next_is says)
           (λ _. (y, subst (λ q. get_elem? given (berths.lies q) ≡ some (some y)) next_is giving.4, bytes r.past r.fine ok, shut r.past r.fine ok, left r.past r.fine ok))
           (λ k few _. giving.5 k few))
           (home_node r.past r.fine ok above free)
           (λ n a b ne. home_others r.past r.fine ok above free n (r.who n) a ne (r.each n a b))
 
-      pub walks_rule : 0 < r.past.marks next → cells (length v.view.ends + 1) r.past.hand false r.past.marks (put (cells_in s.words) (cell_of (length v.view.ends + 1)) z)
+      pub walks_rule : 0 < r.past.marks next → cells (length v.view.ends + 1) r.past.hand false r.past.marks (put (cells_in s.words) (cell_of berths.cells (length v.view.ends + 1)) z)
           → Rule record { words = set s.words i z; homes = kept; views = set s.views me (walk_entry r.past ∷ []) }
       walks_rule rolled says = rule_step cells berths good allows about s r me v (walk_entry r.past) (walk_past r.past) (set s.words i z) kept at refl
           (walk_fine r.past r.fine ok above rolled)
-          (cell_shown cells berths good allows about r.past s.words s.homes kept i (cell_of (length v.view.ends + 1)) z word small r.shown keeping.2
+          (cell_shown cells berths good allows about r.past s.words s.homes kept i (cell_of berths.cells (length v.view.ends + 1)) z word small r.shown keeping.2
           r.past.hand false (r.past.ends ++ e ∷ []) r.past.clear r.past.marks (put r.past.passer next v.view.node)
-          (subst (λ q. cells q r.past.hand false r.past.marks (put (cells_in s.words) (cell_of (length v.view.ends + 1)) z)) next_is says)
+          (subst (λ q. cells q r.past.hand false r.past.marks (put (cells_in s.words) (cell_of berths.cells (length v.view.ends + 1)) z)) next_is says)
           (λ nobody. absurd (held nobody))
           (λ k few inside. keeping.4 k few (λ out. inside held (subst (λ q. berths.is_out q k) next_is out))))
           (walk_node r.past r.fine ok above rolled)
@@ -395,7 +395,7 @@ module _ (cells : Cells) (berths : Berths) (good : List ℕ → Type 0) (allows 
           held : r.past.hand ≡ 0 → ⊥
           held nobody = let h = hand r.past r.fine ok in let l = above in omega arith
 
-      pub passes : (by_node : ℕ) → by_node ≡ r.past.marks next → (rolled : 0 < r.past.marks next) → cells (length v.view.ends + 1) r.past.hand false r.past.marks (put (cells_in s.words) (cell_of (length v.view.ends + 1)) z) → Passes v by_node (walk_entry r.past)
+      pub passes : (by_node : ℕ) → by_node ≡ r.past.marks next → (rolled : 0 < r.past.marks next) → cells (length v.view.ends + 1) r.past.hand false r.past.marks (put (cells_in s.words) (cell_of berths.cells (length v.view.ends + 1)) z) → Passes v by_node (walk_entry r.past)
       passes by_node is rolled says = let k = passed_request r.past r.fine ok above rolled in record {
         point = refl;
         passed = refl;
@@ -419,11 +419,11 @@ module _ (cells : Cells) (berths : Berths) (good : List ℕ → Type 0) (allows 
     ended_walk : Ended v (walk_entry r.past) y
     ended_walk = record { known = (ended_fine r.past r.fine ok above r.past.passer).legal.ended; ends = ap (λ l. l ++ e ∷ []) (sym same_ends); state = refl; count = refl; own_turn = own_turn_of r.past ok }
 
-  module _ (seen withdrawn_by : ℕ → ℕ → ℕ) (change : ℕ → ℕ) (may_give : MayGive berths) (may_keep : MayKeep berths) (lays_one : LaysOne berths) (grants : GrantsNext cells seen withdrawn_by (length v.view.ends) (is_cleared v.own.point) change) where
-    pub grants_next : (me slots i : ℕ) (m : Contents) (carried : Slots) → m ≡ (v ∷ [], carried) → berths.lays (length v.view.ends) y carried → i ≡ cell_at (cell_of (length v.view.ends + 1)) → Allows Rule slots me m i change (granted allows berths seen withdrawn_by (step slots i 0 0 none) m)
+  module _ (seen withdrawn_by : ℕ → ℕ → ℕ) (change : ℕ → ℕ) (may_give : MayGive berths) (may_keep : MayKeep berths) (lays_one : LaysOne berths) (grants : GrantsNext berths.cells cells seen withdrawn_by (length v.view.ends) (is_cleared v.own.point) change) where
+    pub grants_next : (me slots i : ℕ) (m : Contents) (carried : Slots) → m ≡ (v ∷ [], carried) → berths.lays (length v.view.ends) y carried → i ≡ cell_at (cell_of berths.cells (length v.view.ends + 1)) → Allows Rule slots me m i change (granted allows berths seen withdrawn_by (step slots i 0 0 none) m)
     grants_next me slots i m carried is laid word = subst (λ (z : Contents). Allows Rule slots me z i change (granted allows berths seen withdrawn_by (step slots i 0 0 none) z)) (sym is) (λ s r deep at small.
         let new : ℕ = change (slice_index s.words i) in
-        let found : slice_index s.words i ≡ cells_in s.words (cell_of (length v.view.ends + 1)) = ap (slice_index s.words) word in
+        let found : slice_index s.words i ≡ cells_in s.words (cell_of berths.cells (length v.view.ends + 1)) = ap (slice_index s.words) word in
         let step_of = next_is may_give may_keep s r me i new at word in
         let all = grants r.past.hand r.past.marks (cells_in s.words) (far may_give may_keep s r me i new at word) (said may_give may_keep s r me i new at word) in
         let mine = ok may_give may_keep s r me i new at word in
@@ -433,7 +433,7 @@ module _ (cells : Cells) (berths : Berths) (good : List ℕ → Type 0) (allows 
           home_entry r.past ∷ [],
           give.0,
           give.1,
-          homes_rule may_give may_keep s r me i new at word carried laid free (subst (λ k. cells (length v.view.ends + 1) 0 false r.past.marks (put (cells_in s.words) (cell_of (length v.view.ends + 1)) (change k))) (sym found) both.1),
+          homes_rule may_give may_keep s r me i new at word carried laid free (subst (λ k. cells (length v.view.ends + 1) 0 false r.past.marks (put (cells_in s.words) (cell_of berths.cells (length v.view.ends + 1)) (change k))) (sym found) both.1),
           (
             goes_step allows (v ∷ [], carried) v (home_entry r.past) (carried_after carried give.0) refl (learns_home r.past r.fine mine up free) refl,
             (λ z c. subst (λ (u : Parcel). Ended v (home_entry r.past) u) (lays_one (length v.view.ends) y z carried laid c) (ended_home may_give may_keep s r me i new at word)),
@@ -445,7 +445,7 @@ module _ (cells : Cells) (berths : Berths) (good : List ℕ → Type 0) (allows 
         let marked : r.past.marks (length v.view.ends + 1) ≡ r.past.marks (length (r.past.ends ++ e ∷ [])) = ap r.past.marks step_of in
         let held = (hand r.past r.fine mine) in let some_node : 0 < r.past.hand = omega arith in
         let told = all.1 (subst (λ k. 0 < k) (sym marked) rolled) (subst (λ k. k ≤ MOST_NODES) (sym marked) (high may_give may_keep s r me i new at word rolled)) some_node in
-        let says = subst (λ k. cells (length v.view.ends + 1) r.past.hand false r.past.marks (put (cells_in s.words) (cell_of (length v.view.ends + 1)) (change k))) (sym found) told.2 in
+        let says = subst (λ k. cells (length v.view.ends + 1) r.past.hand false r.past.marks (put (cells_in s.words) (cell_of berths.cells (length v.view.ends + 1)) (change k))) (sym found) told.2 in
         let keep = keeping may_give may_keep s r me i new at word carried laid in (
           walk_entry r.past ∷ [],
           keep.0,

@@ -29,8 +29,8 @@ pub cells_else : (words : List ℕ) (i z : ℕ) → ((c : ℕ) → cell_at c ≢
 cells_else words i z ne = λ j c. get_or-set_other words i (cell_at c) z 0 (ne c) j
 
 -- a cell's changes that one alone
-pub cells_put : (words : List ℕ) (q z : ℕ) → length words ≡ word_count → q < CELLS → cells_in (set words (cell_at q) z) ≡ put (cells_in words) q z
-cells_put words q z wide small = λ j c. each c j
+pub cells_put : (count : ℕ) (words : List ℕ) (q z : ℕ) → length words ≡ word_count count → q < count → cells_in (set words (cell_at q) z) ≡ put (cells_in words) q z
+cells_put count words q z wide small = λ j c. each c j
   where
     each : (c : ℕ) → slice_index (set words (cell_at q) z) (cell_at c) ≡ put (cells_in words) q z c
     each c = dite (ℕ_discrete c q)
@@ -84,35 +84,37 @@ module _ (cells : Cells) (berths : Berths) (good : List ℕ → Type 0) (allows 
   few_open s r terms is = subst (λ (t : Terms). length r.past.order ≤ length r.past.ends + t.nodes) (sym is) (window s r)
 
   -- far ahead nothing is marked
-  pub blank : (s : ArrayState) (r : Rule s) → r.past.marks (length r.past.ends + CELLS) ≡ 0
-  blank s r = dite (ℕ_discrete (r.past.marks (length r.past.ends + CELLS)) 0) (λ z. z)
-      (λ ne. let k = r.fine.marked (length r.past.ends + CELLS) (omega arith) in let h = slice_get_within r.past.order (length r.past.ends + CELLS) k.0 k.1 in let w = window s r in let f = r.may_open.nodes.few in absurd (omega arith))
+  pub blank : (s : ArrayState) (r : Rule s) → r.past.marks (length r.past.ends + berths.cells) ≡ 0
+  blank s r = dite (ℕ_discrete (r.past.marks (length r.past.ends + berths.cells)) 0) (λ z. z)
+      (λ ne. let k = r.fine.marked (length r.past.ends + berths.cells) (omega arith) in let h = slice_get_within r.past.order (length r.past.ends + berths.cells) k.0 k.1 in let w = window s r in let f = r.shown.more in absurd (omega arith))
 
   -- the word of a node changes
-  pub flag_shown : (x : Past) (clear : List Request) (words : List ℕ) (homes : Homes) (i n b : ℕ) → i ≡ node_at n → 0 < n → n ≤ MOST_NODES → Shown cells berths good allows about x words homes → Shown cells berths good allows about (record x { clear = clear; flags = put x.flags n b }) (set words i b) homes
+  pub flag_shown : (x : Past) (clear : List Request) (words : List ℕ) (homes : Homes) (i n b : ℕ) → i ≡ node_at n → 0 < n → n ≤ about.terms.nodes → Shown cells berths good allows about x words homes → Shown cells berths good allows about (record x { clear = clear; flags = put x.flags n b }) (set words i b) homes
   flag_shown x clear words homes i n b is low high h = record {
+    more = h.more;
     wide = length-set words i b ∙ h.wide;
     deep = h.deep;
     ticket = get_or-set_other words i ticket_at b 0 (λ e. omega arith) ∙ h.ticket;
     said = subst (cells (length x.ends) x.hand x.cleared x.marks) (sym (cells_else words i b (λ c e. omega arith))) h.said;
     flags = λ k a c. dite (ℕ_discrete k n)
-        (λ e. ap (λ q. slice_index (set words i b) q) (ap node_at e ∙ sym is) ∙ get_or-set_same words i b 0 (let w = h.wide in omega arith) ∙ sym (ap (put x.flags n b) e ∙ put_here x.flags n b))
+        (λ e. ap (λ q. slice_index (set words i b) q) (ap node_at e ∙ sym is) ∙ get_or-set_same words i b 0 (let w = h.wide in let m = h.more in omega arith) ∙ sym (ap (put x.flags n b) e ∙ put_here x.flags n b))
         (λ ne. get_or-set_other words i (node_at k) b 0 (λ q. ne (omega arith)) ∙ h.flags k a c ∙ sym (put_else x.flags n b k ne));
     home = h.home;
     spare = h.spare;
   }
 
   -- the word of a cell changes, and the history
-  pub cell_shown : (x : Past) (words : List ℕ) (homes homes' : Homes) (i c z : ℕ) → i ≡ cell_at c → c < CELLS → Shown cells berths good allows about x words homes → length homes' ≡ length homes
+  pub cell_shown : (x : Past) (words : List ℕ) (homes homes' : Homes) (i c z : ℕ) → i ≡ cell_at c → c < berths.cells → Shown cells berths good allows about x words homes → length homes' ≡ length homes
       → (hand : ℕ) (cleared : Bool) (ends : List End) (clear : List Request) (marks passer : ℕ → ℕ) → cells (length ends) hand cleared marks (put (cells_in words) c z)
       → (hand ≡ 0 → (y : Parcel) × (get_elem? homes' (berths.lies (length ends)) ≡ some (some y)) × (y.bytes.bytes ≡ bytes_after about.terms.opening.bytes ends) × (y.closed ≡ is_closed ends) × (y.turns_left ≡ turns_left about.terms.lease ends))
       → ((k : ℕ) → k < berths.count → (hand ≢ 0 → berths.is_out (length ends) k → ⊥) → IsAtHome homes' k)
       → Shown cells berths good allows about (record x { hand = hand; cleared = cleared; ends = ends; clear = clear; marks = marks; passer = passer }) (set words i z) homes'
   cell_shown x words homes homes' i c z is small h deep hand cleared ends clear marks passer said home spare = record {
+    more = h.more;
     wide = length-set words i z ∙ h.wide;
     deep = deep ∙ h.deep;
     ticket = get_or-set_other words i ticket_at z 0 (λ e. omega arith) ∙ h.ticket;
-    said = subst (cells (length ends) hand cleared marks) (sym (ap (λ k. cells_in (set words k z)) is ∙ cells_put words c z h.wide small)) said;
+    said = subst (cells (length ends) hand cleared marks) (sym (ap (λ k. cells_in (set words k z)) is ∙ cells_put berths.cells words c z h.wide small)) said;
     flags = λ n a b. get_or-set_other words i (node_at n) z 0 (λ e. omega arith) ∙ h.flags n a b;
     home = home;
     spare = spare;

@@ -28,14 +28,14 @@ use Rattle.array_line.specs.Array.{ArrayEntry, ArrayState, At, Cells, NodeOk, Ar
 use Rattle.array_line.proofs.Histories.{one_history}
 
 -- a node at rest has no request, or a withdrawn one
-stands_still : (mark_of : ℕ → ℕ) (state : PortState) (mark : ℕ) (own : Own) → may_ask state ≡ true → rests mark_of state mark own → (own.point ≡ Idle) ⊎ (own.point ≡ Rolled)
-stands_still mark_of shows.Idle mark own may h = inl h
-stands_still mark_of shows.Linking mark own may h = absurd h
-stands_still mark_of shows.Queued mark own may h = absurd (cc may)
-stands_still mark_of shows.Holding mark own may h = absurd h
-stands_still mark_of shows.Left mark own may h = absurd h
-stands_still mark_of shows.Rolled mark own may h = inr h
-stands_still mark_of shows.Shut mark own may h = inl h
+stands_still : (mark_of : ℕ → ℕ) (nodes : ℕ) (state : PortState) (mark : ℕ) (own : Own) → may_ask state ≡ true → rests mark_of nodes state mark own → (own.point ≡ Idle) ⊎ (own.point ≡ Rolled)
+stands_still mark_of nodes shows.Idle mark own may h = inl h
+stands_still mark_of nodes shows.Linking mark own may h = absurd h
+stands_still mark_of nodes shows.Queued mark own may h = absurd (cc may)
+stands_still mark_of nodes shows.Holding mark own may h = absurd h
+stands_still mark_of nodes shows.Left mark own may h = absurd h
+stands_still mark_of nodes shows.Rolled mark own may h = inr h
+stands_still mark_of nodes shows.Shut mark own may h = inl h
 
 module _ (cells : Cells) (berths : Berths) (good : List ℕ → Type 0) (allows : List ℕ → List ℕ → Type 0) (about : Setup) (entries : List ArrayEntry) (mark_of : ℕ → ℕ) (at_rest : AllRest (rests mark_of) about.terms.nodes entries) where
   abbrev Rule : ArrayState → Type 0
@@ -45,7 +45,7 @@ module _ (cells : Cells) (berths : Berths) (good : List ℕ → Type 0) (allows 
     -- the node n is at rest
     rest_ok : (n : ℕ) → 0 < n → n ≤ about.terms.nodes → (v : ArrayEntry) × NodeOk about r.past n v × ((v.own.point ≡ Idle) ⊎ (v.own.point ≡ Rolled))
     rest_ok n a b = let i = at_rest n a b in let m = r.members id i.0 entries i.1 at i.2 in let still = i.4 in
-        (i.1, subst (λ k. NodeOk about r.past k i.1) i.3 (subst (NodeOk about r.past i.1.view.node) m.is (r.each i.1.view.node m.low m.high)), stands_still mark_of still.0 still.1 i.1.own still.2 still.3)
+        (i.1, subst (λ k. NodeOk about r.past k i.1) i.3 (subst (NodeOk about r.past i.1.view.node) m.is (r.each i.1.view.node m.low m.high)), stands_still mark_of i.1.view.terms.nodes still.0 still.1 i.1.own still.2 still.3)
 
     nobody : r.past.hand ≡ 0
     nobody = dite (ℕ_discrete r.past.hand 0) (λ e. e) (λ ne. let k = rest_ok r.past.hand (omega arith) r.fine.within in absurd (k.1.hand.lacks (⊎_elim (λ i. ap has_line i) (λ i. ap has_line i) k.2) refl))

@@ -1,3 +1,4 @@
+pub mod Counting
 pub mod OneNode
 pub mod Nodes
 pub mod Turning

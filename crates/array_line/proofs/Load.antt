@@ -1,5 +1,5 @@
 -- A waiting node reads its cell: the line has come, or it waits on.
-use Rattle.std.proofs.Common.{◌≡◌, ◌≢◌, ℕ, ◌%◌, ◌^◌, Bool, true, false, Option, List, [], ◌∷◌, length, set, slice_index, sym, refl, ap, subst, arith}
+use Rattle.std.proofs.Common.{◌≡◌, ◌≢◌, ℕ, ◌%◌, ◌^◌, Bool, true, false, Option, List, [], ◌∷◌, length, set, slice_index, sym, refl, ap, ◌∙◌, subst, arith}
 use mathlib.Core.Logic.{dite}
 use mathlib.Core.Option.{none, some}
 use native.Mathlib.Decide.{ℕ_discrete}
@@ -8,6 +8,7 @@ use lib.Seq.{set-get_or}
 use Rattle.atomic_table.specs.Table.{step, keeps, carried_after, Allows}
 use Rattle.qolb_model.specs.declared.answer.PortState.TheVariants as shows
 use Rattle.qolb_model.specs.Sound.{Continues}
+use Rattle.qolb_model.specs.declared.terms.Terms.{Terms}
 use Rattle.array_line.specs.declared.own.Point.TheVariants.{Queued}
 use Rattle.shared_line.specs.declared.rule.Setup.{Setup}
 use Rattle.shared_line.specs.declared.rule.Parcel.{Parcel}
@@ -29,7 +30,7 @@ module _ (cells : Cells) (berths : Berths) (good : List ℕ → Type 0) (allows 
   abbrev Rule : ArrayState → Type 0
   Rule = ArrayRule cells berths good allows about
 
-  module _ (s : ArrayState) (r : Rule s) (me i : ℕ) (at : get_elem? s.views me ≡ some (v ∷ [])) (word : i ≡ cell_at (cell_of v.own.place)) where
+  module _ (s : ArrayState) (r : Rule s) (me i : ℕ) (at : get_elem? s.views me ≡ some (v ∷ [])) (word : i ≡ cell_at (cell_of berths.cells v.own.place)) where
     pub ok : NodeOk about r.past v.view.node v
     ok = mine_ok cells berths good allows about s r me v at
 
@@ -57,8 +58,8 @@ module _ (cells : Cells) (berths : Berths) (good : List ℕ → Type 0) (allows 
       };
     }
 
-  module _ (mark_of : ℕ → ℕ) (waits comes_to : ℕ → ℕ → Type 0) (may_take : MayTake berths) (takes_line : Takes cells waits v.own.place v.view.node (λ n. n)) (stays : StaysBehind cells comes_to v.own.place) where
-    pub loads_next : (me slots i : ℕ) (m : Contents) → m ≡ (v ∷ [], []) → i ≡ cell_at (cell_of v.own.place) → Allows Rule slots me m i (λ n. n) (loaded allows mark_of berths waits comes_to (step slots i 0 0 none) m)
+  module _ (mark_of : ℕ → ℕ) (waits comes_to : ℕ → ℕ → Type 0) (may_take : MayTake berths) (takes_line : Takes berths.cells cells waits v.own.place v.view.node (λ n. n)) (stays : StaysBehind berths.cells cells comes_to v.own.place) where
+    pub loads_next : (me slots i : ℕ) (m : Contents) → m ≡ (v ∷ [], []) → i ≡ cell_at (cell_of berths.cells v.own.place) → Allows Rule slots me m i (λ n. n) (loaded allows mark_of berths waits comes_to (step slots i 0 0 none) m)
     loads_next me slots i m is word = subst (λ (z : Contents). Allows Rule slots me z i (λ n. n) (loaded allows mark_of berths waits comes_to (step slots i 0 0 none) z)) (sym is) (λ s r deep at small. dite (ℕ_discrete v.own.place (length r.past.ends))
         (λ here. let y = home cells berths good allows about v queued s r me i at word may_take here in let taking = act cells berths good allows about v queued s r me i at word may_take here in (
           take_entry cells berths good allows about v queued r.past ∷ [],
@@ -87,17 +88,22 @@ module _ (cells : Cells) (berths : Berths) (good : List ℕ → Type 0) (allows 
         )))
 
     -- what a look finds that is told by a mark and the lower half of the word
-    pub looks_next : (brings : ℕ → Parcel → Slots → Type 0) (kept : ℕ → Option ℕ → Slots → Type 0) (laid : ℕ → Parcel → Slots → Type 0) (may_come : ℕ → ℕ → Bool) (mark : ℕ) → mark ≡ mark_of v.own.place
+    pub looks_next : (cells_for : ℕ → ℕ) → berths.cells ≡ cells_for about.terms.nodes
+        → (brings : ℕ → ℕ → Parcel → Slots → Type 0) (kept : ℕ → ℕ → Option ℕ → Slots → Type 0) (laid : ℕ → ℕ → Parcel → Slots → Type 0) (may_come : ℕ → ℕ → Bool) (mark : ℕ) → mark ≡ mark_of v.own.place
         → ((found : ℕ) → may_come mark (found % 2 ^ 32) ≡ false → waits v.own.place found) → ((found : ℕ) → may_come mark (found % 2 ^ 32) ≡ true → comes_to v.own.place found)
-        → ((y : Parcel) (k : Slots) → berths.brings v.own.place y k → brings mark y k)
-        → (me slots i : ℕ) → i ≡ cell_at (cell_of v.own.place) → Allows Rule slots me (v ∷ [], []) i (λ n. n) (Looked (phases mark_of brings kept laid) may_come mark)
-    looks_next brings kept laid may_come mark is not_yet now brought_so me slots i word s r deep at small = let a = loads_next me slots i (v ∷ [], []) refl word s r deep at small in (
-      a.0,
-      a.1,
-      a.2,
-      a.3,
-      record {
-        waits = λ n. let w = a.4.2 (not_yet (slice_index s.words i) n) in (w.0, subst (λ k. IsEarly mark_of k (sole a.0)) (sym is) w.1);
-        comes = λ c. let w = a.4.3 (now (slice_index s.words i) c) in (w.0, brought_so w.0 (carried_after [] a.1) w.1, subst (λ k. Comes mark_of k (sole a.0) w.0) (sym is) w.2);
-      },
-    )
+        → ((y : Parcel) (k : Slots) → berths.brings v.own.place y k → brings about.terms.nodes mark y k)
+        → (me slots i : ℕ) → i ≡ cell_at (cell_of (cells_for v.view.terms.nodes) v.own.place) → Allows Rule slots me (v ∷ [], []) i (λ n. n) (Looked (phases mark_of brings kept laid) may_come mark)
+    looks_next cells_for counted brings kept laid may_come mark is not_yet now brought_so me slots i word s r deep at small =
+        let same : v.view.terms ≡ about.terms = (mine_ok cells berths good allows about s r me v at).who.terms in
+        let here : i ≡ cell_at (cell_of berths.cells v.own.place) = word ∙ (ap (λ (t : Terms). cell_at (cell_of (cells_for t.nodes) v.own.place)) same ∙ ap (λ (c : ℕ). cell_at (cell_of c v.own.place)) (sym counted)) in
+        let a = loads_next me slots i (v ∷ [], []) refl here s r deep at small in
+        let knows : (sole a.0).view.terms ≡ about.terms = a.4.0.extends.terms ∙ same in (
+          a.0,
+          a.1,
+          a.2,
+          a.3,
+          record {
+            waits = λ n. let w = a.4.2 (not_yet (slice_index s.words i) n) in (w.0, subst (λ k. IsEarly mark_of k (sole a.0)) (sym is) w.1);
+            comes = λ c. let w = a.4.3 (now (slice_index s.words i) c) in (w.0, subst (λ (t : Terms). brings t.nodes mark w.0 (carried_after [] a.1)) (sym knows) (brought_so w.0 (carried_after [] a.1) w.1), subst (λ k. Comes mark_of k (sole a.0) w.0) (sym is) w.2);
+          },
+        )

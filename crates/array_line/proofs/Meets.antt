@@ -159,12 +159,12 @@ module _ (cells : Cells) (berths : Berths) (good : List ℕ → Type 0) (allows 
       )
 
   -- the holder's slots go home, for a moment
-  pub parks_next : (me slots i : ℕ) (m : Contents) (v : ArrayEntry) → m.0 ≡ v ∷ [] → v.view.state ≡ shows.Holding → MayPark berths m.1 → Allows Rule slots me m i (λ n. n) (parked (step slots i 0 0 none) m)
+  pub parks_next : (me slots i : ℕ) (m : Contents) (v : ArrayEntry) → m.0 ≡ v ∷ [] → v.view.state ≡ shows.Holding → (v.view.terms ≡ about.terms → MayPark berths m.1) → Allows Rule slots me m i (λ n. n) (parked (step slots i 0 0 none) m)
   parks_next me slots i m v is holding may_park s r deep at small =
-      let park = may_park s.homes r.shown.deep in
       let at' : get_elem? s.views me ≡ some (v ∷ []) = at ∙ ap some is in
       let mb = r.members me 0 (v ∷ []) v at' refl in
       let ok : NodeOk about r.past v.view.node v = subst (NodeOk about r.past v.view.node) mb.is (r.each v.view.node mb.low mb.high) in
+      let park = may_park ok.who.terms s.homes r.shown.deep in
       let mine = (ok.hand.holds (ok.hand.holder holding).0).1 in
       let low = mb.low in (
         m.0,
@@ -179,7 +179,7 @@ module _ (cells : Cells) (berths : Berths) (good : List ℕ → Type 0) (allows 
               may_open = r.may_open;
               line = r.line;
               fine = r.fine;
-              shown = record { wide = r.shown.wide; deep = park.2 ∙ r.shown.deep; ticket = r.shown.ticket; said = r.shown.said; flags = r.shown.flags; home = λ e. let l = mine in absurd (omega arith); spare = λ k few out. park.4 k (r.shown.spare k few out) };
+              shown = record { more = r.shown.more; wide = r.shown.wide; deep = park.2 ∙ r.shown.deep; ticket = r.shown.ticket; said = r.shown.said; flags = r.shown.flags; home = λ e. let l = mine in absurd (omega arith); spare = λ k few out. park.4 k (r.shown.spare k few out) };
               each = r.each;
               members = r.members;
             },

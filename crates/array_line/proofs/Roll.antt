@@ -30,9 +30,9 @@ use Rattle.array_line.proofs.Taking.{Takes, StaysBehind, take_entry, asked_at, n
 use Rattle.array_line.proofs.Turning.{goes_step}
 
 -- What a queue shows where the node n withdraws its request at this place, which is behind the turn, by a step that changes the cell so.
-abbrev pub Withdraws : Cells → ℕ → ℕ → (ℕ → ℕ) → Type 0
-Withdraws cells place n change = (ended hand : ℕ) (cleared : Bool) (marks says : ℕ → ℕ) → 0 < n → n ≤ MOST_NODES → ended < place → place < ended + CELLS → marks place ≡ 0 → cells ended hand cleared marks says
-    → cells ended hand cleared (put marks place n) (put says (cell_of place) (change (says (cell_of place))))
+abbrev pub Withdraws : ℕ → Cells → ℕ → ℕ → (ℕ → ℕ) → Type 0
+Withdraws count cells place n change = (ended hand : ℕ) (cleared : Bool) (marks says : ℕ → ℕ) → 0 < n → n ≤ MOST_NODES → ended < place → place < ended + count → marks place ≡ 0 → cells ended hand cleared marks says
+    → cells ended hand cleared (put marks place n) (put says (cell_of count place) (change (says (cell_of count place))))
 
 module _ (cells : Cells) (berths : Berths) (good : List ℕ → Type 0) (allows : List ℕ → List ℕ → Type 0) (about : Setup) (v : ArrayEntry) (queued : v.own.point ≡ Queued) where
   abbrev Rule : ArrayState → Type 0
@@ -109,8 +109,8 @@ module _ (cells : Cells) (berths : Berths) (good : List ℕ → Type 0) (allows 
           ((λ z. subst (λ q. 0 < q) (sym s) (g.0 z)), (λ z. g.1 (subst (λ q. 0 < q) s z)));
     }
 
-  module _ (s : ArrayState) (r : Rule s) (me i z : ℕ) (at : get_elem? s.views me ≡ some (v ∷ [])) (word : i ≡ cell_at (cell_of v.own.place)) (later : v.own.place ≢ length r.past.ends)
-      (said : cells (length r.past.ends) r.past.hand r.past.cleared (put r.past.marks v.own.place v.view.node) (put (cells_in s.words) (cell_of v.own.place) z)) where
+  module _ (s : ArrayState) (r : Rule s) (me i z : ℕ) (at : get_elem? s.views me ≡ some (v ∷ [])) (word : i ≡ cell_at (cell_of berths.cells v.own.place)) (later : v.own.place ≢ length r.past.ends)
+      (said : cells (length r.past.ends) r.past.hand r.past.cleared (put r.past.marks v.own.place v.view.node) (put (cells_in s.words) (cell_of berths.cells v.own.place) z)) where
     ok : NodeOk about r.past v.view.node v
     ok = mine_ok cells berths good allows about s r me v at
 
@@ -123,7 +123,7 @@ module _ (cells : Cells) (berths : Berths) (good : List ℕ → Type 0) (allows 
     -- the rule once the cell has become z
     pub rolls_rule : Rule record { words = set s.words i z; homes = s.homes; views = set s.views me (roll_entry r.past ∷ []) }
     rolls_rule = rule_step cells berths good allows about s r me v (roll_entry r.past) (roll_past r.past) (set s.words i z) s.homes at refl (roll_fine r.past r.fine ok low after)
-        (cell_shown cells berths good allows about r.past s.words s.homes s.homes i (cell_of v.own.place) z word (mod-lt v.own.place (omega arith)) r.shown refl
+        (cell_shown cells berths good allows about r.past s.words s.homes s.homes i (cell_of berths.cells v.own.place) z word (mod-lt v.own.place berths.some_cells) r.shown refl
         r.past.hand r.past.cleared r.past.ends r.past.clear (put r.past.marks v.own.place v.view.node) r.past.passer said r.shown.home r.shown.spare) (roll_node r.past r.fine ok low after)
         (λ n a b ne. others_roll about r.past n (r.who n) (r.each n a b) v.view.node v.own.place (own v.view) (asked_at cells berths good allows about v queued r.past ok) refl low ne)
 
@@ -142,8 +142,8 @@ module _ (cells : Cells) (berths : Berths) (good : List ℕ → Type 0) (allows 
       };
     }
 
-  module _ (mark_of : ℕ → ℕ) (waits comes_to : ℕ → ℕ → Type 0) (change : ℕ → ℕ) (may_take : MayTake berths) (takes_line : Takes cells waits v.own.place v.view.node change) (stays : StaysBehind cells comes_to v.own.place) (withdraws : Withdraws cells v.own.place v.view.node change) where
-    pub rolls_next : (me slots i : ℕ) (m : Contents) → m ≡ (v ∷ [], []) → i ≡ cell_at (cell_of v.own.place) → Allows Rule slots me m i change (rolled allows mark_of berths waits comes_to (step slots i 0 0 none) m)
+  module _ (mark_of : ℕ → ℕ) (waits comes_to : ℕ → ℕ → Type 0) (change : ℕ → ℕ) (may_take : MayTake berths) (takes_line : Takes berths.cells cells waits v.own.place v.view.node change) (stays : StaysBehind berths.cells cells comes_to v.own.place) (withdraws : Withdraws berths.cells cells v.own.place v.view.node change) where
+    pub rolls_next : (me slots i : ℕ) (m : Contents) → m ≡ (v ∷ [], []) → i ≡ cell_at (cell_of berths.cells v.own.place) → Allows Rule slots me m i change (rolled allows mark_of berths waits comes_to (step slots i 0 0 none) m)
     rolls_next me slots i m is word = subst (λ (z : Contents). Allows Rule slots me z i change (rolled allows mark_of berths waits comes_to (step slots i 0 0 none) z)) (sym is) (λ s r deep at small. dite (ℕ_discrete v.own.place (length r.past.ends))
         (λ here. let y = home cells berths good allows about v queued s r me i at word may_take here in let taking = act cells berths good allows about v queued s r me i at word may_take here in (
           take_entry cells berths good allows about v queued r.past ∷ [],
@@ -160,7 +160,7 @@ module _ (cells : Cells) (berths : Berths) (good : List ℕ → Type 0) (allows 
         (λ later. let b = behind cells berths good allows about v queued s r me i at word later in let n = near cells berths good allows about v queued s r me i at word in
         let found = found_is cells berths good allows about v queued s r me i at word in
         let low = mine_low cells berths good allows about s r me v at in let low_node = low.0 in let high_node = low.1 in let few = r.may_open.nodes.few in
-        let said = subst (λ k. cells (length r.past.ends) r.past.hand r.past.cleared (put r.past.marks v.own.place v.view.node) (put (cells_in s.words) (cell_of v.own.place) (change k))) (sym found)
+        let said = subst (λ k. cells (length r.past.ends) r.past.hand r.past.cleared (put r.past.marks v.own.place v.view.node) (put (cells_in s.words) (cell_of berths.cells v.own.place) (change k))) (sym found)
         (withdraws (length r.past.ends) r.past.hand r.past.cleared r.past.marks (cells_in s.words) low.0 (omega arith) b.0 n b.1 r.shown.said) in (
           roll_entry r.past ∷ [],
           keeps,

@@ -52,9 +52,9 @@ module _ (cells : Cells) (berths : Berths) (good : List ℕ → Type 0) (allows 
   slot_count s r = r.shown.deep
 
   -- a new table, whose cells say what they say of an empty history
-  pub starts : (granted : ℕ) → berths.lies 0 < berths.count → ((words : List ℕ) → AreFirst granted words → cells 0 0 false (λ _. 0) (cells_in words)) → (words : List ℕ) (y : Parcel) → MayOpen about.terms → length about.terms.opening.bytes ≡ 64 → good about.terms.opening.bytes → length words ≡ word_count → AreFirst granted words
+  pub starts : (granted : ℕ) → (MayOpen about.terms → about.terms.nodes < berths.cells) → berths.lies 0 < berths.count → ((words : List ℕ) → AreFirst berths.cells granted words → cells 0 0 false (λ _. 0) (cells_in words)) → (words : List ℕ) (y : Parcel) → MayOpen about.terms → length about.terms.opening.bytes ≡ 64 → good about.terms.opening.bytes → length words ≡ word_count berths.cells → AreFirst berths.cells granted words
       → y.bytes.bytes ≡ about.terms.opening.bytes → y.closed ≡ false → y.turns_left ≡ about.terms.lease → Rule (opening words (replicate berths.count y) (newcomers fresh about))
-  starts granted first_slot say words y may line fine wide first same unclosed left = record {
+  starts granted enough first_slot say words y may line fine wide first same unclosed left = record {
     past = record { order = []; ends = []; clear = []; hand = 0; cleared = false; marks = λ _. 0; passer = λ _. 0; flags = λ _. 0 };
     who = newcomer fresh about;
     owner = λ n. (0, n - 1);
@@ -72,7 +72,7 @@ module _ (cells : Cells) (berths : Berths) (good : List ℕ → Type 0) (allows 
       marked = λ p h. absurd (omega arith);
       gone = λ p e at. absurd (at_none p e at);
     };
-    shown = record { wide = wide; deep = opened_count berths.count y; ticket = first.1 ticket_at (omega arith) (λ e. omega arith); said = say words first; flags = λ n a b. first.1 (node_at n) (omega arith) (λ e. omega arith); home = λ _. (y, opened_slot berths.count (berths.lies 0) y first_slot, same, unclosed, left ∙ turns_left-none about.terms.lease); spare = λ k few _. (y, opened_slot berths.count k y few) };
+    shown = record { more = enough may; wide = wide; deep = opened_count berths.count y; ticket = first.1 ticket_at (let m = enough may in omega arith) (λ e. omega arith); said = say words first; flags = λ n a b. first.1 (node_at n) (let m = enough may in omega arith) (λ e. omega arith); home = λ _. (y, opened_slot berths.count (berths.lies 0) y first_slot, same, unclosed, left ∙ turns_left-none about.terms.lease); spare = λ k few _. (y, opened_slot berths.count k y few) };
     each = λ n a b. record {
       who = record { node = refl; label = refl; terms = refl };
       knows = knows_whole [] [] [] n (newcomer fresh about n).view refl refl refl refl (λ q h. absurd (cc h));

@@ -36,18 +36,18 @@ use Rattle.qolb_model.proofs.Leases.{open_has_turns}
 
 -- What a queue shows of the cell of a request at its turn, where nobody has the line. It does not say that the node is to wait. And as the
 -- node n takes the line by a step that changes the cell so, the cells say what they must.
-abbrev pub Takes : Cells → (ℕ → ℕ → Type 0) → ℕ → ℕ → (ℕ → ℕ) → Type 0
-Takes cells waits place n change = (cleared : Bool) (marks says : ℕ → ℕ) → 0 < n → marks place ≡ 0 → cells place 0 cleared marks says
-    → (waits place (says (cell_of place)) → ⊥) × cells place n false marks (put says (cell_of place) (change (says (cell_of place))))
+abbrev pub Takes : ℕ → Cells → (ℕ → ℕ → Type 0) → ℕ → ℕ → (ℕ → ℕ) → Type 0
+Takes count cells waits place n change = (cleared : Bool) (marks says : ℕ → ℕ) → 0 < n → marks place ≡ 0 → cells place 0 cleared marks says
+    → (waits place (says (cell_of count place)) → ⊥) × cells place n false marks (put says (cell_of count place) (change (says (cell_of count place))))
 
 -- and of the cell of one that is behind the turn and not withdrawn: it does not say that the line comes
-abbrev pub StaysBehind : Cells → (ℕ → ℕ → Type 0) → ℕ → Type 0
-StaysBehind cells comes place = (ended hand : ℕ) (cleared : Bool) (marks says : ℕ → ℕ) → ended < place → place < ended + CELLS → marks place ≡ 0 → cells ended hand cleared marks says
-    → comes place (says (cell_of place)) → ⊥
+abbrev pub StaysBehind : ℕ → Cells → (ℕ → ℕ → Type 0) → ℕ → Type 0
+StaysBehind count cells comes place = (ended hand : ℕ) (cleared : Bool) (marks says : ℕ → ℕ) → ended < place → place < ended + count → marks place ≡ 0 → cells ended hand cleared marks says
+    → comes place (says (cell_of count place)) → ⊥
 
 -- the cells behind one are others
-pub cells_apart : (m k : ℕ) → 0 < k → k < CELLS → cell_of (m + k) ≢ cell_of m
-cells_apart m k a b e = let f = one_turn m (m + k) CELLS (omega arith) (omega arith) (sym e) in omega arith
+pub cells_apart : (count m k : ℕ) → 0 < k → k < count → cell_of count (m + k) ≢ cell_of count m
+cells_apart count m k a b e = let f = one_turn m (m + k) count (omega arith) (omega arith) (sym e) in omega arith
 
 -- a node that has the line is at the turn of its own request, or of a withdrawn one that it passed
 pub at_turn : (about : Setup) (x : Past) (n : ℕ) (v : ArrayEntry) → NodeOk about x n v → has_line v.own.point ≡ true → Walks (length x.ends) x.marks v
@@ -139,19 +139,19 @@ module _ (cells : Cells) (berths : Berths) (good : List ℕ → Type 0) (allows 
       go u k true e = ⊎_elim (λ z. other u k e z.0) (λ z. let m : x.marks (length x.ends) ≡ 0 = ap x.marks (sym here) ∙ ok.marks.unmarked (ap is_kept queued) in let more = z.1 in omega arith) (at_turn about x x.hand u k e)
 
   -- the state s, whose seat `me` has the entry v alone, at the word i of its cell
-  module _ (s : ArrayState) (r : Rule s) (me i : ℕ) (at : get_elem? s.views me ≡ some (v ∷ [])) (word : i ≡ cell_at (cell_of v.own.place)) where
+  module _ (s : ArrayState) (r : Rule s) (me i : ℕ) (at : get_elem? s.views me ≡ some (v ∷ [])) (word : i ≡ cell_at (cell_of berths.cells v.own.place)) where
     ok : NodeOk about r.past v.view.node v
     ok = mine_ok cells berths good allows about s r me v at
 
-    pub near : v.own.place < length r.past.ends + CELLS
-    near = let few = r.may_open.nodes.few in let high = slice_get_within r.past.order v.own.place (own v.view) (asked_at r.past ok) in let all = window cells berths good allows about s r in omega arith
+    pub near : v.own.place < length r.past.ends + berths.cells
+    near = let few = r.shown.more in let high = slice_get_within r.past.order v.own.place (own v.view) (asked_at r.past ok) in let all = window cells berths good allows about s r in omega arith
 
     -- a request that is not at its turn is behind it, not withdrawn, and no cell comes round so far
     pub behind : v.own.place ≢ length r.past.ends → (length r.past.ends < v.own.place) × (r.past.marks v.own.place ≡ 0)
     behind later = let l = ok.stance.queued queued in (omega arith, ok.marks.unmarked (ap is_kept queued))
 
     -- what its cell says
-    pub found_is : slice_index s.words i ≡ cells_in s.words (cell_of v.own.place)
+    pub found_is : slice_index s.words i ≡ cells_in s.words (cell_of berths.cells v.own.place)
     found_is = ap (slice_index s.words) word
 
     module _ (may_take : MayTake berths) (here : v.own.place ≡ length r.past.ends) where
@@ -188,15 +188,15 @@ module _ (cells : Cells) (berths : Berths) (good : List ℕ → Type 0) (allows 
       pub low : 0 < v.view.node
       low = (mine_low cells berths good allows about s r me v at).0
 
-      take_shown : (z : ℕ) → cells (length r.past.ends) v.view.node false r.past.marks (put (cells_in s.words) (cell_of v.own.place) z) → Shown cells berths good allows about (take_past r.past) (set s.words i z) after
-      take_shown z said = cell_shown cells berths good allows about r.past s.words s.homes after i (cell_of v.own.place) z word (mod-lt v.own.place (omega arith)) r.shown act.2
+      take_shown : (z : ℕ) → cells (length r.past.ends) v.view.node false r.past.marks (put (cells_in s.words) (cell_of berths.cells v.own.place) z) → Shown cells berths good allows about (take_past r.past) (set s.words i z) after
+      take_shown z said = cell_shown cells berths good allows about r.past s.words s.homes after i (cell_of berths.cells v.own.place) z word (mod-lt v.own.place berths.some_cells) r.shown act.2
           v.view.node false r.past.ends r.past.clear r.past.marks r.past.passer said (λ e. absurd (held e)) (λ k few out. act.4 k few (out (λ e. held e)))
         where
           held : v.view.node ≡ 0 → ⊥
           held e = let l = low in omega arith
 
       -- the rule once the line has come, and the cell has become z
-      pub takes_rule : (z : ℕ) → cells (length r.past.ends) v.view.node false r.past.marks (put (cells_in s.words) (cell_of v.own.place) z) → Rule record { words = set s.words i z; homes = after; views = set s.views me (take_entry r.past ∷ []) }
+      pub takes_rule : (z : ℕ) → cells (length r.past.ends) v.view.node false r.past.marks (put (cells_in s.words) (cell_of berths.cells v.own.place) z) → Rule record { words = set s.words i z; homes = after; views = set s.views me (take_entry r.past ∷ []) }
       takes_rule z said = rule_step cells berths good allows about s r me v (take_entry r.past) (take_past r.past) (set s.words i z) after at refl take_fine (take_shown z said) (take_node r.past here ok)
           (λ n a b ne. others_hand about r.past n (r.who n) (r.each n a b) v.view.node false (λ e. let h = hand in omega arith) (λ e. ne (sym e)))
 
@@ -221,8 +221,8 @@ module _ (cells : Cells) (berths : Berths) (good : List ℕ → Type 0) (allows 
       learns_take = continues good allows about r.past (take_past r.past) take_fine v.view.node v.view.node v (take_entry r.past) ok (take_node r.past here ok) refl ok.knows.orders ok.knows.endings ok.knows.clears (λ q h. h) (λ q h. h) (λ q h. h)
 
       -- where the queue has what it must show
-      module _ (waits : ℕ → ℕ → Type 0) (change : ℕ → ℕ) (takes : Takes cells waits v.own.place v.view.node change) where
-        taken : (waits v.own.place (cells_in s.words (cell_of v.own.place)) → ⊥) × cells v.own.place v.view.node false r.past.marks (put (cells_in s.words) (cell_of v.own.place) (change (cells_in s.words (cell_of v.own.place))))
+      module _ (waits : ℕ → ℕ → Type 0) (change : ℕ → ℕ) (takes : Takes berths.cells cells waits v.own.place v.view.node change) where
+        taken : (waits v.own.place (cells_in s.words (cell_of berths.cells v.own.place)) → ⊥) × cells v.own.place v.view.node false r.past.marks (put (cells_in s.words) (cell_of berths.cells v.own.place) (change (cells_in s.words (cell_of berths.cells v.own.place))))
         taken = takes r.past.cleared r.past.marks (cells_in s.words) low (ok.marks.unmarked (ap is_kept queued))
             (subst (λ (z : ℕ × ℕ). cells z.0 z.1 r.past.cleared r.past.marks (cells_in s.words)) (λ j. (sym here j, hand j)) r.shown.said)
 
@@ -231,4 +231,4 @@ module _ (cells : Cells) (berths : Berths) (good : List ℕ → Type 0) (allows 
 
         pub taken_rule : Rule record { words = set s.words i (change (slice_index s.words i)); homes = after; views = set s.views me (take_entry r.past ∷ []) }
         taken_rule = takes_rule (change (slice_index s.words i))
-            (subst (λ (z : ℕ × ℕ). cells z.0 v.view.node false r.past.marks (put (cells_in s.words) (cell_of v.own.place) (change z.1))) (λ j. (here j, sym found_is j)) taken.1)
+            (subst (λ (z : ℕ × ℕ). cells z.0 v.view.node false r.past.marks (put (cells_in s.words) (cell_of berths.cells v.own.place) (change z.1))) (λ j. (here j, sym found_is j)) taken.1)

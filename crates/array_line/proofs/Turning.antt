@@ -1,11 +1,13 @@
 -- How a seat goes on, step by step.
 use Rattle.std.proofs.Common.{◌≡◌, ℕ, ◌+◌, List, [], ◌∷◌, sym, refl, ap, ◌∙◌, subst, arith}
+use Rattle.atomic_table.specs.Seated.{TableId}
+use Rattle.qolb_model.specs.declared.terms.Terms.{Terms}
 use Rattle.qolb_model.specs.Views.{Extends}
 use Rattle.qolb_model.specs.Sound.{Continues}
 use Rattle.qolb_model.proofs.Agreeing.{extends_trans}
 use Rattle.qolb_model.proofs.Going.{extends_self, continues_on}
 use Rattle.shared_line.specs.declared.rule.Parcel.{Parcel}
-use Rattle.array_line.specs.Steps.{Contents, Alone, sole, GoesOn, after_reset}
+use Rattle.array_line.specs.Steps.{ArraySeat, Contents, Alone, sole, GoesOn, Went, IsSeatOfNode, after_reset}
 use Rattle.array_line.specs.Array.{ArrayEntry}
 
 -- one counted step
@@ -45,3 +47,7 @@ goes_same allows a w same n = record {
 -- the step that clears the own word
 pub goes_reset : (allows : List ℕ → List ℕ → Type 0) (a b : Contents) → b ≡ (after_reset (sole a.0) ∷ [], a.1) → GoesOn allows a b 1
 goes_reset allows a b is = subst (λ m. GoesOn allows a m 1) (sym is) (goes_same allows a (after_reset (sole a.0)) refl refl)
+
+-- a seat stays that of its node
+pub seat_goes : {allows : List ℕ → List ℕ → Type 0} {table_id : TableId} {nodes node i : ℕ} (cells : ℕ → ℕ) (s t : ArraySeat) → Went allows s t i → IsSeatOfNode cells nodes table_id node s → IsSeatOfNode cells nodes table_id node t
+seat_goes cells s t went seat = ((went.same.0 ∙ seat.0.0, seat.0.1, seat.0.2), (seat.1.0 ∙ sym went.goes.extends.node, seat.1.1, seat.1.2, ap (λ (t : Terms). t.nodes) went.goes.extends.terms ∙ seat.1.3))

@@ -28,6 +28,7 @@ use Rattle.array_line.specs.declared.own.Point.TheVariants.{Passing, Freeing}
 use Rattle.shared_line.specs.declared.rule.Parcel.{Parcel}
 use Rattle.array_line.specs.Array.{ArrayEntry, At}
 use Rattle.array_line.specs.Steps.{ArraySeat, entry_of, after_walk, end_of, next_end, CarriesNext, Ended, GoesHome, Passes, Frees, GoesOn}
+use Rattle.array_line.specs.Words.{IsWithin}
 use Rattle.array_line.specs.Releases.{IsBare, WalksOn, AreNodesAt, FreesAll}
 use Rattle.array_line.proofs.Turning.{goes_trans}
 use Rattle.qolb_model.proofs.Requests.{has_prefix}
@@ -65,8 +66,8 @@ frees_none v p some = record {
     by (q ∷ ps) n = refl
 
 -- the node that is freed next
-pub frees_which : (v w : ArrayEntry) (nodes : List ℕ) (i node : ℕ) → FreesFirst v i w → length nodes ≡ length v.own.passed → AreNodesAt v.view.order v.own.passed nodes → At nodes i node
-    → (w.own.point ≡ Freeing) × (node ≤ MOST_NODES) × ((q : ℕ) × (ps : List ℕ) × (r : Request) × (w.own.passed ≡ q ∷ ps) × At w.view.order q r × (r.node ≡ node))
+pub frees_which : (v w : ArrayEntry) (nodes : List ℕ) (i node : ℕ) → FreesFirst v i w → length nodes ≡ length v.own.passed → AreNodesAt v.view v.own.passed nodes → At nodes i node
+    → (w.own.point ≡ Freeing) × IsWithin v.view.terms.nodes node × ((q : ℕ) × (ps : List ℕ) × (r : Request) × (w.own.passed ≡ q ∷ ps) × At w.view.order q r × (r.node ≡ node))
 frees_which v w nodes i node f many are is =
     let here = element_at v.own.passed i (omega (arith, many, slice_get_within nodes i node is)) in
     let cut : drop i v.own.passed ≡ here.0 ∷ drop (i + 1) v.own.passed = drop_with v.own.passed i here.0 here.1 in
@@ -74,7 +75,7 @@ frees_which v w nodes i node f many are is =
     (f.point ∙ ap after_walk cut, made.3, (here.0, drop (i + 1) v.own.passed, made.0, f.passed ∙ cut, subst (λ o. At o here.0 made.0) (sym f.order) made.1, made.2))
 
 -- and one more is freed
-pub frees_next : (v w x : ArrayEntry) (nodes : List ℕ) (i node : ℕ) → FreesFirst v i w → length nodes ≡ length v.own.passed → AreNodesAt v.view.order v.own.passed nodes → At nodes i node → Extends w.view x.view
+pub frees_next : (v w x : ArrayEntry) (nodes : List ℕ) (i node : ℕ) → FreesFirst v i w → length nodes ≡ length v.own.passed → AreNodesAt v.view v.own.passed nodes → At nodes i node → Extends w.view x.view
     → ((q : ℕ) (ps : List ℕ) (r : Request) → w.own.passed ≡ q ∷ ps → At w.view.order q r → Frees w ps r x) → FreesFirst v (i + 1) x
 frees_next v w x nodes i node f many are is more frees =
     let here = element_at v.own.passed i (omega (arith, many, slice_get_within nodes i node is)) in
@@ -142,11 +143,11 @@ pub record IsFreeing (allows : List ℕ → List ℕ → Type 0) (s : ArraySeat)
   pub within : i ≤ length (entry_of s).own.passed
   pub frees : FreesFirst (entry_of s) i (entry_of t)
 
-pub freeing_which : {allows : List ℕ → List ℕ → Type 0} (s t : ArraySeat) (nodes : List ℕ) (i : ℕ) → IsFreeing allows s i t → length nodes ≡ length (entry_of s).own.passed → AreNodesAt (entry_of s).view.order (entry_of s).own.passed nodes → i < length nodes
-    → ((entry_of t).own.point ≡ Freeing) × (get_or nodes i 0 ≤ MOST_NODES) × ((q : ℕ) × (ps : List ℕ) × (r : Request) × ((entry_of t).own.passed ≡ q ∷ ps) × At (entry_of t).view.order q r × (r.node ≡ get_or nodes i 0))
+pub freeing_which : {allows : List ℕ → List ℕ → Type 0} (s t : ArraySeat) (nodes : List ℕ) (i : ℕ) → IsFreeing allows s i t → length nodes ≡ length (entry_of s).own.passed → AreNodesAt (entry_of s).view (entry_of s).own.passed nodes → i < length nodes
+    → ((entry_of t).own.point ≡ Freeing) × IsWithin (entry_of s).view.terms.nodes (get_or nodes i 0) × ((q : ℕ) × (ps : List ℕ) × (r : Request) × ((entry_of t).own.passed ≡ q ∷ ps) × At (entry_of t).view.order q r × (r.node ≡ get_or nodes i 0))
 freeing_which s t nodes i f many are lt = frees_which (entry_of s) (entry_of t) nodes i (get_or nodes i 0) f.frees many are (slice_get-get_or nodes i 0 lt)
 
-pub freeing_next : (allows : List ℕ → List ℕ → Type 0) (s t u : ArraySeat) (nodes : List ℕ) (i : ℕ) → IsFreeing allows s i t → length nodes ≡ length (entry_of s).own.passed → AreNodesAt (entry_of s).view.order (entry_of s).own.passed nodes → i < length nodes
+pub freeing_next : (allows : List ℕ → List ℕ → Type 0) (s t u : ArraySeat) (nodes : List ℕ) (i : ℕ) → IsFreeing allows s i t → length nodes ≡ length (entry_of s).own.passed → AreNodesAt (entry_of s).view (entry_of s).own.passed nodes → i < length nodes
     → SameSeat t u → u.me.1 ≡ t.me.1 → GoesOn allows t.me u.me 1
     → ((q : ℕ) (ps : List ℕ) (r : Request) → (entry_of t).own.passed ≡ q ∷ ps → At (entry_of t).view.order q r → Frees (entry_of t) ps r (entry_of u)) → IsFreeing allows s (i + 1) u
 freeing_next allows s t u nodes i f many are lt same slot went frees = record {
@@ -167,7 +168,7 @@ pub record Walked (v : ArrayEntry) (nodes : List ℕ) (w : ArrayEntry) : Type 0 
   pub count : w.view.count ≡ v.view.count
   pub ends : w.view.ends ≡ v.view.ends ++ replicate (length nodes) Gone
   pub run : (i p : ℕ) → At w.own.passed i p → p ≡ length v.view.ends + i
-  pub made : AreNodesAt w.view.order w.own.passed nodes
+  pub made : AreNodesAt w.view w.own.passed nodes
   pub node : w.view.node ≡ v.view.node
   pub others : AreOfOthers v.view.node w.view.order w.own.passed
   pub few : length w.own.passed + 1 ≤ v.view.terms.nodes
@@ -282,6 +283,7 @@ walked_on v w x nodes found next by_node y low k s e more stays home passes =
     let before : length w.view.ends ≡ length v.view.ends + length nodes = ap length k.ends ∙ omega (arith, length-append v.view.ends (replicate (length nodes) Gone), length-replicate (length nodes) Gone) in
     let many : length x.view.ends ≡ length v.view.ends + (length nodes + 1) = ap length ends ∙ omega (arith, pushed, length-append v.view.ends (replicate (length (nodes ++ found ∷ [])) Gone), length-replicate (length (nodes ++ found ∷ [])) Gone) in
     let g = grows v w x nodes found next by_node y k s before many more home passes in
+    let size : x.view.terms.nodes ≡ w.view.terms.nodes = ap (λ (t : Terms). t.nodes) more.terms in
     record {
       terms = more.terms ∙ k.terms;
       state = stays ∙ k.state;
@@ -290,10 +292,10 @@ walked_on v w x nodes found next by_node y low k s e more stays home passes =
       run = g.run;
       made = record {
         each = λ j p n at is. elim (push_cases nodes found j n is) [
-          | inl old ↦ let one = k.made.each j p n (g.front j p (omega (arith, old.0, s.many)) at) old.1 in (one.0, prefix_get w.view.order x.view.order p one.0 more.order one.1, one.2, one.3)
+          | inl old ↦ let one = k.made.each j p n (g.front j p (omega (arith, old.0, s.many)) at) old.1 in (one.0, prefix_get w.view.order x.view.order p one.0 more.order one.1, one.2, (one.3.0, omega (arith, one.3.1, size)))
           | inr last ↦
               let place : length w.view.ends ≡ p = omega (arith, before, g.run j p at, last.0) in
-              (s.request, prefix_get w.view.order x.view.order p s.request more.order (subst (λ q. At w.view.order q s.request) place s.at), s.is_by ∙ sym last.1, omega (arith, last.1, s.is_by, s.high, ap (λ (t : Terms). t.nodes) k.terms, low))
+              (s.request, prefix_get w.view.order x.view.order p s.request more.order (subst (λ q. At w.view.order q s.request) place s.at), s.is_by ∙ sym last.1, (omega (arith, last.1, s.is_by, s.high, ap (λ (t : Terms). t.nodes) k.terms, low), omega (arith, last.1, s.is_by, s.high, size)))
         ];
       };
       node = more.node ∙ k.node;

@@ -18,7 +18,6 @@ use Rattle.qolb_model.specs.Views.{own}
 use Rattle.qolb_model.specs.Kept.{AreAllowed}
 use Rattle.qolb_model.specs.Opening.{MayOpen}
 use Rattle.qolb_model.specs.Entries.{AreMembers}
-use Rattle.qolb_model.specs.declared.terms.TheConstants.{MOST_NODES}
 use Rattle.array_line.specs.declared.own.Point.{Point}
 use Rattle.array_line.specs.declared.own.Point.TheVariants.{Idle, Queued, Holding, Passing, Cleared, Freeing, Rolled}
 use Rattle.shared_line.specs.declared.rule.Entry.{Entry}
@@ -202,11 +201,12 @@ module _ (good : List ℕ → Type 0) (allows : List ℕ → List ℕ → Type 0
 module _ (cells : Cells) (berths : Berths) (good : List ℕ → Type 0) (allows : List ℕ → List ℕ → Type 0) (about : Setup) where
   -- the words and the slots
   pub record Shown (x : Past) (words : List ℕ) (homes : Homes) : Type 0 where
-    pub wide : length words ≡ word_count
+    pub more : about.terms.nodes < berths.cells
+    pub wide : length words ≡ word_count berths.cells
     pub deep : length homes ≡ berths.count
     pub ticket : slice_index words ticket_at ≡ ticket_of (length x.order)
     pub said : cells (length x.ends) x.hand x.cleared x.marks (cells_in words)
-    pub flags : (n : ℕ) → 0 < n → n ≤ MOST_NODES → slice_index words (node_at n) ≡ x.flags n
+    pub flags : (n : ℕ) → 0 < n → n ≤ about.terms.nodes → slice_index words (node_at n) ≡ x.flags n
     pub home : x.hand ≡ 0 → (y : Parcel) × (get_elem? homes (berths.lies (length x.ends)) ≡ some (some y)) × (y.bytes.bytes ≡ bytes_after about.terms.opening.bytes x.ends) × (y.closed ≡ is_closed x.ends) × (y.turns_left ≡ turns_left about.terms.lease x.ends)
     pub spare : (k : ℕ) → k < berths.count → (x.hand ≢ 0 → berths.is_out (length x.ends) k → ⊥) → IsAtHome homes k
 

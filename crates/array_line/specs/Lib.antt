@@ -1,3 +1,4 @@
+pub mod Counting
 pub mod Words
 pub mod Berths
 pub mod Stances

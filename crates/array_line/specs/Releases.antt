@@ -10,10 +10,11 @@ use Rattle.qolb_model.specs.Leases.{turns_left}
 use Rattle.qolb_model.specs.Ends.{is_closed}
 use Rattle.qolb_model.specs.Views.{own, bytes_of}
 use Rattle.qolb_model.specs.LettingGo.{LetsGo, EndsTurn}
-use Rattle.qolb_model.specs.declared.terms.TheConstants.{MOST_NODES}
+use Rattle.qolb_model.specs.declared.view.View.{View}
 use Rattle.shared_line.specs.Steps.{own_end}
 use Rattle.array_line.specs.declared.own.Point.TheVariants.{Idle, Rolled}
 use Rattle.shared_line.specs.declared.rule.Parcel.{Parcel}
+use Rattle.array_line.specs.Words.{IsWithin}
 use Rattle.array_line.specs.Array.{ArrayEntry, At}
 
 -- how many word steps it takes to find out whether a node may ask, and to make it ready
@@ -50,8 +51,8 @@ pub record WalksOn (v w : ArrayEntry) : Type 0 where
   pub lets_go : LetsGo (length v.view.ends) v.view.state w.view
 
 -- each of these nodes, which are of a line's, made the request at the place that stands where the node does
-pub record AreNodesAt (order : List Request) (places nodes : List ℕ) : Type 0 where
-  pub each : (k p n : ℕ) → At places k p → At nodes k n → (r : Request) × At order p r × (r.node ≡ n) × (n ≤ MOST_NODES)
+pub record AreNodesAt (v : View) (places nodes : List ℕ) : Type 0 where
+  pub each : (k p n : ℕ) → At places k p → At nodes k n → (r : Request) × At v.order p r × (r.node ≡ n) × IsWithin v.terms.nodes n
 
 -- all requests that the node had passed are freed and clear, and so is its own, and nothing else has changed
 pub record FreesAll (v w : ArrayEntry) : Type 0 where

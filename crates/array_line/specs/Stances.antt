@@ -12,9 +12,9 @@ use Rattle.array_line.specs.Words.{cell_at, cell_of}
 use Rattle.array_line.specs.declared.own.Point.TheVariants.{Idle, Queued, Holding, Rolled}
 use Rattle.array_line.specs.declared.own.Own.{Own}
 
--- a node waits at the cell of its mark
-abbrev pub waits_at : ℕ → ℕ → ℕ
-waits_at node mark = cell_at (cell_of mark)
+-- a node waits at the cell of its mark, of as many as a line of so many nodes has
+abbrev pub waits_at : (ℕ → ℕ) → ℕ → ℕ → ℕ → ℕ
+waits_at cells nodes node mark = cell_at (cell_of (cells nodes) mark)
 
 -- a new node has no request
 abbrev pub fresh : Own
@@ -22,15 +22,15 @@ fresh = record { point = Idle; place = 0; passed = [] }
 
 -- A port keeps a mark of its last request, by the place of that in the order: its cell, say, or its ticket.
 module _ (mark_of : ℕ → ℕ) where
-  -- where a node is that does not hold, by its port's state and mark; no port is ever Left or Linking
-  abbrev pub rests : PortState → ℕ → Own → Type 0
-  rests shows.Idle mark own = own.point ≡ Idle
-  rests shows.Linking mark own = ⊥
-  rests shows.Queued mark own = (own.point ≡ Queued) × (mark ≡ mark_of own.place)
-  rests shows.Holding mark own = ⊥
-  rests shows.Left mark own = ⊥
-  rests shows.Rolled mark own = own.point ≡ Rolled
-  rests shows.Shut mark own = own.point ≡ Idle
+  -- where a node is that does not hold, by its port's state and mark, however many the line has; no port is ever Left or Linking
+  abbrev pub rests : ℕ → PortState → ℕ → Own → Type 0
+  rests nodes shows.Idle mark own = own.point ≡ Idle
+  rests nodes shows.Linking mark own = ⊥
+  rests nodes shows.Queued mark own = (own.point ≡ Queued) × (mark ≡ mark_of own.place)
+  rests nodes shows.Holding mark own = ⊥
+  rests nodes shows.Left mark own = ⊥
+  rests nodes shows.Rolled mark own = own.point ≡ Rolled
+  rests nodes shows.Shut mark own = own.point ≡ Idle
 
   -- the node has the line, has passed no request, and its mark is that of the place at its turn
   abbrev pub holding : ℕ → ℕ → Own → Type 0
@@ -41,12 +41,12 @@ module _ (mark_of : ℕ → ℕ) where
   refused mark view own y = holding mark (length view.ends) own
 
   -- and all that, with what slots a node has in hand
-  abbrev pub phases : (ℕ → Parcel → Slots → Type 0) → (ℕ → Option ℕ → Slots → Type 0) → (ℕ → Parcel → Slots → Type 0) → Phases Own
+  abbrev pub phases : (ℕ → ℕ → Parcel → Slots → Type 0) → (ℕ → ℕ → Option ℕ → Slots → Type 0) → (ℕ → ℕ → Parcel → Slots → Type 0) → Phases Own
   phases brings keeps lays = record { fresh = fresh; rests = rests; holding = holding; refused = refused; brings = brings; keeps = keeps; lays = lays }
 
   -- the word of the turn is the cell of the mark of the place at its turn
-  abbrev pub turn_word : View → ℕ
-  turn_word view = waits_at view.node (mark_of (length view.ends))
+  abbrev pub turn_word : (ℕ → ℕ) → View → ℕ
+  turn_word cells view = waits_at cells view.terms.nodes view.node (mark_of (length view.ends))
 
 -- no request is linked, and no line is left in a mailbox
 abbrev pub may_show : PortState → Type 0

@@ -49,13 +49,9 @@ entry_of seat = line.entry_of fresh seat
 abbrev pub IsAt : Point → ArraySeat → Type 0
 IsAt point seat = Alone seat.me × ((entry_of seat).own.point ≡ point)
 
--- the number of the seat's node
-abbrev pub IsOwnNode : ℕ → ArraySeat → Type 0
-IsOwnNode node seat = line.IsOwnNode fresh node seat
-
--- and the seat is of a line's table
-abbrev pub IsSeatOfNode : TableId → ℕ → ArraySeat → Type 0
-IsSeatOfNode table_id node seat = answers.IsSeatOfNode word_count table_id fresh node seat
+-- the seat is of the table of a line of so many nodes, which has so many cells for them, and the node is its own
+abbrev pub IsSeatOfNode : (ℕ → ℕ) → ℕ → TableId → ℕ → ArraySeat → Type 0
+IsSeatOfNode cells nodes table_id node seat = answers.IsSeatOfNode (λ n. word_count (cells n)) nodes table_id fresh node seat
 
 -- after so many word steps of its node the seat has one entry as before, which forgets nothing
 abbrev pub GoesOn : (List ℕ → List ℕ → Type 0) → Contents → Contents → ℕ → Type 0

@@ -1,19 +1,25 @@
--- Where the words of a table lie: the ticket, a word for each node, and the cells, each apart from the others.
-use Rattle.std.specs.Prelude.{◌≡◌, ◌≢◌, ℕ, ◌+◌, ◌*◌, ◌%◌, ◌^◌, ◌<◌, List, slice_index}
+-- Where the words of a table lie: the ticket, a word for each node, and the cells between those, each apart from the others. Where they lie
+-- does not depend on how many there are.
+use Rattle.std.specs.Prelude.{◌≡◌, ◌≢◌, ℕ, ◌+◌, ◌*◌, ◌%◌, ◌^◌, ◌<◌, ◌≤◌, List, slice_index}
 use Rattle.qolb_model.specs.declared.terms.TheConstants.{MOST_NODES}
-use Rattle.array_line.specs.declared.words.TheConstants.{CELLS, NODE_STRIDE, CELL_STRIDE}
+use Rattle.array_line.specs.declared.words.TheConstants.{STRIDE, BEHIND}
 
 abbrev pub ticket_at : ℕ
-ticket_at = NODE_STRIDE
+ticket_at = 0
 
 abbrev pub node_at : ℕ → ℕ
-node_at n = NODE_STRIDE + NODE_STRIDE * n
+node_at n = STRIDE * n
 
 abbrev pub cell_at : ℕ → ℕ
-cell_at c = node_at (MOST_NODES + 1) + c * CELL_STRIDE
+cell_at c = BEHIND + STRIDE * c
 
-abbrev pub word_count : ℕ
-word_count = cell_at CELLS
+-- how many words there are for so many cells, which are more than the nodes
+abbrev pub word_count : ℕ → ℕ
+word_count cells = STRIDE * cells
+
+-- the number of a node of so many, or 0
+abbrev pub IsWithin : ℕ → ℕ → Type 0
+IsWithin nodes n = (n ≤ MOST_NODES) × (n ≤ nodes)
 
 -- what each cell says
 abbrev pub cells_in : List ℕ → ℕ → ℕ
@@ -23,10 +29,10 @@ cells_in words c = slice_index words (cell_at c)
 abbrev pub ticket_of : ℕ → ℕ
 ticket_of place = place % 2 ^ 64
 
--- The cell of a ticket. A place has that of its ticket, since CELLS divides 2^64.
-abbrev pub cell_of : ℕ → ℕ
-cell_of ticket = ticket % CELLS
+-- The cell of a ticket, of so many. A place has that of its ticket where their number divides 2^64.
+abbrev pub cell_of : ℕ → ℕ → ℕ
+cell_of cells ticket = ticket % cells
 
 -- nobody has asked: the first cell says that it is granted, and all else is blank
-abbrev pub AreFirst : ℕ → List ℕ → Type 0
-AreFirst granted words = (slice_index words (cell_at 0) ≡ granted) × ((i : ℕ) → i < word_count → i ≢ cell_at 0 → slice_index words i ≡ 0)
+abbrev pub AreFirst : ℕ → ℕ → List ℕ → Type 0
+AreFirst cells granted words = (slice_index words (cell_at 0) ≡ granted) × ((i : ℕ) → i < word_count cells → i ≢ cell_at 0 → slice_index words i ≡ 0)

@@ -7,4 +7,4 @@ mod words;
 
 pub use own::{Own, Point};
 pub use plays::{Draw, Entries, Free, LoadNode, Reset};
-pub use words::{CELLS, TICKET, WORDS, cell_word, is_freed, node_word};
+pub use words::{CELLS, TICKET, WORDS, cell_count, cell_word, is_freed, node_word, word_count};

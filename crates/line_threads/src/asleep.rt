@@ -167,6 +167,8 @@ fn wait_asleep<R: Wait, K: Keep, L: Sleeping<K>>(rt: &R, line: &L, port: &mut L:
             Poll::Waiting => {
                 if !patience.pause() {
                     line.sleep(rt, port, Duration::MAX);
+                    // It may have been woken one turn ahead of its own: it looks anew for as long.
+                    patience = Patience::new();
                 }
             }
         }
@@ -240,6 +242,7 @@ fn wait_within<R: Wait + Clock, K: Keep, L: Sleeping<K>>(
                 };
                 if !patience.pause() {
                     line.sleep(rt, port, left);
+                    patience = Patience::new();
                 }
             }
         }

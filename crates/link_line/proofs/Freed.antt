@@ -3,7 +3,6 @@ use Rattle.std.proofs.Common.{◌≡◌, ◌≢◌, ℕ, zero, suc, ◌+◌, ◌
 use Rattle.std.proofs.lemmas.Option.{slice_get_within, slice_get-get_or}
 use Rattle.qolb_model.specs.declared.answer.PortState.{PortState}
 use Rattle.qolb_model.specs.declared.request.Request.{Request}
-use Rattle.qolb_model.specs.declared.terms.TheConstants.{MOST_NODES}
 use Rattle.qolb_model.specs.declared.view.View.{View}
 use Rattle.qolb_model.specs.Requests.{Has, Lacks}
 use Rattle.qolb_model.specs.Histories.{turn_of}
@@ -14,6 +13,7 @@ use Rattle.qolb_model.proofs.Requests.{has_prefix}
 use Rattle.link_core.specs.declared.point.Point.TheVariants.{Freeing}
 use Rattle.link_line.specs.Known.{Known}
 use Rattle.link_line.specs.Links.{At}
+use Rattle.link_line.specs.Words.{IsWithin}
 use Rattle.shared_line.specs.Steps.{SameSeat}
 use Rattle.link_line.specs.Steps.{LinkSeat, known_of, after_release, Frees, GoesOn}
 use Rattle.link_line.specs.Releases.{AreNodesAt, FreesAll}
@@ -58,8 +58,8 @@ frees_none v p some = record {
 }
 
 -- the node that is freed next
-pub frees_which : (v w : Known) (nodes : List ℕ) (i node : ℕ) → FreesFirst v i w → length nodes ≡ length v.own.passed → AreNodesAt v.view.order v.own.passed nodes → At nodes i node
-    → (w.own.seat.point ≡ Freeing) × (node ≤ MOST_NODES) × ((q : ℕ) × (ps : List ℕ) × (r : Request) × (w.own.passed ≡ q ∷ ps) × At w.view.order q r × (r.node ≡ node))
+pub frees_which : (v w : Known) (nodes : List ℕ) (i node : ℕ) → FreesFirst v i w → length nodes ≡ length v.own.passed → AreNodesAt v.view v.own.passed nodes → At nodes i node
+    → (w.own.seat.point ≡ Freeing) × IsWithin v.view.terms.nodes node × ((q : ℕ) × (ps : List ℕ) × (r : Request) × (w.own.passed ≡ q ∷ ps) × At w.view.order q r × (r.node ≡ node))
 frees_which v w nodes i node f many are is =
     let here = element_at v.own.passed i (omega (arith, many, slice_get_within nodes i node is)) in
     let cut : drop i v.own.passed ≡ here.0 ∷ drop (i + 1) v.own.passed = drop_with v.own.passed i here.0 here.1 in
@@ -71,7 +71,7 @@ short_stays : (v w : View) → w.order ≡ v.order → w.ends ≡ v.ends → w.j
 short_stays v w orders ends joined s = (s.0, (λ i. turn_of (orders i) (ends i)) ∙ s.1, subst (λ rs. Lacks rs s.0) (sym joined) s.2)
 
 -- and one more is freed
-pub frees_next : (v w x : Known) (nodes : List ℕ) (i node : ℕ) → FreesFirst v i w → length nodes ≡ length v.own.passed → AreNodesAt v.view.order v.own.passed nodes → At nodes i node → Extends w.view x.view
+pub frees_next : (v w x : Known) (nodes : List ℕ) (i node : ℕ) → FreesFirst v i w → length nodes ≡ length v.own.passed → AreNodesAt v.view v.own.passed nodes → At nodes i node → Extends w.view x.view
     → ((p : ℕ) (ps : List ℕ) (r : Request) → w.own.passed ≡ p ∷ ps → At w.view.order p r → Frees w p ps r x) → FreesFirst v (i + 1) x
 frees_next v w x nodes i node f many are is more frees =
     let here = element_at v.own.passed i (omega (arith, many, slice_get_within nodes i node is)) in
@@ -144,11 +144,11 @@ pub record IsFreeing (allows : List ℕ → List ℕ → Type 0) (s : LinkSeat) 
   pub within : i ≤ length (known_of s).own.passed
   pub frees : FreesFirst (known_of s) i (known_of t)
 
-pub freeing_which : {allows : List ℕ → List ℕ → Type 0} (s t : LinkSeat) (nodes : List ℕ) (i : ℕ) → IsFreeing allows s i t → length nodes ≡ length (known_of s).own.passed → AreNodesAt (known_of s).view.order (known_of s).own.passed nodes → i < length nodes
-    → ((known_of t).own.seat.point ≡ Freeing) × (get_or nodes i 0 ≤ MOST_NODES) × ((q : ℕ) × (ps : List ℕ) × (r : Request) × ((known_of t).own.passed ≡ q ∷ ps) × At (known_of t).view.order q r × (r.node ≡ get_or nodes i 0))
+pub freeing_which : {allows : List ℕ → List ℕ → Type 0} (s t : LinkSeat) (nodes : List ℕ) (i : ℕ) → IsFreeing allows s i t → length nodes ≡ length (known_of s).own.passed → AreNodesAt (known_of s).view (known_of s).own.passed nodes → i < length nodes
+    → ((known_of t).own.seat.point ≡ Freeing) × IsWithin (known_of s).view.terms.nodes (get_or nodes i 0) × ((q : ℕ) × (ps : List ℕ) × (r : Request) × ((known_of t).own.passed ≡ q ∷ ps) × At (known_of t).view.order q r × (r.node ≡ get_or nodes i 0))
 freeing_which s t nodes i f many are lt = frees_which (known_of s) (known_of t) nodes i (get_or nodes i 0) f.frees many are (slice_get-get_or nodes i 0 lt)
 
-pub freeing_next : (allows : List ℕ → List ℕ → Type 0) (s t u : LinkSeat) (nodes : List ℕ) (i : ℕ) → IsFreeing allows s i t → length nodes ≡ length (known_of s).own.passed → AreNodesAt (known_of s).view.order (known_of s).own.passed nodes → i < length nodes
+pub freeing_next : (allows : List ℕ → List ℕ → Type 0) (s t u : LinkSeat) (nodes : List ℕ) (i : ℕ) → IsFreeing allows s i t → length nodes ≡ length (known_of s).own.passed → AreNodesAt (known_of s).view (known_of s).own.passed nodes → i < length nodes
     → SameSeat t u → u.me.1 ≡ t.me.1 → GoesOn allows t.me u.me 1
     → ((p : ℕ) (ps : List ℕ) (r : Request) → (known_of t).own.passed ≡ p ∷ ps → At (known_of t).view.order p r → Frees (known_of t) p ps r (known_of u)) → IsFreeing allows s (i + 1) u
 freeing_next allows s t u nodes i f many are lt same slot went frees = record {

@@ -1,7 +1,6 @@
 -- What becomes of a line that is let go at an entry, by up to three steps: home, done, grant.
 use Rattle.std.proofs.Common.{ℕ, ◌≤◌, length, List, [], ◌∷◌, ◌++◌, refl, ap, ◌∙◌, subst, inr, arith}
 use Rattle.qolb_model.specs.declared.terms.Terms.{Terms}
-use Rattle.qolb_model.specs.declared.terms.TheConstants.{MOST_NODES}
 use Rattle.qolb_model.specs.PortStates.{left_by}
 use Rattle.qolb_model.specs.Ends.{is_closed}
 use Rattle.qolb_model.specs.Views.{own, Extends}
@@ -11,6 +10,7 @@ use Rattle.link_line.specs.Known.{Known}
 use Rattle.shared_line.specs.declared.rule.Parcel.{Parcel}
 use Rattle.link_line.specs.declared.release.Handed.TheVariants as handed
 use Rattle.link_line.specs.Links.{At}
+use Rattle.link_line.specs.Words.{IsWithin}
 use Rattle.shared_line.specs.Steps.{HasSlot, HasNoSlot}
 use Rattle.link_line.specs.Steps.{LinkSeat, known_of, GoesOn, Carries, IsOneLeft, Ended, GoesOut, IsLeft, Passes, end_of, after_release, left_in}
 use Rattle.link_line.specs.Releases.{HandsOn, with_line}
@@ -93,7 +93,7 @@ module _ (allows : List ℕ → List ℕ → Type 0) (s t u : LinkSeat) (y : Par
       inr (refl, one_left (known_of s) (known_of t) y (Marking at) c first.extends one),
     )
 
-    pub hands_passed : HasSlot w y → next ≤ MOST_NODES → Ended (known_of u) (known_of w) (known_of u).own.line → Passes (known_of u) (known_of w) next → HandsOn s y w 3 (handed.Passed next)
+    pub hands_passed : HasSlot w y → IsWithin (known_of w).view.terms.nodes next → Ended (known_of u) (known_of w) (known_of u).own.line → Passes (known_of u) (known_of w) next → HandsOn s y w 3 (handed.Passed next)
     hands_passed slot high ended passes = (
       slot,
       carried_ended (known_of s) (known_of u) (known_of w) y (Granting next) both ended,

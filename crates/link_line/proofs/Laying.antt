@@ -13,7 +13,7 @@ use Rattle.link_core.specs.declared.place.Place.TheVariants.{Home, Mailbox, Hand
 use Rattle.link_core.specs.State.{empty, entry, IsNode}
 use Rattle.link_line.specs.Known.{Known}
 use Rattle.shared_line.specs.declared.rule.Setup.{Setup}
-use Rattle.link_line.specs.Words.{home_at, entry_at, pack}
+use Rattle.link_line.specs.Words.{home_at, entry_at, word_count, pack}
 use Rattle.link_line.specs.Links.{Past, NodeOk, PastOk, Laid, InSlot, Homes}
 use Rattle.qolb_model.proofs.Updates.{put, put_here, put_else}
 use Rattle.link_line.specs.Laws.Nodes.{St, Rule}
@@ -22,7 +22,7 @@ use Rattle.link_line.proofs.Lists.{members_step}
 -- only the home word changes
 pub home_laid : (c d : Core) (words : List ℕ) (homes homes2 : Homes) (w : ℕ) → Laid c words homes → w ≡ d.home → d.nodes ≡ c.nodes → d.entries ≡ c.entries → length homes2 ≡ 1 → InSlot d homes2 d.place → Laid d (set words home_at w) homes2
 home_laid c d words homes homes2 w l e n f deep slot = record {
-  wide = length-set words home_at w ∙ l.wide;
+  wide = length-set words home_at w ∙ l.wide ∙ ap word_count (sym n);
   deep = deep;
   home = get_or-set_same words home_at w 0 (let k = l.wide in omega arith) ∙ e;
   entries = λ m a. get_or-set_other words home_at (entry_at m) w 0 (λ z. let p = a.0 in omega arith) ∙ l.entries m (a.0, subst (λ (q : ℕ). m ≤ q) n a.1) ∙ ap (λ (es : List Entry). pack (slice_index_or es m empty)) (sym f);
@@ -32,7 +32,7 @@ home_laid c d words homes homes2 w l e n f deep slot = record {
 -- only the entry word of k changes
 pub entry_laid : (c d : Core) (words : List ℕ) (homes homes2 : Homes) (k w : ℕ) (e : Entry) → Laid c words homes → IsNode c k → c.nodes ≤ MOST_NODES → k < length c.entries → w ≡ pack e → d.nodes ≡ c.nodes → d.home ≡ c.home → d.entries ≡ set c.entries k e → length homes2 ≡ 1 → InSlot d homes2 d.place → Laid d (set words (entry_at k) w) homes2
 entry_laid c d words homes homes2 k w e l node few inside is n h changed deep slot = record {
-  wide = length-set words (entry_at k) w ∙ l.wide;
+  wide = length-set words (entry_at k) w ∙ l.wide ∙ ap word_count (sym n);
   deep = deep;
   home = get_or-set_other words (entry_at k) home_at w 0 (λ z. let p = node.0 in omega arith) ∙ l.home ∙ sym h;
   entries = λ m a. dite (ℕ_discrete m k)
@@ -50,7 +50,7 @@ entry_laid c d words homes homes2 k w e l node few inside is n h changed deep sl
 -- a word is read
 pub same_laid : (c d : Core) (words : List ℕ) (homes homes2 : Homes) (k : ℕ) → Laid c words homes → IsNode c k → c.nodes ≤ MOST_NODES → d.nodes ≡ c.nodes → d.home ≡ c.home → d.entries ≡ c.entries → length homes2 ≡ 1 → InSlot d homes2 d.place → Laid d (set words (entry_at k) (slice_index words (entry_at k))) homes2
 same_laid c d words homes homes2 k l node few n h same deep slot = record {
-  wide = length-set words (entry_at k) _ ∙ l.wide;
+  wide = length-set words (entry_at k) _ ∙ l.wide ∙ ap word_count (sym n);
   deep = deep;
   home = get_or-set_other words (entry_at k) home_at _ 0 (λ z. let p = node.0 in omega arith) ∙ l.home ∙ sym h;
   entries = λ m a. dite (ℕ_discrete m k)

@@ -7,6 +7,7 @@ use lib.ListN.{get_elem?}
 use Rattle.atomic_table.specs.Table.{step, Act, keeps, gives, Valid, stepped, carried_after, Allows}
 use Rattle.atomic_table.proofs.Lists.{set_here}
 use Rattle.qolb_model.specs.declared.terms.TheConstants.{MOST_NODES}
+use Rattle.qolb_model.specs.declared.terms.Terms.{Terms}
 use Rattle.qolb_model.specs.declared.request.Request.{Request}
 use Rattle.qolb_model.specs.Queue.{Queue}
 use Rattle.link_core.specs.declared.point.Point.{Point}
@@ -69,6 +70,9 @@ module _ (good : List ℕ → Type 0) (allows : List ℕ → List ℕ → Type 0
     few : r.past.core.nodes ≤ MOST_NODES
     few = subst (λ (n : ℕ). n ≤ MOST_NODES) (sym r.fine.shown.matches.size) r.may_open.nodes.few
 
+    many : v.view.terms.nodes ≡ r.past.core.nodes
+    many = ap (λ (t : Terms). t.nodes) ok.who.terms ∙ sym r.fine.shown.matches.size
+
     marked_node : IsNode r.past.core e
     marked_node = subst (Names r.past.core) here ((found r.fine.shown).names n node)
 
@@ -120,7 +124,7 @@ module _ (good : List ℕ → Type 0) (allows : List ℕ → List ℕ → Type 0
               (λ _. (
                 refl,
                 subst (λ (q : Parcel × ℕ). Carries v w q.0 (Granting q.1)) (λ i. (line_is z y' has i, sym link_as i)) c,
-                let b = r.fine.shown.matches.settled.bounded e marked_node in let f = few in let l = link_as in omega arith,
+                let b = r.fine.shown.matches.settled.bounded e marked_node in let f = few in let l = link_as in let k = many in (omega arith, omega arith),
               )),
             )),
           ),

@@ -6,6 +6,7 @@ use native.Mathlib.Decide.{ℕ_discrete}
 use lib.ListN.{get_elem?}
 use Rattle.atomic_table.specs.Table.{step, Act, keeps, takes, Valid, stepped, carried_after, Allows}
 use Rattle.qolb_model.specs.declared.terms.TheConstants.{MOST_NODES}
+use Rattle.qolb_model.specs.declared.terms.Terms.{Terms}
 use Rattle.qolb_model.specs.declared.request.Request.{Request}
 use Rattle.qolb_model.specs.declared.end.End.{End}
 use Rattle.qolb_model.specs.Kept.{AreAllowed}
@@ -175,7 +176,7 @@ module _ (good : List ℕ → Type 0) (allows : List ℕ → List ℕ → Type 0
         (home_laid r.past.core y.core s.words s.homes s.homes n r.laid refl refl refl r.laid.deep (in_slot r.past.core y.core s.homes r.past.core.place refl refl refl r.laid.slot)) in
         let w : Known = whole y v (v.view.count + 1) v.view.joined [] v.own.line in
         let links : LinksTo r.past.core.home w = record {
-          stands = (own', (let z = subst (Names y.core) own' ((found step'.shows).names n node) in let f = few in let l = z.1 in omega arith));
+          stands = (own', (let z = subst (Names y.core) own' ((found step'.shows).names n node) in let f = few in let l = z.1 in let k = many in (omega arith, omega arith)));
           linking = record {
             state = ap (λ (p : Point). state_at p (seat y.core n).reason (seat y.core n).passed) own';
             waits = (length q.order, behind, asked_at k r.past.joined order);
@@ -198,6 +199,9 @@ module _ (good : List ℕ → Type 0) (allows : List ℕ → List ℕ → Type 0
       where
         few : r.past.core.nodes ≤ MOST_NODES
         few = subst (λ (n : ℕ). n ≤ MOST_NODES) (sym r.fine.shown.matches.size) r.may_open.nodes.few
+
+        many : v.view.terms.nodes ≡ r.past.core.nodes
+        many = ap (λ (t : Terms). t.nodes) ok.who.terms ∙ sym r.fine.shown.matches.size
 
         open' : (length q.ends ≡ length q.order → ⊥) → {a : ℕ} → a ≡ length q.ends → length q.ends ≤ length q.order → a < length q.order
         open' ne e l = dite (ℕ_discrete (length q.ends) (length q.order)) (λ z. absurd (ne z)) (λ z. omega arith)

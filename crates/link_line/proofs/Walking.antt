@@ -22,6 +22,7 @@ use Rattle.shared_line.specs.declared.rule.Parcel.{Parcel}
 use Rattle.link_line.specs.declared.release.Handed.{Handed}
 use Rattle.link_line.specs.declared.release.Handed.TheVariants as handed
 use Rattle.link_line.specs.Links.{At}
+use Rattle.link_line.specs.Words.{IsWithin}
 use Rattle.shared_line.specs.Steps.{SameSeat, HasSlot, HasNoSlot}
 use Rattle.link_line.specs.Steps.{LinkSeat, known_of, after_release, left_in, end_of, next_end, point_by, Ended, IsOneLeft, Passes, GoesOn}
 use Rattle.link_line.specs.Releases.{HandsOn, NamesTurn, with_line, WalksOn, AreNodesAt, FreesAll}
@@ -35,7 +36,7 @@ pub record Walked (v : Known) (nodes : List ℕ) (w : Known) : Type 0 where
   pub count : w.view.count ≡ v.view.count
   pub ends : w.view.ends ≡ v.view.ends ++ replicate (length nodes) Gone
   pub run : (i p : ℕ) → At w.own.passed i p → p ≡ length v.view.ends + i
-  pub made : AreNodesAt w.view.order w.own.passed nodes
+  pub made : AreNodesAt w.view w.own.passed nodes
   pub node : w.view.node ≡ v.view.node
   pub others : AreOfOthers v.view.node w.view.order w.own.passed
   pub few : length w.own.passed + 1 ≤ v.view.terms.nodes
@@ -47,7 +48,7 @@ pub record StandsAt (nodes : List ℕ) (node : ℕ) (w : Known) : Type 0 where
   pub request : Request
   pub at : At w.view.order (length w.view.ends) request
   pub made_by : request.node ≡ node
-  pub high : node ≤ MOST_NODES
+  pub high : IsWithin w.view.terms.nodes node
 
 -- the line is away
 pub record IsAway (nodes : List ℕ) (w : Known) : Type 0 where
@@ -122,6 +123,9 @@ module _ (v w x : Known) (nodes : List ℕ) (node : ℕ) (y : Parcel) (k : Walke
   before : length w.view.ends ≡ length v.view.ends + length nodes
   before = ap length k.ends ∙ omega (arith, length-append v.view.ends (replicate (length nodes) Gone), length-replicate (length nodes) Gone)
 
+  size : x.view.terms.nodes ≡ w.view.terms.nodes
+  size = ap (λ (t : Terms). t.nodes) more.terms
+
   walked_on : x.view.state ≡ v.view.state → Grows w x (length v.view.ends) v.view.terms.nodes → Walked v (nodes ++ node ∷ []) x
   walked_on stays g = record {
     terms = more.terms ∙ k.terms;
@@ -131,10 +135,10 @@ module _ (v w x : Known) (nodes : List ℕ) (node : ℕ) (y : Parcel) (k : Walke
     run = g.run;
     made = record {
       each = λ j p n at is. elim (push_cases nodes node j n is) [
-        | inl old ↦ let one = k.made.each j p n (g.front j p (omega (arith, old.0, s.many)) at) old.1 in (one.0, prefix_get w.view.order x.view.order p one.0 more.order one.1, one.2, one.3)
+        | inl old ↦ let one = k.made.each j p n (g.front j p (omega (arith, old.0, s.many)) at) old.1 in (one.0, prefix_get w.view.order x.view.order p one.0 more.order one.1, one.2, (one.3.0, omega (arith, one.3.1, size)))
         | inr last ↦
             let place : length w.view.ends ≡ p = omega (arith, before, g.run j p at, last.0) in
-            (s.request, prefix_get w.view.order x.view.order p s.request more.order (subst (λ q. At w.view.order q s.request) place s.at), s.made_by ∙ sym last.1, omega (arith, last.1, s.high))
+            (s.request, prefix_get w.view.order x.view.order p s.request more.order (subst (λ q. At w.view.order q s.request) place s.at), s.made_by ∙ sym last.1, (omega (arith, last.1, s.high.0), omega (arith, last.1, s.high.1, size)))
       ];
     };
     node = more.node ∙ k.node;

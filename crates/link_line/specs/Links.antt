@@ -180,7 +180,7 @@ InSlot c homes (Hand n) = Unit {0}
 
 -- the words and the slot
 pub record Laid (c : Core) (words : List ℕ) (homes : Homes) : Type 0 where
-  pub wide : length words ≡ word_count
+  pub wide : length words ≡ word_count c.nodes
   pub deep : length homes ≡ 1
   pub home : slice_index words home_at ≡ c.home
   pub entries : (n : ℕ) → IsNode c n → slice_index words (entry_at n) ≡ pack (entry c n)

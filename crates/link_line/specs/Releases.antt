@@ -3,6 +3,7 @@ use Rattle.std.specs.Prelude.{◌≡◌, ◌≢◌, ◌⊎◌, ℕ, suc, ◌+◌
 use Rattle.qolb_model.specs.declared.answer.PortState.{PortState}
 use Rattle.qolb_model.specs.declared.answer.PortState.TheVariants as shows
 use Rattle.qolb_model.specs.declared.request.Request.{Request}
+use Rattle.qolb_model.specs.declared.view.View.{View}
 use Rattle.qolb_model.specs.declared.end.End.TheVariants.{Gone}
 use Rattle.qolb_model.specs.declared.terms.TheConstants.{MOST_NODES}
 use Rattle.qolb_model.specs.Requests.{Has, Lacks, AreOfDifferentNodes}
@@ -19,6 +20,7 @@ use Rattle.link_line.specs.Stances.{steps_to_ask, turn_word}
 use Rattle.link_line.specs.declared.release.Handed.{Handed}
 use Rattle.link_line.specs.declared.release.Handed.TheVariants as handed
 use Rattle.link_line.specs.Links.{At}
+use Rattle.link_line.specs.Words.{IsWithin}
 use Rattle.link_line.specs.Steps.{LinkSeat, known_of, point_by, IsReady, IsOneLeft, Ended, GoesOut, IsLeft, Passes}
 
 -- no call has taken more word steps before its line is away
@@ -58,7 +60,7 @@ with_line v y = record v { own = record v.own { line = y } }
 abbrev pub HandsOn : LinkSeat → Parcel → LinkSeat → ℕ → Handed → Type 0
 HandsOn s y t steps handed.On = HasNoSlot t × Ended (known_of s) (known_of t) y × GoesOut (known_of s) (known_of t) y × ((steps ≡ 1) ⊎ ((steps ≡ 3) × IsOneLeft (known_of s)))
 HandsOn s y t steps handed.Left = HasNoSlot t × Ended (known_of s) (known_of t) y × IsLeft (known_of s) (known_of t) y × (steps ≡ 2) × IsOneLeft (known_of s)
-HandsOn s y t steps (handed.Passed next) = HasSlot t y × Ended (known_of s) (known_of t) y × Passes (with_line (known_of s) y) (known_of t) next × (steps ≡ 3) × (next ≤ MOST_NODES)
+HandsOn s y t steps (handed.Passed next) = HasSlot t y × Ended (known_of s) (known_of t) y × Passes (with_line (known_of s) y) (known_of t) next × (steps ≡ 3) × IsWithin (known_of t).view.terms.nodes next
 
 -- the release of the line y is over, and has left the port in this state
 pub record LetsLineGo (v : Known) (y : Parcel) (state : PortState) (w : Known) : Type 0 where
@@ -78,8 +80,8 @@ pub record WalksOn (v w : Known) : Type 0 where
   pub lets_go : LetsGo (length v.view.ends) v.view.state w.view
 
 -- each of these nodes, which are of a line's, made the request at the place that stands where the node does
-pub record AreNodesAt (order : List Request) (places nodes : List ℕ) : Type 0 where
-  pub each : (k p n : ℕ) → At places k p → At nodes k n → (r : Request) × At order p r × (r.node ≡ n) × (n ≤ MOST_NODES)
+pub record AreNodesAt (v : View) (places nodes : List ℕ) : Type 0 where
+  pub each : (k p n : ℕ) → At places k p → At nodes k n → (r : Request) × At v.order p r × (r.node ≡ n) × IsWithin v.terms.nodes n
 
 -- all requests that the node had passed are freed, and clear unless the line was left behind the last; its own is clear; and nothing else
 -- has changed

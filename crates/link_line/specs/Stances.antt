@@ -4,7 +4,6 @@ use Rattle.qolb_model.specs.declared.answer.PortState.{PortState}
 use Rattle.qolb_model.specs.declared.answer.PortState.TheVariants as shows
 use Rattle.qolb_model.specs.declared.answer.Enq.{Enq}
 use Rattle.qolb_model.specs.declared.answer.Enq.TheVariants as enq
-use Rattle.qolb_model.specs.declared.terms.TheConstants.{MOST_NODES}
 use Rattle.qolb_model.specs.declared.view.View.{View}
 use Rattle.qolb_model.specs.declared.request.Request.{Request}
 use Rattle.qolb_model.specs.Requests.{has}
@@ -16,21 +15,21 @@ use Rattle.shared_line.specs.Slots.{lies_alone, kept_alone}
 use Rattle.shared_line.specs.Phases.{Phases}
 use Rattle.link_line.specs.declared.own.LinkOwn.{LinkOwn}
 use Rattle.link_line.specs.Known.{no_line}
-use Rattle.link_line.specs.Words.{home_at, entry_at}
+use Rattle.link_line.specs.Words.{home_at, entry_at, IsWithin}
 
 -- a new node
 abbrev pub fresh : LinkOwn
 fresh = record { seat = unused; passed = []; line = no_line }
 
 -- where a node is whose port shows this state and does not hold; a linking one has the number of the node before for its mark
-abbrev pub rests : PortState → ℕ → LinkOwn → Type 0
-rests shows.Idle mark own = own.seat.point ≡ Idle
-rests shows.Linking mark own = (own.seat.point ≡ Linking mark) × (mark ≤ MOST_NODES)
-rests shows.Queued mark own = own.seat.point ≡ Queued
-rests shows.Holding mark own = ⊥
-rests shows.Left mark own = own.seat.point ≡ Left
-rests shows.Rolled mark own = own.seat.point ≡ Rolled
-rests shows.Shut mark own = own.seat.point ≡ Shut
+abbrev pub rests : ℕ → PortState → ℕ → LinkOwn → Type 0
+rests nodes shows.Idle mark own = own.seat.point ≡ Idle
+rests nodes shows.Linking mark own = (own.seat.point ≡ Linking mark) × IsWithin nodes mark
+rests nodes shows.Queued mark own = own.seat.point ≡ Queued
+rests nodes shows.Holding mark own = ⊥
+rests nodes shows.Left mark own = own.seat.point ≡ Left
+rests nodes shows.Rolled mark own = own.seat.point ≡ Rolled
+rests nodes shows.Shut mark own = own.seat.point ≡ Shut
 
 -- a node that holds the open line
 abbrev pub holding : ℕ → ℕ → LinkOwn → Type 0
@@ -42,11 +41,11 @@ refused mark view own y = (own.seat.point ≡ Leaving view.node) × (own.line �
 
 -- all that, and the one slot of all turns
 abbrev pub phases : Phases LinkOwn
-phases = record { fresh = fresh; rests = rests; holding = holding; refused = refused; brings = lies_alone; keeps = kept_alone; lays = lies_alone }
+phases = record { fresh = fresh; rests = rests; holding = holding; refused = refused; brings = λ _. lies_alone; keeps = λ _. kept_alone; lays = λ _. lies_alone }
 
 -- a node waits at its own entry, once it is linked to the one before
-abbrev pub waits_at : ℕ → ℕ → ℕ
-waits_at node mark = entry_at node
+abbrev pub waits_at : ℕ → ℕ → ℕ → ℕ
+waits_at nodes node mark = entry_at node
 
 -- so the word of a request is the entry of its node, or home where there is none that is known to be joined
 abbrev pub word_of : List Request → Option Request → ℕ

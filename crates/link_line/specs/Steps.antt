@@ -7,7 +7,6 @@ use Rattle.qolb_model.specs.declared.answer.PortState.TheVariants as shows
 use Rattle.qolb_model.specs.declared.request.Request.{Request}
 use Rattle.qolb_model.specs.declared.end.End.{End}
 use Rattle.qolb_model.specs.declared.end.End.TheVariants.{Gone}
-use Rattle.qolb_model.specs.declared.terms.TheConstants.{MOST_NODES}
 use Rattle.qolb_model.specs.Requests.{Has, Lacks, AreOfOthers}
 use Rattle.qolb_model.specs.PortStates.{left_by}
 use Rattle.qolb_model.specs.Leases.{is_last_turn, turns_left}
@@ -27,7 +26,7 @@ use Rattle.shared_line.specs.Steps as shared
 use Rattle.shared_line.specs.Steps.{write_of, own_end}
 use Rattle.link_line.specs.Known.{Known}
 use Rattle.link_line.specs.declared.own.LinkOwn.{LinkOwn}
-use Rattle.link_line.specs.Words.{home_at, entry_at, word_count, is_granted, is_rolled, is_done, is_freed, link_of}
+use Rattle.link_line.specs.Words.{home_at, entry_at, word_count, IsWithin, is_granted, is_rolled, is_done, is_freed, link_of}
 use Rattle.link_line.specs.Links.{At}
 use Rattle.link_line.specs.Stances.{fresh, rests, holding, refused, phases, turn_word}
 
@@ -48,15 +47,19 @@ Alone m = shared.Alone fresh m
 abbrev pub known_of : LinkSeat → Known
 known_of s = shared.entry_of fresh s
 
-abbrev pub IsSeatOf : TableId → LinkSeat → Type 0
-IsSeatOf table_id seat = shared.IsSeatOf word_count table_id seat
+abbrev pub IsSeatOf : ℕ → TableId → LinkSeat → Type 0
+IsSeatOf nodes table_id seat = shared.IsSeatOf (word_count nodes) table_id seat
 
-abbrev pub IsOwnNode : ℕ → LinkSeat → Type 0
-IsOwnNode node seat = shared.IsOwnNode fresh node seat
+abbrev pub IsOwnNode : ℕ → ℕ → LinkSeat → Type 0
+IsOwnNode nodes node seat = shared.IsOwnNode fresh nodes node seat
 
--- and the seat is of a line's table
-abbrev pub IsSeatOfNode : TableId → ℕ → LinkSeat → Type 0
-IsSeatOfNode table_id node seat = answers.IsSeatOfNode word_count table_id fresh node seat
+-- the seat's node knows that the line has so many
+abbrev pub IsSized : ℕ → LinkSeat → Type 0
+IsSized nodes seat = (known_of seat).view.terms.nodes ≡ nodes
+
+-- and the seat is of the table of a line of so many
+abbrev pub IsSeatOfNode : ℕ → TableId → ℕ → LinkSeat → Type 0
+IsSeatOfNode nodes table_id node seat = answers.IsSeatOfNode word_count nodes table_id fresh node seat
 
 abbrev pub GoesOn : (List ℕ → List ℕ → Type 0) → Contents → Contents → ℕ → Type 0
 GoesOn allows old new steps = shared.GoesOn allows fresh old new steps
@@ -239,7 +242,7 @@ module _ (allows : List ℕ → List ℕ → Type 0) where
   abbrev pub marked : Step Parcel → Contents → ℕ → Contents → Type 0
   marked st m n m' = GoesOn allows m m' 1 × ((y : Parcel) → m.1 ≡ (0, y) ∷ []
       → (link_of n ≡ 0 → (m'.1 ≡ []) × Ended (sole m.0) (sole m'.0) y × IsLeft (sole m.0) (sole m'.0) y)
-      × (link_of n ≢ 0 → (m'.1 ≡ m.1) × Carries (sole m.0) (sole m'.0) y (Granting (link_of n)) × (link_of n ≤ MOST_NODES)))
+      × (link_of n ≢ 0 → (m'.1 ≡ m.1) × Carries (sole m.0) (sole m'.0) y (Granting (link_of n)) × IsWithin (sole m'.0).view.terms.nodes (link_of n)))
 
   abbrev pub granted : Step Parcel → Contents → ℕ → Contents → Type 0
   granted st m n m' = GoesOn allows m m' 1 × ((y : Parcel) → m.1 ≡ (0, y) ∷ [] → Ended (sole m.0) (sole m'.0) y

@@ -1,17 +1,22 @@
 -- The words of the table: where they lie, and what an entry word says.
-use Rattle.std.specs.Prelude.{◌≡◌, ℕ, ◌+◌, ◌*◌, ◌/◌, ◌%◌, ◌<◌, ◌==◌, Bool, true, false, List, slice_index}
+use Rattle.std.specs.Prelude.{◌≡◌, ℕ, ◌+◌, ◌*◌, ◌/◌, ◌%◌, ◌<◌, ◌≤◌, ◌==◌, Bool, true, false, List, slice_index}
 use Rattle.qolb_model.specs.declared.terms.TheConstants.{MOST_NODES}
 use Rattle.link_core.specs.declared.entry.Entry.{Entry}
 use Rattle.link_line.specs.declared.words.TheConstants.{ENTRY_STRIDE, GRANTED, ROLLED, DONE, FREED, LINK}
 
 abbrev pub home_at : ℕ
-home_at = ENTRY_STRIDE
+home_at = 0
 
 abbrev pub entry_at : ℕ → ℕ
-entry_at n = ENTRY_STRIDE + ENTRY_STRIDE * n
+entry_at n = ENTRY_STRIDE * n
 
-abbrev pub word_count : ℕ
-word_count = entry_at (MOST_NODES + 1)
+-- how many words a list of so many nodes has: the home word, and an entry for each
+abbrev pub word_count : ℕ → ℕ
+word_count nodes = entry_at (nodes + 1)
+
+-- the number of a node of so many, or 0
+abbrev pub IsWithin : ℕ → ℕ → Type 0
+IsWithin nodes n = (n ≤ MOST_NODES) × (n ≤ nodes)
 
 abbrev pub one_if : Bool → ℕ
 one_if true = 1
@@ -42,5 +47,5 @@ abbrev pub link_of : ℕ → ℕ
 link_of w = w / LINK
 
 -- where nobody has asked each word is 0
-abbrev pub AreBlank : List ℕ → Type 0
-AreBlank words = (i : ℕ) → i < word_count → slice_index words i ≡ 0
+abbrev pub AreBlank : ℕ → List ℕ → Type 0
+AreBlank nodes words = (i : ℕ) → i < word_count nodes → slice_index words i ≡ 0

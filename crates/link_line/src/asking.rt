@@ -21,7 +21,7 @@ pub(crate) fn request<K: Keep>(
     node: u64,
     state: PortState,
 ) -> Requested
-    requires seat { IsSeatOfNode ground.now.table_id node seat.old }
+    requires seat { IsSeatOfNode ground.now.key.terms.nodes ground.now.table_id node seat.old }
     requires rests { (mark : ℕ) × Rests state mark seat.old }
     requires may_ask { IsTrue (states.may_ask state) }
     ensures went { Went K.allows seat.old seat.new result.steps }
@@ -63,7 +63,7 @@ pub(crate) fn renew<K: Keep>(
     node: u64,
     state: PortState,
 ) -> Option<u64>
-    requires seat { IsSeatOfNode ground.now.table_id node seat.old }
+    requires seat { IsSeatOfNode ground.now.key.terms.nodes ground.now.table_id node seat.old }
     requires alone { Alone seat.old.me }
     requires point { (known_of seat.old).own.seat.point ≡ rest_of state }
     requires may_ask { states.may_ask state ≡ true }

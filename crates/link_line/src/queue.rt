@@ -9,7 +9,7 @@ use crate::asking::request;
 use crate::release::release;
 use crate::rule::{Ground, LinkSeat, Links};
 use crate::steps::{link, load, roll};
-use crate::words::{WORDS, entry_word, is_granted};
+use crate::words::{entry_word, is_granted, word_count};
 use atomic_table::Closed;
 use qolb_model::{Keep, PortState};
 use shared_line::{
@@ -22,35 +22,55 @@ impl<K: Keep> Discipline<K> for Links {
 
     ghost are_first = { layout.AreBlank };
 
-    fn first_words(alloc: Global) -> Result<Vec<u64>, AllocError> {
-        vec![in alloc; 0u64; WORDS]
+    fn first_words(alloc: Global, nodes: u64) -> Result<Vec<u64>, AllocError> {
+        vec![in alloc; 0u64; word_count(nodes)]
     }
 
-    ghost slot_count = { 1 };
+    ghost slot_count = { λ _. 1 };
 
-    ghost last = { λ _. 0 };
+    ghost last = { λ _ _. 0 };
 
-    fn slot_count() -> usize {
+    fn slot_count(_nodes: u64) -> usize {
         1
     }
 
+    ghost size_for = { λ nodes. nodes };
+
     #[inline]
-    fn take(ground: &Ground<K>, seat: &mut LinkSeat, _mark: u64, parcel: &mut Parcel) {
+    fn size_for(nodes: u64) -> u64 {
+        nodes
+    }
+
+    #[inline]
+    fn take(ground: &Ground<K>, seat: &mut LinkSeat, _size: u64, _mark: u64, parcel: &mut Parcel) {
         take_alone(ground, seat, parcel);
     }
 
     #[inline]
-    fn put(ground: &Ground<K>, seat: &mut LinkSeat, _mark: u64, parcel: &Parcel, closed: bool) {
+    fn put(
+        ground: &Ground<K>,
+        seat: &mut LinkSeat,
+        _size: u64,
+        _mark: u64,
+        parcel: &Parcel,
+        closed: bool,
+    ) {
         put_alone(ground, seat, parcel, closed);
     }
 
-    fn unlay(closed: Closed<Parcel, Global>) -> Parcel {
+    fn unlay(closed: Closed<Parcel, Global>, _nodes: u64) -> Parcel {
         unlay_alone(closed)
     }
 
     /// Makes a request, and links it to the one before.
     #[inline]
-    fn ask(ground: &Ground<K>, seat: &mut LinkSeat, node: u64, state: PortState) -> Requested {
+    fn ask(
+        ground: &Ground<K>,
+        seat: &mut LinkSeat,
+        _size: u64,
+        node: u64,
+        state: PortState,
+    ) -> Requested {
         let made = request(ground, seat, node, state);
         if made.answer != Asked::Behind {
             return made;
@@ -64,12 +84,12 @@ impl<K: Keep> Discipline<K> for Links {
     }
 
     #[inline]
-    fn look(ground: &Ground<K>, seat: &mut LinkSeat, node: u64, _mark: u64) -> bool {
+    fn look(ground: &Ground<K>, seat: &mut LinkSeat, _size: u64, node: u64, _mark: u64) -> bool {
         load(ground, seat, node)
     }
 
     #[inline]
-    fn roll(ground: &Ground<K>, seat: &mut LinkSeat, node: u64, _mark: u64) -> bool {
+    fn roll(ground: &Ground<K>, seat: &mut LinkSeat, _size: u64, node: u64, _mark: u64) -> bool {
         roll(ground, seat, node)
     }
 
@@ -77,6 +97,7 @@ impl<K: Keep> Discipline<K> for Links {
     fn release(
         ground: &Ground<K>,
         seat: &mut LinkSeat,
+        _size: u64,
         node: u64,
         _mark: u64,
         closed: bool,
@@ -85,7 +106,7 @@ impl<K: Keep> Discipline<K> for Links {
     }
 
     #[inline]
-    fn awaited(node: u64, _mark: u64) -> usize {
+    fn awaited(_ground: &Ground<K>, _size: u64, node: u64, _mark: u64) -> usize {
         entry_word(node)
     }
 

@@ -1,7 +1,6 @@
 //! The steps on words. Each is one operation on one word, and counts itself in what its play tells.
 ghost use Rattle.std.specs.Prelude.{◌≡◌, ◌≢◌, ◌⊎◌, ℕ, ◌≤◌, ◌∷◌, [], List, true, false};
 ghost use Rattle.qolb_model.specs.declared.request.Request.{Request};
-ghost use Rattle.qolb_model.specs.declared.terms.TheConstants.{MOST_NODES};
 ghost use Rattle.qolb_model.specs.Asking.{Asks, IsJoined};
 ghost use Rattle.qolb_model.specs.Linking.{Links};
 ghost use Rattle.link_core.specs.declared.point.Point.TheVariants.{Idle, Ready, Linking, Queued, Marking, Granting, Freeing, Left, Rolled, Shut};
@@ -22,7 +21,7 @@ use qolb_model::Keep;
 
 /// Clears the own entry, for a new request.
 pub(crate) fn reset<K: Keep>(ground: &Ground<K>, seat: &mut LinkSeat, node: u64)
-    requires seat { IsSeatOfNode ground.now.table_id node seat.old }
+    requires seat { IsSeatOfNode ground.now.key.terms.nodes ground.now.table_id node seat.old }
     requires ready { IsAt Idle seat.old ⊎ IsAt Shut seat.old }
     ensures slot { seat.new.me.1 ≡ seat.old.me.1 }
     ensures went { Went K.allows seat.old seat.new 1 }
@@ -36,7 +35,7 @@ pub(crate) fn reset<K: Keep>(ground: &Ground<K>, seat: &mut LinkSeat, node: u64)
 /// This swap is where a request takes effect (its linearization point): it puts the request into the order. The link is made later, and
 /// changes no order.
 pub(crate) fn prepend<K: Keep>(ground: &Ground<K>, seat: &mut LinkSeat, node: u64) -> u64
-    requires seat { IsSeatOfNode ground.now.table_id node seat.old }
+    requires seat { IsSeatOfNode ground.now.key.terms.nodes ground.now.table_id node seat.old }
     requires ready { IsAt Ready seat.old }
     requires slot { HasNoSlot seat.old }
     ensures went { Went K.allows seat.old seat.new 1 }
@@ -50,10 +49,10 @@ pub(crate) fn prepend<K: Keep>(ground: &Ground<K>, seat: &mut LinkSeat, node: u6
 
 /// Links the own request to that of the node before: whether the line has come.
 pub(crate) fn link<K: Keep>(ground: &Ground<K>, seat: &mut LinkSeat, node: u64, older: u64) -> bool
-    requires seat { IsSeatOfNode ground.now.table_id node seat.old }
+    requires seat { IsSeatOfNode ground.now.key.terms.nodes ground.now.table_id node seat.old }
     requires ready { IsAt (Linking older) seat.old }
     requires slot { HasNoSlot seat.old }
-    requires high { older ≤ MOST_NODES }
+    requires high { layout.IsWithin ground.now.key.terms.nodes older }
     ensures went { Went K.allows seat.old seat.new 1 }
     ensures links { Links (known_of seat.old).view (known_of seat.new).view }
     ensures waits { result ≡ false → HasNoSlot seat.new × IsEarly (known_of seat.new) }
@@ -64,7 +63,7 @@ pub(crate) fn link<K: Keep>(ground: &Ground<K>, seat: &mut LinkSeat, node: u64, 
 
 /// Loads the own entry: whether it is granted, so that the line has come.
 pub(crate) fn load<K: Keep>(ground: &Ground<K>, seat: &mut LinkSeat, node: u64) -> bool
-    requires seat { IsSeatOfNode ground.now.table_id node seat.old }
+    requires seat { IsSeatOfNode ground.now.key.terms.nodes ground.now.table_id node seat.old }
     requires ready { IsAt Queued seat.old }
     requires slot { HasNoSlot seat.old }
     ensures went { Went K.allows seat.old seat.new 1 }
@@ -77,7 +76,7 @@ pub(crate) fn load<K: Keep>(ground: &Ground<K>, seat: &mut LinkSeat, node: u64) 
 
 /// Withdraws the request, unless its entry is granted: whether it is.
 pub(crate) fn roll<K: Keep>(ground: &Ground<K>, seat: &mut LinkSeat, node: u64) -> bool
-    requires seat { IsSeatOfNode ground.now.table_id node seat.old }
+    requires seat { IsSeatOfNode ground.now.key.terms.nodes ground.now.table_id node seat.old }
     requires ready { IsAt Queued seat.old }
     requires slot { HasNoSlot seat.old }
     ensures went { Went K.allows seat.old seat.new 1 }
@@ -90,7 +89,7 @@ pub(crate) fn roll<K: Keep>(ground: &Ground<K>, seat: &mut LinkSeat, node: u64) 
 
 /// Loads the own entry after the line was left in it: whether a late linker has linked, so that the last request is clear.
 pub(crate) fn look_left<K: Keep>(ground: &Ground<K>, seat: &mut LinkSeat, node: u64) -> bool
-    requires seat { IsSeatOfNode ground.now.table_id node seat.old }
+    requires seat { IsSeatOfNode ground.now.key.terms.nodes ground.now.table_id node seat.old }
     requires ready { IsAt Left seat.old }
     ensures slot { seat.new.me.1 ≡ seat.old.me.1 }
     ensures went { Went K.allows seat.old seat.new 1 }
@@ -102,7 +101,7 @@ pub(crate) fn look_left<K: Keep>(ground: &Ground<K>, seat: &mut LinkSeat, node: 
 /// Loads the own entry after the request was withdrawn: whether it is clear. It is freed then, and the line is not left in it: where the
 /// release that passed this node ended here, a late linker still comes to this entry for the line.
 pub(crate) fn look_rolled<K: Keep>(ground: &Ground<K>, seat: &mut LinkSeat, node: u64) -> bool
-    requires seat { IsSeatOfNode ground.now.table_id node seat.old }
+    requires seat { IsSeatOfNode ground.now.key.terms.nodes ground.now.table_id node seat.old }
     requires ready { IsAt Rolled seat.old }
     ensures slot { seat.new.me.1 ≡ seat.old.me.1 }
     ensures went { Went K.allows seat.old seat.new 1 }
@@ -117,7 +116,7 @@ pub(crate) fn look_rolled<K: Keep>(ground: &Ground<K>, seat: &mut LinkSeat, node
 ///
 /// An exchange, since one who asks at the same time must find either the line at home or somebody to link to, and never neither.
 pub(crate) fn home<K: Keep>(ground: &Ground<K>, seat: &mut LinkSeat, at: u64) -> bool
-    requires table { IsSeatOf ground.now.table_id seat.old }
+    requires table { IsSeatOf ground.now.key.terms.nodes ground.now.table_id seat.old }
     requires alone { Alone seat.old.me }
     requires parcel { (y : Parcel) × HasSlot seat.old y × MayLetGo K.allows (known_of seat.old) y at }
     ensures went { Went K.allows seat.old seat.new 1 }
@@ -134,23 +133,29 @@ pub(crate) fn home<K: Keep>(ground: &Ground<K>, seat: &mut LinkSeat, at: u64) ->
 /// One addition both marks the entry and reads it, as `link` does on the other side: of the two the later one finds the other's mark, and it
 /// alone has the line.
 pub(crate) fn done<K: Keep>(ground: &Ground<K>, seat: &mut LinkSeat, at: u64) -> u64
-    requires table { IsSeatOf ground.now.table_id seat.old }
+    requires table { IsSeatOf ground.now.key.terms.nodes ground.now.table_id seat.old }
     requires ready { IsAt (Marking at) seat.old }
-    requires high { at ≤ MOST_NODES }
+    requires high { layout.IsWithin ground.now.key.terms.nodes at }
     requires parcel { HasSlot seat.old (known_of seat.old).own.line }
     ensures went { Went K.allows seat.old seat.new 1 }
     ensures left { result ≡ 0 → HasNoSlot seat.new × Ended (known_of seat.old) (known_of seat.new) (known_of seat.old).own.line × IsLeft (known_of seat.old) (known_of seat.new) (known_of seat.old).own.line }
     ensures names { result ≡ 0 → turn_word (known_of seat.new).view ≡ layout.home_at }
-    ensures on { result ≢ 0 → (seat.new.me.1 ≡ seat.old.me.1) × (result ≤ MOST_NODES) × Carries (known_of seat.old) (known_of seat.new) (known_of seat.old).own.line (Granting result) }
+    ensures on { result ≢ 0 → (seat.new.me.1 ≡ seat.old.me.1) × layout.IsWithin (known_of seat.new).view.terms.nodes result × Carries (known_of seat.old) (known_of seat.new) (known_of seat.old).own.line (Granting result) }
 {
     link_of(ground.fetch_add::<Done<K>>(seat, entry_word(at), DONE))
 }
 
-/// Grants the entry of the next node: whether its request is withdrawn, so that it is passed.
-pub(crate) fn grant<K: Keep>(ground: &Ground<K>, seat: &mut LinkSeat, next: u64) -> bool
-    requires table { IsSeatOf ground.now.table_id seat.old }
+/// Grants the entry of the next node: whether its request is withdrawn, so that it is passed. `behind` is then the node that is linked to
+/// that entry, or 0.
+pub(crate) fn grant<K: Keep>(
+    ground: &Ground<K>,
+    seat: &mut LinkSeat,
+    behind: &mut u64,
+    next: u64,
+) -> bool
+    requires table { IsSeatOf ground.now.key.terms.nodes ground.now.table_id seat.old }
     requires ready { IsAt (Granting next) seat.old }
-    requires high { next ≤ MOST_NODES }
+    requires high { layout.IsWithin ground.now.key.terms.nodes next }
     requires parcel { HasSlot seat.old (known_of seat.old).own.line }
     ensures went { Went K.allows seat.old seat.new 1 }
     ensures ended { Ended (known_of seat.old) (known_of seat.new) (known_of seat.old).own.line }
@@ -158,14 +163,16 @@ pub(crate) fn grant<K: Keep>(ground: &Ground<K>, seat: &mut LinkSeat, next: u64)
     ensures names { result ≡ false → turn_word (known_of seat.new).view ≡ layout.entry_at next }
     ensures passes { result ≡ true → (seat.new.me.1 ≡ seat.old.me.1) × Passes (known_of seat.old) (known_of seat.new) next }
 {
-    is_rolled(ground.fetch_add::<Grant<K>>(seat, entry_word(next), GRANTED))
+    let found = ground.fetch_add::<Grant<K>>(seat, entry_word(next), GRANTED);
+    *behind = link_of(found);
+    is_rolled(found)
 }
 
 /// Frees the node of the first request that was passed and is not freed yet.
 pub(crate) fn free<K: Keep>(ground: &Ground<K>, seat: &mut LinkSeat, node: u64)
-    requires table { IsSeatOf ground.now.table_id seat.old }
+    requires table { IsSeatOf ground.now.key.terms.nodes ground.now.table_id seat.old }
     requires ready { IsAt Freeing seat.old }
-    requires high { node ≤ MOST_NODES }
+    requires high { layout.IsWithin ground.now.key.terms.nodes node }
     requires next { (p : ℕ) × (ps : List ℕ) × (r : Request) × ((known_of seat.old).own.passed ≡ p ∷ ps) × At (known_of seat.old).view.order p r × (r.node ≡ node) }
     ensures slot { seat.new.me.1 ≡ seat.old.me.1 }
     ensures went { Went K.allows seat.old seat.new 1 }

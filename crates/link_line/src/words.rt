@@ -3,8 +3,6 @@ ghost use Rattle.std.specs.Prelude.{◌≡◌, ◌≢◌, ◌≤◌};
 ghost use Rattle.qolb_model.specs.declared.terms.TheConstants.{MOST_NODES};
 ghost use Rattle.link_line.specs.Words as layout;
 
-use qolb_model::MOST_NODES;
-
 /// How many words lie between the entries of two nodes.
 pub(crate) const ENTRY_STRIDE: usize = 16;
 
@@ -23,11 +21,16 @@ pub(crate) const FREED: u64 = 8;
 /// What a link adds to an entry for each unit of its node's number. The flags are below it.
 pub(crate) const LINK: u64 = 256;
 
-/// The home word, behind a gap.
-pub(crate) const HOME: usize = ENTRY_STRIDE;
+/// The home word. The entries are behind it.
+pub(crate) const HOME: usize = 0;
 
-/// All words.
-pub(crate) const WORDS: usize = ENTRY_STRIDE + ENTRY_STRIDE * (MOST_NODES as usize + 1);
+/// How many words there are, for so many nodes.
+pub(crate) fn word_count(nodes: u64) -> usize
+    requires { nodes ≤ MOST_NODES }
+    ensures { result ≡ layout.word_count nodes }
+{
+    ENTRY_STRIDE * (nodes as usize + 1)
+}
 
 /// The entry word of a node.
 #[inline]
@@ -35,7 +38,13 @@ pub(crate) fn entry_word(node: u64) -> usize
     requires { node ≤ MOST_NODES }
     ensures { result ≡ layout.entry_at node }
 {
-    ENTRY_STRIDE + ENTRY_STRIDE * node as usize
+    ENTRY_STRIDE * node as usize
+}
+
+/// The entry word of a linked node, however large its number. That of 0 is the home word, at which nobody waits.
+#[inline]
+pub(crate) fn linked_word(node: u64) -> usize {
+    ENTRY_STRIDE.wrapping_mul(node as usize)
 }
 
 /// Whether the request of an entry has been granted.

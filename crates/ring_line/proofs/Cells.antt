@@ -5,7 +5,7 @@ use native.Mathlib.Decide.{ℕ_discrete, dec_le}
 use Rattle.atomic_table.proofs.Lists.{one_turn}
 use Rattle.qolb_model.proofs.Updates.{put, put_here, put_else}
 use Rattle.array_line.specs.declared.words.TheConstants.{CELLS}
-use Rattle.array_line.specs.Words.{cell_of}
+use Rattle.ring_line.specs.Words.{cell_of}
 use Rattle.array_line.proofs.Taking.{Takes, StaysBehind, cells_apart}
 use Rattle.array_line.proofs.Roll.{Withdraws}
 use Rattle.array_line.proofs.Grant.{GrantsNext}
@@ -14,17 +14,17 @@ use Rattle.ring_line.specs.Ring.{RingCells}
 use Rattle.ring_line.specs.Steps.{is_blank, is_granted, seen, withdrawn_by}
 
 -- a granted cell says 1, by which nobody waits, and whoever takes the line may leave it as he likes
-pub takes_by : (waits : ℕ → ℕ → Type 0) (place n : ℕ) (change : ℕ → ℕ) → (waits place 1 → ⊥) → Takes RingCells waits place n change
+pub takes_by : (waits : ℕ → ℕ → Type 0) (place n : ℕ) (change : ℕ → ℕ) → (waits place 1 → ⊥) → Takes CELLS RingCells waits place n change
 takes_by waits place n change granted cleared marks says low free c = (
   (λ w. granted (subst (waits place) (c.granted refl) w)),
   record {
     blank = λ e. absurd (cc e);
     granted = λ e. absurd (omega arith);
-    later = λ k a b. put_else says (cell_of place) (change (says (cell_of place))) (cell_of (place + k)) (cells_apart place k a b) ∙ c.later k a b;
+    later = λ k a b. put_else says (cell_of place) (change (says (cell_of place))) (cell_of (place + k)) (cells_apart CELLS place k a b) ∙ c.later k a b;
   },
 )
 
-pub takes : (place n : ℕ) (change : ℕ → ℕ) → Takes RingCells is_blank place n change
+pub takes : (place n : ℕ) (change : ℕ → ℕ) → Takes CELLS RingCells is_blank place n change
 takes place n change = takes_by is_blank place n change (λ z. absurd (omega arith))
 
 -- behind the turn a cell with no mark is blank
@@ -32,10 +32,10 @@ blank_behind : (ended hand place : ℕ) (cleared : Bool) (marks says : ℕ → �
 blank_behind ended hand place cleared marks says below near free c = let k : ended + (place - ended) ≡ place = omega arith in
     ap (λ q. says (cell_of q)) (sym k) ∙ c.later (place - ended) (omega arith) (omega arith) ∙ ap (λ q. WITHDRAWN * marks q) k ∙ ap (λ m. WITHDRAWN * m) free
 
-pub stays_by : (comes : ℕ → ℕ → Type 0) (place : ℕ) → (comes place 0 → ⊥) → StaysBehind RingCells comes place
+pub stays_by : (comes : ℕ → ℕ → Type 0) (place : ℕ) → (comes place 0 → ⊥) → StaysBehind CELLS RingCells comes place
 stays_by comes place blank ended hand cleared marks says below near free c some = blank (subst (comes place) (blank_behind ended hand place cleared marks says below near free c) some)
 
-pub stays : (place : ℕ) → StaysBehind RingCells is_granted place
+pub stays : (place : ℕ) → StaysBehind CELLS RingCells is_granted place
 stays place = stays_by is_granted place (λ some. some refl)
 
 -- what a word becomes to which a number is added
@@ -43,7 +43,7 @@ abbrev pub added : ℕ → ℕ → ℕ
 added word d = (word + d) % 2 ^ 64
 
 -- a number is added to a blank cell
-pub withdraws : (place n d : ℕ) → d ≡ WITHDRAWN * n → Withdraws RingCells place n (λ w. added w d)
+pub withdraws : (place n d : ℕ) → d ≡ WITHDRAWN * n → Withdraws CELLS RingCells place n (λ w. added w d)
 withdraws place n d add ended hand cleared marks says low high below near free c = record {
   blank = λ e. put_else says (cell_of place) (added (says (cell_of place)) d) (cell_of ended) (apart ended (omega arith) (omega arith) (λ z. omega arith)) ∙ c.blank e;
   granted = λ e. put_else says (cell_of place) (added (says (cell_of place)) d) (cell_of ended) (apart ended (omega arith) (omega arith) (λ z. omega arith)) ∙ c.granted e;
@@ -59,7 +59,7 @@ withdraws place n d add ended hand cleared marks says low high below near free c
     sum = let blank = blank_behind ended hand place cleared marks says below near free c in omega arith
 
 -- once the cell at its turn is cleared, the next one is granted
-pub grants : (ended : ℕ) → GrantsNext RingCells seen withdrawn_by ended true (λ w. added w 1)
+pub grants : (ended : ℕ) → GrantsNext CELLS RingCells seen withdrawn_by ended true (λ w. added w 1)
 grants ended hand marks says far c = (
   (λ free. (
     (let f = found in omega arith),
@@ -90,4 +90,4 @@ grants ended hand marks says far c = (
     old k a b (no ne) = let n : ended + (k + 1) ≡ ended + 1 + k = omega arith in subst (λ q. says (cell_of q) ≡ WITHDRAWN * marks q) n (c.later (k + 1) (omega arith) (omega arith))
 
     later_cells : (k : ℕ) → 0 < k → k < CELLS → put says (cell_of (ended + 1)) (added (says (cell_of (ended + 1))) 1) (cell_of (ended + 1 + k)) ≡ WITHDRAWN * marks (ended + 1 + k)
-    later_cells k a b = put_else says (cell_of (ended + 1)) (added (says (cell_of (ended + 1))) 1) (cell_of (ended + 1 + k)) (cells_apart (ended + 1) k a b) ∙ old k a b (ℕ_discrete (k + 1) CELLS)
+    later_cells k a b = put_else says (cell_of (ended + 1)) (added (says (cell_of (ended + 1))) 1) (cell_of (ended + 1 + k)) (cells_apart CELLS (ended + 1) k a b) ∙ old k a b (ℕ_discrete (k + 1) CELLS)

@@ -5,7 +5,8 @@ use lib.ListN.{get_elem?}
 use Rattle.atomic_table.specs.Table.{step, keeps, Allows}
 use Rattle.array_line.specs.declared.own.Point.TheVariants.{Idle, Holding, Passing, Rolled}
 use Rattle.shared_line.specs.declared.rule.Setup.{Setup}
-use Rattle.array_line.specs.Words.{cell_at, cells_in, cell_of}
+use Rattle.array_line.specs.Words.{cell_at, cells_in}
+use Rattle.ring_line.specs.Words.{cell_of}
 use Rattle.array_line.specs.Array.{ArrayEntry, Past, Walks, NodeOk, Shown, has_line, is_kept}
 use Rattle.array_line.specs.Berths.{Homes, one_slot}
 use Rattle.ring_line.specs.Ring.{RingCells, RingRule}
@@ -16,6 +17,7 @@ use Rattle.array_line.proofs.OneNode.{clash_at, passed_goes}
 use Rattle.array_line.proofs.Nodes.{others_hand}
 use Rattle.array_line.proofs.Keeping.{rule_step, mine_ok, mine_low, cell_shown}
 use Rattle.array_line.proofs.Taking.{cells_apart, at_turn, line_kept}
+use Rattle.array_line.specs.declared.words.TheConstants.{CELLS}
 use Rattle.qolb_model.proofs.Updates.{put_here, put_else}
 
 module _ (good : List ℕ → Type 0) (allows : List ℕ → List ℕ → Type 0) (about : Setup) (v : ArrayEntry) (passing : (v.own.point ≡ Holding) ⊎ (v.own.point ≡ Passing)) where
@@ -85,7 +87,7 @@ module _ (good : List ℕ → Type 0) (allows : List ℕ → List ℕ → Type 0
       (record {
         blank = λ _. put_here (cells_in words) (cell_of (length x.ends)) 0;
         granted = λ e. absurd (omega arith);
-        later = λ k a b. put_else (cells_in words) (cell_of (length x.ends)) 0 (cell_of (length x.ends + k)) (cells_apart (length x.ends) k a b) ∙ h.said.later k a b;
+        later = λ k a b. put_else (cells_in words) (cell_of (length x.ends)) 0 (cell_of (length x.ends + k)) (cells_apart CELLS (length x.ends) k a b) ∙ h.said.later k a b;
       })
       h.home
       h.spare

@@ -4,7 +4,7 @@ use Rattle.qolb_model.specs.declared.terms.TheConstants.{MOST_NODES}
 use Rattle.qolb_model.specs.PortStates.{left_by}
 use Rattle.shared_line.specs.declared.rule.Parcel.{Parcel}
 use Rattle.shared_line.specs.Steps.{SameSeat, HasSlot, HasNoSlot}
-use Rattle.array_line.specs.Words.{cell_of}
+use Rattle.ring_line.specs.Words.{cell_of}
 use Rattle.array_line.specs.Berths.{one_slot}
 use Rattle.array_line.specs.Array.{ArrayEntry}
 use Rattle.array_line.specs.Steps.{ArraySeat, Contents, entry_of, sole, CarriesNext, Ended, GoesHome, Passes, GoesOn}

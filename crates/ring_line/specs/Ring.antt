@@ -2,7 +2,7 @@
 use Rattle.std.specs.Prelude.{◌≡◌, ℕ, ◌+◌, ◌*◌, ◌<◌, List, Bool, true}
 use Rattle.shared_line.specs.declared.rule.Setup.{Setup}
 use Rattle.array_line.specs.declared.words.TheConstants.{CELLS}
-use Rattle.array_line.specs.Words.{cell_of}
+use Rattle.ring_line.specs.Words.{cell_of}
 use Rattle.array_line.specs.Berths.{one_slot}
 use Rattle.array_line.specs.Array.{ArrayState, ArrayRule}
 use Rattle.ring_line.specs.declared.words.TheConstants.{WITHDRAWN}

@@ -1,10 +1,12 @@
 -- What each step of a port tells it, where a ring has a say in it.
 use Rattle.std.specs.Prelude.{◌≡◌, ◌≢◌, ℕ, ◌+◌, ◌%◌, ◌^◌, List, [], ◌∷◌, length}
 use Rattle.atomic_table.specs.Table.{Step}
+use Rattle.atomic_table.specs.Seated.{TableId}
 use Rattle.shared_line.specs.declared.rule.Parcel.{Parcel}
 use Rattle.array_line.specs.declared.own.Point.TheVariants.{Cleared}
-use Rattle.array_line.specs.Words.{cell_of}
+use Rattle.ring_line.specs.Words.{cell_of}
 use Rattle.array_line.specs.Berths.{one_slot}
+use Rattle.array_line.specs.declared.words.TheConstants.{CELLS}
 use Rattle.array_line.specs.Array.{ArrayEntry}
 use Rattle.array_line.specs.Steps as array
 use Rattle.array_line.specs.Steps.{ArraySeat, Contents, sole, entry_of}
@@ -16,6 +18,10 @@ own_cell seat = cell_of (entry_of seat).own.place
 
 abbrev pub turn_cell : ArraySeat → ℕ
 turn_cell seat = cell_of (length (entry_of seat).view.ends)
+
+-- the seat is of the table of a line of so many nodes, and the node is its own
+abbrev pub IsSeatOfNode : ℕ → TableId → ℕ → ArraySeat → Type 0
+IsSeatOfNode nodes table_id node seat = array.IsSeatOfNode (λ _. CELLS) nodes table_id node seat
 
 -- A port's mark is its cell. The request has not come to its turn, and is not withdrawn; it has come; and it has not, and is withdrawn.
 abbrev pub IsEarly : ℕ → ArrayEntry → Type 0

@@ -1,5 +1,6 @@
 -- What the words of a ring say.
 use Rattle.std.specs.Prelude.{ℕ, ◌/◌, List, Bool, not, ◌==◌}
+use Rattle.array_line.specs.declared.words.TheConstants.{CELLS}
 use Rattle.array_line.specs.Words as array
 use Rattle.ring_line.specs.declared.words.TheConstants.{WITHDRAWN}
 
@@ -13,4 +14,11 @@ may_come mark low = not (low == 0)
 
 -- nobody has asked: the first cell is granted, and all else is blank
 abbrev pub AreFirst : List ℕ → Type 0
-AreFirst words = array.AreFirst 1 words
+AreFirst words = array.AreFirst CELLS 1 words
+
+-- a ring has as many cells whatever its nodes
+abbrev pub cell_of : ℕ → ℕ
+cell_of ticket = array.cell_of CELLS ticket
+
+abbrev pub word_count : ℕ
+word_count = array.word_count CELLS

@@ -1,7 +1,7 @@
 //! A ring as a queue discipline.
 ghost use Rattle.std.specs.Prelude.{◌≡◌};
 ghost use Rattle.qolb_model.specs.PortStates as states;
-ghost use Rattle.array_line.specs.Words.{word_count, cell_of};
+ghost use Rattle.ring_line.specs.Words.{word_count, cell_of};
 ghost use Rattle.array_line.proofs.Seats as seats;
 ghost use Rattle.array_line.proofs.Meets as meeting;
 ghost use Rattle.array_line.proofs.Lasting as lasting;
@@ -9,12 +9,12 @@ ghost use Rattle.ring_line.specs.Words as layout;
 ghost use Rattle.array_line.specs.Berths.{one_slot};
 ghost use Rattle.array_line.proofs.Slots.{one_park, one_first, one_last};
 ghost use Rattle.ring_line.specs.Ring.{RingCells};
-ghost use Rattle.ring_line.specs.Laws.{first_cells};
+ghost use Rattle.ring_line.specs.Laws.{first_cells, enough};
 
 use crate::release::{release, renew};
 use crate::rule::{Ground, Ring, RingSeat};
 use crate::steps::{draw, load, roll};
-use crate::words::{cell_of, first_words, is_granted};
+use crate::words::{cell_after, cell_of, first_words, is_granted};
 use array_line::{WORDS, cell_word};
 use atomic_table::Closed;
 use qolb_model::{Keep, PortState};
@@ -24,39 +24,59 @@ use shared_line::{
 use std::alloc::{AllocError, Global};
 
 impl<K: Keep> Discipline<K> for Ring {
-    ghost word_count = { word_count };
+    ghost word_count = { λ _. word_count };
 
-    ghost are_first = { layout.AreFirst };
+    ghost are_first = { λ _. layout.AreFirst };
 
-    fn first_words(alloc: Global) -> Result<Vec<u64>, AllocError> {
+    fn first_words(alloc: Global, _nodes: u64) -> Result<Vec<u64>, AllocError> {
         first_words(alloc, WORDS)
     }
 
-    ghost slot_count = { 1 };
+    ghost slot_count = { λ _. 1 };
 
-    ghost last = { λ _. 0 };
+    ghost last = { λ _ _. 0 };
 
-    fn slot_count() -> usize {
+    fn slot_count(_nodes: u64) -> usize {
         1
     }
 
+    ghost size_for = { λ nodes. nodes };
+
     #[inline]
-    fn take(ground: &Ground<K>, seat: &mut RingSeat, _mark: u64, parcel: &mut Parcel) {
+    fn size_for(nodes: u64) -> u64 {
+        nodes
+    }
+
+    #[inline]
+    fn take(ground: &Ground<K>, seat: &mut RingSeat, _size: u64, _mark: u64, parcel: &mut Parcel) {
         take_alone(ground, seat, parcel);
     }
 
     #[inline]
-    fn put(ground: &Ground<K>, seat: &mut RingSeat, _mark: u64, parcel: &Parcel, closed: bool) {
+    fn put(
+        ground: &Ground<K>,
+        seat: &mut RingSeat,
+        _size: u64,
+        _mark: u64,
+        parcel: &Parcel,
+        closed: bool,
+    ) {
         put_alone(ground, seat, parcel, closed);
     }
 
-    fn unlay(closed: Closed<Parcel, Global>) -> Parcel {
+    fn unlay(closed: Closed<Parcel, Global>, _nodes: u64) -> Parcel {
         unlay_alone(closed)
     }
 
     /// Draws a ticket, and looks at its cell.
     #[inline]
-    fn ask(ground: &Ground<K>, seat: &mut RingSeat, node: u64, state: PortState) -> Requested {
+    fn ask(
+        ground: &Ground<K>,
+        seat: &mut RingSeat,
+        _size: u64,
+        node: u64,
+        state: PortState,
+    ) -> Requested {
         let Some(renewing) = renew(ground, seat, node, state) else {
             return Requested {
                 answer: Asked::Busy,
@@ -78,12 +98,12 @@ impl<K: Keep> Discipline<K> for Ring {
     }
 
     #[inline]
-    fn look(ground: &Ground<K>, seat: &mut RingSeat, _node: u64, mark: u64) -> bool {
+    fn look(ground: &Ground<K>, seat: &mut RingSeat, _size: u64, _node: u64, mark: u64) -> bool {
         load(ground, seat, mark)
     }
 
     #[inline]
-    fn roll(ground: &Ground<K>, seat: &mut RingSeat, node: u64, mark: u64) -> bool {
+    fn roll(ground: &Ground<K>, seat: &mut RingSeat, _size: u64, node: u64, mark: u64) -> bool {
         roll(ground, seat, mark, node)
     }
 
@@ -91,6 +111,7 @@ impl<K: Keep> Discipline<K> for Ring {
     fn release(
         ground: &Ground<K>,
         seat: &mut RingSeat,
+        _size: u64,
         _node: u64,
         mark: u64,
         closed: bool,
@@ -99,12 +120,12 @@ impl<K: Keep> Discipline<K> for Ring {
         Released {
             state: left_by(closed),
             steps: gone.steps,
-            to_wake: ToWake::at(cell_word(gone.cell)),
+            to_wake: ToWake::at(cell_word(gone.cell), cell_word(cell_after(gone.cell))),
         }
     }
 
     #[inline]
-    fn awaited(_node: u64, mark: u64) -> usize {
+    fn awaited(_ground: &Ground<K>, _size: u64, _node: u64, mark: u64) -> usize {
         cell_word(cell_of(mark))
     }
 
@@ -121,11 +142,11 @@ impl<K: Keep> Discipline<K> for Ring {
 
     ghost slots = { seats.slot_count RingCells one_slot K.good K.allows };
 
-    ghost starts = { λ about. seats.starts RingCells one_slot K.good K.allows about 1 one_first first_cells };
+    ghost starts = { λ about. seats.starts RingCells one_slot K.good K.allows about 1 (enough about) one_first first_cells };
 
     ghost meets = { meeting.meets_next RingCells one_slot K.good K.allows };
 
-    ghost parks = { λ about id slots i m v _ _ is holding kept. meeting.parks_next RingCells one_slot K.good K.allows about id slots i m v is holding (one_park m.1 kept.0 kept.1) };
+    ghost parks = { λ about id slots i m v _ _ is holding kept. meeting.parks_next RingCells one_slot K.good K.allows about id slots i m v is holding (λ _. one_park m.1 kept.0 kept.1) };
 
     ghost finishes = { λ about es id words xs at_rest. lasting.final_line RingCells one_slot K.good K.allows about es cell_of at_rest (λ _. 0) one_last id words xs };
 }

@@ -6,12 +6,12 @@ ghost use Rattle.qolb_model.specs.declared.terms.TheConstants.{MOST_NODES};
 ghost use Rattle.qolb_model.specs.PortStates.{left_by};
 ghost use Rattle.shared_line.specs.declared.rule.Parcel.{Parcel};
 ghost use Rattle.shared_line.specs.Steps.{IsSeatOf, HasSlot, HasNoSlot};
-ghost use Rattle.array_line.specs.Words.{word_count};
+ghost use Rattle.ring_line.specs.Words.{word_count};
 ghost use Rattle.array_line.specs.Array.{At};
-ghost use Rattle.array_line.specs.Steps.{IsAt, IsSeatOfNode, entry_of, Went, CarriesNext};
+ghost use Rattle.array_line.specs.Steps.{IsAt, entry_of, Went, CarriesNext};
 ghost use Rattle.array_line.specs.Releases.{IsRenewed, steps_to_renew, IsBare, LetsLineGo, WalksOn, AreNodesAt, FreesAll};
 ghost use Rattle.ring_line.specs.Words.{withdrawn_by};
-ghost use Rattle.ring_line.specs.Steps.{turn_cell};
+ghost use Rattle.ring_line.specs.Steps.{IsSeatOfNode, turn_cell};
 ghost use Rattle.array_line.specs.declared.own.Point.TheVariants.{Idle, Holding, Passing, Freeing, Rolled};
 
 use crate::rule::{Ground, RingSeat};
@@ -40,7 +40,7 @@ pub(crate) fn renew<K: Keep>(
     node: u64,
     state: PortState,
 ) -> Option<u64>
-    requires seat { IsSeatOfNode ground.now.table_id node seat.old }
+    requires seat { IsSeatOfNode ground.now.key.terms.nodes ground.now.table_id node seat.old }
     requires rolled { state ≡ PortState.Rolled → IsAt Rolled seat.old }
     requires idle { state ≢ PortState.Rolled → IsAt Idle seat.old }
     ensures slot { seat.new.me.1 ≡ seat.old.me.1 }
@@ -135,7 +135,7 @@ fn free_passed<K: Keep>(ground: &Ground<K>, seat: &mut RingSeat, nodes: &[u64])
     requires ready { IsAt Freeing seat.old }
     requires some { (entry_of seat.old).own.passed ≢ [] }
     requires many { length nodes.now ≡ length (entry_of seat.old).own.passed }
-    requires nodes { AreNodesAt (entry_of seat.old).view.order (entry_of seat.old).own.passed nodes.now }
+    requires nodes { AreNodesAt (entry_of seat.old).view (entry_of seat.old).own.passed nodes.now }
     ensures slot { seat.new.me.1 ≡ seat.old.me.1 }
     ensures went { Went K.allows seat.old seat.new (length nodes.now) }
     ensures frees { FreesAll (entry_of seat.old) (entry_of seat.new) }

@@ -1,6 +1,7 @@
 //! The queue of a ring: how its nodes stand, and its rule.
 ghost use Rattle.shared_line.specs.Slots.{lies_alone, kept_alone};
-ghost use Rattle.array_line.specs.Words.{cell_of};
+ghost use Rattle.ring_line.specs.Words.{cell_of};
+ghost use Rattle.array_line.specs.declared.words.TheConstants.{CELLS};
 ghost use Rattle.array_line.specs.Stances as stances;
 ghost use Rattle.array_line.proofs.Standing as standing;
 ghost use Rattle.ring_line.specs.Laws as laws;
@@ -21,11 +22,11 @@ pub struct Ring;
 impl Shape for Ring {
     type Own = Own;
 
-    ghost phases = { stances.phases cell_of lies_alone kept_alone lies_alone };
+    ghost phases = { stances.phases cell_of (λ _. lies_alone) (λ _. kept_alone) (λ _. lies_alone) };
 
-    ghost waits_at = { stances.waits_at };
+    ghost waits_at = { stances.waits_at (λ _. CELLS) };
 
-    ghost turn_word = { stances.turn_word cell_of };
+    ghost turn_word = { stances.turn_word cell_of (λ _. CELLS) };
 
     ghost may_come = { layout.may_come };
 
@@ -43,9 +44,9 @@ impl Shape for Ring {
 
     ghost holding_shown = { standing.holding_shown };
 
-    ghost holder_waits_there = { standing.holder_waits_there cell_of };
+    ghost holder_waits_there = { standing.holder_waits_there cell_of (λ _. CELLS) };
 
-    ghost refused_waits_there = { standing.refused_waits_there cell_of };
+    ghost refused_waits_there = { standing.refused_waits_there cell_of (λ _. CELLS) };
 
     ghost most_some = { laws.most_some };
 

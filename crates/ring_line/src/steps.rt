@@ -6,11 +6,11 @@ ghost use Rattle.qolb_model.specs.Views.{own};
 ghost use Rattle.qolb_model.specs.declared.terms.TheConstants.{MOST_NODES};
 ghost use Rattle.shared_line.specs.declared.rule.Parcel.{Parcel};
 ghost use Rattle.shared_line.specs.Steps.{SameSeat, IsSeatOf, HasSlot, HasNoSlot};
-ghost use Rattle.array_line.specs.Words.{word_count};
+ghost use Rattle.ring_line.specs.Words.{word_count};
 ghost use Rattle.array_line.specs.Array.{At};
-ghost use Rattle.array_line.specs.Steps.{IsAt, IsSeatOfNode, entry_of, Went, Draws, IsStill, CarriesNext, Ended, GoesHome, Passes, Frees, after_reset};
+ghost use Rattle.array_line.specs.Steps.{IsAt, entry_of, Went, Draws, IsStill, CarriesNext, Ended, GoesHome, Passes, Frees, after_reset};
 ghost use Rattle.ring_line.specs.Words.{withdrawn_by};
-ghost use Rattle.ring_line.specs.Steps.{own_cell, turn_cell, IsEarly, Comes, IsRolled, after_clear};
+ghost use Rattle.ring_line.specs.Steps.{IsSeatOfNode, own_cell, turn_cell, IsEarly, Comes, IsRolled, after_clear};
 ghost use Rattle.array_line.specs.declared.own.Point.TheVariants.{Idle, Queued, Holding, Passing, Cleared, Freeing, Rolled};
 
 use crate::plays::{Clear, Grant, Load, Roll};
@@ -50,7 +50,7 @@ pub(crate) fn load<K: Keep>(ground: &Ground<K>, seat: &mut RingSeat, cell: u64) 
 /// Withdraws the request, unless the own cell is granted: whether it is. Then the number that was added is not read: the node clears the
 /// cell before it grants the next.
 pub(crate) fn roll<K: Keep>(ground: &Ground<K>, seat: &mut RingSeat, cell: u64, node: u64) -> bool
-    requires seat { IsSeatOfNode ground.now.table_id node seat.old }
+    requires seat { IsSeatOfNode ground.now.key.terms.nodes ground.now.table_id node seat.old }
     requires ready { IsAt Queued seat.old }
     requires slot { HasNoSlot seat.old }
     requires cell { cell ≡ own_cell seat.old }
@@ -103,7 +103,7 @@ pub(crate) fn free<K: Keep>(ground: &Ground<K>, seat: &mut RingSeat, node: u64)
 
 /// Loads the own node's word: not 0 where the withdrawn request was passed and its node freed.
 pub(crate) fn load_node<K: Keep>(ground: &Ground<K>, seat: &mut RingSeat, node: u64) -> u64
-    requires seat { IsSeatOfNode ground.now.table_id node seat.old }
+    requires seat { IsSeatOfNode ground.now.key.terms.nodes ground.now.table_id node seat.old }
     requires ready { IsAt Rolled seat.old }
     ensures slot { seat.new.me.1 ≡ seat.old.me.1 }
     ensures went { Went K.allows seat.old seat.new 1 }
@@ -114,7 +114,7 @@ pub(crate) fn load_node<K: Keep>(ground: &Ground<K>, seat: &mut RingSeat, node: 
 
 /// Clears the own node's word.
 pub(crate) fn reset<K: Keep>(ground: &Ground<K>, seat: &mut RingSeat, node: u64)
-    requires seat { IsSeatOfNode ground.now.table_id node seat.old }
+    requires seat { IsSeatOfNode ground.now.key.terms.nodes ground.now.table_id node seat.old }
     requires ready { IsAt Rolled seat.old }
     requires clear { Has (entry_of seat.old).view.clear (own (entry_of seat.old).view) }
     ensures same { SameSeat seat.old seat.new }

@@ -16,7 +16,7 @@ pub(crate) const WITHDRAWN: u64 = 256;
 /// The cell of a ticket.
 #[inline]
 pub(crate) fn cell_of(ticket: u64) -> u64
-    ensures { result ≡ array.cell_of ticket }
+    ensures { result ≡ layout.cell_of ticket }
 {
     ticket % CELLS
 }
@@ -25,7 +25,7 @@ pub(crate) fn cell_of(ticket: u64) -> u64
 #[inline]
 pub(crate) fn cell_after(cell: u64) -> u64
     requires { cell < CELLS }
-    ensures { result ≡ array.cell_of (cell + 1) }
+    ensures { result ≡ layout.cell_of (cell + 1) }
 {
     (cell + 1) % CELLS
 }
@@ -56,8 +56,8 @@ pub(crate) fn withdrawn_by(word: u64) -> u64
 
 /// The words of a line that nobody has asked for: cell 0 is granted.
 pub(crate) fn first_words(alloc: Global, count: usize) -> Result<Vec<u64>, AllocError>
-    requires { count ≡ array.word_count }
-    ensures wide { IfOk result (λ words. length words.items ≡ array.word_count) }
+    requires { count ≡ layout.word_count }
+    ensures wide { IfOk result (λ words. length words.items ≡ layout.word_count) }
     ensures first { IfOk result (λ words. layout.AreFirst words.items) }
 {
     let mut words = vec![in alloc; 0u64; count]?;

@@ -11,12 +11,12 @@ use std::test::Fail;
 /// Eight lines for 200 nodes, and no command.
 const MANY_NODES: &str = "nodes 200 lines 8\n";
 
-/// The kinds of lines, those that take less memory first. With 200 nodes a plain line takes 3.3 KB, a list 26 KB of words, a ring 42 KB, a
+/// The kinds of lines, those that take less memory first. With 200 nodes a plain line takes 3.3 KB, a list 26 KB of words, a ring 33 KB, a
 /// ticket line as many and 49 KB of slots; and each of the last three 27 KB of ports.
 static BY_SIZE: [Kind; 4] = [Kind::Plain, Kind::Link, Kind::Ring, Kind::Ticket];
 
 /// Rooms, in KB, in each of which eight lines of one kind more find place.
-static ROOMS: [usize; 4] = [300, 490, 750, 1_200];
+static ROOMS: [usize; 4] = [300, 450, 650, 1_200];
 
 #[test]
 fn each_kind_has_its_size(rt: HostRuntime) -> Result<(), Fail> {
@@ -77,7 +77,7 @@ fn replayed_over_tickets(
 #[test]
 fn a_replay_takes_lines_of_its_type(rt: HostRuntime) -> Result<(), Fail> {
     let siege = Siege::begin(rt.alloc(), 1 << 22)?;
-    for (room, wanted) in [(750, Some(ReplayError::Memory)), (1_200, None)] {
+    for (room, wanted) in [(650, Some(ReplayError::Memory)), (1_200, None)] {
         let found = replayed_over_tickets(rt.alloc(), &siege, room)?;
         assert_eq!(rt; found, wanted, "in {room} KB");
     }

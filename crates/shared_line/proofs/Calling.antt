@@ -5,6 +5,7 @@ use Rattle.atomic_table.specs.Seated.{TableId}
 use Rattle.qolb_model.specs.declared.answer.PortState.{PortState}
 use Rattle.qolb_model.specs.declared.answer.PortState.TheVariants as shows
 use Rattle.qolb_model.specs.declared.end.End.TheVariants.{Served}
+use Rattle.qolb_model.specs.declared.terms.Terms.{Terms}
 use Rattle.qolb_model.specs.declared.view.View.{View}
 use Rattle.qolb_model.specs.PortStates.{left_by}
 use Rattle.qolb_model.specs.Leases.{closes}
@@ -26,7 +27,7 @@ use Rattle.shared_line.specs.declared.rule.Parcel.{Parcel}
 use Rattle.shared_line.specs.declared.rule.Setup.{Setup}
 use Rattle.shared_line.specs.Entries.{LineSeat}
 use Rattle.shared_line.specs.Phases.{Phases}
-use Rattle.shared_line.specs.Steps.{SameSeat, entry_of, sole, HasLine, write_of, own_end, Carries, Went}
+use Rattle.shared_line.specs.Steps.{SameSeat, entry_of, nodes_of, sole, HasLine, write_of, own_end, Carries, Went}
 use Rattle.shared_line.specs.Ports.{Standing, standing, Holds, IsPort, BelongsTo, IsSeated, IsPutBack}
 use Rattle.shared_line.proofs.Letting.{carries_served, holds_written}
 
@@ -80,6 +81,11 @@ module _ {O : Type 0} (fresh : O) {p : Standing} (s : LineSeat O) (y : Parcel) (
   pub call_links_on : {v w : View} → Links (entry_of fresh s).view v → Extends v w → w.count ≡ v.count → Links p.view w
   call_links_on {v = v} {w = w} links more same = call_links (record { count = same ∙ links.count; joined = joined_goes v w links.joined more same })
 
+-- it knows how many nodes the line has
+pub call_nodes : {O : Type 0} (fresh : O) {good : List ℕ → Type 0} {allows : List ℕ → List ℕ → Type 0} {key : Setup} {table_id : TableId} {p : Standing} (s : LineSeat O) (y : Parcel) (steps looks : ℕ) → BelongsTo good allows key table_id p → standing fresh s y steps looks ≡ p
+    → nodes_of fresh s ≡ key.terms.nodes
+call_nodes fresh s y steps looks b is = ap (λ (t : Terms). t.nodes) (ap (λ (x : Standing). x.view.terms) is ∙ b.sound.terms_are)
+
 -- a port between calls
 module _ {O : Type 0} {q : Phases O} {label node : ℕ} {p : Standing} (s : LineSeat O) (y : Parcel) (mark steps looks : ℕ) (state : PortState) (between : IsPort q label node s y mark state) (is : standing q.fresh s y steps looks ≡ p) where
   -- the state that it shows is its own
@@ -103,7 +109,7 @@ module _ {O : Type 0} {q : Phases O} {label node : ℕ} {p : Standing} (s : Line
 
   -- a holder's turns: the line is put back into it, closed or not
   module _ {good : List ℕ → Type 0} {allows : List ℕ → List ℕ → Type 0} {key : Setup} {table_id : TableId} (b : BelongsTo good allows key table_id p) (held : p.view.state ≡ shows.Holding)
-      (shut closed : Bool) (is_shut : closed ≡ (shut || is_one y.turns_left)) (u : LineSeat O) (same : SameSeat s u) (entries : u.me.0 ≡ s.me.0) (back : (z : Parcel) × q.lays mark z u.me.1 × IsPutBack y closed z) where
+      (shut closed : Bool) (is_shut : closed ≡ (shut || is_one y.turns_left)) (u : LineSeat O) (same : SameSeat s u) (entries : u.me.0 ≡ s.me.0) (back : (z : Parcel) × q.lays key.terms.nodes mark z u.me.1 × IsPutBack y closed z) where
     its : Holds q s y mark
     its = holds_of held
 
@@ -116,7 +122,7 @@ module _ {O : Type 0} {q : Phases O} {label node : ℕ} {p : Standing} (s : Line
     pub put_has : (z : Parcel) → HasLine q.holding q.refused mark (entry_of q.fresh u) z
     put_has z = subst (λ e. HasLine q.holding q.refused mark e z) (sym entry) (record { holds = λ _. its.at; refuses = λ shut. let e : true ≡ false = sym shut ∙ its.is_open in absurd (cc e) })
 
-    pub put_carries : MayRelease allows p.view p.turn → (z : Parcel) × q.lays mark z u.me.1 × HasLine q.holding q.refused mark (entry_of q.fresh u) z × Carries allows (entry_of q.fresh u).view z × (z.closed ≡ closed)
+    pub put_carries : MayRelease allows p.view p.turn → (z : Parcel) × q.lays key.terms.nodes mark z u.me.1 × HasLine q.holding q.refused mark (entry_of q.fresh u) z × Carries allows (entry_of q.fresh u).view z × (z.closed ≡ closed)
     put_carries may = (
       back.0,
       back.1,

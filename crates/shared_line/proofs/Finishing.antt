@@ -12,7 +12,7 @@ use Rattle.shared_line.specs.declared.rule.Parcel.{Parcel}
 use Rattle.shared_line.specs.declared.rule.Entry.{Entry}
 use Rattle.shared_line.specs.Entries.{LineSeat, AtRest}
 use Rattle.shared_line.specs.Phases.{Phases}
-use Rattle.shared_line.specs.Steps.{entry_of}
+use Rattle.shared_line.specs.Steps.{entry_of, nodes_of}
 use Rattle.shared_line.specs.Ports.{Standing, standing, IsPort}
 use Rattle.shared_line.specs.Finish.{Gathers}
 
@@ -25,7 +25,7 @@ quiet_holds : (state : PortState) → may_ask state ≡ true → state ≡ shows
 quiet_holds state quiet is = let e : may_ask state ≡ false = ap may_ask is in absurd (cc (quiet, e))
 
 -- the first of the ports to come is quiet
-pub head_quiet : {O : Type 0} {rests : PortState → ℕ → O → Type 0} (table_id : TableId) (ports left rest : List Standing) (whole : LineSeat O) (p : Standing) → left ≡ p ∷ rest → Gathers rests table_id ports left whole → may_ask p.view.state ≡ true
+pub head_quiet : {O : Type 0} {rests : ℕ → PortState → ℕ → O → Type 0} (table_id : TableId) (ports left rest : List Standing) (whole : LineSeat O) (p : Standing) → left ≡ p ∷ rest → Gathers rests table_id ports left whole → may_ask p.view.state ≡ true
 head_quiet table_id ports left rest whole p e h = subst (All (λ (q : Standing). may_ask q.view.state ≡ true)) e h.quiet 0 p (omega arith)
 
 -- what holds of each holds of the first, and of the others
@@ -43,7 +43,7 @@ module _ {O : Type 0} (q : Phases O) (label node : ℕ) (s : LineSeat O) (y : Pa
   own_state : may_ask state ≡ true
   own_state = ap may_ask (sym ok.shows_state) ∙ (ap (λ (v : View). may_ask v.state) same_view ∙ quiet)
 
-  stands : q.rests state mark (entry_of q.fresh s).own × (s.me.1 ≡ [])
+  stands : q.rests (nodes_of q.fresh s) state mark (entry_of q.fresh s).own × (s.me.1 ≡ [])
   stands = ok.rests_so (λ h. quiet_holds state own_state h)
 
   pub none_carried : s.me.1 ≡ []

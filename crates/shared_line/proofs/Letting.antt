@@ -24,7 +24,7 @@ use Rattle.qolb_model.proofs.Requests.{has_prefix}
 use Rattle.shared_line.specs.declared.rule.Entry.{Entry}
 use Rattle.shared_line.specs.declared.rule.Parcel.{Parcel}
 use Rattle.shared_line.specs.Entries.{LineSeat}
-use Rattle.shared_line.specs.Steps.{entry_of, sole, write_of, own_end, Carries, Comes}
+use Rattle.shared_line.specs.Steps.{entry_of, nodes_of, sole, write_of, own_end, Carries, Comes}
 use Rattle.shared_line.specs.Slots.{IsCopy}
 use Rattle.shared_line.specs.Phases.{Phases}
 use Rattle.shared_line.specs.Ports.{IsMerged, Holds, IsHeld, IsPutBack}
@@ -85,16 +85,16 @@ told_by w t y c closed more l =
 merged_fresh : (base : List ℕ) (z : Parcel) → length z.bytes.bytes ≡ 64 → z.mask.0 ≡ 0 → z.bytes.bytes ≡ base → written base (write_of z) ≡ z.bytes.bytes
 merged_fresh base z line mask is = ap (λ m. merged base z.bytes.bytes m) mask ∙ merged-none base z.bytes.bytes (ap length (sym is) ∙ line) ∙ sym is
 
-pub arrives : {O : Type 0} (q : Phases O) (mark : ℕ) (s t : LineSeat O) (y z : Parcel) → Comes q.holding q.refused mark (entry_of q.fresh s) y → t.me.0 ≡ s.me.0 → IsCopy z y → (y.closed ≡ false → q.keeps mark y.turns_left t.me.1) → z.closed ≡ false
+pub arrives : {O : Type 0} (q : Phases O) (nodes mark : ℕ) (s t : LineSeat O) (y z : Parcel) → nodes_of q.fresh s ≡ nodes → Comes q.holding q.refused mark (entry_of q.fresh s) y → t.me.0 ≡ s.me.0 → IsCopy z y → (y.closed ≡ false → q.keeps nodes mark y.turns_left t.me.1) → z.closed ≡ false
     → IsHeld q t z mark
-arrives q mark s t y z c same copied kept unclosed =
+arrives q nodes mark s t y z many c same copied kept unclosed =
     let entry : entry_of q.fresh s ≡ entry_of q.fresh t = ap (sole q.fresh) (sym same) in
     let here : Comes q.holding q.refused mark (entry_of q.fresh t) y = subst (λ e. Comes q.holding q.refused mark e y) entry c in
     let base : z.bytes.bytes ≡ bytes_of (entry_of q.fresh t).view = ap (λ l. l.bytes) copied.bytes ∙ here.bytes in
     let unshut : is_closed (entry_of q.fresh t).view.ends ≡ false = sym here.closed ∙ (sym copied.closed ∙ unclosed) in (
       record {
         at = here.has.holds unshut;
-        kept = subst (λ left. q.keeps mark left t.me.1) (sym copied.turns) (kept (sym copied.closed ∙ unclosed));
+        kept = subst (λ (n : ℕ). q.keeps n mark z.turns_left t.me.1) (sym many ∙ ap (λ e. e.view.terms.nodes) entry) (subst (λ left. q.keeps nodes mark left t.me.1) (sym copied.turns) (kept (sym copied.closed ∙ unclosed)));
         merged = merged_fresh (bytes_of (entry_of q.fresh t).view) z (ap (λ l. length l.bytes) copied.bytes ∙ here.line) copied.no_mask base;
         is_open = unshut;
         turns = copied.turns ∙ here.turns;
@@ -116,7 +116,7 @@ arrives q mark s t y z c same copied kept unclosed =
 pub holds_written : {O : Type 0} (q : Phases O) (s : LineSeat O) (y z : Parcel) (mark mask : ℕ) (bytes : List ℕ) → Holds q s y mark → z.bytes.bytes ≡ merged y.bytes.bytes bytes mask → z.mask.0 ≡ bit_or y.mask.0 mask → z.turns_left ≡ y.turns_left → Holds q s z mark
 holds_written q s y z mark mask bytes h b k c = record {
   at = h.at;
-  kept = subst (λ left. q.keeps mark left s.me.1) (sym c) h.kept;
+  kept = subst (λ left. q.keeps (nodes_of q.fresh s) mark left s.me.1) (sym c) h.kept;
   merged = (λ i. merged (bytes_of (entry_of q.fresh s).view) (b i) (k i)) ∙ merged-twice (bytes_of (entry_of q.fresh s).view) y.bytes.bytes bytes y.mask.0 mask h.merged ∙ sym b;
   is_open = h.is_open;
   turns = c ∙ h.turns;

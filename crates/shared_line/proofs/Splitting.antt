@@ -8,6 +8,7 @@ use Rattle.qolb_model.specs.Entries.{front, behind}
 use Rattle.qolb_model.proofs.Lists.{push_cases, element_at}
 use Rattle.qolb_model.proofs.Agreeing.{opens_new}
 use Rattle.qolb_model.proofs.Seats.{each_from_more}
+use Rattle.shared_line.specs.declared.rule.Entry.{Entry}
 use Rattle.shared_line.specs.declared.rule.Setup.{Setup}
 use Rattle.shared_line.specs.declared.rule.Parcel.{Parcel}
 use Rattle.shared_line.specs.Entries.{LineSeat, newcomer, newcomers_from}
@@ -22,10 +23,10 @@ module _ {O : Type 0} (q : Phases O) (about : Setup) (n : ℕ) (old first rest :
   pub rest_me : rest.me ≡ (behind old.me.0, []) → rest.me ≡ (newcomers_from q.fresh about (n + 1) (about.terms.nodes - (n + 1)), [])
   rest_me e = e ∙ (λ i. (behind (whole i).0, [])) ∙ (λ i. (behind (each_from_more (newcomer q.fresh about) n about.terms.nodes more i), []))
 
-  pub first_port : q.rests shows.Idle 0 q.fresh → (y : Parcel) → first.me ≡ (front old.me.0, old.me.1) → IsPort q about.label (n + 1) first y 0 shows.Idle
+  pub first_port : ((nodes : ℕ) → q.rests nodes shows.Idle 0 q.fresh) → (y : Parcel) → first.me ≡ (front old.me.0, old.me.1) → IsPort q about.label (n + 1) first y 0 shows.Idle
   first_port new y e = let is = first_me e in record {
     alone = ap (λ m. m.0) is ∙ (λ i. sole q.fresh (sym is i).0 ∷ []);
-    rests_so = λ _. (subst (λ o. q.rests shows.Idle 0 o) (ap (λ m. (sole q.fresh m.0).own) (sym is)) new, ap (λ m. m.1) is);
+    rests_so = λ _. (subst (λ (e : Entry O). q.rests e.view.terms.nodes shows.Idle 0 e.own) (ap (λ m. sole q.fresh m.0) (sym is)) (new about.terms.nodes), ap (λ m. m.1) is);
     holds_so = λ e. absurd (cc e);
     shows_state = ap (λ m. (sole q.fresh m.0).view.state) is;
     label_is = ap (λ m. (sole q.fresh m.0).view.label) is;

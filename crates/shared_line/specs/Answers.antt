@@ -1,4 +1,4 @@
--- What the calls of a discipline ask of a node and tell it, each by the mark that its port keeps.
+-- What the calls of a discipline ask of a node and tell it, each by how many nodes the line has, and by the mark that the node's port keeps.
 use Rattle.std.specs.Prelude.{◌≡◌, ◌≢◌, ◌≤◌, ℕ, List, [], ◌∷◌, Bool, true, false}
 use Rattle.atomic_table.specs.Seated.{TableId}
 use Rattle.qolb_model.specs.declared.answer.PortState.{PortState}
@@ -23,9 +23,9 @@ use Rattle.shared_line.specs.Phases.{Phases}
 use Rattle.shared_line.specs.Ports.{IsPutBack}
 use Rattle.shared_line.specs.Steps.{entry_of, SameSeat, IsSeatOf, IsOwnNode, HasNoSlot, HasLine, IsEarly, IsUnlinked, IsGivenUp, Comes, Rests, Carries, own_end, informed}
 
--- the seat is of a line's table, and the node is its own
-abbrev pub IsSeatOfNode : {O : Type 0} → ℕ → TableId → O → ℕ → LineSeat O → Type 0
-IsSeatOfNode words table_id fresh node s = IsSeatOf words table_id s × IsOwnNode fresh node s
+-- the seat is of the table of a line of so many nodes, and the node is its own
+abbrev pub IsSeatOfNode : {O : Type 0} → (ℕ → ℕ) → ℕ → TableId → O → ℕ → LineSeat O → Type 0
+IsSeatOfNode word_count nodes table_id fresh node s = IsSeatOf (word_count nodes) table_id s × IsOwnNode fresh nodes node s
 
 -- the line that a node knows is one of some nodes, and of no more than there may be
 abbrev pub HasNodes : View → Type 0
@@ -46,10 +46,10 @@ pub record HaveMet {O : Type 0} (allows : List ℕ → List ℕ → Type 0) (fre
   pub tell : TellEachOther allows (entry_of fresh a).view (entry_of fresh b).view (entry_of fresh a_then).view (entry_of fresh b_then).view
   pub holder : let v = entry_of fresh a in let u = entry_of fresh b in (v.view.state ≡ shows.Holding → longer v.view.ends u.view.ends ≡ v.view.ends) × (u.view.state ≡ shows.Holding → longer u.view.ends v.view.ends ≡ u.view.ends)
 
-module _ {O : Type 0} (q : Phases O) (mark : ℕ) where
+module _ {O : Type 0} (q : Phases O) (nodes mark : ℕ) where
   -- a line has come to the node, and lies in the slots that it has in hand
   abbrev pub HasArrived : LineSeat O → Type 0
-  HasArrived s = (y : Parcel) × q.brings mark y s.me.1 × Comes q.holding q.refused mark (entry_of q.fresh s) y
+  HasArrived s = (y : Parcel) × q.brings nodes mark y s.me.1 × Comes q.holding q.refused mark (entry_of q.fresh s) y
 
   -- the node waits: its request has not come to its turn, and it has no slot
   abbrev pub WaitsOn : LineSeat O → Type 0
@@ -66,14 +66,14 @@ module _ {O : Type 0} (q : Phases O) (mark : ℕ) where
   -- `take`: the port has a copy of the line that came, not written yet; a closed one is laid for the next
   pub record Takes (old new : LineSeat O) (copy : Parcel) : Type 0 where
     pub same : SameSeat old new × (new.me.0 ≡ old.me.0)
-    pub copied : (y : Parcel) → q.brings mark y old.me.1 → IsCopy copy y
-    pub kept : (y : Parcel) → q.brings mark y old.me.1 → y.closed ≡ false → q.keeps mark y.turns_left new.me.1
-    pub laid : (y : Parcel) → q.brings mark y old.me.1 → y.closed ≡ true → q.lays mark y new.me.1
+    pub copied : (y : Parcel) → q.brings nodes mark y old.me.1 → IsCopy copy y
+    pub kept : (y : Parcel) → q.brings nodes mark y old.me.1 → y.closed ≡ false → q.keeps nodes mark y.turns_left new.me.1
+    pub laid : (y : Parcel) → q.brings nodes mark y old.me.1 → y.closed ≡ true → q.lays nodes mark y new.me.1
 
   -- `put`: the line of this turn is laid for the next, closed or not
   pub record Puts (old new : LineSeat O) (turn : Parcel) (closed : Bool) : Type 0 where
     pub same : SameSeat old new × (new.me.0 ≡ old.me.0)
-    pub put_back : (y : Parcel) × q.lays mark y new.me.1 × IsPutBack turn closed y
+    pub put_back : (y : Parcel) × q.lays nodes mark y new.me.1 × IsPutBack turn closed y
 
   -- `ask`: none is made, as the last one is not clear; or one is, and the node waits behind another, or the line has come
   pub record MakesRequest (state : PortState) (old new : LineSeat O) (answer : Asked) : Type 0 where
@@ -113,14 +113,14 @@ module _ {O : Type 0} (q : Phases O) (mark : ℕ) where
 
   -- a closed line has come to the node, and is laid for the next
   abbrev pub HasLaidClosed : LineSeat O → Type 0
-  HasLaidClosed s = (y : Parcel) × q.lays mark y s.me.1 × Comes q.holding q.refused mark (entry_of q.fresh s) y × (y.closed ≡ true)
+  HasLaidClosed s = (y : Parcel) × q.lays nodes mark y s.me.1 × Comes q.holding q.refused mark (entry_of q.fresh s) y × (y.closed ≡ true)
 
   -- `release` takes the line that was laid for the next, closed or not: it is the one after the end of the node's request
   abbrev pub HasLaid : (List ℕ → List ℕ → Type 0) → Bool → LineSeat O → Type 0
-  HasLaid allows closed s = (y : Parcel) × q.lays mark y s.me.1 × HasLine q.holding q.refused mark (entry_of q.fresh s) y × Carries allows (entry_of q.fresh s).view y × (y.closed ≡ closed)
+  HasLaid allows closed s = (y : Parcel) × q.lays nodes mark y s.me.1 × HasLine q.holding q.refused mark (entry_of q.fresh s) y × Carries allows (entry_of q.fresh s).view y × (y.closed ≡ closed)
 
   -- and then the node holds no more, and that request has ended
   pub record HandsOver (old new : LineSeat O) (state : PortState) : Type 0 where
     pub rests : (m : ℕ) → Rests q state m new
     pub not_held : state ≢ shows.Holding
-    pub lets_go : (y : Parcel) → q.lays mark y old.me.1 → EndsTurn (entry_of q.fresh old).view (own_end (is_closed (entry_of q.fresh old).view.ends) y) (left_by y.closed) (entry_of q.fresh new).view
+    pub lets_go : (y : Parcel) → q.lays nodes mark y old.me.1 → EndsTurn (entry_of q.fresh old).view (own_end (is_closed (entry_of q.fresh old).view.ends) y) (left_by y.closed) (entry_of q.fresh new).view

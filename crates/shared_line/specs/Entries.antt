@@ -37,11 +37,11 @@ abbrev pub LineSeat : Type 0 → Type 0
 LineSeat O = Seat Parcel (List (Entry O))
 
 -- the node is in no call, and neither waits nor holds
-abbrev pub AtRest : {O : Type 0} → (PortState → ℕ → O → Type 0) → Entry O → Type 0
-AtRest rests e = (state : PortState) × (mark : ℕ) × (may_ask state ≡ true) × rests state mark e.own
+abbrev pub AtRest : {O : Type 0} → (ℕ → PortState → ℕ → O → Type 0) → Entry O → Type 0
+AtRest rests e = (state : PortState) × (mark : ℕ) × (may_ask state ≡ true) × rests e.view.terms.nodes state mark e.own
 
 -- each node has an entry among these, and it is at rest
-abbrev pub AllRest : {O : Type 0} → (PortState → ℕ → O → Type 0) → ℕ → List (Entry O) → Type 0
+abbrev pub AllRest : {O : Type 0} → (ℕ → PortState → ℕ → O → Type 0) → ℕ → List (Entry O) → Type 0
 AllRest rests nodes entries = AllAtRest node_of (AtRest rests) nodes entries
 
 -- what an entry's port knows

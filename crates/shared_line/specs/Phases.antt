@@ -9,15 +9,15 @@ use Rattle.shared_line.specs.Slots.{Slots}
 pub record Phases (O : Type 0) : Type 1 where
   -- that of a new node
   pub fresh : O
-  -- where a node is whose port shows this state, which is not that of a holder
-  pub rests : PortState → ℕ → O → Type 0
+  -- in a line of so many nodes, where a node is whose port shows this state, which is not that of a holder
+  pub rests : ℕ → PortState → ℕ → O → Type 0
   -- where a node is that holds the open line, by how many requests have ended
   pub holding : ℕ → ℕ → O → Type 0
   -- where a node is to which this closed line came, by what its port knows
   pub refused : ℕ → View → O → Parcel → Type 0
-  -- a node to which this line came has it in these slots
-  pub brings : ℕ → Parcel → Slots → Type 0
-  -- a holder of a line with so many turns left has these slots
-  pub keeps : ℕ → Option ℕ → Slots → Type 0
-  -- a node that is about to let this line go has laid it in these slots, for the next
-  pub lays : ℕ → Parcel → Slots → Type 0
+  -- in a line of so many nodes, a node to which this line came has it in these slots
+  pub brings : ℕ → ℕ → Parcel → Slots → Type 0
+  -- a holder of a line of so many nodes with so many turns left has these slots
+  pub keeps : ℕ → ℕ → Option ℕ → Slots → Type 0
+  -- in a line of so many nodes, a node that is about to let this line go has laid it in these slots, for the next
+  pub lays : ℕ → ℕ → Parcel → Slots → Type 0

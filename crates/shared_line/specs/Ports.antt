@@ -24,7 +24,7 @@ use Rattle.shared_line.specs.declared.rule.Parcel.{Parcel}
 use Rattle.shared_line.specs.declared.rule.Setup.{Setup}
 use Rattle.shared_line.specs.Entries.{LineSeat, newcomers_from}
 use Rattle.shared_line.specs.Phases.{Phases}
-use Rattle.shared_line.specs.Steps.{Alone, entry_of, HasNoSlot, write_of, Rests}
+use Rattle.shared_line.specs.Steps.{Alone, entry_of, nodes_of, HasNoSlot, write_of, Rests}
 
 -- a port as contracts see it: its table, what it knows, the line's bytes where it holds it with the mask of the turn's writes, and what it
 -- has counted
@@ -56,7 +56,7 @@ IsMerged v y = written (bytes_of v) (write_of y) ≡ y.bytes.bytes
 -- the port has its own copy of the open line, which it may have written, and the slots in which it came and will lie
 pub record Holds {O : Type 0} (q : Phases O) (s : LineSeat O) (y : Parcel) (mark : ℕ) : Type 0 where
   pub at : q.holding mark (length (entry_of q.fresh s).view.ends) (entry_of q.fresh s).own
-  pub kept : q.keeps mark y.turns_left s.me.1
+  pub kept : q.keeps (nodes_of q.fresh s) mark y.turns_left s.me.1
   pub merged : IsMerged (entry_of q.fresh s).view y
   pub is_open : is_closed (entry_of q.fresh s).view.ends ≡ false
   pub turns : y.turns_left ≡ turns_left (entry_of q.fresh s).view.terms.lease (entry_of q.fresh s).view.ends
@@ -64,7 +64,7 @@ pub record Holds {O : Type 0} (q : Phases O) (s : LineSeat O) (y : Parcel) (mark
 
 pub record IsPort {O : Type 0} (q : Phases O) (label node : ℕ) (s : LineSeat O) (y : Parcel) (mark : ℕ) (state : PortState) : Type 0 where
   pub alone : Alone q.fresh s.me
-  pub rests_so : state ≢ shows.Holding → q.rests state mark (entry_of q.fresh s).own × HasNoSlot s
+  pub rests_so : state ≢ shows.Holding → q.rests (nodes_of q.fresh s) state mark (entry_of q.fresh s).own × HasNoSlot s
   pub holds_so : state ≡ shows.Holding → Holds q s y mark
   pub shows_state : (entry_of q.fresh s).view.state ≡ state
   pub label_is : (entry_of q.fresh s).view.label ≡ label

@@ -37,6 +37,10 @@ Alone fresh m = m.0 ≡ sole fresh m.0 ∷ []
 abbrev pub entry_of : {O : Type 0} → O → LineSeat O → Entry O
 entry_of fresh s = sole fresh s.me.0
 
+-- how many nodes the seat's line has, as its node knows
+abbrev pub nodes_of : {O : Type 0} → O → LineSeat O → ℕ
+nodes_of fresh s = (entry_of fresh s).view.terms.nodes
+
 -- it is the same seat
 abbrev pub SameSeat : {O : Type 0} → LineSeat O → LineSeat O → Type 0
 SameSeat old new = (new.table_id ≡ old.table_id) × (new.id ≡ old.id)
@@ -52,14 +56,14 @@ HasSlot seat y = seat.me.1 ≡ (0, y) ∷ []
 abbrev pub HasNoSlot : {O : Type 0} → LineSeat O → Type 0
 HasNoSlot seat = seat.me.1 ≡ []
 
--- the number of the seat's node
-abbrev pub IsOwnNode : {O : Type 0} → O → ℕ → LineSeat O → Type 0
-IsOwnNode fresh node seat = (node ≡ (entry_of fresh seat).view.node) × (node ≤ MOST_NODES)
+-- the number of the seat's node, of a line of so many
+abbrev pub IsOwnNode : {O : Type 0} → O → ℕ → ℕ → LineSeat O → Type 0
+IsOwnNode fresh nodes node seat = (node ≡ (entry_of fresh seat).view.node) × (node ≤ MOST_NODES) × (node ≤ nodes) × (nodes_of fresh seat ≡ nodes)
 
 -- the seat has the entry of one node, which does not hold, and stands as that of a port in this state with this mark
 pub record Rests {O : Type 0} (q : Phases O) (state : PortState) (mark : ℕ) (s : LineSeat O) : Type 0 where
   pub alone : Alone q.fresh s.me
-  pub stands : q.rests state mark (entry_of q.fresh s).own
+  pub stands : q.rests (nodes_of q.fresh s) state mark (entry_of q.fresh s).own
   pub shows_state : (entry_of q.fresh s).view.state ≡ state
   pub slot : HasNoSlot s
 
@@ -77,18 +81,18 @@ pub record Went {O : Type 0} (allows : List ℕ → List ℕ → Type 0) (fresh 
   pub goes : GoesOn allows fresh s.me t.me steps
 
 -- the request has not come to its turn, and is not withdrawn
-pub record IsEarly {O : Type 0} (rests : PortState → ℕ → O → Type 0) (mark : ℕ) (w : Entry O) : Type 0 where
-  pub stands : rests shows.Queued mark w.own
+pub record IsEarly {O : Type 0} (rests : ℕ → PortState → ℕ → O → Type 0) (mark : ℕ) (w : Entry O) : Type 0 where
+  pub stands : rests w.view.terms.nodes shows.Queued mark w.own
   pub queued : IsQueued w.view
 
 -- the request is made, and not linked to the one before yet
-pub record IsUnlinked {O : Type 0} (rests : PortState → ℕ → O → Type 0) (mark : ℕ) (w : Entry O) : Type 0 where
-  pub stands : rests shows.Linking mark w.own
+pub record IsUnlinked {O : Type 0} (rests : ℕ → PortState → ℕ → O → Type 0) (mark : ℕ) (w : Entry O) : Type 0 where
+  pub stands : rests w.view.terms.nodes shows.Linking mark w.own
   pub linking : IsLinking w.view
 
 -- the request has not come to its turn, and is withdrawn
-pub record IsGivenUp {O : Type 0} (rests : PortState → ℕ → O → Type 0) (mark : ℕ) (w : Entry O) : Type 0 where
-  pub stands : rests shows.Rolled mark w.own
+pub record IsGivenUp {O : Type 0} (rests : ℕ → PortState → ℕ → O → Type 0) (mark : ℕ) (w : Entry O) : Type 0 where
+  pub stands : rests w.view.terms.nodes shows.Rolled mark w.own
   pub withdrawn : IsWithdrawn w.view
 
 -- the node has the line y, which is open, or closed
@@ -143,4 +147,4 @@ parked st m n m' = (m'.0 ≡ m.0) × (m'.1 ≡ [])
 -- that says that the turn may have come it has, with the line; and else the node waits on.
 pub record Looked {O : Type 0} (q : Phases O) (may_come : ℕ → ℕ → Bool) (mark found : ℕ) (new : Contents O) : Type 0 where
   pub waits : may_come mark (found % 2 ^ 32) ≡ false → (new.1 ≡ []) × IsEarly q.rests mark (sole q.fresh new.0)
-  pub comes : may_come mark (found % 2 ^ 32) ≡ true → (y : Parcel) × q.brings mark y new.1 × Comes q.holding q.refused mark (sole q.fresh new.0) y
+  pub comes : may_come mark (found % 2 ^ 32) ≡ true → (y : Parcel) × q.brings (sole q.fresh new.0).view.terms.nodes mark y new.1 × Comes q.holding q.refused mark (sole q.fresh new.0) y

@@ -28,7 +28,7 @@ impl<K: Keep, Q: Discipline<K>, W: Waking> Line<K, Q, W> {
         closed: A,
     ) -> A
         requires seat { IsSeated K.good K.allows self.now.table.shared.key self.now.table.shared.table_id Q.phases.fresh node seat.old }
-        requires comes { HasArrived Q.phases mark seat.old }
+        requires comes { HasArrived Q.phases self.now.table.shared.key.terms.nodes mark seat.old }
         requires few { steps.old ≤ 4 }
         ensures seat { IsSeated K.good K.allows self.now.table.shared.key self.now.table.shared.table_id Q.phases.fresh node seat.new }
         ensures port { (label : ℕ) → (entry_of Q.phases.fresh seat.old).view.label ≡ label → IsPort Q.phases label node seat.new parcel.new mark state.new }
@@ -40,7 +40,8 @@ impl<K: Keep, Q: Discipline<K>, W: Waking> Line<K, Q, W> {
         ensures bound { steps.new + 1 ≤ steps.old + Q.most self.now.table.shared.key.terms.nodes }
     {
         let ground = &self.table.shared;
-        Q::take(ground, seat, mark, parcel);
+        let size = self.width.size;
+        Q::take(ground, seat, size, mark, parcel);
         if !parcel.closed {
             *state = PortState::Holding;
             return granted;
@@ -49,7 +50,7 @@ impl<K: Keep, Q: Discipline<K>, W: Waking> Line<K, Q, W> {
             state: left,
             steps: more,
             to_wake,
-        } = pass_on(ground, seat, node, mark);
+        } = pass_on(ground, seat, size, node, mark);
         *state = left;
         *steps += more;
         self.wake(to_wake);
@@ -63,20 +64,22 @@ impl<K: Keep, Q: Discipline<K>, W: Waking> Line<K, Q, W> {
 fn pass_on<K: Keep, Q: Discipline<K>>(
     ground: &Ground<K, Q>,
     seat: &mut LineSeat<Q::Own>,
+    size: u64,
     node: u64,
     mark: u64,
 ) -> Released
-    requires seat { IsSeatOfNode Q.word_count ground.now.table_id Q.phases.fresh node seat.old }
+    requires seat { IsSeatOfNode Q.word_count ground.now.key.terms.nodes ground.now.table_id Q.phases.fresh node seat.old }
+    requires size { size ≡ Q.size_for ground.now.key.terms.nodes }
     requires alone { Alone Q.phases.fresh seat.old.me }
     requires nodes { HasNodes (entry_of Q.phases.fresh seat.old).view }
-    requires comes { HasLaidClosed Q.phases mark seat.old }
+    requires comes { HasLaidClosed Q.phases ground.now.key.terms.nodes mark seat.old }
     ensures went { Went K.allows Q.phases.fresh seat.old seat.new result.steps }
     ensures count { (entry_of Q.phases.fresh seat.new).view.count ≡ (entry_of Q.phases.fresh seat.old).view.count }
     ensures told { IsPassedOn Q.phases seat.new result.state }
     ensures not_held { result.state ≢ PortState.Holding }
-    ensures to_wake { result.to_wake.word < Q.word_count }
+    ensures to_wake { result.to_wake.word < Q.word_count ground.now.key.terms.nodes }
     ensures wakes { result.to_wake.word ≡ Q.turn_word (entry_of Q.phases.fresh seat.new).view }
     ensures bound { result.steps + 1 ≤ Q.most (entry_of Q.phases.fresh seat.old).view.terms.nodes }
 {
-    Q::release(ground, seat, node, mark, true)
+    Q::release(ground, seat, size, node, mark, true)
 }

@@ -81,7 +81,13 @@ impl<K: Keep, Q: Discipline<K>, W: Waking> LineSync<K> for Line<K, Q, W> {
 
     fn enqolb(&self, port: &mut Port<Q>) -> Enq {
         let ground = &self.table.shared;
-        let made = Q::ask(ground, &mut port.seat, port.node, port.state);
+        let made = Q::ask(
+            ground,
+            &mut port.seat,
+            self.width.size,
+            port.node,
+            port.state,
+        );
         port.steps = made.steps;
         match made.answer {
             Asked::Busy => Enq::Busy,
@@ -111,7 +117,13 @@ impl<K: Keep, Q: Discipline<K>, W: Waking> LineSync<K> for Line<K, Q, W> {
         let ground = &self.table.shared;
         port.looks = port.looks.and_one();
         port.steps = 1;
-        if !Q::look(ground, &mut port.seat, port.node, port.mark) {
+        if !Q::look(
+            ground,
+            &mut port.seat,
+            self.width.size,
+            port.node,
+            port.mark,
+        ) {
             return Poll::Waiting;
         }
         self.arrive(
@@ -129,7 +141,13 @@ impl<K: Keep, Q: Discipline<K>, W: Waking> LineSync<K> for Line<K, Q, W> {
     fn withdraw(&self, port: &mut Port<Q>) -> Out {
         let ground = &self.table.shared;
         port.steps = 1;
-        if !Q::roll(ground, &mut port.seat, port.node, port.mark) {
+        if !Q::roll(
+            ground,
+            &mut port.seat,
+            self.width.size,
+            port.node,
+            port.mark,
+        ) {
             port.state = PortState::Rolled;
             return Out::Withdrawn;
         }
@@ -198,9 +216,17 @@ impl<K: Keep, Q: Discipline<K>, W: Waking> Line<K, Q, W> {
         ensures counts { Counts (call_steps Q.asks_in Q.lets_go_in (Q.most self.now.table.shared.key.terms.nodes)) (Q.most self.now.table.shared.key.terms.nodes + 3) call.releases port.old.view port.new.view port.old.counters port.new.counters }
     {
         let ground = &self.table.shared;
+        let size = self.width.size;
         let closed = port.parcel.closes(shut);
-        Q::put(ground, &mut port.seat, port.mark, &port.parcel, closed);
-        let gone = Q::release(ground, &mut port.seat, port.node, port.mark, closed);
+        Q::put(
+            ground,
+            &mut port.seat,
+            size,
+            port.mark,
+            &port.parcel,
+            closed,
+        );
+        let gone = Q::release(ground, &mut port.seat, size, port.node, port.mark, closed);
         let Released {
             state,
             steps,

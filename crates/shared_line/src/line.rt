@@ -4,21 +4,21 @@ ghost use Rattle.qolb_model.specs.declared.terms.TheConstants.{MOST_NODES};
 
 use crate::port::Port;
 use crate::queue::Discipline;
-use crate::rule::{Entry, Ground, Parcel, Rule, Setup};
+use crate::rule::{Ground, LineTable};
 use crate::sleeping::{Sleepers, Waking};
-use atomic_table::Table;
 use qolb_model::Keep;
-use std::alloc::Global;
-use std::collections::LinkedList;
 use std::marker::PhantomData;
 
-/// How many words a line's table has: those of its queue.
+/// How many words a line's table has, and by which number the calls find them: those of its queue, for so many nodes.
 #[derive(Drop)]
 pub struct Width<K: Keep, Q: Discipline<K>> {
     pub(crate) words: usize,
+    pub(crate) nodes: u64,
+    pub(crate) size: u64,
     /// As the table that all its threads share, so that the line may go wherever that may.
     pub(crate) of: PhantomData<Ground<K, Q>>,
-    ghost sized: { words ≡ Q.Discipline.word_count },
+    ghost sized: { words ≡ Q.Discipline.word_count nodes },
+    ghost fits: { size ≡ Q.Discipline.size_for nodes },
     ghost some: { 0 < words },
 }
 
@@ -29,7 +29,7 @@ pub struct Width<K: Keep, Q: Discipline<K>> {
 /// most one open request.
 #[derive(Drop)]
 pub struct Line<K: Keep, Q: Discipline<K>, W: Waking = Sleepers> {
-    pub(crate) table: Table<Parcel, LinkedList<Entry<Q::Own>>, Setup, Rule<K, Q>, Global>,
+    pub(crate) table: LineTable<K, Q>,
     pub(crate) label: u64,
     pub(crate) nodes: u64,
     pub(crate) width: Width<K, Q>,
@@ -37,6 +37,7 @@ pub struct Line<K: Keep, Q: Discipline<K>, W: Waking = Sleepers> {
     ghost sized: { table.shared.table_id.words ≡ width.words },
     ghost labelled: { label ≡ table.shared.key.label },
     ghost counted: { nodes ≡ table.shared.key.terms.nodes },
+    ghost for_nodes: { width.nodes ≡ nodes },
     ghost some_nodes: { 1 ≤ nodes },
     ghost few_nodes: { nodes ≤ MOST_NODES },
 }

@@ -17,8 +17,8 @@ pub(crate) fn meet_seats<K: Keep, Q: Discipline<K>>(
     a: &mut LineSeat<Q::Own>,
     b: &mut LineSeat<Q::Own>,
 )
-    requires table_a { IsSeatOf Q.word_count ground.now.table_id a.old }
-    requires table_b { IsSeatOf Q.word_count ground.now.table_id b.old }
+    requires table_a { IsSeatOf (Q.word_count ground.now.key.terms.nodes) ground.now.table_id a.old }
+    requires table_b { IsSeatOf (Q.word_count ground.now.key.terms.nodes) ground.now.table_id b.old }
     requires ready { Alone Q.phases.fresh a.old.me × Alone Q.phases.fresh b.old.me }
     requires slot { HasNoSlot b.old }
     ensures { HaveMet K.allows Q.phases.fresh a.old b.old a.new b.new }

@@ -95,7 +95,7 @@ impl<K: Keep, Q: Discipline<K>, W: Waking> Line<K, Q, W> {
         ensures { IfOk result (λ t. (t.1.table_id ≡ t.0.table.shared.table_id) × (t.0.table.shared.key ≡ setup.now) × (t.1.me ≡ (newcomers Q.phases.fresh setup.now, []))) }
     {
         let Setup { label, terms } = *setup;
-        let words = Q::first_words(alloc)?;
+        let words = Q::first_words(alloc, terms.nodes)?;
         let parcel = Parcel {
             bytes: terms.opening,
             mask: Mask(0),
@@ -104,9 +104,11 @@ impl<K: Keep, Q: Discipline<K>, W: Waking> Line<K, Q, W> {
         };
         let width = Width {
             words: words.len(),
+            nodes: terms.nodes,
+            size: Q::size_for(terms.nodes),
             of: PhantomData,
         };
-        let slots = vec![in alloc; parcel; Q::slot_count()]?;
+        let slots = vec![in alloc; parcel; Q::slot_count(terms.nodes)]?;
         match Table::new(alloc, words.as_slice(), slots, setup) {
             Ok((table, seat)) => Ok((
                 Line {

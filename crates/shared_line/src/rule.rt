@@ -3,9 +3,10 @@ ghost use Rattle.std.specs.Prelude.{◌≡◌, ◌||◌};
 ghost use Rattle.qolb_model.specs.Steps.{is_one};
 
 use crate::queue::{Ruled, Shape};
-use atomic_table::{Seat, Shared, TableRule};
+use atomic_table::{Seat, Shared, Table, TableRule};
 use line_lanes::{Line64, Mask};
 use qolb_model::{Keep, Terms, View};
+use std::alloc::Global;
 use std::collections::LinkedList;
 use std::marker::PhantomData;
 
@@ -62,6 +63,10 @@ impl<K: Keep, Q: Ruled<K>> TableRule<Parcel, LinkedList<Entry<Q::Own>>, Setup> f
 
 /// The table of a line, as all its nodes see it.
 pub type Ground<K, Q> = Shared<Parcel, LinkedList<Entry<<Q as Shape>::Own>>, Setup, Rule<K, Q>>;
+
+/// The table of a line, as the line owns it.
+pub type LineTable<K, Q> =
+    Table<Parcel, LinkedList<Entry<<Q as Shape>::Own>>, Setup, Rule<K, Q>, Global>;
 
 /// A seat of the table: a port has one.
 pub type LineSeat<O> = Seat<Parcel, LinkedList<Entry<O>>>;

@@ -6,27 +6,31 @@ ghost use Rattle.shared_line.specs.Steps.{Rests};
 use crate::line::Line;
 use crate::port::Port;
 use crate::queue::Discipline;
-use crate::rule::{Ground, LineSeat};
+use crate::rule::{LineSeat, LineTable};
 use crossbeam_utils::CachePadded;
 use qolb_model::{Keep, PortState, Sleeping};
+use std::array::from_fn;
 use std::sync::Wait;
 use std::sync::atomic::{AtomicU64, Ordering};
 use std::time::Duration;
 
-/// The word at which the one waits to whom a line went, and may sleep. Any word where it went to nobody.
+/// The duty to wake the next holder, and ahead of its turn the waiter behind it.
 ///
-/// It is not `Drop`, and this module alone can take it apart. So whatever lets a line go has to wake: it gets rid of it in no other way.
+/// `word` is the word on which the node that was granted the line may sleep, and `ahead` that of the waiter behind it; any number if there
+/// is no such node. The type is not `Drop`, and this module alone can take it apart: a release gets rid of it by `Line::wake` alone.
 pub struct ToWake {
     word: usize,
+    ahead: usize,
 }
 
 impl ToWake {
-    /// Whoever sleeps at this word.
+    /// Whoever sleeps at this word, and ahead of its turn whoever sleeps at the second.
     #[inline(always)]
-    pub fn at(word: usize) -> ToWake
-        ensures { result.word ≡ word }
+    pub fn at(word: usize, ahead: usize) -> ToWake
+        ensures word { result.word ≡ word }
+        ensures ahead { result.ahead ≡ ahead }
     {
-        ToWake { word }
+        ToWake { word, ahead }
     }
 }
 
@@ -35,9 +39,9 @@ pub trait Waking: Drop {
     /// That of a new line, at which nobody sleeps.
     fn none() -> Self;
 
-    /// Wakes who sleeps at the word that was granted.
-    fn wake<K: Keep, Q: Discipline<K>>(&self, ground: &Ground<K, Q>, word: usize)
-        requires word { word < ground.now.table_id.words };
+    /// Wakes who sleeps at the word that was granted, and who sleeps at the word ahead, if the table has it.
+    fn wake<K: Keep, Q: Discipline<K>>(&self, table: &LineTable<K, Q>, word: usize, ahead: usize)
+        requires word { word < table.now.shared.table_id.words };
 }
 
 /// Nobody sleeps at the line, and no release wakes: what a lock takes that may not call the system.
@@ -50,45 +54,83 @@ impl Waking for NoSleepers {
     }
 
     #[inline(always)]
-    fn wake<K: Keep, Q: Discipline<K>>(&self, _ground: &Ground<K, Q>, _word: usize) {}
+    fn wake<K: Keep, Q: Discipline<K>>(&self, _: &LineTable<K, Q>, _word: usize, _ahead: usize) {}
 }
 
-/// How many waiters of a line sleep, or are about to.
+/// In how many groups sleepers are counted, by the word on which they sleep.
+const GROUPS: usize = 16;
+
+/// How many words lie between two on which nodes wait, in each lock.
+const STRIDE: usize = 16;
+
+/// The group of those who sleep on a word.
+fn group_of(word: usize) -> usize
+    ensures { result < GROUPS }
+{
+    word / STRIDE % GROUPS
+}
+
+/// How many waiters of a line sleep, or are about to: all of them, and those of each group.
 ///
-/// It is no word of the table, so no rule speaks of it. Each release reads it, so nothing else that is written lies on its cache line.
+/// These are no words of the table, so no rule speaks of them. Each release reads `all`, so nothing else that is written lies on its cache
+/// line. It reads a group only if somebody sleeps, and so calls the system where somebody may sleep on the very word, and hardly elsewhere.
 #[derive(Drop)]
 pub struct Sleepers {
-    count: CachePadded<AtomicU64>,
+    all: CachePadded<AtomicU64>,
+    groups: CachePadded<[AtomicU64; GROUPS]>,
+}
+
+impl Sleepers {
+    fn enter(&self, word: usize) {
+        self.groups[group_of(word)].fetch_add(1, Ordering::SeqCst);
+        self.all.fetch_add(1, Ordering::SeqCst);
+    }
+
+    fn leave(&self, word: usize) {
+        self.all.fetch_sub(1, Ordering::SeqCst);
+        self.groups[group_of(word)].fetch_sub(1, Ordering::SeqCst);
+    }
+
+    /// Ends each sleep on the word, and on the word ahead. It is apart, and cold: if nobody sleeps a release is as short as without it.
+    #[cold]
+    #[inline(never)]
+    fn wake_both<K: Keep, Q: Discipline<K>>(
+        &self,
+        table: &LineTable<K, Q>,
+        word: usize,
+        ahead: usize,
+    )
+        requires word { word < table.now.shared.table_id.words }
+    {
+        if self.groups[group_of(word)].load(Ordering::SeqCst) != 0 {
+            table.shared.wake_all(word);
+        }
+        if ahead < table.word_count() && self.groups[group_of(ahead)].load(Ordering::SeqCst) != 0 {
+            table.shared.wake_all(ahead);
+        }
+    }
 }
 
 impl Waking for Sleepers {
     fn none() -> Sleepers {
         Sleepers {
-            count: CachePadded::new(AtomicU64::new(0)),
+            all: CachePadded::new(AtomicU64::new(0)),
+            groups: CachePadded::new(from_fn(|_| AtomicU64::new(0))),
         }
     }
 
     #[inline(always)]
-    fn wake<K: Keep, Q: Discipline<K>>(&self, ground: &Ground<K, Q>, word: usize) {
-        if self.count.load(Ordering::SeqCst) != 0 {
-            wake_at(ground, word);
+    fn wake<K: Keep, Q: Discipline<K>>(&self, table: &LineTable<K, Q>, word: usize, ahead: usize) {
+        if self.all.load(Ordering::SeqCst) != 0 {
+            self.wake_both(table, word, ahead);
         }
     }
-}
-
-/// Ends each sleep at the word. It is apart, and cold: where nobody sleeps a release is as short as without it.
-#[cold]
-#[inline(never)]
-fn wake_at<K: Keep, Q: Discipline<K>>(ground: &Ground<K, Q>, word: usize)
-    requires word { word < ground.now.table_id.words }
-{
-    ground.wake_all(word);
 }
 
 impl<K: Keep, Q: Discipline<K>> Line<K, Q> {
     /// How many waiters sleep, or are about to.
     pub fn sleepers(&self) -> u64 {
-        self.sleepers.count.load(Ordering::SeqCst)
+        self.sleepers.all.load(Ordering::SeqCst)
     }
 
     /// Sleeps at the word where the node waits, so long as its lower half is this one, by which the node's turn has not come.
@@ -101,36 +143,37 @@ impl<K: Keep, Q: Discipline<K>> Line<K, Q> {
         low: u32,
         at_most: Duration,
     )
-        requires seat { IsSeatOfNode Q.word_count self.now.table.shared.table_id Q.phases.fresh node seat.now }
+        requires seat { IsSeatOfNode Q.word_count self.now.table.shared.key.terms.nodes self.now.table.shared.table_id Q.phases.fresh node seat.now }
         requires rests { Rests Q.phases PortState.Queued mark seat.now }
         requires not_come { Q.may_come mark low ≡ false }
     {
-        let word = Q::awaited(node, mark);
+        let word = Q::awaited(&self.table.shared, self.width.size, node, mark);
         self.table.shared.park_timeout(rt, word, low, at_most);
     }
 }
 
 impl<K: Keep, Q: Discipline<K>> Sleeping<K> for Line<K, Q> {
-    /// It is counted before its sleep begins, and a release looks at the count after its grant. So either the sleep finds the grant, or the
-    /// release finds a sleeper; and as the sleep begins only where the word is what was seen, a wake between look and sleep is not slept over.
+    /// It is counted before its sleep begins, and a release looks at the counts after its grant. So either the sleep finds the grant, or the
+    /// release finds a sleeper (a Dekker handshake); and as the sleep begins only if the word is what was seen, a wake between look and
+    /// sleep is not slept over.
     fn sleep<R: Wait>(&self, rt: &R, port: &Port<Q>, at_most: Duration) {
-        let word = Q::awaited(port.node, port.mark);
-        self.sleepers.count.fetch_add(1, Ordering::SeqCst);
+        let word = Q::awaited(&self.table.shared, self.width.size, port.node, port.mark);
+        self.sleepers.enter(word);
         let low = (self.table.shared.peek(word) % (1 << 32)) as u32;
         if !Q::may_have_come(port.mark, low) {
             self.park(rt, &port.seat, port.node, port.mark, low, at_most);
         }
-        self.sleepers.count.fetch_sub(1, Ordering::SeqCst);
+        self.sleepers.leave(word);
     }
 }
 
 impl<K: Keep, Q: Discipline<K>, W: Waking> Line<K, Q, W> {
-    /// Wakes who sleeps at the word that was granted.
+    /// Wakes who sleeps at the word that was granted, and who sleeps at the one ahead.
     #[inline(always)]
     pub(crate) fn wake(&self, to_wake: ToWake)
-        requires { to_wake.word < Q.word_count }
+        requires { to_wake.word < Q.word_count self.now.table.shared.key.terms.nodes }
     {
-        let ToWake { word } = to_wake;
-        self.sleepers.wake(&self.table.shared, word);
+        let ToWake { word, ahead } = to_wake;
+        self.sleepers.wake(&self.table, word, ahead);
     }
 }

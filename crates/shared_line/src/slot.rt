@@ -4,7 +4,7 @@ ghost use mathlib.Core.Option.{some};
 ghost use lib.ListN.{get_elem?};
 ghost use Rattle.std.specs.Slots.{slots_items, slots_len, IsFull};
 ghost use Rattle.shared_line.specs.Slots.{lies_alone, kept_alone, IsCopy};
-ghost use Rattle.shared_line.specs.Steps.{SameSeat, IsSeatOf, Alone, entry_of};
+ghost use Rattle.shared_line.specs.Steps.{SameSeat, IsSeatOf, Alone, entry_of, nodes_of};
 ghost use Rattle.shared_line.specs.Ports.{IsPutBack};
 ghost use Rattle.shared_line.specs.declared.rule.Parcel.{Parcel};
 
@@ -80,9 +80,9 @@ pub fn unlay_alone(closed: Closed<Parcel, Global>) -> Parcel
 ///
 /// A slot goes home only at a step on a word, so word 0 is loaded, which nobody looks at.
 pub(crate) fn park<K: Keep, Q: Discipline<K>>(ground: &Ground<K, Q>, seat: &mut LineSeat<Q::Own>)
-    requires table { IsSeatOf Q.word_count ground.now.table_id seat.old }
+    requires table { IsSeatOf (Q.word_count ground.now.key.terms.nodes) ground.now.table_id seat.old }
     requires ready { Alone Q.phases.fresh seat.old.me × ((entry_of Q.phases.fresh seat.old).view.state ≡ PortState.Holding) }
-    requires kept { (mark : ℕ) × (left : Option ℕ) × Q.phases.keeps mark left seat.old.me.1 }
+    requires kept { (mark : ℕ) × (left : Option ℕ) × Q.phases.keeps (nodes_of Q.phases.fresh seat.old) mark left seat.old.me.1 }
     ensures { (seat.new.table_id ≡ seat.old.table_id) × (seat.new.me ≡ (seat.old.me.0, [])) }
 {
     ground.load::<Park>(seat, 0);

@@ -1,12 +1,15 @@
 -- What the steps on cells leave them to say.
+use Rattle.std.proofs.Math.Nat.{add-mod_right}
 use Rattle.std.proofs.Common.{◌≡◌, ◌≢◌, ℕ, ◌+◌, ◌-◌, ◌/◌, ◌%◌, ◌^◌, ◌<◌, ◌≤◌, Bool, sym, refl, ap, ◌∙◌, subst, arith}
 use mathlib.Core.Logic.{dite}
 use native.Mathlib.Decide.{ℕ_discrete, dec_le}
 use Rattle.atomic_table.proofs.Lists.{one_turn}
 use Rattle.qolb_model.specs.declared.terms.TheConstants.{MOST_NODES}
 use Rattle.qolb_model.proofs.Updates.{put, put_here, put_else}
-use Rattle.array_line.specs.declared.words.TheConstants.{CELLS}
-use Rattle.array_line.specs.Words.{ticket_of, cell_of}
+use Rattle.array_line.specs.Counting.{cells_for}
+use Rattle.array_line.proofs.Counting.{two_cells}
+use Rattle.array_line.specs.Words.{ticket_of}
+use Rattle.ticket_line.specs.Words.{cell_of}
 use Rattle.array_line.proofs.Taking.{Takes, StaysBehind, cells_apart}
 use Rattle.array_line.proofs.Roll.{Withdraws}
 use Rattle.array_line.proofs.Grant.{GrantsNext}
@@ -17,20 +20,20 @@ use Rattle.ticket_line.specs.Steps.{is_other, is_granted, is_granted_half, withd
 use Rattle.ticket_line.proofs.Numbers.{granted_ticket, withdrawn_ticket, not_granted, not_granted_half, number_of_granted, number_of_withdrawn, by_nobody, by_node}
 
 -- a granted cell has the own ticket, by which nobody waits, and whoever takes the line leaves it that number
-pub takes_by : (waits : ℕ → ℕ → Type 0) (place n : ℕ) (change : ℕ → ℕ) → (waits place (granted place) → ⊥)
-    → ((word : ℕ) → word ≡ granted place → change word / UNIT ≡ number place) → Takes TicketCells waits place n change
-takes_by waits place n change own keeps cleared marks says low free c = (
+pub takes_by : (nodes : ℕ) (waits : ℕ → ℕ → Type 0) (place n : ℕ) (change : ℕ → ℕ) → (waits place (granted place) → ⊥)
+    → ((word : ℕ) → word ≡ granted place → change word / UNIT ≡ number place) → Takes (cells_for nodes) (TicketCells nodes) waits place n change
+takes_by nodes waits place n change own keeps cleared marks says low free c = (
   (λ w. own (subst (waits place) (c.granted refl) w)),
   record {
     kept = refl;
-    turn = ap (λ q. q / UNIT) (put_here says (cell_of place) (change (says (cell_of place)))) ∙ keeps (says (cell_of place)) (c.granted refl);
+    turn = ap (λ q. q / UNIT) (put_here says (cell_of nodes place) (change (says (cell_of nodes place)))) ∙ keeps (says (cell_of nodes place)) (c.granted refl);
     granted = λ e. absurd (omega arith);
-    later = λ k a b. subst (IsLater (place + k) (marks (place + k))) (sym (put_else says (cell_of place) (change (says (cell_of place))) (cell_of (place + k)) (cells_apart place k a b))) (c.later k a b);
+    later = λ k a b. subst (IsLater nodes (place + k) (marks (place + k))) (sym (put_else says (cell_of nodes place) (change (says (cell_of nodes place))) (cell_of nodes (place + k)) (cells_apart (cells_for nodes) place k a b))) (c.later k a b);
   },
 )
 
-pub takes : (place n : ℕ) (change : ℕ → ℕ) → ((word : ℕ) → word ≡ granted place → change word / UNIT ≡ number place) → Takes TicketCells is_other place n change
-takes place n change = takes_by is_other place n change (λ other. other (sym (granted_ticket place)))
+pub takes : (nodes : ℕ) (place n : ℕ) (change : ℕ → ℕ) → ((word : ℕ) → word ≡ granted place → change word / UNIT ≡ number place) → Takes (cells_for nodes) (TicketCells nodes) is_other place n change
+takes nodes place n change = takes_by nodes is_other place n change (λ other. other (sym (granted_ticket place)))
 
 -- as by a look, and by a withdrawal that comes too late
 pub looked : (place word : ℕ) → word ≡ granted place → word / UNIT ≡ number place
@@ -40,46 +43,46 @@ pub written : (place n new : ℕ) → n ≤ MOST_NODES → new ≡ withdrawn (ti
 written place n new high e = number_of_withdrawn place n new high (e ∙ withdrawn_ticket place n)
 
 -- behind the turn a cell is a later one
-later_at : (ended hand place : ℕ) (cleared : Bool) (marks says : ℕ → ℕ) → ended < place → place < ended + CELLS → TicketCells ended hand cleared marks says → IsLater place (marks place) (says (cell_of place))
-later_at ended hand place cleared marks says below near c = let k : ended + (place - ended) ≡ place = omega arith in
-    subst (λ q. IsLater q (marks q) (says (cell_of q))) k (c.later (place - ended) (omega arith) (omega arith))
+later_at : (nodes : ℕ) (ended hand place : ℕ) (cleared : Bool) (marks says : ℕ → ℕ) → ended < place → place < ended + cells_for nodes → TicketCells nodes ended hand cleared marks says → IsLater nodes place (marks place) (says (cell_of nodes place))
+later_at nodes ended hand place cleared marks says below near c = let k : ended + (place - ended) ≡ place = omega arith in
+    subst (λ q. IsLater nodes q (marks q) (says (cell_of nodes q))) k (c.later (place - ended) (omega arith) (omega arith))
 
 -- so it does not say that the turn has come, nor does its lower half
-pub stays_half : (place : ℕ) → StaysBehind TicketCells is_granted_half place
-stays_half place ended hand cleared marks says below near free c e = not_granted_half place (marks place) (says (cell_of place)) (later_at ended hand place cleared marks says below near c) free (e ∙ ap (λ k. k % 2 ^ 32) (granted_ticket place))
+pub stays_half : (nodes : ℕ) (place : ℕ) → StaysBehind (cells_for nodes) (TicketCells nodes) is_granted_half place
+stays_half nodes place ended hand cleared marks says below near free c e = not_granted_half nodes place (marks place) (says (cell_of nodes place)) (later_at nodes ended hand place cleared marks says below near c) free (e ∙ ap (λ k. k % 2 ^ 32) (granted_ticket place))
 
-pub stays : (place : ℕ) → StaysBehind TicketCells is_granted place
-stays place ended hand cleared marks says below near free c e = not_granted place (marks place) (says (cell_of place)) (later_at ended hand place cleared marks says below near c) free (e ∙ granted_ticket place)
+pub stays : (nodes : ℕ) (place : ℕ) → StaysBehind (cells_for nodes) (TicketCells nodes) is_granted place
+stays nodes place ended hand cleared marks says below near free c e = not_granted nodes place (marks place) (says (cell_of nodes place)) (later_at nodes ended hand place cleared marks says below near c) free (e ∙ granted_ticket place)
 
 -- the own number is written into the own cell, with the node
-pub withdraws : (place n new : ℕ) → new ≡ withdrawn (ticket_of place) n → Withdraws TicketCells place n (λ _. new)
-withdraws place n new add ended hand cleared marks says low high below near free c = record {
+pub withdraws : (nodes : ℕ) (place n new : ℕ) → new ≡ withdrawn (ticket_of place) n → Withdraws (cells_for nodes) (TicketCells nodes) place n (λ _. new)
+withdraws nodes place n new add ended hand cleared marks says low high below near free c = record {
   kept = c.kept;
   turn = ap (λ q. q / UNIT) at_turn ∙ c.turn;
   granted = λ e. at_turn ∙ c.granted e;
   later = λ k a b. dite (ℕ_discrete (ended + k) place)
-      (λ e. subst (λ p. IsLater p (put marks place n p) (put says (cell_of place) new (cell_of p))) (sym e) own_cell)
-      (λ ne. subst (λ (z : ℕ × ℕ). IsLater (ended + k) z.0 z.1) (λ j. (sym (put_else marks place n (ended + k) ne) j, sym (put_else says (cell_of place) new (cell_of (ended + k)) (apart (ended + k) (omega arith) (omega arith) ne)) j)) (c.later k a b));
+      (λ e. subst (λ p. IsLater nodes p (put marks place n p) (put says (cell_of nodes place) new (cell_of nodes p))) (sym e) own_cell)
+      (λ ne. subst (λ (z : ℕ × ℕ). IsLater nodes (ended + k) z.0 z.1) (λ j. (sym (put_else marks place n (ended + k) ne) j, sym (put_else says (cell_of nodes place) new (cell_of nodes (ended + k)) (apart (ended + k) (omega arith) (omega arith) ne)) j)) (c.later k a b));
 }
   where
-    apart : (p : ℕ) → ended ≤ p → p < ended + CELLS → p ≢ place → cell_of p ≢ cell_of place
-    apart p a b ne e = dite (dec_le p place) (λ l. ne (one_turn p place CELLS l (omega arith) e)) (λ g. ne (sym (one_turn place p CELLS (omega arith) (omega arith) (sym e))))
+    apart : (p : ℕ) → ended ≤ p → p < ended + cells_for nodes → p ≢ place → cell_of nodes p ≢ cell_of nodes place
+    apart p a b ne e = dite (dec_le p place) (λ l. ne (one_turn p place (cells_for nodes) l (omega arith) e)) (λ g. ne (sym (one_turn place p (cells_for nodes) (omega arith) (omega arith) (sym e))))
 
-    at_turn : put says (cell_of place) new (cell_of ended) ≡ says (cell_of ended)
-    at_turn = put_else says (cell_of place) new (cell_of ended) (apart ended (omega arith) (omega arith) (λ z. omega arith))
+    at_turn : put says (cell_of nodes place) new (cell_of nodes ended) ≡ says (cell_of nodes ended)
+    at_turn = put_else says (cell_of nodes place) new (cell_of nodes ended) (apart ended (omega arith) (omega arith) (λ z. omega arith))
 
     -- the own cell names the node
-    own_cell : IsLater place (put marks place n place) (put says (cell_of place) new (cell_of place))
+    own_cell : IsLater nodes place (put marks place n place) (put says (cell_of nodes place) new (cell_of nodes place))
     own_cell = record {
-      withdrawn = λ _. put_here says (cell_of place) new ∙ add ∙ withdrawn_ticket place n ∙ ap (withdrawn place) (sym (put_here marks place n));
+      withdrawn = λ _. put_here says (cell_of nodes place) new ∙ add ∙ withdrawn_ticket place n ∙ ap (withdrawn place) (sym (put_here marks place n));
       before = λ none. absurd (let k = put_here marks place n in omega arith);
     }
 
 -- the next number is written into the next cell
-pub grants : (ended new : ℕ) (cleared : Bool) → new ≡ granted (ticket_of (ended + 1)) → GrantsNext TicketCells withdrawn_by withdrawn_by ended cleared (λ _. new)
-grants ended new cleared is hand marks says far c = (
+pub grants : (nodes : ℕ) (ended new : ℕ) (cleared : Bool) → new ≡ granted (ticket_of (ended + 1)) → GrantsNext (cells_for nodes) (TicketCells nodes) withdrawn_by withdrawn_by ended cleared (λ _. new)
+grants nodes ended new cleared is hand marks says far c = (
   (λ free. (
-    by_nobody (ended + 1) (marks (ended + 1)) (says (cell_of (ended + 1))) found free,
+    by_nobody nodes (ended + 1) (marks (ended + 1)) (says (cell_of nodes (ended + 1))) found free,
     record {
       kept = refl;
       turn = number_of_granted (ended + 1) _ granted_cell;
@@ -87,7 +90,7 @@ grants ended new cleared is hand marks says far c = (
       later = later_cells;
     },
   )),
-  (λ rolled high held. let by = by_node (ended + 1) (marks (ended + 1)) (says (cell_of (ended + 1))) found rolled high in (
+  (λ rolled high held. let by = by_node nodes (ended + 1) (marks (ended + 1)) (says (cell_of nodes (ended + 1))) found rolled high in (
     (λ z. absurd (above (sym by ∙ z) rolled)),
     by,
     record {
@@ -102,22 +105,22 @@ grants ended new cleared is hand marks says far c = (
     above : marks (ended + 1) ≡ 0 → 0 < marks (ended + 1) → ⊥
     above z low = omega arith
 
-    found : IsLater (ended + 1) (marks (ended + 1)) (says (cell_of (ended + 1)))
-    found = c.later 1 (omega arith) (omega arith)
+    found : IsLater nodes (ended + 1) (marks (ended + 1)) (says (cell_of nodes (ended + 1)))
+    found = c.later 1 (omega arith) (let two = two_cells nodes in omega arith)
 
-    granted_cell : put says (cell_of (ended + 1)) new (cell_of (ended + 1)) ≡ granted (ended + 1)
-    granted_cell = put_here says (cell_of (ended + 1)) new ∙ is ∙ granted_ticket (ended + 1)
+    granted_cell : put says (cell_of nodes (ended + 1)) new (cell_of nodes (ended + 1)) ≡ granted (ended + 1)
+    granted_cell = put_here says (cell_of nodes (ended + 1)) new ∙ is ∙ granted_ticket (ended + 1)
 
     -- the last cell is the one that the turn has left
-    left : (p : ℕ) → p ≡ ended + CELLS → IsLater p (marks p) (says (cell_of p))
+    left : (p : ℕ) → p ≡ ended + cells_for nodes → IsLater nodes p (marks p) (says (cell_of nodes p))
     left p n = record {
       withdrawn = λ m. absurd (let z : marks p ≡ 0 = ap marks n ∙ far in omega arith);
-      before = λ _. ap (λ q. says q / UNIT) (let w : cell_of p ≡ cell_of ended = omega arith in w) ∙ c.turn ∙ ap (λ q. q % NUMBERS) (let w : ended + 1 ≡ p + 1 - CELLS = omega arith in w);
+      before = λ _. ap (λ q. says q / UNIT) (ap (cell_of nodes) n ∙ add-mod_right ended (cells_for nodes)) ∙ c.turn ∙ ap (λ q. q % NUMBERS) (let w : ended + 1 ≡ p + 1 - cells_for nodes = omega arith in w);
     }
 
-    old : (k : ℕ) → 0 < k → k < CELLS → Dec (k + 1 ≡ CELLS) → IsLater (ended + 1 + k) (marks (ended + 1 + k)) (says (cell_of (ended + 1 + k)))
+    old : (k : ℕ) → 0 < k → k < cells_for nodes → Dec (k + 1 ≡ cells_for nodes) → IsLater nodes (ended + 1 + k) (marks (ended + 1 + k)) (says (cell_of nodes (ended + 1 + k)))
     old k a b (yes last) = left (ended + 1 + k) (omega arith)
-    old k a b (no ne) = let n : ended + (k + 1) ≡ ended + 1 + k = omega arith in subst (λ q. IsLater q (marks q) (says (cell_of q))) n (c.later (k + 1) (omega arith) (omega arith))
+    old k a b (no ne) = let n : ended + (k + 1) ≡ ended + 1 + k = omega arith in subst (λ q. IsLater nodes q (marks q) (says (cell_of nodes q))) n (c.later (k + 1) (omega arith) (omega arith))
 
-    later_cells : (k : ℕ) → 0 < k → k < CELLS → IsLater (ended + 1 + k) (marks (ended + 1 + k)) (put says (cell_of (ended + 1)) new (cell_of (ended + 1 + k)))
-    later_cells k a b = subst (IsLater (ended + 1 + k) (marks (ended + 1 + k))) (sym (put_else says (cell_of (ended + 1)) new (cell_of (ended + 1 + k)) (cells_apart (ended + 1) k a b))) (old k a b (ℕ_discrete (k + 1) CELLS))
+    later_cells : (k : ℕ) → 0 < k → k < cells_for nodes → IsLater nodes (ended + 1 + k) (marks (ended + 1 + k)) (put says (cell_of nodes (ended + 1)) new (cell_of nodes (ended + 1 + k)))
+    later_cells k a b = subst (IsLater nodes (ended + 1 + k) (marks (ended + 1 + k))) (sym (put_else says (cell_of nodes (ended + 1)) new (cell_of nodes (ended + 1 + k)) (cells_apart (cells_for nodes) (ended + 1) k a b))) (old k a b (ℕ_discrete (k + 1) (cells_for nodes)))

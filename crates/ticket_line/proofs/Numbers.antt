@@ -4,15 +4,17 @@ use native.Mathlib.Nat.{mod-add-mod}
 use lib.Pow.{mod-mod-pow}
 use Rattle.atomic_table.proofs.Lists.{one_turn}
 use Rattle.qolb_model.specs.declared.terms.TheConstants.{MOST_NODES}
-use Rattle.array_line.specs.declared.words.TheConstants.{CELLS}
-use Rattle.array_line.specs.Words.{ticket_of, cell_of}
+use Rattle.array_line.specs.Counting.{cells_for}
+use Rattle.array_line.proofs.Counting.{some_cells, few_cells, wraps}
+use Rattle.array_line.specs.Words.{ticket_of}
+use Rattle.ticket_line.specs.Words.{cell_of}
 use Rattle.ticket_line.specs.declared.words.TheConstants.{UNIT, NUMBERS}
 use Rattle.ticket_line.specs.Words.{ticket_after, number, granted, withdrawn, withdrawn_by, number_before}
 use Rattle.ticket_line.specs.Ticket.{IsLater}
 
 -- a place has the cell and the number of its ticket
-pub cell_ticket : (p : ℕ) → cell_of (ticket_of p) ≡ cell_of p
-cell_ticket p = mod-mod-pow p 56 8
+pub cell_ticket : (nodes p : ℕ) → cell_of nodes (ticket_of p) ≡ cell_of nodes p
+cell_ticket nodes p = wraps nodes p
 
 pub number_ticket : (p : ℕ) → number (ticket_of p) ≡ number p
 number_ticket p = sym (mod-add-mod (ticket_of p) NUMBERS 1) ∙ ap (λ k. (k + 1) % NUMBERS) (mod-mod-pow p 8 56) ∙ mod-add-mod p NUMBERS 1
@@ -27,18 +29,6 @@ granted_ticket p = ap (λ k. UNIT * k) (number_ticket p)
 pub withdrawn_ticket : (p n : ℕ) → withdrawn (ticket_of p) n ≡ withdrawn p n
 withdrawn_ticket p n = ap (λ k. UNIT * k + n) (number_ticket p)
 
--- the number of a place is not that of the place before with its cell
-numbers_differ : (p : ℕ) → number_before p ≢ number p
-numbers_differ p e = let same = one_turn (p + 1 - CELLS) (p + 1) NUMBERS (omega arith) (omega arith) e in omega arith
-
--- so a cell that is not granted yet is not taken for granted
-pub not_granted : (p mark word : ℕ) → IsLater p mark word → mark ≡ 0 → word ≢ granted p
-not_granted p mark word l none e = let b = l.before none in numbers_differ p (omega arith)
-
--- nor is its lower half, in which the numbers differ too
-pub not_granted_half : (p mark word : ℕ) → IsLater p mark word → mark ≡ 0 → word % 2 ^ 32 ≢ granted p % 2 ^ 32
-not_granted_half p mark word l none e = let b = l.before none in absurd (omega arith)
-
 -- a cell that is granted to a place has its number, and one where a node withdrew
 pub number_of_granted : (p word : ℕ) → word ≡ granted p → word / UNIT ≡ number p
 number_of_granted p word e = omega arith
@@ -46,10 +36,22 @@ number_of_granted p word e = omega arith
 pub number_of_withdrawn : (p n word : ℕ) → n ≤ MOST_NODES → word ≡ withdrawn p n → word / UNIT ≡ number p
 number_of_withdrawn p n word high e = omega arith
 
--- so a grant finds the node that had withdrawn there, and 0 where none had
-pub by_nobody : (p mark word : ℕ) → IsLater p mark word → mark ≡ 0 → withdrawn_by (ticket_of p) word ≡ 0
-by_nobody p mark word l none = ap (λ (b : Bool). if b then word % UNIT else 0) (ne_eqb (word / UNIT) (number (ticket_of p)) (λ e. numbers_differ p (sym (l.before none) ∙ e ∙ number_ticket p)))
+-- the number of a place is not that of the place before with its cell
+numbers_differ : (nodes p : ℕ) → number_before nodes p ≢ number p
+numbers_differ nodes p e = let some = some_cells nodes in let few = few_cells nodes in let same = one_turn (p + 1 - cells_for nodes) (p + 1) NUMBERS (omega arith) (omega arith) e in omega arith
 
-pub by_node : (p mark word : ℕ) → IsLater p mark word → 0 < mark → mark ≤ MOST_NODES → withdrawn_by (ticket_of p) word ≡ mark
-by_node p mark word l some high = let is = l.withdrawn some in
+-- so a cell that is not granted yet is not taken for granted
+pub not_granted : (nodes p mark word : ℕ) → IsLater nodes p mark word → mark ≡ 0 → word ≢ granted p
+not_granted nodes p mark word l none e = numbers_differ nodes p (sym (l.before none) ∙ number_of_granted p word e)
+
+-- nor is its lower half, in which the numbers differ too
+pub not_granted_half : (nodes p mark word : ℕ) → IsLater nodes p mark word → mark ≡ 0 → word % 2 ^ 32 ≢ granted p % 2 ^ 32
+not_granted_half nodes p mark word l none e = let b = l.before none in let some = some_cells nodes in let few = few_cells nodes in absurd (omega arith)
+
+-- so a grant finds the node that had withdrawn there, and 0 where none had
+pub by_nobody : (nodes p mark word : ℕ) → IsLater nodes p mark word → mark ≡ 0 → withdrawn_by (ticket_of p) word ≡ 0
+by_nobody nodes p mark word l none = ap (λ (b : Bool). if b then word % UNIT else 0) (ne_eqb (word / UNIT) (number (ticket_of p)) (λ e. numbers_differ nodes p (sym (l.before none) ∙ e ∙ number_ticket p)))
+
+pub by_node : (nodes p mark word : ℕ) → IsLater nodes p mark word → 0 < mark → mark ≤ MOST_NODES → withdrawn_by (ticket_of p) word ≡ mark
+by_node nodes p mark word l some high = let is = l.withdrawn some in
     ap (λ (b : Bool). if b then word % UNIT else 0) (eq-eqb (word / UNIT) (number (ticket_of p)) (number_of_withdrawn p mark word high is ∙ sym (number_ticket p))) ∙ (let low : word % UNIT ≡ mark = omega arith in low)

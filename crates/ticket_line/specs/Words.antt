@@ -1,6 +1,6 @@
 -- What the words of a ticket line say.
 use Rattle.std.specs.Prelude.{ℕ, ◌+◌, ◌-◌, ◌*◌, ◌/◌, ◌%◌, ◌^◌, List, Bool, ◌==◌, if◌then◌else◌}
-use Rattle.array_line.specs.declared.words.TheConstants.{CELLS}
+use Rattle.array_line.specs.Counting.{cells_for}
 use Rattle.array_line.specs.Words as array
 use Rattle.array_line.specs.Words.{ticket_of}
 use Rattle.ticket_line.specs.declared.words.TheConstants.{UNIT, NUMBERS}
@@ -28,10 +28,17 @@ withdrawn_by ticket word = if word / UNIT == number ticket then word % UNIT else
 abbrev pub may_come : ℕ → ℕ → Bool
 may_come ticket low = low == granted ticket % 2 ^ 32
 
--- the number of the place before that has the same cell, or 0 where there is none
-abbrev pub number_before : ℕ → ℕ
-number_before place = (place + 1 - CELLS) % NUMBERS
+-- in a line of so many nodes, the number of the place before that has the same cell, or 0 where there is none
+abbrev pub number_before : ℕ → ℕ → ℕ
+number_before nodes place = (place + 1 - cells_for nodes) % NUMBERS
 
 -- nobody has asked: the first cell is granted to the first ticket, and all else is blank
-abbrev pub AreFirst : List ℕ → Type 0
-AreFirst words = array.AreFirst (granted 0) words
+abbrev pub AreFirst : ℕ → List ℕ → Type 0
+AreFirst nodes words = array.AreFirst (cells_for nodes) (granted 0) words
+
+-- the cell of a ticket, of as many as so many nodes need
+abbrev pub cell_of : ℕ → ℕ → ℕ
+cell_of nodes ticket = array.cell_of (cells_for nodes) ticket
+
+abbrev pub word_count : ℕ → ℕ
+word_count nodes = array.word_count (cells_for nodes)

@@ -1,7 +1,9 @@
 //! Partitioned tickets as a queue discipline.
 ghost use Rattle.std.specs.Prelude.{◌≡◌};
 ghost use Rattle.qolb_model.specs.PortStates as states;
-ghost use Rattle.array_line.specs.Words.{word_count, ticket_of};
+ghost use Rattle.array_line.specs.Counting.{mask_for};
+ghost use Rattle.array_line.specs.Words.{ticket_of};
+ghost use Rattle.ticket_line.specs.Words.{word_count};
 ghost use Rattle.array_line.proofs.Seats as seats;
 ghost use Rattle.array_line.proofs.Meets as meeting;
 ghost use Rattle.array_line.proofs.Lasting as lasting;
@@ -9,14 +11,14 @@ ghost use Rattle.ticket_line.specs.Words as layout;
 ghost use Rattle.ticket_line.specs.Slots as slots;
 ghost use Rattle.ticket_line.specs.Slots.{berths, last};
 ghost use Rattle.ticket_line.specs.Ticket.{TicketCells};
-ghost use Rattle.ticket_line.specs.Laws.{first_cells, first_slot, may_park, is_last};
+ghost use Rattle.ticket_line.specs.Laws.{first_cells, first_slot, enough, holder_parks, is_last};
 
 use crate::release::{release, renew};
 use crate::rule::{Ground, Ticket, TicketSeat};
 use crate::slots::{put, take, unlay};
 use crate::steps::{draw, load, roll};
-use crate::words::{SLOTS, cell_word, first_words, is_granted_half};
-use array_line::WORDS;
+use crate::words::{cell_word, first_words, is_granted_half, slot_count, ticket_after};
+use array_line::cell_count;
 use atomic_table::Closed;
 use qolb_model::{Keep, PortState};
 use shared_line::{Asked, Discipline, Parcel, Released, Requested, ToWake};
@@ -27,35 +29,54 @@ impl<K: Keep> Discipline<K> for Ticket {
 
     ghost are_first = { layout.AreFirst };
 
-    fn first_words(alloc: Global) -> Result<Vec<u64>, AllocError> {
-        first_words(alloc, WORDS)
+    fn first_words(alloc: Global, nodes: u64) -> Result<Vec<u64>, AllocError> {
+        first_words(alloc, nodes)
     }
 
     ghost slot_count = { slots.slot_count };
 
     ghost last = { last };
 
-    fn slot_count() -> usize {
-        SLOTS
+    fn slot_count(nodes: u64) -> usize {
+        slot_count(nodes)
+    }
+
+    ghost size_for = { mask_for };
+
+    fn size_for(nodes: u64) -> u64 {
+        cell_count(nodes) - 1
     }
 
     #[inline]
-    fn take(ground: &Ground<K>, seat: &mut TicketSeat, mark: u64, parcel: &mut Parcel) {
-        take(ground, seat, mark, parcel);
+    fn take(ground: &Ground<K>, seat: &mut TicketSeat, size: u64, mark: u64, parcel: &mut Parcel) {
+        take(ground, seat, size, mark, parcel);
     }
 
     #[inline]
-    fn put(ground: &Ground<K>, seat: &mut TicketSeat, mark: u64, parcel: &Parcel, closed: bool) {
-        put(ground, seat, mark, parcel, closed);
+    fn put(
+        ground: &Ground<K>,
+        seat: &mut TicketSeat,
+        size: u64,
+        mark: u64,
+        parcel: &Parcel,
+        closed: bool,
+    ) {
+        put(ground, seat, size, mark, parcel, closed);
     }
 
-    fn unlay(closed: Closed<Parcel, Global>) -> Parcel {
-        unlay(closed)
+    fn unlay(closed: Closed<Parcel, Global>, nodes: u64) -> Parcel {
+        unlay(closed, nodes)
     }
 
     /// Draws a ticket, and looks at its cell.
     #[inline]
-    fn ask(ground: &Ground<K>, seat: &mut TicketSeat, node: u64, state: PortState) -> Requested {
+    fn ask(
+        ground: &Ground<K>,
+        seat: &mut TicketSeat,
+        size: u64,
+        node: u64,
+        state: PortState,
+    ) -> Requested {
         let Some(renewing) = renew(ground, seat, node, state) else {
             return Requested {
                 answer: Asked::Busy,
@@ -64,7 +85,7 @@ impl<K: Keep> Discipline<K> for Ticket {
             };
         };
         let ticket = draw(ground, seat);
-        let answer = if load(ground, seat, ticket) {
+        let answer = if load(ground, seat, size, ticket) {
             Asked::Came
         } else {
             Asked::Behind
@@ -77,34 +98,38 @@ impl<K: Keep> Discipline<K> for Ticket {
     }
 
     #[inline]
-    fn look(ground: &Ground<K>, seat: &mut TicketSeat, _node: u64, mark: u64) -> bool {
-        load(ground, seat, mark)
+    fn look(ground: &Ground<K>, seat: &mut TicketSeat, size: u64, _node: u64, mark: u64) -> bool {
+        load(ground, seat, size, mark)
     }
 
     #[inline]
-    fn roll(ground: &Ground<K>, seat: &mut TicketSeat, node: u64, mark: u64) -> bool {
-        roll(ground, seat, mark, node)
+    fn roll(ground: &Ground<K>, seat: &mut TicketSeat, size: u64, node: u64, mark: u64) -> bool {
+        roll(ground, seat, size, mark, node)
     }
 
     #[inline]
     fn release(
         ground: &Ground<K>,
         seat: &mut TicketSeat,
+        size: u64,
         _node: u64,
         mark: u64,
         closed: bool,
     ) -> Released {
-        let gone = release(ground, seat, mark);
+        let gone = release(ground, seat, size, mark);
         Released {
             state: left_by(closed),
             steps: gone.steps,
-            to_wake: ToWake::at(cell_word(gone.ticket)),
+            to_wake: ToWake::at(
+                cell_word(ground, size, gone.ticket),
+                cell_word(ground, size, ticket_after(gone.ticket)),
+            ),
         }
     }
 
     #[inline]
-    fn awaited(_node: u64, mark: u64) -> usize {
-        cell_word(mark)
+    fn awaited(ground: &Ground<K>, size: u64, _node: u64, mark: u64) -> usize {
+        cell_word(ground, size, mark)
     }
 
     #[inline]
@@ -112,21 +137,21 @@ impl<K: Keep> Discipline<K> for Ticket {
         is_granted_half(low, mark)
     }
 
-    ghost cuts = { seats.cuts TicketCells berths K.good K.allows };
+    ghost cuts = { λ about. seats.cuts (TicketCells about.terms.nodes) (berths about.terms.nodes) K.good K.allows about };
 
-    ghost blanks = { seats.blanks TicketCells berths K.good K.allows };
+    ghost blanks = { λ about. seats.blanks (TicketCells about.terms.nodes) (berths about.terms.nodes) K.good K.allows about };
 
-    ghost joins = { seats.joins TicketCells berths K.good K.allows };
+    ghost joins = { λ about. seats.joins (TicketCells about.terms.nodes) (berths about.terms.nodes) K.good K.allows about };
 
-    ghost slots = { seats.slot_count TicketCells berths K.good K.allows };
+    ghost slots = { λ about. seats.slot_count (TicketCells about.terms.nodes) (berths about.terms.nodes) K.good K.allows about };
 
-    ghost starts = { λ about. seats.starts TicketCells berths K.good K.allows about (layout.granted 0) first_slot first_cells };
+    ghost starts = { λ about. seats.starts (TicketCells about.terms.nodes) (berths about.terms.nodes) K.good K.allows about (layout.granted 0) (enough about) (first_slot about.terms.nodes) (first_cells about.terms.nodes) };
 
-    ghost meets = { meeting.meets_next TicketCells berths K.good K.allows };
+    ghost meets = { λ about. meeting.meets_next (TicketCells about.terms.nodes) (berths about.terms.nodes) K.good K.allows about };
 
-    ghost parks = { λ about id slots i m v mark _ is holding kept. meeting.parks_next TicketCells berths K.good K.allows about id slots i m v is holding (may_park mark kept.0 kept.1 m.1 kept.2) };
+    ghost parks = { λ about id slots i m v mark left is holding kept. meeting.parks_next (TicketCells about.terms.nodes) (berths about.terms.nodes) K.good K.allows about id slots i m v is holding (holder_parks about v.view mark left m.1 kept) };
 
-    ghost finishes = { λ about es id words xs at_rest. lasting.final_line TicketCells berths K.good K.allows about es ticket_of at_rest last is_last id words xs };
+    ghost finishes = { λ about es id words xs at_rest. lasting.final_line (TicketCells about.terms.nodes) (berths about.terms.nodes) K.good K.allows about es ticket_of at_rest (last about.terms.nodes) (is_last about.terms.nodes) id words xs };
 }
 
 /// The state that a turn leaves which closed the line or did not.

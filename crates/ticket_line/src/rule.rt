@@ -1,6 +1,7 @@
 //! The queue of a ticket line: how its nodes stand, and its rule.
 ghost use Rattle.ticket_line.specs.Slots as slots;
 ghost use Rattle.array_line.specs.Words.{ticket_of};
+ghost use Rattle.array_line.specs.Counting.{cells_for};
 ghost use Rattle.array_line.specs.Stances as stances;
 ghost use Rattle.array_line.proofs.Standing as standing;
 ghost use Rattle.ticket_line.specs.Laws as laws;
@@ -23,9 +24,9 @@ impl Shape for Ticket {
 
     ghost phases = { stances.phases ticket_of slots.brings slots.keeps slots.lays };
 
-    ghost waits_at = { stances.waits_at };
+    ghost waits_at = { stances.waits_at cells_for };
 
-    ghost turn_word = { stances.turn_word ticket_of };
+    ghost turn_word = { stances.turn_word ticket_of cells_for };
 
     ghost may_come = { layout.may_come };
 
@@ -43,9 +44,9 @@ impl Shape for Ticket {
 
     ghost holding_shown = { standing.holding_shown };
 
-    ghost holder_waits_there = { standing.holder_waits_there ticket_of };
+    ghost holder_waits_there = { standing.holder_waits_there ticket_of cells_for };
 
-    ghost refused_waits_there = { standing.refused_waits_there ticket_of };
+    ghost refused_waits_there = { standing.refused_waits_there ticket_of cells_for };
 
     ghost most_some = { laws.most_some };
 

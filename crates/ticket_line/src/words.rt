@@ -1,11 +1,15 @@
 //! What the words of a table say.
-ghost use Rattle.std.specs.Prelude.{◌≡◌, ◌≢◌, ◌≤◌, length, MatchBool, IfOk};
+ghost use Rattle.std.specs.Prelude.{◌≡◌, ◌≢◌, ◌<◌, ◌≤◌, length, MatchBool, IfOk};
 ghost use Rattle.qolb_model.specs.declared.terms.TheConstants.{MOST_NODES};
+ghost use Rattle.array_line.specs.declared.words.TheConstants.{CELLS};
+ghost use Rattle.array_line.specs.Counting.{mask_for};
 ghost use Rattle.array_line.specs.Words as array;
 ghost use Rattle.ticket_line.specs.Words as layout;
 ghost use Rattle.ticket_line.specs.Slots as slots;
 
-use array_line::CELLS;
+use crate::rule::Ground;
+use array_line::{cell_count, word_count};
+use qolb_model::Keep;
 use std::alloc::{AllocError, Global};
 
 /// What a cell has for each unit of its number. The node that withdrew there is below it.
@@ -18,23 +22,47 @@ pub(crate) const NUMBERS: u64 = 0x100_0000_0000_0000;
 /// field of padding would take a third less memory, and would be copied with each parcel.)
 pub(crate) const SLOT_STRIDE: usize = 2;
 
-/// All slots.
-pub(crate) const SLOTS: usize = SLOT_STRIDE * CELLS as usize;
+/// How many slots a line of so many nodes has.
+pub(crate) fn slot_count(nodes: u64) -> usize
+    ensures { result ≡ slots.slot_count nodes }
+{
+    SLOT_STRIDE * cell_count(nodes) as usize
+}
+
+/// The cell of a ticket in this table, by the mask of its cells.
+#[inline]
+fn cell_of<K: Keep>(_ground: &Ground<K>, mask: u64, ticket: u64) -> u64
+    requires { mask ≡ mask_for _ground.now.key.terms.nodes }
+    ensures cell { result ≡ layout.cell_of _ground.now.key.terms.nodes ticket }
+    ensures low { result < CELLS }
+{
+    ticket & mask
+}
 
 /// The slot of a ticket's cell.
 #[inline]
-pub(crate) fn slot_of(ticket: u64) -> usize
-    ensures { result ≡ slots.slot_of ticket }
+pub(crate) fn slot_of<K: Keep>(ground: &Ground<K>, mask: u64, ticket: u64) -> usize
+    requires { mask ≡ mask_for ground.now.key.terms.nodes }
+    ensures { result ≡ slots.slot_of ground.now.key.terms.nodes ticket }
 {
-    SLOT_STRIDE * (ticket % CELLS) as usize
+    SLOT_STRIDE * cell_of(ground, mask, ticket) as usize
+}
+
+/// The slot of a ticket's cell in a line of so many nodes, where no mask is at hand.
+pub(crate) fn slot_for(nodes: u64, ticket: u64) -> usize
+    ensures { result ≡ slots.slot_of nodes ticket }
+{
+    SLOT_STRIDE * (ticket % cell_count(nodes)) as usize
 }
 
 /// The word of a ticket's cell.
 #[inline]
-pub(crate) fn cell_word(ticket: u64) -> usize
-    ensures { result ≡ array.cell_at (array.cell_of ticket) }
+pub(crate) fn cell_word<K: Keep>(ground: &Ground<K>, mask: u64, ticket: u64) -> usize
+    requires { mask ≡ mask_for ground.now.key.terms.nodes }
+    ensures cell { result ≡ array.cell_at (layout.cell_of ground.now.key.terms.nodes ticket) }
+    ensures within { result < layout.word_count ground.now.key.terms.nodes }
 {
-    array_line::cell_word(ticket % CELLS)
+    array_line::cell_word(cell_of(ground, mask, ticket))
 }
 
 /// The ticket behind this one.
@@ -98,12 +126,12 @@ pub(crate) fn withdrawn_by(word: u64, ticket: u64) -> u64
 }
 
 /// The words of a line that nobody has asked for: cell 0 is granted to ticket 0.
-pub(crate) fn first_words(alloc: Global, count: usize) -> Result<Vec<u64>, AllocError>
-    requires { count ≡ array.word_count }
-    ensures wide { IfOk result (λ words. length words.items ≡ array.word_count) }
-    ensures first { IfOk result (λ words. layout.AreFirst words.items) }
+pub(crate) fn first_words(alloc: Global, nodes: u64) -> Result<Vec<u64>, AllocError>
+    ensures wide { IfOk result (λ words. (length words.items ≡ layout.word_count nodes) × (0 < layout.word_count nodes)) }
+    ensures first { IfOk result (λ words. layout.AreFirst nodes words.items) }
 {
+    let count = word_count(cell_count(nodes));
     let mut words = vec![in alloc; 0u64; count]?;
-    words[cell_word(0)] = granted(0);
+    words[array_line::cell_word(0)] = granted(0);
     Ok(words)
 }

@@ -41,14 +41,14 @@ is_at_rest Shut = true
 is_at_rest _ = false
 
 -- that of a port that may ask
-may_ask_rests : (state : PortState) (mark : ℕ) (own : LinkOwn) → may_ask state ≡ true → rests state mark own → is_at_rest own.seat.point ≡ true
-may_ask_rests shows.Idle mark own may at = ap is_at_rest at
-may_ask_rests shows.Linking mark own may at = absurd (cc may)
-may_ask_rests shows.Queued mark own may at = absurd (cc may)
-may_ask_rests shows.Holding mark own may at = absurd at
-may_ask_rests shows.Left mark own may at = ap is_at_rest at
-may_ask_rests shows.Rolled mark own may at = ap is_at_rest at
-may_ask_rests shows.Shut mark own may at = ap is_at_rest at
+may_ask_rests : (nodes : ℕ) (state : PortState) (mark : ℕ) (own : LinkOwn) → may_ask state ≡ true → rests nodes state mark own → is_at_rest own.seat.point ≡ true
+may_ask_rests nodes shows.Idle mark own may at = ap is_at_rest at
+may_ask_rests nodes shows.Linking mark own may at = absurd (cc may)
+may_ask_rests nodes shows.Queued mark own may at = absurd (cc may)
+may_ask_rests nodes shows.Holding mark own may at = absurd at
+may_ask_rests nodes shows.Left mark own may at = ap is_at_rest at
+may_ask_rests nodes shows.Rolled mark own may at = ap is_at_rest at
+may_ask_rests nodes shows.Shut mark own may at = ap is_at_rest at
 
 -- it does not have the line
 rests_without : (p : Point) → is_at_rest p ≡ true → has_line p ≡ true → ⊥
@@ -77,7 +77,7 @@ module _ (good : List ℕ → Type 0) (allows : List ℕ → List ℕ → Type 0
     resting n node =
         let (i, v, here, is, (state, mark, may, rest)) = at_rest n node.0 (subst (λ (q : ℕ). n ≤ q) r.fine.shown.matches.size node.1) in
         let (own, ok) = view_ok i v here in
-        ap is_at_rest (ap (point r.past.core) (sym is) ∙ at_point allows about r.past r.fine v.view.node v own ok) ∙ may_ask_rests state mark v.own may rest
+        ap is_at_rest (ap (point r.past.core) (sym is) ∙ at_point allows about r.past r.fine v.view.node v own ok) ∙ may_ask_rests v.view.terms.nodes state mark v.own may rest
 
     -- so the line is at home, and all requests have ended
     pub record IsHome : Type 0 where

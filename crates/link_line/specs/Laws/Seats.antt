@@ -57,7 +57,7 @@ module _ (good : List ℕ → Type 0) (allows : List ℕ → List ℕ → Type 0
   one_slot s r = r.laid.deep
 
   -- the table as it is opened
-  pub starts : (words : List ℕ) (y : Parcel) → MayOpen about.terms → length about.terms.opening.bytes ≡ 64 → good about.terms.opening.bytes → length words ≡ word_count → AreBlank words
+  pub starts : (words : List ℕ) (y : Parcel) → MayOpen about.terms → length about.terms.opening.bytes ≡ 64 → good about.terms.opening.bytes → length words ≡ word_count about.terms.nodes → AreBlank about.terms.nodes words
       → y.bytes.bytes ≡ about.terms.opening.bytes → y.closed ≡ false → y.turns_left ≡ about.terms.lease → Rule (opening words (y ∷ []) (newcomers fresh about))
   starts words y may long fine wide blank same unclosed left = record {
     past = record { core = first about.terms; queue = empty_queue; joined = []; early = []; late = [] };

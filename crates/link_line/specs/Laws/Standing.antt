@@ -15,11 +15,11 @@ use Rattle.shared_line.specs.Turns.{SeesTurn}
 use Rattle.link_line.specs.Words.{home_at, entry_at}
 use Rattle.link_line.specs.Stances.{fresh, rests, holding, refused, may_show, most, waits_at, word_of, turn_word}
 
-pub starts_idle : rests shows.Idle 0 fresh
-starts_idle = refl
+pub starts_idle : (nodes : ℕ) → rests nodes shows.Idle 0 fresh
+starts_idle nodes = refl
 
-pub rests_shown : (state : PortState) (mark : ℕ) (own : LinkOwn) → rests state mark own → may_show state
-rests_shown state mark own so = tt
+pub rests_shown : (nodes : ℕ) (state : PortState) (mark : ℕ) (own : LinkOwn) → rests nodes state mark own → may_show state
+rests_shown nodes state mark own so = tt
 
 pub holding_shown : may_show shows.Holding
 holding_shown = tt
@@ -46,8 +46,8 @@ pub names_short : (v : View) → IsShort v → turn_word v ≡ home_at
 names_short v s = ap (word_of v.joined) s.1 ∙ ap (λ (b : Bool). if b then entry_at s.0.node else home_at) s.2
 
 -- who has the line waited at the word of the turn, whether it came open or closed
-pub holder_waits_there : (mark : ℕ) (u v : View) (stance : LinkOwn) → holding mark (length v.ends) stance → SeesTurn u v → waits_at v.node mark ≡ turn_word u
+pub holder_waits_there : (mark : ℕ) (u v : View) (stance : LinkOwn) → holding mark (length v.ends) stance → SeesTurn u v → waits_at v.terms.nodes v.node mark ≡ turn_word u
 holder_waits_there mark u v stance h sees = sym (names_joined u (own v) sees.turn sees.joined)
 
-pub refused_waits_there : (mark : ℕ) (u v : View) (stance : LinkOwn) (y : Parcel) → refused mark v stance y → SeesTurn u v → waits_at v.node mark ≡ turn_word u
+pub refused_waits_there : (mark : ℕ) (u v : View) (stance : LinkOwn) (y : Parcel) → refused mark v stance y → SeesTurn u v → waits_at v.terms.nodes v.node mark ≡ turn_word u
 refused_waits_there mark u v stance y r sees = sym (names_joined u (own v) sees.turn sees.joined)

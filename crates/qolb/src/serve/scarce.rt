@@ -88,12 +88,12 @@ fn each_allocation_is_refused(rt: HostRuntime) -> Result<(), Fail> {
     Ok(())
 }
 
-/// The kinds of lines, those that take less memory first. With 200 nodes a plain line takes 3.3 KB, a list 26 KB of words, a ring 42 KB, a
+/// The kinds of lines, those that take less memory first. With 200 nodes a plain line takes 3.3 KB, a list 26 KB of words, a ring 33 KB, a
 /// ticket line as many and 49 KB of slots; and each of the last three 27 KB of ports.
 static BY_SIZE: [&str; 4] = ["plain", "link", "ring", "ticket"];
 
 /// Rooms, in KB, in each of which eight lines of one kind more find place.
-static LARGER_ROOMS: [usize; 4] = [300, 490, 750, 1_200];
+static LARGER_ROOMS: [usize; 4] = [300, 450, 650, 1_200];
 
 /// What a replay of eight lines for 200 nodes says of them.
 const EIGHT_LINES: &str =

@@ -1,7 +1,30 @@
-use Rattle.std.proofs.Common.{refl, inl, sym, ◌∙◌, arith}
+use Rattle.std.proofs.Common.{◌≡◌, ℕ, List, refl, inl, sym, ap, subst, ◌∙◌, arith}
+use Rattle.qolb_model.specs.declared.terms.Terms.{Terms}
+use Rattle.link_line.specs.Words.{IsWithin}
+use Rattle.link_line.specs.Steps.{LinkSeat, known_of, GoesOn, IsSized}
 use Rattle.link_line.proofs.Stepping.{goes_trans}
 use Rattle.link_line.proofs.Handing.{hands_left, hands_out, hands_passed}
 use Rattle.link_line.proofs.release.hand_on.Goals as goal
+
+-- a node of the line as a port knows it two steps later is one of the line
+one_of : {allows : List ℕ → List ℕ → Type 0} (s t u : LinkSeat) (nodes n a b : ℕ) → IsSized nodes s → GoesOn allows s.me t.me a → GoesOn allows t.me u.me b → IsWithin (known_of u).view.terms.nodes n → IsWithin nodes n
+one_of s t u nodes n a b size first next w =
+    let e : (known_of t).view.terms.nodes ≡ (known_of s).view.terms.nodes = ap (λ (t : Terms). t.nodes) first.extends.terms in
+    let f : (known_of u).view.terms.nodes ≡ (known_of t).view.terms.nodes = ap (λ (t : Terms). t.nodes) next.extends.terms in
+    (w.0, omega (arith, w.1, e, f, size))
+
+pub grant-requires-clause-high : goal.grant-requires-clause-high
+grant-requires-clause-high g c = one_of c.args.seat.now c.home.new.seat c.done-next.new.seat c.args.ground.now.key.terms.nodes c.done-next.result 1 1 c.requires.size c.home.ensures.went.goes c.done-next.ensures.went.goes (c.done-next.ensures.on c.if-next-eq0.false).1
+
+pub returns-then-grant-clause-within : goal.returns-then-grant-clause-within
+returns-then-grant-clause-within g c =
+    let high = one_of c.args.seat.now c.home.new.seat c.done-next.new.seat c.args.ground.now.key.terms.nodes c.done-next.result 1 1 c.requires.size c.home.ensures.went.goes c.done-next.ensures.went.goes (c.done-next.ensures.on c.if-next-eq0.false).1 in
+    omega arith
+
+pub returns-else-grant-clause-within : goal.returns-else-grant-clause-within
+returns-else-grant-clause-within g c =
+    let high = one_of c.args.seat.now c.home.new.seat c.done-next.new.seat c.args.ground.now.key.terms.nodes c.done-next.result 1 1 c.requires.size c.home.ensures.went.goes c.done-next.ensures.went.goes (c.done-next.ensures.on c.if-next-eq0.false).1 in
+    omega arith
 
 pub returns-then-home-clause-handed : goal.returns-then-home-clause-handed
 returns-then-home-clause-handed g c = let gone = c.home.ensures.home c.if-home.true in (
@@ -30,7 +53,7 @@ returns-then-grant-clause-handed g c =
       omega arith,
       goes_trans g.K.Keep.allows c.args.seat.now.me c.home.new.seat.me c.grant.new.seat.me 1 2 c.home.ensures.went.goes
           (goes_trans g.K.Keep.allows c.home.new.seat.me c.done-next.new.seat.me c.grant.new.seat.me 1 1 c.done-next.ensures.went.goes c.grant.ensures.went.goes),
-      λ y slot. hands_passed g.K.Keep.allows c.args.seat.now c.home.new.seat c.done-next.new.seat y c.args.at c.home.ensures.went.goes on.1 (on.2 y slot) c.grant.new.seat c.done-next.result linked.2 (passed.0 ∙ (linked.0 ∙ (on.0 ∙ slot))) linked.1 c.grant.ensures.ended passed.1,
+      λ y slot. hands_passed g.K.Keep.allows c.args.seat.now c.home.new.seat c.done-next.new.seat y c.args.at c.home.ensures.went.goes on.1 (on.2 y slot) c.grant.new.seat c.done-next.result linked.2 (passed.0 ∙ (linked.0 ∙ (on.0 ∙ slot))) (subst (λ (t : Terms). IsWithin t.nodes c.done-next.result) (sym c.grant.ensures.went.goes.extends.terms) linked.1) c.grant.ensures.ended passed.1,
     )
 
 pub returns-else-grant-clause-handed : goal.returns-else-grant-clause-handed

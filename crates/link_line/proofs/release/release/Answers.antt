@@ -84,3 +84,14 @@ returns-in-Passed-clause-counted g c =
     let one = one_more (known_of c.args.seat.now) y.0 c.requires.none_passed (known_of c.hand_on.new.seat) passed.1 in
     let walked = c.walk-steps.ensures.counted in
     (omega (arith, passed.3, one, on.1, walked.1, walked.2), omega (arith, passed.3, one, on.1, walked.1, walked.3))
+
+pub walk-steps-requires-clause-high : goal.walk-steps-requires-clause-high
+walk-steps-requires-clause-high g c =
+    let y = c.requires.parcel in
+    let on = c.in-Passed.ensures.handed in
+    let within = (on.3 y.0 y.1).4 in
+    let size : (known_of c.hand_on.new.seat).view.terms.nodes ≡ (known_of c.args.seat.now).view.terms.nodes = ap (λ (t : Terms). t.nodes) on.2.extends.terms in
+    (within.0, omega (arith, within.1, size, c.requires.seat.1.3))
+
+pub walk-steps-requires-clause-size : goal.walk-steps-requires-clause-size
+walk-steps-requires-clause-size g c = ap (λ (t : Terms). t.nodes) c.in-Passed.ensures.handed.2.extends.terms ∙ c.requires.seat.1.3

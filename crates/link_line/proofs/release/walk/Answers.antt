@@ -1,6 +1,7 @@
 use Rattle.std.proofs.Common.{sym, subst, ap, ◌∙◌, ◌+◌, ℕ, List, length, arith}
 use Rattle.link_line.specs.declared.release.Handed.{Handed}
 use Rattle.link_line.specs.Steps.{known_of, GoesOn}
+use Rattle.qolb_model.specs.declared.terms.Terms.{Terms}
 use Rattle.link_line.proofs.Stepping.{goes_trans}
 use Rattle.link_line.proofs.Walking.{IsWalking, walking_on, walk_over, walked_long, away_by, names_away, turn_stays}
 use Rattle.link_line.proofs.release.walk.Goals as goal
@@ -35,3 +36,15 @@ returns g c =
       names = names_away (known_of c.loop-handed.seat) c.loop-handed.granted c.loop-handed.handed c.in_default.not-Passed c.loop-handed.invariant.2 ∙ sym (turn_stays (known_of c.loop-handed.seat) (known_of c.free_passed.new.seat) c.free_passed.ensures.frees);
       bound = omega (arith, k.counted, c.len.ensures.value, away.2);
     }
+
+pub hand_on-handed-requires-clause-high : goal.hand_on-handed-requires-clause-high
+hand_on-handed-requires-clause-high g c =
+    let was = subst (λ (h : Handed). IsWalking g.K.Keep.allows c.args.seat.now c.args.steps c.loop-handed.passed.items h c.loop-handed.seat c.loop-handed.steps) c.in-Passed.is c.loop-handed.invariant.0 in
+    let high = was.stands.1.high in
+    (high.0, omega (arith, high.1, ap (λ (t : Terms). t.nodes) was.walked.terms, c.requires.size))
+
+pub hand_on-handed-requires-clause-size : goal.hand_on-handed-requires-clause-size
+hand_on-handed-requires-clause-size g c = ap (λ (t : Terms). t.nodes) c.loop-handed.invariant.0.walked.terms ∙ c.requires.size
+
+pub free_passed-requires-clause-size : goal.free_passed-requires-clause-size
+free_passed-requires-clause-size g c = ap (λ (t : Terms). t.nodes) c.loop-handed.invariant.0.walked.terms ∙ c.requires.size

@@ -7,7 +7,7 @@ use Rattle.link_line.proofs.Walking.{IsWalking}
 use Rattle.link_line.proofs.release.walk.Given as goal
 
 abbrev pub invariant-loop-handed : goal.invariant-loop-handed
-invariant-loop-handed g l = IsWalking g.K.Keep.allows l.initial.seat l.initial.steps l.passed.items l.handed l.seat l.steps × (l.granted < word_count) × NamesTurn (known_of l.seat) l.granted l.handed
+invariant-loop-handed g l = IsWalking g.K.Keep.allows l.initial.seat l.initial.steps l.passed.items l.handed l.seat l.steps × (l.granted < word_count l.ground.key.terms.nodes) × NamesTurn (known_of l.seat) l.granted l.handed
 
 abbrev pub decreases-loop-handed : goal.decreases-loop-handed
 decreases-loop-handed g l = MOST_NODES - length l.passed.items

@@ -1,7 +1,7 @@
-use Rattle.std.proofs.Common.{rules, arith, sym, ◌∙◌, subst, ℕ, ◌≤◌}
-use Rattle.qolb_model.specs.declared.terms.TheConstants.{MOST_NODES}
+use Rattle.std.proofs.Common.{rules, arith, sym, ◌∙◌, subst, ℕ}
 use Rattle.link_core.specs.declared.point.Point.TheVariants.{Granting}
 use Rattle.link_line.specs.Steps.{known_of, Carries}
+use Rattle.link_line.specs.Words.{IsWithin}
 use Rattle.link_line.specs.Laws.Standing.{names_short}
 use Rattle.link_line.proofs.Marking.{marks_next}
 use Rattle.link_line.proofs.steps.done.Goals as goal
@@ -18,6 +18,6 @@ returns-clause-names g c = λ none. names_short (known_of c.fetch_add.new.seat).
 pub returns-clause-on : goal.returns-clause-on
 returns-clause-on g c = λ more. let on = (c.fetch_add.ensures.2.1 _ c.requires.parcel).1 (λ z. more (c.link_of.ensures ∙ z)) in (
   on.0,
-  subst (λ (k : ℕ). k ≤ MOST_NODES) (sym c.link_of.ensures) on.2,
+  subst (λ (k : ℕ). IsWithin (known_of c.fetch_add.new.seat).view.terms.nodes k) (sym c.link_of.ensures) on.2,
   subst (λ (k : ℕ). Carries (known_of c.args.seat.now) (known_of c.fetch_add.new.seat) (known_of c.args.seat.now).own.line (Granting k)) (sym c.link_of.ensures) on.1,
 )

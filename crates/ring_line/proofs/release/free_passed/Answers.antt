@@ -19,7 +19,7 @@ free-requires g c =
     record {
       table = (c.loop-node.invariant.same.0 ∙ c.requires.table.0, c.requires.table.1, c.requires.table.2);
       ready = (c.loop-node.invariant.goes_on.alone, next.0);
-      high = next.1;
+      high = next.1.0;
       next = next.2;
     }
 

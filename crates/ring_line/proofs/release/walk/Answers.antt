@@ -1,6 +1,6 @@
 use Rattle.std.proofs.Common.{rules, refl, sym, subst, ap, arith, ◌≡◌, ◌≢◌, ◌∙◌, ◌++◌, ◌∷◌, [], ℕ, List, length}
 use Rattle.qolb_model.specs.declared.end.End.{End}
-use Rattle.array_line.specs.Words.{cell_of}
+use Rattle.ring_line.specs.Words.{cell_of}
 use Rattle.array_line.specs.Steps.{entry_of}
 use Rattle.array_line.specs.Berths.{one_slot}
 use Rattle.array_line.proofs.Turning.{goes_none}

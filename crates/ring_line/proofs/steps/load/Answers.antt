@@ -1,5 +1,6 @@
 use Rattle.std.proofs.Common.{rules, arith, ap, ◌∙◌}
-use Rattle.array_line.specs.Words.{cell_at, cell_of}
+use Rattle.array_line.specs.Words.{cell_at}
+use Rattle.ring_line.specs.Words.{cell_of}
 use Rattle.array_line.specs.Steps.{entry_of}
 use Rattle.array_line.proofs.Slots.{one_take}
 use Rattle.array_line.proofs.Load.{loads_next}

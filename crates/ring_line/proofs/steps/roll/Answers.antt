@@ -1,6 +1,7 @@
 use Rattle.std.proofs.Common.{rules, arith, ap, ◌∙◌, ◌+◌, ◌*◌, ◌%◌, ◌^◌, ℕ}
 use Rattle.ring_line.specs.declared.words.TheConstants.{WITHDRAWN}
-use Rattle.array_line.specs.Words.{cell_at, cell_of}
+use Rattle.array_line.specs.Words.{cell_at}
+use Rattle.ring_line.specs.Words.{cell_of}
 use Rattle.array_line.specs.Steps.{entry_of}
 use Rattle.array_line.proofs.Slots.{one_take}
 use Rattle.array_line.proofs.Roll.{rolls_next}

@@ -1,4 +1,5 @@
 use Rattle.std.proofs.Common.{rules, subst, sym, ap, ◌∙◌, length}
+use Rattle.qolb_model.specs.declared.terms.Terms.{Terms}
 use Rattle.array_line.specs.Steps.{entry_of}
 use Rattle.ticket_line.specs.Steps.{HasLaid}
 use Rattle.array_line.proofs.Turning.{goes_trans}
@@ -16,10 +17,13 @@ returns-then-node-ne0-clause-went g c = record {
 }
 
 pub returns-then-node-ne0-clause-lets_go : goal.returns-then-node-ne0-clause-lets_go
-returns-then-node-ne0-clause-lets_go g c y slot = lets_on (entry_of c.args.seat.now) (entry_of c.grant-node.new.seat) (entry_of c.walk-walked.new.seat) y c.requires.none_passed (c.grant-node.ensures.ended y (subst (λ n. HasLaid n c.args.seat.now y) c.requires.ticket slot)) c.walk-walked.ensures.went.goes.extends c.walk-walked.ensures.walks_on
+returns-then-node-ne0-clause-lets_go g c y slot = lets_on (entry_of c.args.seat.now) (entry_of c.grant-node.new.seat) (entry_of c.walk-walked.new.seat) y c.requires.none_passed (c.grant-node.ensures.ended y (subst (λ n. HasLaid c.args.ground.now.key.terms.nodes n c.args.seat.now y) c.requires.ticket slot)) c.walk-walked.ensures.went.goes.extends c.walk-walked.ensures.walks_on
 
 -- the request at its turn is now the next one
 pub returns-else-node-ne0-clause-granted : goal.returns-else-node-ne0-clause-granted
 returns-else-node-ne0-clause-granted g c = let y = c.requires.parcel in
     c.ticket_after-next.ensures ∙ ap ticket_after c.requires.ticket ∙ ticket_next (length (entry_of c.args.seat.now).view.ends)
-    ∙ ap ticket_of (sym (ended_longer (entry_of c.args.seat.now) (entry_of c.grant-node.new.seat) y.0 (c.grant-node.ensures.ended y.0 (subst (λ n. HasLaid n c.args.seat.now y.0) c.requires.ticket y.1))))
+    ∙ ap ticket_of (sym (ended_longer (entry_of c.args.seat.now) (entry_of c.grant-node.new.seat) y.0 (c.grant-node.ensures.ended y.0 (subst (λ n. HasLaid c.args.ground.now.key.terms.nodes n c.args.seat.now y.0) c.requires.ticket y.1))))
+
+pub walk-walked-requires-clause-sized : goal.walk-walked-requires-clause-sized
+walk-walked-requires-clause-sized g c = ap (λ (t : Terms). t.nodes) c.grant-node.ensures.went.goes.extends.terms ∙ c.requires.sized

@@ -1,8 +1,8 @@
-use Rattle.std.proofs.Common.{rules, ◌≡◌, ◌∙◌, sym}
+use Rattle.std.proofs.Common.{rules, arith, ◌≡◌, ◌∙◌, sym}
 use Rattle.shared_line.specs.declared.queue.Asked.TheVariants as asked
 use Rattle.qolb_model.proofs.Going.{asks_goes}
 use Rattle.link_line.specs.Steps.{known_of}
-use Rattle.link_line.proofs.Stepping.{goes_trans}
+use Rattle.link_line.proofs.Stepping.{goes_trans, seat_goes}
 use Rattle.link_line.proofs.queue.LinksDiscipline.ask.Goals as goal
 use Rattle.link_line.proofs.queue.LinksDiscipline.ask.Goals.{then-came, else-came}
 
@@ -40,3 +40,13 @@ returns-clause-request g c = record {
     | else-came w ↦ absurd (let z : asked.Came ≡ asked.Behind = sym came ∙ w.result-is in cc)
   ];
 }
+
+pub link-came-requires-clause-seat : goal.link-came-requires-clause-seat
+link-came-requires-clause-seat g c = seat_goes c.args.seat.now c.request-made.new.seat c.request-made.ensures.went c.requires.seat
+
+pub link-came-requires-clause-high : goal.link-came-requires-clause-high
+link-came-requires-clause-high g c =
+    let behind : c.request-made.result.answer ≡ asked.Behind = search rules in
+    let high = (c.request-made.ensures.links behind).1.stands.1 in
+    let seat = seat_goes c.args.seat.now c.request-made.new.seat c.request-made.ensures.went c.requires.seat in
+    (high.0, omega (arith, high.1, seat.1.3))

@@ -1,4 +1,5 @@
 use Rattle.std.proofs.Common.{◌≡◌, ◌+◌, ◌-◌, ◌∷◌, [], refl, sym, ap, ◌∙◌, subst, arith}
+use Rattle.qolb_model.specs.declared.terms.Terms.{Terms}
 use Rattle.shared_line.specs.Steps.{sole, Went}
 use Rattle.shared_line.proofs.Turning.{put_then}
 use Rattle.shared_line.proofs.Letting.{arrives}
@@ -9,7 +10,7 @@ pub returns-then-not-parcel-clause-port : goal.returns-then-not-parcel-clause-po
 returns-then-not-parcel-clause-port g c label label_is =
     let y = c.requires.comes in
     let same = c.take.ensures.same.1 in
-    let held = arrives g.Q.Shape.phases c.args.mark c.args.seat.now c.take.new.seat y.0 c.take.new.parcel y.2 same (c.take.ensures.copied y.0 y.1) (c.take.ensures.kept y.0 y.1) c.if-not-parcel.true in
+    let held = arrives g.Q.Shape.phases c.args.self.now.table.shared.key.terms.nodes c.args.mark c.args.seat.now c.take.new.seat y.0 c.take.new.parcel (ap (λ (t : Terms). t.nodes) c.requires.seat.sound.terms_are) y.2 same (c.take.ensures.copied y.0 y.1) (c.take.ensures.kept y.0 y.1) c.if-not-parcel.true in
     record {
       alone = subst (λ es. es ≡ sole g.Q.Shape.phases.fresh es ∷ []) (sym same) c.requires.seat.alone;
       rests_so = λ not. absurd (not refl);

@@ -1,7 +1,7 @@
-use Rattle.std.proofs.Common.{◌∙◌, ap}
+use Rattle.std.proofs.Common.{◌∙◌, ℕ, ap, subst}
 use Rattle.shared_line.specs.Steps.{sole}
 use Rattle.shared_line.proofs.Turning.{put_then}
-use Rattle.shared_line.proofs.Calling.{put_carries, let_go_releases, call_belongs}
+use Rattle.shared_line.proofs.Calling.{call_nodes, holds_of, put_carries, let_go_releases, call_belongs}
 use Rattle.shared_line.proofs.line.Line.let_go.Goals as goal
 
 pub release-gone-requires-clause-line : goal.release-gone-requires-clause-line
@@ -26,3 +26,8 @@ pub returns-clause-releases : goal.returns-clause-releases
 returns-clause-releases g c = let q = c.port.inside in let back = c.put.ensures.put_back in
     let_go_releases q.seat q.parcel q.mark q.steps q.looks.count q.state c.port.invariant c.port.view_is c.requires.belongs c.requires.state c.args.shut c.closes-closed.result c.closes-closed.ensures c.put.new.seat c.put.ensures.same.0 c.put.ensures.same.1 back
     {t = c.release-gone.new.seat} (put_then c.put.ensures.same c.release-gone.ensures.went) (c.release-gone.ensures.hands_over.lets_go back.0 back.1)
+
+pub put-requires-clause-kept : goal.put-requires-clause-kept
+put-requires-clause-kept g c = let q = c.port.inside in
+    subst (λ (n : ℕ). g.Q.Shape.phases.keeps n q.mark q.parcel.turns_left q.seat.me.1) (call_nodes g.Q.Shape.phases.fresh q.seat q.parcel q.steps q.looks.count c.requires.belongs c.port.view_is)
+    (holds_of q.seat q.parcel q.mark q.steps q.looks.count q.state c.port.invariant c.port.view_is c.requires.state).kept

@@ -1,4 +1,5 @@
-use Rattle.std.proofs.Common.{rules, ◌∙◌}
+use Rattle.std.proofs.Common.{rules, ap, ◌∙◌}
+use Rattle.qolb_model.specs.declared.terms.Terms.{Terms}
 use Rattle.qolb_model.proofs.Going.{asks_from, asks_goes}
 use Rattle.array_line.specs.Steps.{entry_of}
 use Rattle.array_line.proofs.Turning.{goes_trans}
@@ -22,3 +23,6 @@ returns-clause-request g c = record {
   behind = search rules;
   came = search rules;
 }
+
+pub load-requires-clause-nodes : goal.load-requires-clause-nodes
+load-requires-clause-nodes g c = ap (λ (t : Terms). t.nodes) (c.draw-ticket.ensures.went.goes.extends.terms ∙ c.in-Some.ensures.went.goes.extends.terms) ∙ c.requires.seat.1.3
