@@ -1,5 +1,5 @@
-//! Threads come and go: each comes to the line for one turn by a port that it borrows, adds 1 to the first lane, and leaves. There are more
-//! threads than ports.
+//! Threads come and go: each comes to the line for one turn by a port that it borrows, adds 1 to the
+//! first lane, and leaves. There are more threads than ports.
 #![tactic(auto)]
 
 ghost use Rattle.std.specs.Prelude.{◌<◌, All, vec_len};
@@ -55,14 +55,7 @@ fn count_at<
     R: Threads + Wait + Sync,
     L: OpenLine<Free> + Sync + Drop,
     S: PortSet<L::Port> + Sync + Send,
->(
-    rt: &R,
-    alloc: Global,
-    line: L,
-    ports: Vec<L::Port>,
-    threads: usize,
-    visits: u64,
-) -> Option<u64>
+>(rt: &R, alloc: Global, line: L, ports: Vec<L::Port>, threads: usize, visits: u64) -> Option<u64>
 where
     L::Port: Send + Drop,
     requires some { 0 < vec_len ports }
@@ -76,8 +69,8 @@ where
     Some(lane(&last, 0))
 }
 
-/// Opens a line with so many ports for so many threads, and returns its first lane at the end; `None` if the line, memory or a thread is
-/// refused.
+/// Opens a line with so many ports for so many threads, and returns its first lane at the end;
+/// `None` if the line, memory or a thread is refused.
 fn count<R: Threads + Wait + Sync, L: OpenLine<Free> + Sync + Drop>(
     rt: &R,
     alloc: Global,

@@ -11,8 +11,9 @@ use Rattle.line_seats.specs.Lending.{MayAsk}
 
 module _ {Port : Type 0} (allows : List ℕ → List ℕ → Type 0) (belongs : Port → Type 0) (view : Port → View) where
   module _ (turn : Port → Write) (counters : Port → Counters) where
-    -- A port of the line was borrowed that might ask. It made one request, which was granted, or told that the line is closed; and once it
-    -- had asked, fewer requests ended before it was granted than the line has nodes.
+    -- A port of the line was borrowed that might ask. It made one request, which was granted, or told
+    -- that the line is closed. Once it had asked, fewer requests ended before it was granted than the
+    -- line has nodes.
     pub record Enters (got : Got) (port : Port) : Type 0 where
       pub borrowed : Port
       pub might_ask : MayAsk belongs view borrowed
@@ -24,6 +25,7 @@ module _ {Port : Type 0} (allows : List ℕ → List ℕ → Type 0) (belongs : 
     abbrev pub FindsClosed : Type 0
     FindsClosed = (port : Port) × Enters Closed port
 
-  -- what the port became, whose turn is over: a port of the line that may ask, and has released the line, or shut it, with what its turn wrote
+  -- the port whose turn is over became one of the line that may ask: it has released the line, or
+  -- shut it, with what its turn wrote
   abbrev pub Leaves : Bool → Port → Write → Type 0
   Leaves shut old turn = (port : Port) × MayAsk belongs view port × Releases allows shut (view old) (view port) turn

@@ -21,13 +21,14 @@ use std::time::Duration;
 pub enum EnterError {
     /// The line is closed.
     Closed,
-    /// The time was over: before a port was there that might ask, or before its turn came. Then its request is withdrawn.
+    /// The time was over before a port was free that may ask, or before its turn came. Its request
+    /// is withdrawn then.
     Late,
 }
 
 impl<K: Keep, L: LineSync<K>, S: PortSet<L::Port>> Seats<K, L, S> {
-    /// Borrows a port, asks with it, and waits for its turn. A port that is busy is given back, and the next one asks. `None` if the line
-    /// is closed.
+    /// Borrows a port, asks with it, and waits for its turn. A port that is busy is given back, and
+    /// the next one asks. `None` if the line is closed.
     pub fn enter<R: Wait>(&self, rt: &R) -> Option<Turn<K, L>>
         ensures granted { IfSome result (Enters K.allows (L.belongs self.now) L.view L.turn L.counters Got.Granted) }
         ensures closed { IfNone result (FindsClosed K.allows (L.belongs self.now) L.view L.turn L.counters) }
@@ -72,7 +73,8 @@ impl<K: Keep, L: LineSync<K>, S: PortSet<L::Port>> Seats<K, L, S> {
 }
 
 impl<K: Keep, L: Sleeping<K>, S: PortSet<L::Port>> Seats<K, L, S> {
-    /// As `enter`, by a waiter that sleeps where the wait for its turn is long, and no longer than so much time.
+    /// As `enter`, by a waiter that sleeps where the wait for its turn is long, and no longer than so
+    /// much time. No clause says when it is late.
     pub fn enter_within<R: Wait + Clock>(
         &self,
         rt: &R,

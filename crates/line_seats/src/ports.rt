@@ -3,7 +3,8 @@ ghost use Rattle.std.specs.Prelude.{◌≡◌};
 
 use std::marker::{Brand, Model, PhantomData};
 
-/// The ports of one line that may ask. It takes no memory: a program picks it where it opens the line, for proofs alone.
+/// The ports of one line that may ask. It takes no memory: a program picks it where it opens the
+/// line, for proofs alone.
 pub trait PortSet<P> {
     /// The port is one of them.
     ghost has: { P → Type 0 };

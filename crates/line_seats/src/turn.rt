@@ -7,7 +7,8 @@ use line_lanes::{Line64, Mask};
 use qolb_model::{Keep, LineSync, PortState};
 use std::marker::Model;
 
-/// A borrowed port that holds the line. It can be neither copied nor dropped: its thread has to leave. Contracts see it as the port.
+/// A borrowed port that holds the line. It can be neither copied nor dropped: its thread has to
+/// leave. Contracts see it as the port.
 pub struct Turn<K: Keep, L: LineSync<K>> {
     port: L::Port,
 }

@@ -215,8 +215,8 @@ pub fn acquire_within<R: Wait + Clock, K: Keep, L: Sleeping<K>>(
     unreachable!()
 }
 
-/// Looks, and later sleeps between looks, until the request is granted or told, or the time is over. It is the wait of `acquire_within`, for
-/// who has asked already.
+/// Looks, and later sleeps between looks, until the request is granted or told, or the time is over.
+/// It is the wait of `acquire_within`, for who has asked already.
 pub fn wait_within<R: Wait + Clock, K: Keep, L: Sleeping<K>>(
     rt: &R,
     line: &L,

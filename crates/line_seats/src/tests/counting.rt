@@ -1,4 +1,5 @@
-//! Threads share one number: each visit borrows a port, adds 1 to the first lane in a turn of its own, and gives the port back.
+//! Threads share one number: each borrows a port for a turn, adds 1 to the first lane, and gives
+//! the port back.
 ghost use Rattle.std.specs.Prelude.{◌≡◌, ◌<◌, All, vec_len};
 ghost use Rattle.qolb_model.specs.PortStates.{may_ask};
 ghost use Rattle.qolb_model.specs.Turns.{IsGranted};
@@ -23,13 +24,14 @@ fn borrow_and_add<R: Wait, L: LineSync<Free>, S: PortSet<L::Port>>(
     rt: &R,
     seats: &Seats<Free, L, S>,
 ) {
+    let line = seats.line();
     let mut borrowed = seats.borrow(rt);
-    match acquire(rt, seats.line(), &mut borrowed.port) {
+    match acquire(rt, line, &mut borrowed.port) {
         Got::Granted => {
             let held = *L::bytes(&borrowed.port);
             let next = lane(&held, 0).wrapping_add(1);
             L::write(&mut borrowed.port, FIRST_LANE, &with_lane(&held, 0, next));
-            seats.line().deqolb(&mut borrowed.port);
+            line.deqolb(&mut borrowed.port);
         }
         Got::Closed => {}
     }

@@ -38,7 +38,8 @@ fn next_port<R: Wait, L: Sleeping<Free>, S: PortSet<L::Port>>(
     Some(found)
 }
 
-/// The thread has the line by node 1 and is late by node 2, whose port is back and busy until the line is shut. Then it is told so.
+/// The thread has the line by node 1 and is late by node 2, whose port is back and busy until the
+/// line is shut. Then it is told so.
 fn see_at<R: Wait + Clock + Abort, L: Sleeping<Free> + Drop, S: PortSet<L::Port>>(
     rt: &R,
     alloc: Global,

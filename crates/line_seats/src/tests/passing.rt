@@ -61,8 +61,9 @@ impl<R: Wait + Clock, L: Sleeping<Free>, S: PortSet<L::Port>> Work<R, Seats<Free
 
     ghost done = { λ _ _ _ _. Unit {0} };
 
-    /// The first thread has the line by node 1, leaves the port of node 2 busy and at the head of the queue, and keeps the line until the
-    /// second one waits. The node by which it had the line, or 0.
+    /// The first thread has the line by node 1, leaves the port of node 2 busy and at the head of
+    /// the queue, and keeps the line until the second one waits. The node by which it had the line,
+    /// or 0.
     fn work(&self, rt: &R, seats: &Seats<Free, L, S>, place: usize, _part: ()) -> u64 {
         if place > 0 {
             wait_until(rt, &self.ready, 1);
