@@ -19,8 +19,8 @@ slots_of lines.Ring nodes = 1
 slots_of lines.Link nodes = 1
 slots_of lines.Ticket nodes = slots.slot_count nodes
 
--- how many bytes these take together: for 2 nodes 32,896 in a ring, 512 in a list, 1,024 in a ticket line; for 200 nodes as many in a ring,
--- 25,856 in a list, 65,536 in a ticket line
+-- how many bytes these take together: for 2 nodes 32,896 in a ring, 512 in a list, 1,024 in a
+-- ticket line; for 200 nodes as many in a ring, 25,856 in a list, 65,536 in a ticket line
 abbrev pub bytes_of : Lines → ℕ → ℕ
 bytes_of lines.Ring nodes = 32896
 bytes_of lines.Link nodes = 128 * (nodes + 2)

@@ -48,8 +48,8 @@ impl Lines {
         }
     }
 
-    /// How many bytes the table of such a line takes, for so many nodes: its words, and the slots in which the line lies. A port takes 136
-    /// more. Opening takes the table's bytes twice for a moment.
+    /// How many bytes the table of such a line takes, for so many nodes: its words, and the slots in
+    /// which the line lies. A port takes 136 more. Opening takes the table's bytes twice for a moment.
     pub fn bytes_for(self, nodes: u64) -> u64
         requires { AreNodes nodes }
         ensures bytes { result ≡ bytes_of self nodes }
