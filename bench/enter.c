@@ -3,9 +3,9 @@
  *
  *   cc -std=c11 -O2 -pthread -Iinclude bench/enter.c crates/qolb_c/out/libqolb.a -o enter && ./enter [BATCHES]
  *
- * Prints nanoseconds a round, the least and the median of so many batches (101), in which the ways take turns, and each lock's of those of its node. The
- * least is the figure to take where the machine has other work. With a second word, ./enter 1 "qolb_lock, ticket", it does 10,000 rounds of that way alone, to
- * be counted by valgrind --tool=callgrind --toggle-collect='rounds_of*'. */
+ * Prints nanoseconds a round, the least and the median of so many batches (101), in which the ways take turns, and each lock's of those of
+ * its node. The least is the figure to take where the machine has other work. With a second word, ./enter 1 "qolb_lock, ticket", it does
+ * 10,000 rounds of that way alone, to be counted by valgrind --tool=callgrind --toggle-collect='rounds_of*'. */
 #define _POSIX_C_SOURCE 200809L
 #include <pthread.h>
 #include <qolb.h>
@@ -13,6 +13,7 @@
 #include <stdlib.h>
 #include <string.h>
 #include <time.h>
+#include <unistd.h>
 #ifdef MCS
 #include <ck_spinlock.h>
 static ck_spinlock_mcs_t mcs = CK_SPINLOCK_MCS_INITIALIZER;
@@ -83,6 +84,12 @@ static void opens(void) {
     }
 }
 
+/* In a process of one thread the C library's mutex takes no locked instruction. */
+static void *sleeps(void *unused) {
+    pause();
+    return unused;
+}
+
 static int of_one(const char *name) {
     for (int k = 0; k < WAYS; k++) {
         if (strcmp(ways[k].name, name) != 0) continue;
@@ -95,6 +102,8 @@ static int of_one(const char *name) {
 int main(int argc, char **argv) {
     int batches = argc > 1 ? atoi(argv[1]) : 101;
     if (batches < 1 || batches > MOST_BATCHES) return 2;
+    pthread_t other;
+    if (pthread_create(&other, NULL, sleeps, NULL) != 0) return 1;
     opens();
     if (argc > 2) return of_one(argv[2]);
     for (int b = 0; b < batches; b++) {
@@ -107,7 +116,8 @@ int main(int argc, char **argv) {
     for (int k = 0; k < WAYS; k++) {
         qsort(took[k], (size_t)batches, sizeof took[k][0], by_size);
         printf("%-18s least %5.1f median %5.1f", ways[k].name, took[k][0], took[k][batches / 2]);
-        if (ways[k].rounds == rounds_of_lock) printf("   %.2f and %.2f of the node's", took[k][0] / took[k - 1][0], took[k][batches / 2] / took[k - 1][batches / 2]);
+        const double *it = took[k], *before = took[k - 1 + (k == 0)];
+        if (ways[k].rounds == rounds_of_lock) printf("   %.2f and %.2f of the node's", it[0] / before[0], it[batches / 2] / before[batches / 2]);
         puts("");
     }
     return 0;

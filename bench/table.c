@@ -1,6 +1,6 @@
-/* A hash table with a lock for each bucket, used by threads for so many seconds: lookups, additions and removals of random keys, of which some are asked
- * for much more often than others. Says how many operations are done a second, how evenly (the least and the most that a thread did, of the mean), how long
- * the longest took, from one to the next of its thread, and how many each thread did.
+/* A hash table with a lock for each bucket, used by threads for so many seconds: lookups, additions and removals of random keys, of
+ * which some are asked for much more often than others. Says how many operations are done a second, how evenly (the least and the most
+ * that a thread did, of the mean), how long the longest took, from one to the next of its thread, and how many each thread did.
  *
  *   cc -std=c11 -O2 -pthread -Iinclude bench/table.c crates/qolb_c/out/libqolb.a -o table && ./table LOCK THREADS BUCKETS SECONDS
  *
@@ -190,7 +190,9 @@ static int tell(const char *lock, unsigned threads, double seconds) {
 
 int main(int argc, char **argv) {
     unsigned threads = argc == 5 ? (unsigned)atoi(argv[2]) : 0;
-    if (threads < 1 || threads > MOST || atoi(argv[3]) < 1 || !take_lock(argv[1])) return fputs("table ticket|list|ring|mutex|MCS THREADS BUCKETS SECONDS\n", stderr), 2;
+    if (threads < 1 || threads > MOST || atoi(argv[3]) < 1 || !take_lock(argv[1])) {
+        return fputs("table ticket|list|ring|mutex|MCS THREADS BUCKETS SECONDS\n", stderr), 2;
+    }
     buckets = (unsigned)atoi(argv[3]);
     double seconds = atof(argv[4]);
     struct timespec rest = {(time_t)seconds, (long)((seconds - (double)(time_t)seconds) * 1e9)};

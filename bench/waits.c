@@ -3,13 +3,14 @@
 //
 //   clang -O3 -march=x86-64-v2 -pthread -o waits bench/waits.c && ./waits THREADS MICROSECONDS SECONDS
 //
-// With -DNODES it is a line of the C library whose threads have a node each (qolb_acquire), and with -DLOCK a qolb_lock; both sleep at the library's bells:
+// With -DNODES it is a line of the C library whose threads have a node each (qolb_acquire), and with -DLOCK a qolb_lock. Both sleep at the
+// library's bells:
 //
 //   make -C include library
 //   clang -O3 -march=x86-64-v2 -pthread -DLOCK -Iinclude -o waits bench/waits.c crates/qolb_c/out/libqolb.a
 //
-// The holder keeps its processor busy for so many microseconds, and adds 1 to a lane: with -DNODES to that of the line, which is handed over, and else in its
-// place, so that nothing is copied.
+// The holder keeps its processor busy for so many microseconds, and adds 1 to a lane: with -DNODES to that of the line, which is handed
+// over, and else in its place, so that nothing is copied.
 #include "line.h"
 
 #include <pthread.h>
