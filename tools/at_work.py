@@ -218,12 +218,11 @@ def longest_scripts(program):
 
 
 def timed(program, words, script):
-    """What a run on the script wrote, with its seconds and its most memory in MB."""
+    """What a run on the script wrote, with its seconds of a processor and its most memory in MB."""
     pipe = subprocess.PIPE
     with tempfile.TemporaryFile() as file:
         file.write(script)
         file.seek(0)
-        before = time.monotonic()
         running = spawned(program, words, file, pipe, pipe)
         alarm = threading.Timer(SECONDS, running.kill)
         alarm.start()
@@ -231,14 +230,14 @@ def timed(program, words, script):
         _, status, used = os.wait4(running.pid, 0)
         alarm.cancel()
     expect(f"{' '.join(words)} of {script.count(10)} lines", (0, ""), (os.waitstatus_to_exitcode(status), err))
-    return out, time.monotonic() - before, used.ru_maxrss / 1024
+    return out, used.ru_utime + used.ru_stime, used.ru_maxrss / 1024
 
 
 def drawn_whole(program, words, script, what):
     """An SVG with a shape for each command or event, and how long it took."""
     svg, seconds, memory = timed(program, words, script)
     expect(f"{what} as an SVG", (True, script.count(b"\n")), (svg.endswith("</g>\n</svg>\n"), svg.count("</title></use>\n")))
-    print(f"{what}: an SVG of {len(svg)} bytes, {seconds:.1f} seconds, {memory:.0f} MB", flush=True)
+    print(f"{what}: an SVG of {len(svg)} bytes, {seconds:.1f} seconds of a processor, {memory:.0f} MB", flush=True)
 
 
 def largest_schedule_picture(program):
@@ -253,7 +252,7 @@ def largest_schedule_picture(program):
     for node, rows in letters.items():
         expect(f"row of node {node}", "." * (node - 1) + ("H" if node == 1 else "w") * (MOST + 1 - node), "".join(rows))
     what = f"a schedule of {MOST} commands by {MOST_NODES} nodes"
-    print(f"{what}: {len(out)} bytes of text, {seconds:.1f} seconds, {memory:.0f} MB", flush=True)
+    print(f"{what}: {len(out)} bytes of text, {seconds:.1f} seconds of a processor, {memory:.0f} MB", flush=True)
     drawn_whole(program, ["draw", "--svg"], script, what)
 
 
@@ -283,7 +282,7 @@ def largest_step_picture(program):
             raise Wrong(f"event {number + 1} of the largest picture: {lines[number]!r}, and not {want!r}")
     expect("the events of the largest picture", "", lines[len(wanted)])
     what = f"a step script of {MOST} events by {MOST_NODES} nodes"
-    print(f"{what}: {len(out)} bytes of text, {seconds:.1f} seconds, {memory:.0f} MB", flush=True)
+    print(f"{what}: {len(out)} bytes of text, {seconds:.1f} seconds of a processor, {memory:.0f} MB", flush=True)
     drawn_whole(program, ["draw", "--steps", "--svg"], script, what)
 
 
