@@ -76,8 +76,13 @@ impl<K: Keep, Q: Ruled<K>> TableRule<Parcel, LinkedList<Entry<Q::Own>>, Setup> f
 pub type Ground<K, Q> = Shared<Parcel, LinkedList<Entry<<Q as Shape>::Own>>, Setup, Rule<K, Q>>;
 
 /// The table of a line, as the line owns it.
-pub type LineTable<K, Q> =
-    Table<Parcel, LinkedList<Entry<<Q as Shape>::Own>>, Setup, Rule<K, Q>, Global>;
+pub type LineTable<K, Q> = Table<
+    Parcel,
+    LinkedList<Entry<<Q as Shape>::Own>>,
+    Setup,
+    Rule<K, Q>,
+    Global,
+>;
 
 /// A seat of the table: a port has one.
 pub type LineSeat<O> = Seat<Parcel, LinkedList<Entry<O>>>;
