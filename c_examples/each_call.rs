@@ -198,6 +198,7 @@ fn says() {
         assert_eq!(answer.to_string(), text);
     }
     assert_eq!(Stopped::Closed.to_string(), "the line is closed");
+    assert_eq!((Kind::DEFAULT, Kind::default()), (Kind::Ticket, Kind::Ticket));
     assert_eq!(asks(1, false).unwrap(), 5);
     assert_eq!(asks(201, false).unwrap_err().to_string(), "a line has 1 to 200 nodes");
     assert_eq!(asks(1, true).unwrap_err().to_string(), "the line is closed");

@@ -32,6 +32,7 @@ static int of_a_closed_one(void) {
     qolb_bytes zeros = {{0}};
     qolb_lock lock = QOLB_LOCK_INIT(2), none = QOLB_LOCK_INIT(0), many = QOLB_LOCK_INIT(201), odd = QOLB_LOCK_INIT_OF(3, 2);
     qolb_cond cond = QOLB_COND_INIT;
+    WANT(lock.kind, QOLB_TICKET);
     WANT(qolb_lock_leave(&lock), QOLB_MISUSE);
     WANT(qolb_lock_shut(&lock), QOLB_MISUSE);
     WANT(qolb_cond_wait(&cond, &lock), QOLB_MISUSE);

@@ -76,7 +76,7 @@ bool counts() {
 
 bool answers() {
     qolb::lock lock(2), none(0);
-    WANT(lock.holder() == 0);
+    WANT(lock.holder() == 0 && lock.native_handle()->kind == QOLB_TICKET);
     WANT(throws<qolb::Misuse>([&] { lock.unlock(); }));
     WANT(throws<qolb::Misuse>([&] { none.lock(); }));
     WANT(none.enter() == QOLB_BAD_NODES);

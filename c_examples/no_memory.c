@@ -1,8 +1,9 @@
 /* Each allocation of an opening is refused in turn: the opening is then refused, the handles stay empty, and what it took is given back. No call
- * but opening and closing takes memory or gives any back, or writes to its handle. So it is with a lock, which its first use may open.
+ * but opening and closing takes memory or gives any back, or writes to its handle: the proved ones put the same node back. So it is with a lock, which its
+ * first use may open.
  * Linked with --wrap for malloc, realloc and free. Prints nothing but what went wrong. */
 #define _DEFAULT_SOURCE
-#include <qolb.h>
+#include <proved.h>
 #include <stdio.h>
 #include <stdlib.h>
 #include <sys/mman.h>
@@ -87,6 +88,27 @@ static int calls_take_none(uint32_t kind) {
     return munmap(nodes, PAGE);
 }
 
+/* The proved calls by which those on a node are made: each leaves the node in its handle that was there. */
+static int puts_the_same_back(uint32_t kind) {
+    qolb_bytes bytes = {{0}};
+    qolb_node one[2] = {{0}}, *two = one + 1;
+    uint64_t lane;
+    if (qolb_open(kind, 1, 2, 9, &bytes, one, 2) != QOLB_DONE) return puts("not opened"), 1;
+    void *was[] = {one->own, two->own};
+#define SAME(call) ((call), one->own == was[0] && two->own == was[1])
+    int same = SAME(qolb_enqolb_proved_(one)) && SAME(qolb_enqolb_proved_(one)) && SAME(qolb_turns_left_proved_(one)) && SAME(qolb_state_proved_(one));
+    same = same && SAME(qolb_write_proved_(one, 1, &bytes)) && SAME(qolb_write_lane_proved_(one, 1, 7)) && SAME(qolb_read_proved_(one, &bytes));
+    same = same && SAME(qolb_read_lane_proved_(one, 1, &lane)) && SAME(qolb_number_proved_(one)) && SAME(qolb_label_proved_(one));
+    same = same && SAME(qolb_enqolb_proved_(two)) && SAME(qolb_poll_proved_(two)) && SAME(qolb_wait_proved_(two, 3)) && SAME(qolb_withdraw_proved_(two));
+    same = same && SAME(qolb_enqolb_proved_(two)) && SAME(qolb_deqolb_proved_(one)) && SAME(qolb_prepend_proved_(one)) && SAME(qolb_prepend_proved_(two));
+    same = same && SAME(qolb_link_proved_(two)) && SAME(qolb_shut_proved_(one)) && SAME(qolb_poll_proved_(two)) && SAME(qolb_enqolb_proved_(one));
+#undef SAME
+    if (!same) return puts("another node was put back"), 1;
+    if (kind != QOLB_LIST && qolb_shut(one) != QOLB_DONE) return puts("does not hold it"), 1;
+    if (qolb_close(one) != QOLB_DONE || qolb_close(two) != QOLB_DONE) return puts("not closed"), 1;
+    return 0;
+}
+
 /* Each allocation of a lock's first use, or of its opening, is refused in turn: then the lock is closed as before, and keeps nothing. The next use opens
  * it. Entering, leaving and waiting take nothing. */
 static uint32_t used_first(qolb_lock *lock, uint32_t kind, unsigned way) {
@@ -122,7 +144,7 @@ static int lock_refused_in_turn(uint32_t kind, unsigned way) {
 static int tried(uint32_t kind) {
     for (unsigned way = 0; way < 4; way++)
         if (lock_refused_in_turn(kind, way)) return 1;
-    return refused_in_turn(kind) || calls_take_none(kind);
+    return refused_in_turn(kind) || calls_take_none(kind) || puts_the_same_back(kind);
 }
 
 int main(void) { return tried(QOLB_RING) || tried(QOLB_LIST) || tried(QOLB_TICKET); }

@@ -8,8 +8,8 @@
  *
  * QOLB_KIND=list makes them lists and QOLB_KIND=ring rings; else they are ticket lines.
  *
- * With QOLB_REPORT=FILE the program's last act is to append a line there: how many mutexes were lines, how often one was granted, was late or was not
- * free at once, and how often two threads were in one at the same time, which must be 0. */
+ * With QOLB_REPORT=FILE the program's last act is to append a line there: the number of their kind, how many mutexes were lines, how often one was granted,
+ * was late or was not free at once, and how often two threads were in one at the same time, which must be 0. */
 #define _GNU_SOURCE
 #include <dlfcn.h>
 #include <errno.h>
@@ -221,6 +221,7 @@ __attribute__((destructor)) static void report(void) {
     const char *name = getenv("QOLB_REPORT");
     FILE *out = name ? fopen(name, "a") : NULL;
     if (!out) return;
-    fprintf(out, "mutexes %llu grants %llu late %llu not free %llu violations %llu\n", opened_lines, grants, late, not_free, violations);
+    fprintf(out, "kind %u mutexes %llu grants %llu late %llu not free %llu violations %llu\n", kind_named(getenv("QOLB_KIND")), opened_lines, grants, late,
+            not_free, violations);
     fclose(out);
 }

@@ -12,14 +12,8 @@ enum { NAP = 200000 };
 
 /* ---- The caller's handle ----
  *
- * A proved call takes the node out of its handle, and puts it back. So it gets a copy, on the stack, and the caller's handle is written only where the node
- * in it is another afterwards. Else threads whose handles lie side by side, as qolb_open writes them, would all write to one cache line. */
-
-static inline void put_back(qolb_node *node, const qolb_node *copy) {
-    if (node->own != copy->own) node->own = copy->own;
-}
-
-static inline uint32_t back(qolb_node *node, const qolb_node *copy, uint32_t got) { return put_back(node, copy), got; }
+ * A proved call takes the node out of its handle, and puts the same one back. So it gets a copy, on the stack, and the caller's handle is only read. Else
+ * threads whose handles lie side by side, as qolb_open writes them, would all write to one cache line. */
 
 /* ---- Letting a line go ---- */
 
@@ -46,7 +40,7 @@ static inline uint32_t told(qolb_node *node, uint32_t got) { return got == QOLB_
     uint32_t call(qolb_node *node) {                                                               \
         if (qolb_is_lent_(node)) return QOLB_MISUSE;                                               \
         qolb_node copy = *node;                                                                    \
-        return back(node, &copy, then(&copy, call##_proved_(&copy)));                              \
+        return then(&copy, call##_proved_(&copy));                                                 \
     }
 
 MOVES(qolb_enqolb, told)
@@ -60,7 +54,7 @@ MOVES(qolb_shut, let_go)
 uint32_t qolb_wait(qolb_node *node, uint64_t polls) {
     if (qolb_is_lent_(node)) return QOLB_MISUSE;
     qolb_node copy = *node;
-    return back(node, &copy, told(&copy, qolb_wait_proved_(&copy, polls)));
+    return told(&copy, qolb_wait_proved_(&copy, polls));
 }
 
 uint32_t qolb_close(qolb_node *node) { return qolb_is_lent_(node) ? (uint32_t)QOLB_MISUSE : qolb_close_proved_(node); }
@@ -135,7 +129,7 @@ static inline uint32_t acquire(qolb_node *node, uint64_t nanoseconds) {
     struct limit limit = from_now(nanoseconds);
     qolb_node copy = *node;
     uint32_t got = qolb_enqolb_proved_(&copy);
-    return back(node, &copy, got == QOLB_GRANTED ? got : acquired(&copy, got, limit));
+    return got == QOLB_GRANTED ? got : acquired(&copy, got, limit);
 }
 
 uint32_t qolb_acquire(qolb_node *node) { return acquire(node, FOR_EVER); }
@@ -150,25 +144,25 @@ static inline qolb_node *meant(qolb_node *node) { return qolb_is_lent_(node) ? q
 uint32_t qolb_read(qolb_node *node, qolb_bytes *out) {
     if (!(node = meant(node))) return QOLB_MISUSE;
     qolb_node copy = *node;
-    return back(node, &copy, qolb_read_proved_(&copy, out));
+    return qolb_read_proved_(&copy, out);
 }
 
 uint32_t qolb_write(qolb_node *node, uint64_t mask, const qolb_bytes *bytes) {
     if (!(node = meant(node))) return QOLB_MISUSE;
     qolb_node copy = *node;
-    return back(node, &copy, qolb_write_proved_(&copy, mask, bytes));
+    return qolb_write_proved_(&copy, mask, bytes);
 }
 
 uint32_t qolb_read_lane(qolb_node *node, uint64_t lane, uint64_t *out) {
     if (!(node = meant(node))) return QOLB_MISUSE;
     qolb_node copy = *node;
-    return back(node, &copy, qolb_read_lane_proved_(&copy, lane, out));
+    return qolb_read_lane_proved_(&copy, lane, out);
 }
 
 uint32_t qolb_write_lane(qolb_node *node, uint64_t lane, uint64_t value) {
     if (!(node = meant(node))) return QOLB_MISUSE;
     qolb_node copy = *node;
-    return back(node, &copy, qolb_write_lane_proved_(&copy, lane, value));
+    return qolb_write_lane_proved_(&copy, lane, value);
 }
 
 /* 0 of a node that its caller does not hold by, as of an empty handle. */
@@ -176,9 +170,7 @@ uint32_t qolb_write_lane(qolb_node *node, uint64_t lane, uint64_t value) {
     result call(qolb_node *node) {                                                         \
         if (!(node = meant(node))) return 0;                                               \
         qolb_node copy = *node;                                                            \
-        result said = call##_proved_(&copy);                                               \
-        put_back(node, &copy);                                                             \
-        return said;                                                                       \
+        return call##_proved_(&copy);                                                      \
     }
 
 SAYS(uint64_t, qolb_turns_left)
