@@ -1,5 +1,5 @@
-//! Threads come and go: each comes to the line for one turn by a port that it borrows, adds 1 to the
-//! first lane, and leaves. There are more threads than ports.
+//! Threads come and go: each comes to the line for one turn by a port that it borrows, adds 1 to
+//! the first lane, and leaves. There are more threads than ports.
 #![tactic(auto)]
 
 ghost use Rattle.std.specs.Prelude.{◌<◌, All, vec_len};

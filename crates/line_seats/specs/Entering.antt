@@ -11,9 +11,9 @@ use Rattle.line_seats.specs.Lending.{MayAsk}
 
 module _ {Port : Type 0} (allows : List ℕ → List ℕ → Type 0) (belongs : Port → Type 0) (view : Port → View) where
   module _ (turn : Port → Write) (counters : Port → Counters) where
-    -- A port of the line was borrowed that might ask. It made one request, which was granted, or told
-    -- that the line is closed. Once it had asked, fewer requests ended before it was granted than the
-    -- line has nodes.
+    -- A port of the line was borrowed that might ask. It made one request, which was granted, or
+    -- told that the line is closed. Once it had asked, fewer requests ended before it was granted
+    -- than the line has nodes.
     pub record Enters (got : Got) (port : Port) : Type 0 where
       pub borrowed : Port
       pub might_ask : MayAsk belongs view borrowed

@@ -49,7 +49,8 @@ impl<K: Keep, L: LineSync<K>, S: PortSet<L::Port>> Seats<K, L, S> {
         unreachable!()
     }
 
-    /// Releases the line, and gives the port back. The last turn of a lease closes the line, as `shut` does.
+    /// Releases the line, and gives the port back. The last turn of a lease closes the line, as
+    /// `shut` does.
     pub fn leave<R: Wait>(&self, rt: &R, turn: Turn<K, L>)
         requires belongs { L.belongs self.now turn }
         requires allowed { MayRelease K.allows (L.view turn) (L.turn turn) }
@@ -73,8 +74,8 @@ impl<K: Keep, L: LineSync<K>, S: PortSet<L::Port>> Seats<K, L, S> {
 }
 
 impl<K: Keep, L: Sleeping<K>, S: PortSet<L::Port>> Seats<K, L, S> {
-    /// As `enter`, by a waiter that sleeps where the wait for its turn is long, and no longer than so
-    /// much time. No clause says when it is late.
+    /// As `enter`, by a waiter that sleeps where the wait for its turn is long, and no longer than
+    /// so much time. No clause says when it is late.
     pub fn enter_within<R: Wait + Clock>(
         &self,
         rt: &R,

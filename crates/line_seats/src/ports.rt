@@ -48,7 +48,8 @@ impl<P, S: PortSet<P>> Seat<P, S> {
     }
 }
 
-/// A port that a thread has borrowed. It can be neither copied nor dropped: it has to be given back.
+/// A port that a thread has borrowed. It can be neither copied nor dropped, and has to be given
+/// back.
 pub struct Borrowed<P> {
     pub port: P,
     to_give_back: (),

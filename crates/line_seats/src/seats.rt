@@ -92,8 +92,8 @@ impl<K: Keep, L: LineSync<K>, S: PortSet<L::Port>> Seats<K, L, S> {
         put_back(rt, &self.free, Seat::of(borrowed.into_port()));
     }
 
-    /// Takes the line apart, once all its ports are given back. Refused, it hands the line back, and
-    /// the ports that no thread has.
+    /// Takes the line apart, once all its ports are given back. Refused, it hands the line back,
+    /// and the ports that no thread has.
     pub fn finish(self, alloc: Global) -> Result<Line64, Unfinished<L, L::Port>>
     where
         L::Port: Drop,

@@ -1,8 +1,6 @@
 //! Threads share one number: each borrows a port for a turn, adds 1 to the first lane, and gives
 //! the port back.
-ghost use Rattle.std.specs.Prelude.{◌≡◌, ◌<◌, All, vec_len};
-ghost use Rattle.qolb_model.specs.PortStates.{may_ask};
-ghost use Rattle.qolb_model.specs.Turns.{IsGranted};
+ghost use Rattle.std.specs.Prelude.{◌<◌, All, vec_len};
 ghost use Rattle.line_seats.specs.Lending.{MayAsk, IsPortSetOf};
 
 use super::for_nodes;
