@@ -278,7 +278,7 @@ fn refuses_command_lines(rt: HostRuntime) -> Result<(), Fail> {
 
 /// What `--version` says.
 const VERSION: &str =
-    "qolb 1.4.0\nsources proved by rattle-kit-13b logic dac8208d650f15bf\nkinds of lines: plain, ring, link, ticket\n";
+    "qolb 1.4.0\nsources proved by rattle-kit-13f logic dac8208d650f15bf\nkinds of lines: plain, ring, link, ticket\n";
 
 #[test]
 fn tells_its_version(rt: HostRuntime) -> Result<(), Fail> {
