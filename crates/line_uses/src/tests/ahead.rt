@@ -16,17 +16,12 @@ use std::time::Duration;
 /// How many nodes the line has. The first holds it, and the others ask behind it in their order.
 const NODES: u64 = 5;
 
-/// How many milliseconds they are left to fall asleep.
-const NAP_MILLIS: u64 = 100;
+/// How many milliseconds they are left to fall asleep, where each is tried: one that has not fallen asleep when it is woken ahead sleeps on, as its
+/// turn has not come.
+static NAPS: [u64; 6] = [50, 100, 200, 400, 800, 1_600];
 
 /// How many milliseconds the next holder and the waiter behind it may sleep.
-const LONG_MILLIS: u64 = 6_000;
-
-/// How many milliseconds the one behind these two may sleep, whom nobody wakes.
-const SHORT_MILLIS: u64 = 500;
-
-/// How often it is tried: one that has not fallen asleep when it is woken ahead sleeps on, as its turn has not come.
-const TRIES: u32 = 3;
+const LONG_MILLIS: u64 = 5_000;
 
 /// Node 1 lets the line go; the nodes before the next holder have withdrawn; and the next holder does nothing with the line.
 #[derive(Drop)]
@@ -35,6 +30,9 @@ struct Ahead {
     next: u64,
     /// Whether that one sleeps.
     sleeps: bool,
+    /// How long they are left to fall asleep, and how long the one behind these two may sleep, whom nobody wakes.
+    nap: Duration,
+    short: Duration,
     asked: AtomicU64,
 }
 
@@ -52,11 +50,10 @@ impl Ahead {
     {
         let behind = node.wrapping_sub(self.next);
         let long = Duration::from_millis(LONG_MILLIS);
-        let short = Duration::from_millis(SHORT_MILLIS);
         match behind {
             0 => !self.sleeps || sleep_for(rt, line, port, long).is_some_and(|took| took < long),
             1 => sleep_for(rt, line, port, long).is_some_and(|took| took < long),
-            2 => sleep_for(rt, line, port, short).is_some_and(|took| took >= short),
+            2 => sleep_for(rt, line, port, self.short).is_some_and(|took| took >= self.short),
             _ => true,
         }
     }
@@ -65,7 +62,7 @@ impl Ahead {
 impl<R: Wait + Clock, L: Sleeping<Free>> Scene<R, L> for Ahead {
     fn keep(&self, rt: &R, _line: &L) {
         wait_until(rt, &self.asked, NODES - 1);
-        thread::sleep(rt, Duration::from_millis(NAP_MILLIS));
+        thread::sleep(rt, self.nap);
     }
 
     fn behind(&self, rt: &R, line: &L, port: &mut L::Port) -> bool {
@@ -90,6 +87,7 @@ fn wake_ahead<R: Threads + Wait + Clock + Sync, L: OpenLine<Free> + Sleeping<Fre
     alloc: Global,
     next: u64,
     sleeps: bool,
+    nap: Duration,
 ) -> Result<bool, OpenError>
 where
     L::Port: Send + Drop,
@@ -97,6 +95,8 @@ where
     let scene = Ahead {
         next,
         sleeps,
+        nap,
+        short: nap.saturating_mul(3),
         asked: AtomicU64::new(0),
     };
     let (line, ports) = L::open_with(alloc, 1, for_nodes(NODES))?;
@@ -114,8 +114,9 @@ where
 {
     for (next, sleeps) in [(2, true), (2, false), (3, true), (3, false)] {
         let mut woke = false;
-        for _ in 0..TRIES {
-            woke = woke || wake_ahead::<R, L>(rt, alloc, next, sleeps) == Ok(true);
+        for millis in &NAPS {
+            let nap = Duration::from_millis(*millis);
+            woke = woke || wake_ahead::<R, L>(rt, alloc, next, sleeps, nap) == Ok(true);
         }
         assert!(rt;
             woke,
