@@ -1,19 +1,34 @@
-/* A hash table with a lock for each bucket, used by threads for so many seconds: lookups, additions and removals of random keys, of which some are asked
- * for much more often than others. Says how many operations are done a second, and how evenly: the least and the most that a thread did, of the mean.
+/* A hash table with a lock for each bucket, used by threads for so many seconds: lookups, additions and removals of random keys, of
+ * which some are asked for much more often than others. Says how many operations are done a second, how evenly (the least and the most
+ * that a thread did, of the mean), how long the longest took, from one to the next of its thread, and how many each thread did.
  *
  *   cc -std=c11 -O2 -pthread -Iinclude bench/table.c crates/qolb_c/out/libqolb.a -o table && ./table LOCK THREADS BUCKETS SECONDS
  *
- * LOCK is qolb or pthread. Before it ends it counts the entries, and compares their number with the additions and removals that were done. */
-#define _POSIX_C_SOURCE 200809L
+ * LOCK is ticket, list or ring, a qolb_lock of that kind, or mutex, a pthread_mutex; with -DMCS, which wants Debian's package libck-dev, also MCS,
+ * Concurrency Kit's, whose waiters look 64 times and then give the processor away between two looks. Before it ends it counts the entries, and compares
+ * their number with the additions and removals that were done. bench/tables runs it with each. */
+#define _DEFAULT_SOURCE
 #include <pthread.h>
 #include <qolb.h>
+#include <sched.h>
 #include <stdatomic.h>
 #include <stdio.h>
 #include <stdlib.h>
 #include <string.h>
 #include <time.h>
 
+#ifdef MCS
+#include <ck_pr.h>
+static _Thread_local unsigned looks;
+#undef ck_pr_stall
+#define ck_pr_stall() (++looks <= 64 ? __builtin_ia32_pause() : (void)sched_yield())
+#include <ck_spinlock.h>
+#else
+typedef char ck_spinlock_mcs_t, ck_spinlock_mcs_context_t;
+#endif
+
 enum { MOST = 200, KEYS = 1 << 16 };
+enum { BY_QOLB, BY_MUTEX, BY_MCS };
 
 struct entry {
     struct entry *next;
@@ -23,27 +38,46 @@ struct entry {
 struct bucket {
     _Alignas(QOLB_NODE_ALIGN) qolb_lock lock;
     pthread_mutex_t mutex;
+    ck_spinlock_mcs_t mcs;
     struct entry *first;
 };
 
 struct worker {
     _Alignas(QOLB_NODE_ALIGN) pthread_t id;
-    uint64_t drawn, done, found;
+    ck_spinlock_mcs_context_t context;
+    uint64_t drawn, done, found, longest;
     long entries;
 };
 
 static struct bucket *table;
 static unsigned buckets;
-static int by_qolb;
+static int by;
+static uint32_t kind;
 static atomic_int over;
 static struct worker workers[MOST];
 
-static void enter(struct bucket *it) {
-    if (by_qolb ? qolb_lock_enter(&it->lock) != QOLB_GRANTED : pthread_mutex_lock(&it->mutex) != 0) abort();
+static void enter(struct bucket *it, struct worker *me) {
+    (void)me;
+    if (by == BY_QOLB && qolb_lock_enter(&it->lock) != QOLB_GRANTED) abort();
+    if (by == BY_MUTEX && pthread_mutex_lock(&it->mutex) != 0) abort();
+#ifdef MCS
+    if (by == BY_MCS) looks = 0, ck_spinlock_mcs_lock(&it->mcs, &me->context);
+#endif
 }
 
-static void leave(struct bucket *it) {
-    if (by_qolb ? qolb_lock_leave(&it->lock) != QOLB_DONE : pthread_mutex_unlock(&it->mutex) != 0) abort();
+static void leave(struct bucket *it, struct worker *me) {
+    (void)me;
+    if (by == BY_QOLB && qolb_lock_leave(&it->lock) != QOLB_DONE) abort();
+    if (by == BY_MUTEX && pthread_mutex_unlock(&it->mutex) != 0) abort();
+#ifdef MCS
+    if (by == BY_MCS) ck_spinlock_mcs_unlock(&it->mcs, &me->context);
+#endif
+}
+
+static uint64_t now(void) {
+    struct timespec time;
+    clock_gettime(CLOCK_MONOTONIC, &time);
+    return (uint64_t)time.tv_sec * 1000000000 + (uint64_t)time.tv_nsec;
 }
 
 static uint64_t draw(struct worker *me) {
@@ -74,27 +108,29 @@ static void operate(struct worker *me, struct bucket *bucket, uint64_t key, unsi
 
 static void *work(void *argument) {
     struct worker *me = argument;
-    while (!atomic_load_explicit(&over, memory_order_relaxed)) {
+    for (uint64_t began = now(), ended; !atomic_load_explicit(&over, memory_order_relaxed); began = ended) {
         uint64_t random = draw(me), wide = random >> 8 & (KEYS - 1);
         uint64_t key = random & 1 ? wide : wide & 63; /* half of all are for 64 keys */
         unsigned what = (unsigned)(random >> 32) % 10;
         struct entry *fresh = what == 0 ? malloc(sizeof *fresh) : NULL;
         struct bucket *bucket = &table[key % buckets];
         if (what == 0 && !fresh) abort();
-        enter(bucket);
+        enter(bucket, me);
         operate(me, bucket, key, what, fresh);
-        leave(bucket);
+        leave(bucket, me);
         me->done++;
+        ended = now();
+        if (ended - began > me->longest) me->longest = ended - began;
     }
     return NULL;
 }
 
-static void opens(void) {
+static void opens(unsigned threads) {
     table = aligned_alloc(QOLB_NODE_ALIGN, buckets * sizeof *table);
     if (!table) abort();
     for (unsigned k = 0; k < buckets; k++) {
-        memset(&table[k], 0, sizeof table[k]);
-        table[k].lock = (qolb_lock)QOLB_LOCK_INIT(64);
+        memset(&table[k], 0, sizeof table[k]); /* an MCS lock that is free is zeros */
+        table[k].lock = (qolb_lock)QOLB_LOCK_INIT_OF(kind, threads);
         pthread_mutex_init(&table[k].mutex, NULL);
     }
 }
@@ -112,31 +148,61 @@ static long entries(void) {
     return count;
 }
 
+/* Whether there is a lock of this name. */
+static int take_lock(const char *name) {
+    static const struct {
+        const char *name;
+        int by;
+        uint32_t kind;
+    } locks[] = {{"ticket", BY_QOLB, QOLB_TICKET}, {"list", BY_QOLB, QOLB_LIST}, {"ring", BY_QOLB, QOLB_RING}, {"mutex", BY_MUTEX, 0},
+#ifdef MCS
+                 {"MCS", BY_MCS, 0}
+#endif
+    };
+    for (size_t k = 0; k < sizeof locks / sizeof locks[0]; k++) {
+        if (strcmp(name, locks[k].name) != 0) continue;
+        by = locks[k].by;
+        kind = locks[k].kind;
+        return 1;
+    }
+    return 0;
+}
+
+/* What came of it, when all have ended; whether no entry is too many or too few. */
+static int tell(const char *lock, unsigned threads, double seconds) {
+    uint64_t sum = 0, least = UINT64_MAX, most = 0, longest = 0;
+    long wanted = 0;
+    for (unsigned k = 0; k < threads; k++) {
+        const struct worker *it = &workers[k];
+        sum += it->done;
+        wanted += it->entries;
+        if (it->done < least) least = it->done;
+        if (it->done > most) most = it->done;
+        if (it->longest > longest) longest = it->longest;
+    }
+    double mean = (double)sum / threads;
+    printf("%s %u threads %u buckets: %.0f operations a second, least %.2f, most %.2f, longest us %llu\nby thread:", lock, threads, buckets,
+           (double)sum / seconds, (double)least / mean, (double)most / mean, (unsigned long long)longest / 1000);
+    for (unsigned k = 0; k < threads; k++) printf(" %llu", (unsigned long long)workers[k].done);
+    puts("");
+    return entries() == wanted;
+}
+
 int main(int argc, char **argv) {
     unsigned threads = argc == 5 ? (unsigned)atoi(argv[2]) : 0;
-    if (threads < 1 || threads > MOST || atoi(argv[3]) < 1) return fputs("table qolb|pthread THREADS BUCKETS SECONDS\n", stderr), 2;
-    by_qolb = strcmp(argv[1], "qolb") == 0;
+    if (threads < 1 || threads > MOST || atoi(argv[3]) < 1 || !take_lock(argv[1])) {
+        return fputs("table ticket|list|ring|mutex|MCS THREADS BUCKETS SECONDS\n", stderr), 2;
+    }
     buckets = (unsigned)atoi(argv[3]);
     double seconds = atof(argv[4]);
     struct timespec rest = {(time_t)seconds, (long)((seconds - (double)(time_t)seconds) * 1e9)};
-    opens();
+    opens(threads);
     for (unsigned k = 0; k < threads; k++) {
         workers[k].drawn = k;
         if (pthread_create(&workers[k].id, NULL, work, &workers[k]) != 0) return 1;
     }
     nanosleep(&rest, NULL);
     atomic_store(&over, 1);
-    uint64_t sum = 0, least = UINT64_MAX, most = 0;
-    long wanted = 0;
-    for (unsigned k = 0; k < threads; k++) {
-        pthread_join(workers[k].id, NULL);
-        sum += workers[k].done;
-        wanted += workers[k].entries;
-        if (workers[k].done < least) least = workers[k].done;
-        if (workers[k].done > most) most = workers[k].done;
-    }
-    double mean = (double)sum / threads;
-    printf("%s %u threads %u buckets: %.0f operations a second, least %.2f, most %.2f\n", argv[1], threads, buckets, (double)sum / seconds, (double)least / mean,
-           (double)most / mean);
-    return entries() != wanted;
+    for (unsigned k = 0; k < threads; k++) pthread_join(workers[k].id, NULL);
+    return !tell(argv[1], threads, seconds);
 }

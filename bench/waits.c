@@ -3,13 +3,27 @@
 //
 //   clang -O3 -march=x86-64-v2 -pthread -o waits bench/waits.c && ./waits THREADS MICROSECONDS SECONDS
 //
-// The holder keeps its processor busy for so many microseconds, and adds 1 to a lane in its place: no line is handed over, so nothing is copied.
+// With -DNODES it is a line of the C library whose threads have a node each (qolb_acquire), and with -DLOCK a qolb_lock. Both sleep at the
+// library's bells:
+//
+//   make -C include library
+//   clang -O3 -march=x86-64-v2 -pthread -DLOCK -Iinclude -o waits bench/waits.c crates/qolb_c/out/libqolb.a
+//
+// The holder keeps its processor busy for so many microseconds, and adds 1 to a lane: with -DNODES to that of the line, which is handed
+// over, and else in its place, so that nothing is copied.
 #include "line.h"
 
 #include <pthread.h>
 #include <time.h>
 
-#ifdef MCS
+#if defined(NODES) || defined(LOCK)
+#include <qolb.h>
+#endif
+
+// The number to which each turn adds 1, where the line has it not.
+static _Alignas(128) uint64_t lane;
+
+#if defined(MCS)
 #include <ck_pr.h>
 static _Thread_local unsigned looks;
 #define ck_pr_stall() pause_or_yield(&looks)
@@ -18,18 +32,74 @@ static _Alignas(128) ck_spinlock_mcs_t lock = CK_SPINLOCK_MCS_INITIALIZER;
 struct port {
     _Alignas(128) ck_spinlock_mcs_context_t context;
 };
-#define TAKE(p) (looks = 0, ck_spinlock_mcs_lock(&lock, &(p)->context))
-#define RELEASE(p) ck_spinlock_mcs_unlock(&lock, &(p)->context)
+static void open_lock(int threads) { (void)threads; }
+static void open_port(struct port *p, int thread) { (void)p, (void)thread; }
+static void close_port(struct port *p, int thread) { (void)p, (void)thread; }
+static uint64_t last_lane(void) { return lane; }
+static void enter(struct port *p) {
+    looks = 0;
+    ck_spinlock_mcs_lock(&lock, &p->context);
+}
+static void change(struct port *p) { (void)p, lane++; }
+static void leave(struct port *p) { ck_spinlock_mcs_unlock(&lock, &p->context); }
+
+#elif defined(NODES)
+static qolb_node nodes[MOST_NODES];
+struct port {
+    _Alignas(128) qolb_node node;
+};
+static void open_lock(int threads) {
+    const qolb_bytes zeros = {{0}};
+    if (qolb_open(QOLB_DEFAULT, 1, (uint64_t)threads, QOLB_NO_LEASE, &zeros, nodes, MOST_NODES) != QOLB_DONE) abort();
+}
+static void open_port(struct port *p, int thread) { p->node = qolb_move(&nodes[thread]); }
+static void close_port(struct port *p, int thread) { nodes[thread] = qolb_move(&p->node); }
+static uint64_t last_lane(void) {
+    if (qolb_acquire(&nodes[0]) != QOLB_GRANTED || qolb_read_lane(&nodes[0], 0, &lane) != QOLB_DONE) abort();
+    return lane;
+}
+static void enter(struct port *p) {
+    if (qolb_acquire(&p->node) != QOLB_GRANTED) abort();
+}
+static void change(struct port *p) {
+    uint64_t held;
+    if (qolb_read_lane(&p->node, 0, &held) != QOLB_DONE || qolb_write_lane(&p->node, 0, held + 1) != QOLB_DONE) abort();
+}
+static void leave(struct port *p) {
+    if (qolb_deqolb(&p->node) != QOLB_DONE) abort();
+}
+
+#elif defined(LOCK)
+static _Alignas(128) qolb_lock lock;
+struct port {
+    char unused;
+};
+static void open_lock(int threads) { lock = (qolb_lock)QOLB_LOCK_INIT((uint32_t)threads); }
+static void open_port(struct port *p, int thread) { (void)p, (void)thread; }
+static void close_port(struct port *p, int thread) { (void)p, (void)thread; }
+static uint64_t last_lane(void) { return lane; }
+static void enter(struct port *p) {
+    if ((void)p, qolb_lock_enter(&lock) != QOLB_GRANTED) abort();
+}
+static void change(struct port *p) { (void)p, lane++; }
+static void leave(struct port *p) {
+    if ((void)p, qolb_lock_leave(&lock) != QOLB_DONE) abort();
+}
+
 #else
 static _Alignas(128) pthread_mutex_t lock = PTHREAD_MUTEX_INITIALIZER;
 struct port {
     char unused;
 };
-#define TAKE(p) ((void)(p), pthread_mutex_lock(&lock))
-#define RELEASE(p) pthread_mutex_unlock(&lock)
+static void open_lock(int threads) { (void)threads; }
+static void open_port(struct port *p, int thread) { (void)p, (void)thread; }
+static void close_port(struct port *p, int thread) { (void)p, (void)thread; }
+static uint64_t last_lane(void) { return lane; }
+static void enter(struct port *p) { (void)p, pthread_mutex_lock(&lock); }
+static void change(struct port *p) { (void)p, lane++; }
+static void leave(struct port *p) { (void)p, pthread_mutex_unlock(&lock); }
 #endif
 
-static _Alignas(128) uint64_t lane;
 static uint64_t start, time_nanos, turn_nanos;
 static _Atomic uint64_t all_turns, longest_nanos;
 
@@ -47,22 +117,24 @@ static uint64_t spend_turn(uint64_t asked) {
     return came - asked;
 }
 
-static void *work(void *unused) {
+static void *work(void *thread) {
     struct port p;
     memset(&p, 0, sizeof p);
+    open_port(&p, (int)(intptr_t)thread);
     uint64_t turns = 0, longest = 0, asked;
     while ((asked = now_nanos()) - start < time_nanos) {
-        TAKE(&p);
+        enter(&p);
         uint64_t waited = spend_turn(asked);
-        lane++;
-        RELEASE(&p);
+        change(&p);
+        leave(&p);
         if (waited > longest) longest = waited;
         turns++;
     }
+    close_port(&p, (int)(intptr_t)thread);
     atomic_fetch_add(&all_turns, turns);
     uint64_t known = atomic_load(&longest_nanos);
     while (known < longest && !atomic_compare_exchange_weak(&longest_nanos, &known, longest)) {}
-    return unused;
+    return NULL;
 }
 
 int main(int argc, char **argv) {
@@ -72,13 +144,14 @@ int main(int argc, char **argv) {
     if (threads < 1 || threads > MOST_NODES) return 2;
     turn_nanos = micros * 1000;
     time_nanos = seconds * 1000000000;
+    open_lock(threads);
     pthread_t ids[MOST_NODES];
     start = now_nanos();
-    for (int k = 0; k < threads; k++)
-        if (pthread_create(&ids[k], NULL, work, NULL)) return 3;
+    for (intptr_t k = 0; k < threads; k++)
+        if (pthread_create(&ids[k], NULL, work, (void *)k)) return 3;
     for (int k = 0; k < threads; k++) pthread_join(ids[k], NULL);
     double nanos = now_nanos() - start;
-    uint64_t turns = all_turns, lost = turns > lane ? turns - lane : lane - turns;
+    uint64_t turns = all_turns, added = last_lane(), lost = turns > added ? turns - added : added - turns;
     printf("threads %d us a turn %llu turns %llu lost %llu turns a second %.0f longest wait us %llu\n", threads, (unsigned long long)micros,
            (unsigned long long)turns, (unsigned long long)lost, turns / nanos * 1e9, (unsigned long long)(longest_nanos / 1000));
     return lost ? 1 : 0;

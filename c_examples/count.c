@@ -21,7 +21,7 @@ int main(void) {
     qolb_node nodes[3] = {{0}}; /* one for each thread, and one for main */
     pthread_t threads[2];
     uint64_t count = 0;
-    if (qolb_open(QOLB_TICKET, 1, 3, QOLB_NO_LEASE, &zeros, nodes, 3) != QOLB_DONE) return 1;
+    if (qolb_open(QOLB_DEFAULT, 1, 3, QOLB_NO_LEASE, &zeros, nodes, 3) != QOLB_DONE) return 1;
     for (int k = 0; k < 2; k++)
         if (pthread_create(&threads[k], NULL, add, &nodes[k]) != 0) return 1;
     for (int k = 0; k < 2; k++) pthread_join(threads[k], NULL);

@@ -11,7 +11,7 @@ static void add(qolb::Node node) {
 }
 
 int main() {
-    auto [opened, nodes] = qolb::Node::open(QOLB_TICKET, 1, 3, qolb_bytes{});
+    auto [opened, nodes] = qolb::Node::open(QOLB_DEFAULT, 1, 3, qolb_bytes{});
     if (opened != QOLB_DONE) return 1;
     std::thread first(add, std::move(nodes[0]));
     std::thread second(add, std::move(nodes[1]));

@@ -15,7 +15,7 @@ fn add(mut node: Node) -> Result<(), Stopped> {
 }
 
 fn main() -> Result<(), Stopped> {
-    let mut nodes = qolb::open(Kind::Ticket, 1, 3, None, &Bytes([0; 64])).expect("memory for a line");
+    let mut nodes = qolb::open(Kind::DEFAULT, 1, 3, None, &Bytes([0; 64])).expect("memory for a line");
     let mut last = nodes.pop().expect("three nodes");
     thread::scope(|threads| {
         for node in nodes {

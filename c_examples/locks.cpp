@@ -1,5 +1,8 @@
 // The lock, its condition and the guarded value of qolb.hpp: with the guards and the condition of the standard library, by threads that come and go,
 // with time limits, shut, and misused. Prints nothing but what went wrong.
+//
+// The thread sanitizer sees the data, and must be quiet. Built with -DUNGUARDED some of it is used outside of the turns of a guarded value, and then it must
+// not be.
 #include <qolb.hpp>
 
 #include <atomic>
@@ -190,15 +193,25 @@ struct Whole {
 
 bool guards() {
     qolb::guarded<Count> count(Count{5, 0.5, 'a'}, 4);
+    long beside = 0;
     together(threads, [&](int self) {
         for (int k = 0; k < rounds; k++) {
             count.with([&](Count &it) {
                 it.hits++;
                 it.sum += 1;
                 it.last = static_cast<char>('b' + self);
+#ifndef UNGUARDED
+                beside++;
+#endif
             });
+#ifdef UNGUARDED
+            beside++;
+#endif
         }
     });
+#ifndef UNGUARDED
+    WANT(beside == threads * rounds);
+#endif
     Count seen = count.load();
     WANT(seen.hits == 5 + threads * rounds);
     WANT(seen.sum == 0.5 + threads * rounds);

@@ -1,5 +1,5 @@
 /* What a line takes of the heap, and a lock: the bytes that stay taken after qolb_open and after a lock's first use, by kind and number of nodes or of seats,
- * as malloc_usable_size counts them. */
+ * as malloc_usable_size counts them. What two nodes keep is to lie in no two cache lines that are fetched together. */
 #include <malloc.h>
 #include <qolb.h>
 #include <stdio.h>
@@ -28,6 +28,17 @@ void __wrap_free(void *block) {
     __real_free(block);
 }
 
+/* Whether the nodes lie so far apart. What a node keeps is above 128 bytes, and begins where its handle points. */
+static int apart(const qolb_node *node, uint64_t nodes) {
+    for (uint64_t a = 0; a < nodes; a++) {
+        for (uint64_t b = 0; b < a; b++) {
+            uintptr_t one = (uintptr_t)node[a].own, two = (uintptr_t)node[b].own;
+            if ((one < two ? two - one : one - two) < 2 * QOLB_NODE_ALIGN) return 0;
+        }
+    }
+    return 1;
+}
+
 int main(void) {
     static const char *const names[] = {"ring", "list", "ticket line"};
     static const uint64_t nodes[] = {1, 2, 8, 64, 200};
@@ -38,6 +49,7 @@ int main(void) {
             size_t before = taken;
             if (qolb_open(kind, 1, nodes[k], QOLB_NO_LEASE, &zeros, node, 200) != QOLB_DONE) return 1;
             printf("%-11s nodes %3d bytes %zu\n", names[kind], (int)nodes[k], taken - before);
+            if (!apart(node, nodes[k])) return puts("nodes lie too close to each other"), 1;
             for (uint64_t n = 0; n < nodes[k]; n++)
                 if (qolb_close(&node[n]) != QOLB_DONE) return 1;
             if (taken != before) return 1;

@@ -1,9 +1,11 @@
 /* Each allocation of an opening is refused in turn: the opening is then refused, the handles stay empty, and what it took is given back. No call
- * but opening and closing takes memory or gives any back. So it is with a lock, which its first use may open.
+ * but opening and closing takes memory or gives any back, or writes to its handle. So it is with a lock, which its first use may open.
  * Linked with --wrap for malloc, realloc and free. Prints nothing but what went wrong. */
+#define _DEFAULT_SOURCE
 #include <qolb.h>
 #include <stdio.h>
 #include <stdlib.h>
+#include <sys/mman.h>
 
 enum { NODES = 5 };
 
@@ -57,11 +59,14 @@ static int refused_in_turn(uint32_t kind) {
     }
 }
 
+/* While nobody may write to the handles: who does is ended by SIGSEGV. */
 static int calls_take_none(uint32_t kind) {
+    enum { PAGE = 4096 };
     qolb_bytes bytes = {{0}};
-    qolb_node nodes[2] = {{0}}, *one = &nodes[0], *two = &nodes[1];
+    qolb_node *nodes = mmap(NULL, PAGE, PROT_READ | PROT_WRITE, MAP_PRIVATE | MAP_ANONYMOUS, -1, 0), *one = nodes, *two = nodes + 1;
     uint64_t number = 0;
-    if (qolb_open(kind, 1, 2, 9, &bytes, nodes, 2) != QOLB_DONE) return puts("not opened"), 1;
+    if (nodes == MAP_FAILED || qolb_open(kind, 1, 2, 9, &bytes, nodes, 2) != QOLB_DONE) return puts("not opened"), 1;
+    if (mprotect(nodes, PAGE, PROT_READ) != 0) return puts("not protected"), 1;
     taken = given_back = 0;
     if (qolb_enqolb(one) != QOLB_GRANTED || qolb_turns_left(one) != 9) return puts("not granted"), 1;
     if (qolb_write(one, 1, &bytes) != QOLB_DONE || qolb_write_lane(one, 1, 7) != QOLB_DONE) return puts("not written"), 1;
@@ -75,9 +80,11 @@ static int calls_take_none(uint32_t kind) {
         if (qolb_enqolb(two) != QOLB_GRANTED || qolb_enqolb(one) != QOLB_QUEUED) return puts("not queued"), 1;
     }
     if (qolb_shut(two) != QOLB_DONE || qolb_poll(one) != QOLB_CLOSED || qolb_poll(one) != QOLB_MISUSE) return puts("not closed"), 1;
+    if (qolb_acquire(one) != QOLB_CLOSED || qolb_acquire_within(two, 0) != QOLB_CLOSED || qolb_acquire(one) != QOLB_CLOSED) return puts("not closed"), 1;
     if (taken || given_back) return printf("calls took %lu and gave back %lu\n", taken, given_back), 1;
+    if (mprotect(nodes, PAGE, PROT_READ | PROT_WRITE) != 0) return puts("not protected"), 1;
     if (qolb_close(one) != QOLB_DONE || qolb_close(two) != QOLB_DONE || !given_back) return puts("not given back"), 1;
-    return 0;
+    return munmap(nodes, PAGE);
 }
 
 /* Each allocation of a lock's first use, or of its opening, is refused in turn: then the lock is closed as before, and keeps nothing. The next use opens

@@ -6,7 +6,7 @@
  * Recursive, error-checking, robust and shared mutexes stay the C library's. A thread that is cancelled while it waits at a condition ends once it is
  * told. As the C library's, such a mutex is unlocked by any thread, and of one that is not locked an unlock changes nothing.
  *
- * QOLB_KIND=list makes them lists and QOLB_KIND=ticket ticket lines; else they are rings.
+ * QOLB_KIND=list makes them lists and QOLB_KIND=ring rings; else they are ticket lines.
  *
  * With QOLB_REPORT=FILE the program's last act is to append a line there: how many mutexes were lines, how often one was granted, was late or was not
  * free at once, and how often two threads were in one at the same time, which must be 0. */
@@ -74,8 +74,8 @@ static int entry(struct table *table, void *key) {
 
 static uint32_t kind_named(const char *name) {
     if (name && strcmp(name, "list") == 0) return QOLB_LIST;
-    if (name && strcmp(name, "ticket") == 0) return QOLB_TICKET;
-    return QOLB_RING;
+    if (name && strcmp(name, "ring") == 0) return QOLB_RING;
+    return QOLB_DEFAULT;
 }
 
 static struct line *opened(void) {

@@ -1,8 +1,9 @@
-/* Times rounds from C, to be compared with bench/ring.c: each thread asks, adds 1 to lane 0 and releases.
+/* Times rounds from C, to be compared with those of bench: each thread asks, adds 1 to lane 0 and releases.
  *
- *   make -C c_examples build/rounds && c_examples/build/rounds THREADS ROUNDS [ring|list|ticket] [lanes|lines]
+ *   make -C c_examples build/rounds && c_examples/build/rounds THREADS ROUNDS [ticket|ring|list] [lanes|lines] [apart|dense]
  *
- * Prints the lane sum, and nanoseconds a round over all threads. `lines` reads and writes whole lines in place of a lane. */
+ * Prints the lane sum, and nanoseconds a round over all threads. `lines` reads and writes whole lines in place of a lane. Handles lie apart, or with `dense`
+ * side by side as qolb_open writes them. */
 #define _POSIX_C_SOURCE 200809L
 #include <pthread.h>
 #include <qolb.h>
@@ -18,6 +19,7 @@ struct task {
 };
 
 static struct task tasks[MOST];
+static _Alignas(QOLB_NODE_ALIGN) qolb_node dense[MOST];
 static uint64_t rounds;
 static int by_lines;
 static pthread_barrier_t gate;
@@ -42,7 +44,7 @@ static void add_one(qolb_node *node) {
 }
 
 static void *work(void *argument) {
-    qolb_node *node = &((struct task *)argument)->node;
+    qolb_node *node = argument;
     pthread_barrier_wait(&gate);
     for (uint64_t k = 0; k < rounds; k++) {
         acquire(node);
@@ -55,29 +57,34 @@ static void *work(void *argument) {
 int main(int argc, char **argv) {
     int threads = argc > 1 ? atoi(argv[1]) : 2;
     rounds = argc > 2 ? strtoull(argv[2], NULL, 10) : 1000;
-    const char *named = argc > 3 ? argv[3] : "ring";
-    uint32_t kind = strcmp(named, "list") == 0 ? QOLB_LIST : strcmp(named, "ticket") == 0 ? QOLB_TICKET : QOLB_RING;
+    const char *named = argc > 3 ? argv[3] : "";
+    uint32_t kind = strcmp(named, "list") == 0 ? QOLB_LIST : strcmp(named, "ring") == 0 ? QOLB_RING : QOLB_DEFAULT;
     by_lines = argc > 4 && strcmp(argv[4], "lines") == 0;
+    int is_dense = argc > 5 && strcmp(argv[5], "dense") == 0;
     if (threads < 1 || threads > MOST) return 2;
     qolb_bytes zeros = {{0}};
     qolb_node nodes[MOST] = {{0}};
     if (qolb_open(kind, 1, threads, QOLB_NO_LEASE, &zeros, nodes, MOST) != QOLB_DONE) return 3;
-    for (int k = 0; k < threads; k++) tasks[k].node = qolb_move(&nodes[k]);
+    qolb_node *of[MOST];
+    for (int k = 0; k < threads; k++) {
+        of[k] = is_dense ? &dense[k] : &tasks[k].node;
+        *of[k] = qolb_move(&nodes[k]);
+    }
     pthread_barrier_init(&gate, NULL, threads + 1);
     pthread_t ids[MOST];
     for (int k = 0; k < threads; k++)
-        if (pthread_create(&ids[k], NULL, work, &tasks[k])) return 3;
+        if (pthread_create(&ids[k], NULL, work, of[k])) return 3;
     struct timespec from, to;
-    pthread_barrier_wait(&gate);
     clock_gettime(CLOCK_MONOTONIC, &from);
+    pthread_barrier_wait(&gate);
     for (int k = 0; k < threads; k++) pthread_join(ids[k], NULL);
     clock_gettime(CLOCK_MONOTONIC, &to);
     uint64_t sum;
-    acquire(&tasks[0].node);
-    if (qolb_read_lane(&tasks[0].node, 0, &sum) != QOLB_DONE) return 3;
-    if (qolb_deqolb(&tasks[0].node) != QOLB_DONE) return 3;
+    acquire(of[0]);
+    if (qolb_read_lane(of[0], 0, &sum) != QOLB_DONE) return 3;
+    if (qolb_deqolb(of[0]) != QOLB_DONE) return 3;
     for (int k = 0; k < threads; k++)
-        if (qolb_close(&tasks[k].node) != QOLB_DONE) return 3;
+        if (qolb_close(of[k]) != QOLB_DONE) return 3;
     double ns = (to.tv_sec - from.tv_sec) * 1e9 + (to.tv_nsec - from.tv_nsec), all = (double)threads * rounds;
     printf("threads %d rounds %.0f lane sum %llu ns a round %.1f\n", threads, all, (unsigned long long)sum, ns / all);
     return sum == threads * rounds ? 0 : 1;

@@ -18,7 +18,8 @@
 
 /* How often a waiter looks, with a pause between two looks, and how often it then gives the processor away, before it sleeps. */
 enum { LOOKS = 64, YIELDS = 8 };
-enum { BELLS = 256, LINE = 64 };
+/* So many bytes apart two things share no cache line, nor a pair of them that is fetched together. */
+enum { BELLS = 256, APART = 128 };
 
 /* ---- Time, and sleeping at a word ---- */
 
@@ -46,7 +47,7 @@ HIDDEN void qolb_wake_at_(atomic_uint *word, int most);
 /* ---- Bells ---- */
 
 struct bell {
-    _Alignas(LINE) atomic_uint sleepers, word;
+    _Alignas(APART) atomic_uint sleepers, word;
 };
 
 /* Those of locks, and those of lines. */

@@ -10,11 +10,22 @@
 /* Nanoseconds for which a node sleeps at most that is busy: nobody rings for it. */
 enum { NAP = 200000 };
 
+/* ---- The caller's handle ----
+ *
+ * A proved call takes the node out of its handle, and puts it back. So it gets a copy, on the stack, and the caller's handle is written only where the node
+ * in it is another afterwards. Else threads whose handles lie side by side, as qolb_open writes them, would all write to one cache line. */
+
+static inline void put_back(qolb_node *node, const qolb_node *copy) {
+    if (node->own != copy->own) node->own = copy->own;
+}
+
+static inline uint32_t back(qolb_node *node, const qolb_node *copy, uint32_t got) { return put_back(node, copy), got; }
+
 /* ---- Letting a line go ---- */
 
 /* How many sleep at bells of lines, in all. A release looks here, and no further while there are none. */
 static struct {
-    _Alignas(LINE) atomic_uint sleepers;
+    _Alignas(APART) atomic_uint sleepers;
 } anywhere;
 
 /* All nodes of a line share a label; lines of one label share a bell too, and then wake each other's waiters for nothing. */
@@ -33,7 +44,9 @@ static inline uint32_t told(qolb_node *node, uint32_t got) { return got == QOLB_
 
 #define MOVES(call, then)                                                                          \
     uint32_t call(qolb_node *node) {                                                               \
-        return qolb_is_lent_(node) ? (uint32_t)QOLB_MISUSE : then(node, call##_proved_(node));     \
+        if (qolb_is_lent_(node)) return QOLB_MISUSE;                                               \
+        qolb_node copy = *node;                                                                    \
+        return back(node, &copy, then(&copy, call##_proved_(&copy)));                              \
     }
 
 MOVES(qolb_enqolb, told)
@@ -45,7 +58,9 @@ MOVES(qolb_deqolb, let_go)
 MOVES(qolb_shut, let_go)
 
 uint32_t qolb_wait(qolb_node *node, uint64_t polls) {
-    return qolb_is_lent_(node) ? (uint32_t)QOLB_MISUSE : told(node, qolb_wait_proved_(node, polls));
+    if (qolb_is_lent_(node)) return QOLB_MISUSE;
+    qolb_node copy = *node;
+    return back(node, &copy, told(&copy, qolb_wait_proved_(&copy, polls)));
 }
 
 uint32_t qolb_close(qolb_node *node) { return qolb_is_lent_(node) ? (uint32_t)QOLB_MISUSE : qolb_close_proved_(node); }
@@ -118,8 +133,9 @@ __attribute__((noinline)) static uint32_t acquired(qolb_node *node, uint32_t got
 static inline uint32_t acquire(qolb_node *node, uint64_t nanoseconds) {
     if (qolb_is_lent_(node)) return QOLB_MISUSE;
     struct limit limit = from_now(nanoseconds);
-    uint32_t got = qolb_enqolb_proved_(node);
-    return got == QOLB_GRANTED ? got : acquired(node, got, limit);
+    qolb_node copy = *node;
+    uint32_t got = qolb_enqolb_proved_(&copy);
+    return back(node, &copy, got == QOLB_GRANTED ? got : acquired(&copy, got, limit));
 }
 
 uint32_t qolb_acquire(qolb_node *node) { return acquire(node, FOR_EVER); }
@@ -132,30 +148,37 @@ uint32_t qolb_acquire_within(qolb_node *node, uint64_t nanoseconds) { return acq
 static inline qolb_node *meant(qolb_node *node) { return qolb_is_lent_(node) ? qolb_lent_(node) : node; }
 
 uint32_t qolb_read(qolb_node *node, qolb_bytes *out) {
-    node = meant(node);
-    return node ? qolb_read_proved_(node, out) : (uint32_t)QOLB_MISUSE;
+    if (!(node = meant(node))) return QOLB_MISUSE;
+    qolb_node copy = *node;
+    return back(node, &copy, qolb_read_proved_(&copy, out));
 }
 
 uint32_t qolb_write(qolb_node *node, uint64_t mask, const qolb_bytes *bytes) {
-    node = meant(node);
-    return node ? qolb_write_proved_(node, mask, bytes) : (uint32_t)QOLB_MISUSE;
+    if (!(node = meant(node))) return QOLB_MISUSE;
+    qolb_node copy = *node;
+    return back(node, &copy, qolb_write_proved_(&copy, mask, bytes));
 }
 
 uint32_t qolb_read_lane(qolb_node *node, uint64_t lane, uint64_t *out) {
-    node = meant(node);
-    return node ? qolb_read_lane_proved_(node, lane, out) : (uint32_t)QOLB_MISUSE;
+    if (!(node = meant(node))) return QOLB_MISUSE;
+    qolb_node copy = *node;
+    return back(node, &copy, qolb_read_lane_proved_(&copy, lane, out));
 }
 
 uint32_t qolb_write_lane(qolb_node *node, uint64_t lane, uint64_t value) {
-    node = meant(node);
-    return node ? qolb_write_lane_proved_(node, lane, value) : (uint32_t)QOLB_MISUSE;
+    if (!(node = meant(node))) return QOLB_MISUSE;
+    qolb_node copy = *node;
+    return back(node, &copy, qolb_write_lane_proved_(&copy, lane, value));
 }
 
 /* 0 of a node that its caller does not hold by, as of an empty handle. */
 #define SAYS(result, call)                                                                 \
     result call(qolb_node *node) {                                                         \
-        node = meant(node);                                                                \
-        return node ? call##_proved_(node) : 0;                                            \
+        if (!(node = meant(node))) return 0;                                               \
+        qolb_node copy = *node;                                                            \
+        result said = call##_proved_(&copy);                                               \
+        put_back(node, &copy);                                                             \
+        return said;                                                                       \
     }
 
 SAYS(uint64_t, qolb_turns_left)

@@ -234,13 +234,18 @@ static inline uint32_t settle(struct asking *me, uint32_t got) {
     return got;
 }
 
+/* Of a thread that was not granted the lock at once, by the seat that it had last. */
+__attribute__((noinline)) static uint32_t enter_later(struct asking me, uint32_t got, uint64_t nanoseconds) {
+    if (got == QOLB_BUSY) got = take_seat(&me);
+    return settle(&me, got == QOLB_WAITING || got == QOLB_QUEUED ? await(&me, nanoseconds) : got);
+}
+
 /* The first seat is that which the thread had last, and mostly that does. */
 static inline uint32_t enter_hall(struct hall *hall, uint64_t nanoseconds) {
     struct asking me = {hall, NULL, 0};
     own_number();
     uint32_t got = last_seat < hall->seats ? ask_at(&me, &hall->seat[last_seat]) : (uint32_t)QOLB_BUSY;
-    if (got == QOLB_BUSY) got = take_seat(&me);
-    return settle(&me, got == QOLB_WAITING || got == QOLB_QUEUED ? await(&me, nanoseconds) : got);
+    return got == QOLB_GRANTED ? settle(&me, got) : enter_later(me, got, nanoseconds);
 }
 
 static uint32_t first_use(qolb_lock *lock, uint64_t nanoseconds) {
@@ -366,7 +371,7 @@ struct waiter {
 
 /* A mutex of three values: free, taken, taken with sleepers. */
 struct guard {
-    _Alignas(LINE) atomic_uint word;
+    _Alignas(APART) atomic_uint word;
 };
 
 static struct guard guards[GUARDS];

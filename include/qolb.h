@@ -11,7 +11,7 @@
  *     int main(void) {
  *         qolb_bytes zeros = {{0}};
  *         qolb_node node[2] = {{0}};
- *         if (qolb_open(QOLB_TICKET, 1, 2, QOLB_NO_LEASE, &zeros, node, 2) != QOLB_DONE) return 1;
+ *         if (qolb_open(QOLB_DEFAULT, 1, 2, QOLB_NO_LEASE, &zeros, node, 2) != QOLB_DONE) return 1;
  *
  *         // each thread has a node of its own: qolb_move(&node[0]), qolb_move(&node[1])
  *         uint32_t got = qolb_acquire_within(&node[0], 1000000);   // at most 1 ms; qolb_acquire waits as long as it takes
@@ -45,8 +45,8 @@
  *
  *     bucket->lock = (qolb_lock)QOLB_LOCK_INIT(64);        // in C++ qolb_lock QOLB_LOCK_INIT(64)
  *
- * From its first use until qolb_lock_close a lock keeps its line's memory, whatever it guards: with 8 seats some 95 kilobytes of heap, 45 if it is a
- * ring and 29 if it is a list; with 64 seats 110, 61 and 44. Where there are many locks, as one for each bucket of a table, take lists of few seats,
+ * From its first use until qolb_lock_close a lock keeps its line's memory, whatever it guards: with 8 seats some 96 kilobytes of heap, 47 if it is a
+ * ring and 30 if it is a list; with 64 seats 119, 69 and 53. Where there are many locks, as one for each bucket of a table, take lists of few seats,
  * QOLB_LOCK_INIT_OF(QOLB_LIST, 8). A lock that is never used takes nothing.
  *
  * A lock has a seat for each of its line's nodes. A thread that enters takes a free seat and asks at once, so those that have a seat are served first
@@ -89,7 +89,7 @@
  *   and qolb_link, and in it a node may be busy after its own release (BUSY, below).
  * - QOLB_TICKET: a ticket line. It is a ring whose cells say by a number whose turn it is, and are never cleared. So a release that passes no
  *   withdrawn request takes one step on the words that nodes share, where a ring's takes two. By its answers nobody can tell it from a ring.
- *   Take this one, unless memory is short or you want the two halves of asking.
+ *   Take this one, by the name QOLB_DEFAULT, unless memory is short or you want the two halves of asking.
  *
  * WHAT YOU MUST KEEP
  *
@@ -160,10 +160,11 @@
  *
  * SPEED
  *
- * Each call writes to its handle. Handles that lie side by side share a cache line, and then threads slow each other down though they use
- * different lines (two to three times as slow). So keep each thread's handle on its stack, or QOLB_NODE_ALIGN bytes apart:
+ * Only qolb_open, qolb_close and qolb_move write to a handle, so handles of different threads may lie side by side, as qolb_open leaves them. What their
+ * nodes keep lies apart. But what a thread writes beside another's handle slows that one's calls down. So keep what each thread writes on its stack, or
+ * QOLB_NODE_ALIGN bytes apart:
  *
- *     struct worker { _Alignas(QOLB_NODE_ALIGN) qolb_node node; };
+ *     struct worker { _Alignas(QOLB_NODE_ALIGN) qolb_node node; long count; };
  *
  * A call that lets a line go looks at one word more, and calls the system only where a thread sleeps that waits for a line.
  *
@@ -234,8 +235,8 @@ typedef struct qolb_bytes {
     uint8_t byte[64];
 } qolb_bytes;
 
-/* How the nodes of a line wait: at cells that they draw by tickets, in a list that they link, or at numbered cells that they draw by tickets. Take a
- * ticket line, unless memory is short or you want the two halves of asking: then take a list. */
+/* How the nodes of a line wait: at cells that they draw by tickets, in a list that they link, or at numbered cells that they draw by tickets. Take
+ * QOLB_DEFAULT, a ticket line, unless memory is short or you want the two halves of asking: then take a list. */
 enum qolb_kind { QOLB_RING = 0, QOLB_LIST = 1, QOLB_TICKET = 2, QOLB_DEFAULT = QOLB_TICKET };
 
 /* What a call answers. */

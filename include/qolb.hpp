@@ -1,6 +1,6 @@
 // QOLB for C++14 and later: a node that moves and is never copied, and a guard. qolb.h says what each call answers, and what its caller must keep.
 //
-//     auto [opened, nodes] = qolb::Node::open(QOLB_TICKET, 1, 2, qolb_bytes{});
+//     auto [opened, nodes] = qolb::Node::open(QOLB_DEFAULT, 1, 2, qolb_bytes{});
 //     {
 //         qolb::Guard turn(nodes[0]);                    // waits; throws qolb::Closed where the line is closed
 //         turn.set_lane(0, turn.lane(0) + 1);

@@ -4,7 +4,7 @@
 //! beside it, `qolb = { path = "PREFIX/share/qolb/rust" }`, whose build script finds the library.
 //!
 //! ```ignore
-//! let mut nodes = qolb::open(Kind::Ticket, 1, 2, None, &Bytes([0; 64]))?;
+//! let mut nodes = qolb::open(Kind::DEFAULT, 1, 2, None, &Bytes([0; 64]))?;
 //! let mut turn = nodes[0].lock()?;                 // waits; `Stopped::Closed` where the line is closed
 //! let count = turn.lane(0);
 //! turn.set_lane(0, count + 1);
@@ -27,6 +27,11 @@
 //! had written until then stands, and the next holder is granted the line as ever: nothing is poisoned, and nobody is told. Where a half-made
 //! change must not be seen, read the line, change the copy and write it as the last thing. With `panic = "abort"` the process ends, and its lines
 //! with it.
+//!
+//! # The thread sanitizer
+//!
+//! It does not see into the library. With `--cfg qolb_tsan` beside `-Zsanitizer=thread` it is told of each turn of a `Mutex`, and of a `RawQolb`, and so
+//! does not report what these guard.
 #![allow(dead_code, unexpected_cfgs)]
 
 use std::cell::UnsafeCell;
@@ -38,7 +43,7 @@ use std::ops::{Deref, DerefMut};
 use std::ptr::{NonNull, null_mut};
 use std::time::Duration;
 
-/// How the nodes of a line wait. Take a ticket line, unless memory is short.
+/// How the nodes of a line wait. Take `Kind::DEFAULT`, a ticket line, unless memory is short.
 #[derive(Clone, Copy, Debug, PartialEq, Eq)]
 #[repr(u32)]
 pub enum Kind {
@@ -49,6 +54,16 @@ pub enum Kind {
     /// At numbered cells that they draw by tickets. A release that passes no withdrawn request takes one step on shared words, where a ring's takes
     /// two.
     Ticket = 2,
+}
+
+impl Kind {
+    pub const DEFAULT: Kind = Kind::Ticket;
+}
+
+impl Default for Kind {
+    fn default() -> Kind {
+        Kind::DEFAULT
+    }
 }
 
 /// What a call answers. Each is described in `qolb.h`.
@@ -185,8 +200,6 @@ pub fn version() -> u32 {
 }
 
 /// A node of a line. A node that is dropped withdraws its request, or releases the line that it holds.
-///
-/// Nodes that lie side by side share cache lines, and then slow each other's threads down: keep each on its thread's stack.
 pub struct Node(UnsafeCell<Handle>);
 
 // SAFETY: the library has it proved that a handle may go to another thread. No call takes a `&Node`, so nothing is shared.
@@ -508,7 +521,7 @@ impl RawQolb {
     ///
     /// Where `seats` is not 1 to 200.
     pub const fn new(seats: u32) -> RawQolb {
-        RawQolb::of_kind(Kind::Ticket, seats)
+        RawQolb::of_kind(Kind::DEFAULT, seats)
     }
 
     /// A lock over a line of this kind: a list takes the least memory.
@@ -524,28 +537,30 @@ impl RawQolb {
     /// Enters, and waits as long as it takes: `Granted`, `Closed`; `NoMemory` at the first use.
     #[must_use]
     pub fn enter(&self) -> Answer {
-        told(unsafe { qolb_lock_enter(self.0.get()) })
+        self.took(unsafe { qolb_lock_enter(self.0.get()) })
     }
 
     /// Enters if nobody has it: `Granted`, `Busy`, `Closed`; `NoMemory` at the first use.
     #[must_use]
     pub fn try_enter(&self) -> Answer {
-        told(unsafe { qolb_lock_try(self.0.get()) })
+        self.took(unsafe { qolb_lock_try(self.0.get()) })
     }
 
     /// Enters, and waits at most so long: `Granted`, `Late`, `Closed`; `NoMemory` at the first use.
     #[must_use]
     pub fn enter_for(&self, time: Duration) -> Answer {
-        told(unsafe { qolb_lock_enter_within(self.0.get(), nanoseconds(time)) })
+        self.took(unsafe { qolb_lock_enter_within(self.0.get(), nanoseconds(time)) })
     }
 
     /// `Done`; `Misuse` where the calling thread does not hold it.
     pub fn leave(&self) -> Answer {
+        self.gives();
         told(unsafe { qolb_lock_leave(self.0.get()) })
     }
 
     /// Leaves, and nobody enters any more. `Done`; `Misuse` where the calling thread does not hold it.
     pub fn shut(&self) -> Answer {
+        self.gives();
         told(unsafe { qolb_lock_shut(self.0.get()) })
     }
 
@@ -553,6 +568,50 @@ impl RawQolb {
     pub fn holder(&self) -> Option<u64> {
         Some(unsafe { qolb_lock_holder(self.0.get()) }).filter(|number| *number != 0)
     }
+
+    /// What a call answered that may have entered.
+    fn took(&self, answer: u32) -> Answer {
+        let answer = told(answer);
+        if let Answer::Granted | Answer::Closed = answer {
+            tsan::acquire(self.0.get());
+        }
+        answer
+    }
+
+    /// The holder is about to leave.
+    fn gives(&self) {
+        if cfg!(qolb_tsan) && unsafe { qolb_lock_turn(self.0.get()) }.is_some() {
+            tsan::release(self.0.get());
+        }
+    }
+}
+
+/// What the thread sanitizer is told of a lock.
+#[cfg(qolb_tsan)]
+mod tsan {
+    use super::RawLock;
+
+    unsafe extern "C" {
+        fn __tsan_acquire(at: *mut RawLock);
+        fn __tsan_release(at: *mut RawLock);
+    }
+
+    pub fn acquire(lock: *mut RawLock) {
+        unsafe { __tsan_acquire(lock) };
+    }
+
+    pub fn release(lock: *mut RawLock) {
+        unsafe { __tsan_release(lock) };
+    }
+}
+
+#[cfg(not(qolb_tsan))]
+mod tsan {
+    use super::RawLock;
+
+    pub fn acquire(_lock: *mut RawLock) {}
+
+    pub fn release(_lock: *mut RawLock) {}
 }
 
 impl fmt::Debug for RawQolb {
@@ -597,7 +656,7 @@ impl<T> Mutex<T> {
     ///
     /// Where `seats` is not 1 to 200.
     pub const fn with_seats(value: T, seats: u32) -> Mutex<T> {
-        Mutex::of_kind(value, Kind::Ticket, seats)
+        Mutex::of_kind(value, Kind::DEFAULT, seats)
     }
 
     /// # Panics
@@ -719,10 +778,12 @@ impl Condition {
         let mutex = guard.mutex;
         std::mem::forget(guard);
         let (cond, lock) = (self.0.get(), mutex.raw.0.get());
+        mutex.raw.gives();
         let answer = match time {
             None => unsafe { qolb_cond_wait(cond, lock) },
             Some(time) => unsafe { qolb_cond_wait_within(cond, lock, nanoseconds(time)) },
         };
+        tsan::acquire(lock);
         match told(answer) {
             Answer::Granted => Ok((mutex.guard(), true)),
             Answer::Late => Ok((mutex.guard(), false)),
@@ -751,7 +812,7 @@ impl<T: Copy + Send + 'static> Lock<T> {
     ///
     /// Where `seats` is not 1 to 200.
     pub fn with_seats(value: T, seats: u32) -> Result<Lock<T>, Answer> {
-        Lock::of_kind(value, Kind::Ticket, seats)
+        Lock::of_kind(value, Kind::DEFAULT, seats)
     }
 
     /// # Panics

@@ -6,9 +6,10 @@ processors.
 
 A failed read must end with status 4, `read fault` and nothing on standard output; a failed write with 4 and `write fault`; a refused script
 or command line with its own status whatever becomes of standard output and error; no run by a signal. Words that are no text are refused.
-Scripts of 100,000 commands, events and jobs, and pictures of 20 million letters, are answered whole. Workers sleep while they wait where that
-is asked for, and else not: by how often they give their processor up of their own. Where nobody sleeps a release wakes nobody, by the calls
-of the system that strace tells, if it is installed. Work says how far it is where that is asked for. Needs Linux.
+Scripts of 100,000 commands, events and jobs are answered whole, and so are pictures of 20 million letters, by a run of the list as
+definitions.py has it. The pictures of the pages are what the program draws. Workers sleep while they wait where that is asked for, and else
+not: by how often they give their processor up of their own. Where nobody sleeps a release wakes nobody, by the calls of the system that strace
+tells, if it is installed. Work says how far it is where that is asked for. Needs Linux.
 """
 
 import os
@@ -20,9 +21,10 @@ import socket
 import subprocess
 import sys
 import tempfile
+import threading
 import time
 
-from definitions import answer_to, is_right
+from definitions import Core, answer_to, event, is_right, read_script, step_header
 from program import LOCKS, SECONDS, run, the_program
 
 SCRIPT = b"nodes 2 lines 1\nenq 1 0\nwrite 1 0 0 a1b2\nenq 2 0\npoll 2 0\ndeq 1 0\npoll 2 0\nshow 2 0\ndeq 2 0\n"
@@ -35,6 +37,10 @@ ROUNDS = 100
 TASKS = [
     *((["replay", "--kind", kind], SCRIPT) for kind in ("plain", *LOCKS)),
     (["steps"], STEPS),
+    (["draw"], SCRIPT),
+    (["draw", "--svg"], SCRIPT),
+    (["draw", "--steps"], STEPS),
+    (["draw", "--steps", "--svg"], STEPS),
     (["board"], BOARD),
     (["bank"], BANK),
 ]
@@ -211,22 +217,92 @@ def longest_scripts(program):
     print(f"scripts of {MOST} commands, events and jobs are answered, by each kind", flush=True)
 
 
-def largest_picture(program):
+def timed(program, words, script):
+    """What a run on the script wrote, with its seconds of a processor and its most memory in MB."""
+    pipe = subprocess.PIPE
+    with tempfile.TemporaryFile() as file:
+        file.write(script)
+        file.seek(0)
+        running = spawned(program, words, file, pipe, pipe)
+        alarm = threading.Timer(SECONDS, running.kill)
+        alarm.start()
+        out, err = running.stdout.read().decode(), running.stderr.read().decode()
+        _, status, used = os.wait4(running.pid, 0)
+        alarm.cancel()
+    expect(f"{' '.join(words)} of {script.count(10)} lines", (0, ""), (os.waitstatus_to_exitcode(status), err))
+    return out, used.ru_utime + used.ru_stime, used.ru_maxrss / 1024
+
+
+def drawn_whole(program, words, script, what):
+    """An SVG with a shape for each command or event, and how long it took."""
+    svg, seconds, memory = timed(program, words, script)
+    expect(f"{what} as an SVG", (True, script.count(b"\n")), (svg.endswith("</g>\n</svg>\n"), svg.count("</title></use>\n")))
+    print(f"{what}: an SVG of {len(svg)} bytes, {seconds:.1f} seconds of a processor, {memory:.0f} MB", flush=True)
+
+
+def largest_schedule_picture(program):
     """100,000 commands of 200 nodes: the first holds, each other one waits from its first command on."""
     lines = [f"nodes {MOST_NODES} lines 1"] + [f"enq {node} 0" for node in range(1, MOST_NODES + 1)]
     lines += [f"poll {MOST_NODES} 0"] * (MOST - MOST_NODES)
     script = "\n".join(lines).encode()
-    status, out, err = run(program, ["draw"], script)
-    if (status, err) != (0, ""):
-        raise Wrong(f"the largest picture: {status}, {err!r}")
+    out, seconds, memory = timed(program, ["draw"], script)
     letters = {node: [] for node in range(1, MOST_NODES + 1)}
     for node, row in re.findall(r"^node +(\d+) (.*)$", out, re.M):
         letters[int(node)].append(row)
     for node, rows in letters.items():
         expect(f"row of node {node}", "." * (node - 1) + ("H" if node == 1 else "w") * (MOST + 1 - node), "".join(rows))
-    status, out, err = run(program, ["draw", "--svg"], script)
-    expect("the largest picture as an SVG", (0, True, ""), (status, out.endswith("</svg>\n"), err))
-    print(f"a picture of {MOST * MOST_NODES} letters is drawn, as text and as an SVG of {len(out)} bytes", flush=True)
+    what = f"a schedule of {MOST} commands by {MOST_NODES} nodes"
+    print(f"{what}: {len(out)} bytes of text, {seconds:.1f} seconds of a processor, {memory:.0f} MB", flush=True)
+    drawn_whole(program, ["draw", "--svg"], script, what)
+
+
+# The letter of each point in a picture of a step script.
+POINTS = dict(Idle=".", Ready="r", Linking="l", Queued="w", Holding="H", Leaving="h", Marking="m", Granting="g", Freeing="f", Left="L", Rolled="x", Shut="-")
+
+
+def step_lines(script):
+    """What stands in a picture of a step script as text before where the line lies: the points after each event, the event, and what it told."""
+    (nodes, lease), events = read_script(script, step_header, event)
+    core = Core(nodes, lease)
+    for number, (name, node) in enumerate(events, 1):
+        told = core.step(name, node) or "refused"
+        letters = "".join(POINTS[core.nodes[n].point] for n in range(1, nodes + 1))
+        yield f"{letters}  {number}: {name} {node}: {told}; the line lies "
+
+
+def largest_step_picture(program):
+    """100,000 events of 200 nodes, as the definitions say what they do."""
+    script = longest_steps()
+    out, seconds, memory = timed(program, ["draw", "--steps"], script)
+    wanted = list(step_lines(script))
+    # Three rows of the nodes' numbers are before them, and what the letters mean is behind.
+    lines = out.split("\n")[3:]
+    for number, want in enumerate(wanted):
+        if not lines[number].startswith(want):
+            raise Wrong(f"event {number + 1} of the largest picture: {lines[number]!r}, and not {want!r}")
+    expect("the events of the largest picture", "", lines[len(wanted)])
+    what = f"a step script of {MOST} events by {MOST_NODES} nodes"
+    print(f"{what}: {len(out)} bytes of text, {seconds:.1f} seconds of a processor, {memory:.0f} MB", flush=True)
+    drawn_whole(program, ["draw", "--steps", "--svg"], script, what)
+
+
+ROOT = os.path.join(os.path.dirname(os.path.abspath(__file__)), "..")
+# The pictures of the pages that the program drew, by the words and the example.
+DRAWN = {
+    "hand_over": ["draw", "--svg"],
+    "withdraw_and_close": ["draw", "--svg"],
+    "late_linker": ["draw", "--steps", "--svg"],
+}
+
+
+def pictures_of_the_pages(program):
+    """Each is what the program draws of the example of its name."""
+    for name, words in DRAWN.items():
+        with open(os.path.join(ROOT, "crates/examples/data", f"{name}.txt"), "rb") as script:
+            found = run(program, words, script.read())
+        with open(os.path.join(ROOT, "docs/figures", f"{name}.svg"), encoding="latin-1") as figure:
+            expect(f"docs/figures/{name}.svg", (0, figure.read(), ""), found)
+    print(f"{len(DRAWN)} pictures of the pages are what the program draws", flush=True)
 
 
 # Jobs of so many workers at one line, a turn of the line each. Whoever waits awake gives the processor up a hundred times at most, other than to
@@ -344,7 +420,9 @@ def main():
     try:
         words_that_are_no_text(program)
         longest_scripts(program)
-        largest_picture(program)
+        largest_schedule_picture(program)
+        largest_step_picture(program)
+        pictures_of_the_pages(program)
         sleepers(program)
         nobody_is_woken(program)
         progress_is_told(program)

@@ -49,7 +49,7 @@ import tempfile
 
 from crates import PARTS, ROOT, below, copy_sources, lay_out, named, read_crates, run_main, say, side_by_side, spawn, take_kept
 from refused import by_check, by_gate, by_tests, goals_of, is_proved
-from tests import leave_out, left_out
+from tests import leave_out, left_out, tests_of
 
 BODIES = ROOT / "tools" / "wrong_bodies"
 RECORD = BODIES / "RECORD"
@@ -68,6 +68,7 @@ class Body:
             self.head = dict(line.split(": ", 1) for line in self.text.partition("\n\n")[0].splitlines())
             self.crate, self.name = crates[self.head["Crate"]], file.stem
             self.touches = {self.crate.name, *re.findall(r"^\+\+\+ b/crates/(\w+)", self.text, re.M)}
+            self.test = self.head["Test"].rpartition("::")[2]
         else:
             folder = file.parent.parent if file.parent.name == "must-fail" else file.parent
             self.crate, self.name = crates[folder.name], f"{folder.name}/{file.stem}"
@@ -77,7 +78,7 @@ class Body:
         self.in_gate = file.parent.name == "must-fail"
 
     def takes_all_memory(self):
-        return self.is_patch and self.head["Test"].rpartition("::")[2] in left_out(self.crate)
+        return self.is_patch and self.test in left_out(self.crate)
 
 
 def bodies_of(crates, names, only):
@@ -221,7 +222,8 @@ def tried_by_test(crates, body, room):
             take_kept(crates[name], room / "crates" / name)
     else:
         copy_sources(crates.values(), room)
-        leave_out(room / "crates" / body.crate.name, left_out(body.crate))
+        # The other tests say nothing of this body, and take most of the time.
+        leave_out(room / "crates" / body.crate.name, [it for it in tests_of(body.crate) if it != body.test])
     fits = subprocess.run(["patch", "-p1", "--silent", "--force"], cwd=room, input=body.text, capture_output=True, text=True)
     if fits.returncode:
         return "BROKEN", fits.stdout.strip()[:200], ""

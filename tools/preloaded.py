@@ -1,7 +1,7 @@
 #!/usr/bin/env python3
 """Runs programs that nobody here wrote with their mutexes as lines, and compares what they make with what they make without.
 
-    tools/preloaded.py [MEGABYTES [KIND]]        inputs of so many megabytes, 64; lines of this kind: ring, list or ticket
+    tools/preloaded.py [MEGABYTES [KIND]]        inputs of so many megabytes, 64; lines of this kind: ticket, ring or list
 
 It wants the C library (make -C c_examples build/preload.so builds it) and Debian's packages pigz, pbzip2 and sysbench. Each program must end as it does
 alone, with the same output, after at least some grants, and with no two threads in one mutex at the same time. Seconds are those of one run each.
@@ -64,7 +64,7 @@ def compare(name, words, source, of_output, kind, folder):
 
 def main():
     size = int(sys.argv[1]) if len(sys.argv) > 1 else 64
-    kind = sys.argv[2] if len(sys.argv) > 2 else "ring"
+    kind = sys.argv[2] if len(sys.argv) > 2 else "ticket"
     missing = [name for name in ("pigz", "pbzip2", "sysbench") if not shutil.which(name)]
     if missing:
         sys.exit(f"not installed: {' '.join(missing)}")

@@ -9,7 +9,8 @@ buffer, unseen by the others, or is seen from there before it must be. All runs 
 their order, and at the latest before the thread's next step that reads and writes, or call of the system. What else a memory of C11 may do with
 sequentially consistent, releasing and acquiring steps is not tried; but two accesses race as C11 says, where neither happens before the other and one
 is plain: what a lock keeps about its holder, its waiters and its seats, and what it guards. The line is a model, each of whose calls takes one step,
-or two; that it does so is proved elsewhere.
+or two; that it does so is proved elsewhere. In no scene are asking in halves, reading and writing the line, leases, and two locks or lines that share a
+bell or a guard.
 
 In no run may a thread sleep that nobody wakes, two have the lock or the line at once, a node be called by two threads or out of its order, freed memory be
 touched, or an answer be wrong. Each library that differs by one fault must fail in some run, or this program does not see what it is for. It ends with 1

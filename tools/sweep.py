@@ -134,7 +134,7 @@ def taken(program, library, words, script):
         return int(pipe.read())
 
 
-# With 200 nodes a list takes 26 KB of words, a ring 33 KB, a ticket line as many as a ring and 49 KB of slots.
+# With 200 nodes a list takes 26 KB of words, a ring 33 KB, a ticket line as many as a ring and 33 KB of slots.
 BY_SIZE = ["link", "ring", "ticket"]
 APART = 10_000
 IDLE = {"board": b"board workers 200\n", "bank": b"bank workers 200 lines 1\n"}

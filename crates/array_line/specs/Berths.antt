@@ -15,8 +15,9 @@ Homes = List (maybe.Option Parcel)
 abbrev pub IsAtHome : Homes → ℕ → Type 0
 IsAtHome homes k = (y : Parcel) × (get_elem? homes k ≡ some (some y))
 
--- How many cells a queue has, some. How many slots. By how many requests have ended: in which slot the line lies where nobody has it, and which slots are out
--- where a node has it; and what slots a node has in hand to which this line came, and one that has laid this line for the next.
+-- How many cells a queue has, some, and how many slots. By how many requests have ended: in which
+-- slot the line lies where nobody has it, and which slots are out where a node has it; and what
+-- slots a node has in hand to which this line came, and one that has laid this line for the next.
 pub record Berths : Type 1 where
   pub cells : ℕ
   pub some_cells : 0 < cells

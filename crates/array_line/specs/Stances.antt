@@ -22,7 +22,8 @@ fresh = record { point = Idle; place = 0; passed = [] }
 
 -- A port keeps a mark of its last request, by the place of that in the order: its cell, say, or its ticket.
 module _ (mark_of : ℕ → ℕ) where
-  -- where a node is that does not hold, by its port's state and mark, however many the line has; no port is ever Left or Linking
+  -- where a node is that does not hold, by its port's state and mark, however many nodes the line
+  -- has; no port is ever Left or Linking
   abbrev pub rests : ℕ → PortState → ℕ → Own → Type 0
   rests nodes shows.Idle mark own = own.point ≡ Idle
   rests nodes shows.Linking mark own = ⊥

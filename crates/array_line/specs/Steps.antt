@@ -49,7 +49,8 @@ entry_of seat = line.entry_of fresh seat
 abbrev pub IsAt : Point → ArraySeat → Type 0
 IsAt point seat = Alone seat.me × ((entry_of seat).own.point ≡ point)
 
--- the seat is of the table of a line of so many nodes, which has so many cells for them, and the node is its own
+-- the seat is of the table of a line of so many nodes, which has so many cells for them, and the
+-- node is its own
 abbrev pub IsSeatOfNode : (ℕ → ℕ) → ℕ → TableId → ℕ → ArraySeat → Type 0
 IsSeatOfNode cells nodes table_id node seat = answers.IsSeatOfNode (λ n. word_count (cells n)) nodes table_id fresh node seat
 

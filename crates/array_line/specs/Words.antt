@@ -1,5 +1,5 @@
--- Where the words of a table lie: the ticket, a word for each node, and the cells between those, each apart from the others. Where they lie
--- does not depend on how many there are.
+-- Where the words of a table lie: the ticket, a word for each node, and the cells between those,
+-- each apart from the others. Where they lie does not depend on how many there are.
 use Rattle.std.specs.Prelude.{◌≡◌, ◌≢◌, ℕ, ◌+◌, ◌*◌, ◌%◌, ◌^◌, ◌<◌, ◌≤◌, List, slice_index}
 use Rattle.qolb_model.specs.declared.terms.TheConstants.{MOST_NODES}
 use Rattle.array_line.specs.declared.words.TheConstants.{STRIDE, BEHIND}

@@ -6,13 +6,15 @@ ghost use Rattle.array_line.specs.declared.words.TheConstants.{CELLS};
 ghost use Rattle.array_line.specs.Counting as counting;
 ghost use Rattle.array_line.specs.Words as layout;
 
-/// The most cells. There are more than nodes, so no two open requests have one cell; and they divide 2^64, so that the tickets may wrap.
+/// The most cells. There are more than nodes, so no two open requests have one cell; and they
+/// divide 2^64, so that the tickets may wrap.
 pub const CELLS: u64 = 256;
 
 /// How many words lie between those of two nodes, and between two cells.
 pub(crate) const STRIDE: usize = 16;
 
-/// How far the first cell lies behind the ticket. So the cells lie between the words of the nodes, which are seldom touched.
+/// How far the first cell lies behind the ticket. So the cells lie between the words of the nodes,
+/// which are seldom touched.
 pub(crate) const BEHIND: usize = 8;
 
 /// The ticket.
@@ -29,7 +31,8 @@ pub fn word_count(cells: u64) -> usize
     STRIDE * cells as usize
 }
 
-/// How many cells a line of so many nodes needs: as many as the least power of two above these, so that a mask finds a ticket's cell.
+/// How many cells a line of so many nodes needs: as many as the least power of two above these, so
+/// that a mask finds a ticket's cell.
 pub fn cell_count(nodes: u64) -> u64
     ensures cells { result ≡ counting.cells_for nodes }
     ensures within { (2 ≤ result) × (result ≤ CELLS) }

@@ -86,13 +86,16 @@ fn nap<R: Wait>(rt: &R, at_most: Duration) {
 
 /// A span of time that has begun.
 #[derive(Clone, Copy)]
-struct Span {
-    since: Option<Instant>,
-    at_most: Duration,
+pub struct Span {
+    /// When it began; `None` where the clock could not be read.
+    pub since: Option<Instant>,
+    /// How long it is.
+    pub at_most: Duration,
 }
 
 impl Span {
-    fn begin<R: Clock>(rt: &R, at_most: Duration) -> Span
+    /// It begins now, and is so long.
+    pub fn begin<R: Clock>(rt: &R, at_most: Duration) -> Span
         ensures { result.at_most ≡ at_most }
     {
         Span {
@@ -102,7 +105,7 @@ impl Span {
     }
 
     /// What is left of it, and `None` where it is over.
-    fn left<R: Clock>(&self, rt: &R) -> Option<Duration>
+    pub fn left<R: Clock>(&self, rt: &R) -> Option<Duration>
         ensures { (now : Option Instant) × IsLeft result (nanos_left self.now.since self.now.at_most now) }
     {
         self.left_at(Instant::now(rt).ok())
@@ -215,7 +218,8 @@ pub fn acquire_within<R: Wait + Clock, K: Keep, L: Sleeping<K>>(
 }
 
 /// Looks, and later sleeps between looks, until the request is granted or told, or the time is over.
-fn wait_within<R: Wait + Clock, K: Keep, L: Sleeping<K>>(
+/// It is the wait of `acquire_within`, for who has asked already.
+pub fn wait_within<R: Wait + Clock, K: Keep, L: Sleeping<K>>(
     rt: &R,
     line: &L,
     port: &mut L::Port,

@@ -8,8 +8,8 @@ mod sleeping_line;
 pub mod together;
 mod waiting;
 
-pub use asleep::{Within, acquire_asleep, acquire_within};
+pub use asleep::{Span, Within, acquire_asleep, acquire_within, wait_within};
 pub use hooked_line::{HookedLine, Hooks};
 pub use meetings::{meet_all, meet_others};
 pub use sleeping_line::SleepingLine;
-pub use waiting::{Got, acquire};
+pub use waiting::{Got, acquire, wait};

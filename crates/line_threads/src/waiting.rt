@@ -71,8 +71,8 @@ pub fn acquire<R: Wait, K: Keep, L: LineSync<K>>(rt: &R, line: &L, port: &mut L:
     unreachable!()
 }
 
-/// Looks until the request is granted or told.
-fn wait<R: Wait, K: Keep, L: LineSync<K>>(rt: &R, line: &L, port: &mut L::Port) -> Got
+/// Looks until the request is granted or told. It is the wait of `acquire`, for who has asked already.
+pub fn wait<R: Wait, K: Keep, L: LineSync<K>>(rt: &R, line: &L, port: &mut L::Port) -> Got
     requires belongs { L.belongs line.now port.old }
     requires state { (L.view port.old).state ≡ PortState.Queued }
     ensures belongs { L.belongs line.now port.new }

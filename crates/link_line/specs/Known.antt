@@ -9,4 +9,4 @@ abbrev pub Known : Type 0
 Known = Entry LinkOwn
 
 abbrev pub no_line : Parcel
-no_line = record { bytes = record { bytes = [] }; mask = no_mask; turns_left = None; closed = false }
+no_line = record { bytes = record { bytes = [] }; mask = no_mask; turns_left = None; closed = false; padding = [] }

@@ -13,3 +13,4 @@ mod words;
 pub use own::LinkOwn;
 pub use qolb_model::Prep;
 pub use rule::{LinkLine, Links, Port};
+pub use words::word_count;

@@ -13,7 +13,8 @@ use crate::words::{entry_word, is_granted, word_count};
 use atomic_table::Closed;
 use qolb_model::{Keep, PortState};
 use shared_line::{
-    Asked, Discipline, Linked, Parcel, Released, Requested, put_alone, take_alone, unlay_alone,
+    Asked, Discipline, Linked, LocalCopy, Parcel, Released, Requested, put_alone, take_alone,
+    unlay_alone,
 };
 use std::alloc::{AllocError, Global};
 
@@ -42,7 +43,13 @@ impl<K: Keep> Discipline<K> for Links {
     }
 
     #[inline]
-    fn take(ground: &Ground<K>, seat: &mut LinkSeat, _size: u64, _mark: u64, parcel: &mut Parcel) {
+    fn take(
+        ground: &Ground<K>,
+        seat: &mut LinkSeat,
+        _size: u64,
+        _mark: u64,
+        parcel: &mut LocalCopy,
+    ) {
         take_alone(ground, seat, parcel);
     }
 
@@ -52,7 +59,7 @@ impl<K: Keep> Discipline<K> for Links {
         seat: &mut LinkSeat,
         _size: u64,
         _mark: u64,
-        parcel: &Parcel,
+        parcel: &LocalCopy,
         closed: bool,
     ) {
         put_alone(ground, seat, parcel, closed);

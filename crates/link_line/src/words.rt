@@ -25,7 +25,7 @@ pub(crate) const LINK: u64 = 256;
 pub(crate) const HOME: usize = 0;
 
 /// How many words there are, for so many nodes.
-pub(crate) fn word_count(nodes: u64) -> usize
+pub fn word_count(nodes: u64) -> usize
     requires { nodes ≤ MOST_NODES }
     ensures { result ≡ layout.word_count nodes }
 {

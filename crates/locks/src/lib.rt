@@ -1,11 +1,15 @@
 //! The locks that there are: the one place where a lock is registered.
 #![tactic(auto)]
 
-ghost use Rattle.std.specs.Prelude.{◌≡◌};
+ghost use Rattle.std.specs.Prelude.{◌≡◌, ◌+◌, ◌*◌};
+ghost use Rattle.qolb_model.specs.Opening.{AreNodes};
 ghost use Rattle.locks.specs.Names.{lock_named};
+ghost use Rattle.locks.specs.Bytes.{words_of, slots_of, bytes_of};
 
+use array_line::{CELLS, cell_count, word_count};
 pub use link_line::LinkLine;
 pub use ring_line::RingLine;
+use shared_line::Parcel;
 pub use ticket_line::TicketLine;
 
 /// What represents the lines that nodes share.
@@ -18,6 +22,12 @@ pub enum Lines {
     /// Ticket lines: lines by tickets, and cells that say whose turn it is by a number.
     Ticket,
 }
+
+/// How many bytes a word of a table takes.
+const WORD: u64 = size_of::<u64>() as u64;
+
+/// How many bytes a slot of a table takes.
+const SLOT: u64 = size_of::<Parcel>() as u64;
 
 /// Each lock that there is.
 pub static ALL: [Lines; 3] = [Lines::Ring, Lines::Link, Lines::Ticket];
@@ -35,6 +45,23 @@ impl Lines {
             "link" => Some(Lines::Link),
             "ticket" => Some(Lines::Ticket),
             _ => None,
+        }
+    }
+
+    /// How many bytes the table of such a line takes, for so many nodes: its words, and the slots in
+    /// which the line lies. A port takes 136 more. Opening takes the table's bytes twice for a moment.
+    pub fn bytes_for(self, nodes: u64) -> u64
+        requires { AreNodes nodes }
+        ensures bytes { result ≡ bytes_of self nodes }
+        ensures parts { result ≡ WORD * words_of self nodes + SLOT * slots_of self nodes }
+    {
+        match self {
+            Lines::Ring => WORD * word_count(CELLS) as u64 + SLOT,
+            Lines::Link => WORD * link_line::word_count(nodes) as u64 + SLOT,
+            Lines::Ticket => {
+                let cells = cell_count(nodes);
+                WORD * word_count(cells) as u64 + SLOT * cells
+            }
         }
     }
 }

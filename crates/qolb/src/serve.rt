@@ -1,5 +1,5 @@
 //! The program behind its words: it does what they ask for, and says how that ended.
-ghost use Rattle.std.specs.Prelude.{◌≡◌, ◌≢◌, ◌≤◌, ◌↔◌, ℕ, List, true, Err, Some, None, map, string_bytes, IfSome, IfErr, IfOk, OnOk, MatchOption};
+ghost use Rattle.std.specs.Prelude.{◌≡◌, ◌≢◌, ◌≤◌, ◌↔◌, ℕ, List, true, false, Err, Some, None, map, string_bytes, IfSome, IfErr, IfOk, IsErrAnd, IsSome, OnOk, MatchOption};
 ghost use Rattle.std.specs.Io.KnownBytes.{Appends};
 ghost use Rattle.qolb_script.specs.Watched.{inner_of, has_failed};
 ghost use Rattle.qolb.specs.CommandLine.{NamesWish, IsNotTaken};
@@ -57,7 +57,8 @@ pub fn serve<T: Threads + Wait + Clock + Eprint + Sync, R: Read, W: Write, E: Wr
             return 2;
         }
     };
-    let text = match answer_or_refuse(rt, alloc, request, reader) {
+    let mut input = Watched::new(&mut *reader);
+    let text = match answer_or_refuse(rt, alloc, request, &mut input) {
         Ok(text) => text,
         Err(refusal) => return refuse(err, request.wish, refusal),
     };
@@ -79,14 +80,19 @@ fn answer_or_refuse<T: Threads + Wait + Clock + Eprint + Sync, R: Read>(
     rt: &T,
     alloc: Global,
     request: Request,
-    reader: &mut R,
+    input: &mut Watched<R>,
 ) -> Result<Vec<u8>, Refusal>
-    ensures granted { IfOk result (λ text. IfSome (R.remaining reader.old) (λ script. Grants ⟦<Locks as DoneOver>⟧.done_over request.wish script text.items)) }
-    ensures denied { IfErr result (λ refusal. IfSome (R.remaining reader.old) (λ script. MayDeny request.wish script refusal.error)) }
-    ensures kept { IfErr result (λ refusal. IfSome refusal.script (λ kept. IfSome (R.remaining reader.old) (λ script. kept.items ≡ script))) }
+    ensures granted { IfOk result (λ text. IfSome (R.remaining (inner_of input.old)) (λ script. Grants ⟦<Locks as DoneOver>⟧.done_over request.wish script text.items)) }
+    ensures denied { IfErr result (λ refusal. IfSome (R.remaining (inner_of input.old)) (λ script. MayDeny request.wish script refusal.error)) }
+    ensures read_fault { has_failed input.new ≡ true → IsErrAnd result (λ refusal. refusal.error ≡ TaskError.Replay ReplayError.Read) }
+
+    // A refused script is kept where that is asked for, and then it is the one that was read.
+    ensures asked { IfErr result (λ refusal. (fault : ScriptError) → refusal.error ≡ TaskError.Replay (ReplayError.Script fault) → request.explain ≡ true → IsSome refusal.script) }
+    ensures unasked { IfErr result (λ refusal. request.explain ≡ false → refusal.script ≡ None) }
+    ensures kept { IfErr result (λ refusal. IfSome refusal.script (λ kept. IfSome (R.remaining (inner_of input.old)) (λ script. kept.items ≡ script))) }
 {
     if !request.explain {
-        return match answer(rt, alloc, request, reader) {
+        return match answer(rt, alloc, request, input) {
             Ok(text) => Ok(text),
             Err(error) => Err(Refusal {
                 error,
@@ -94,8 +100,7 @@ fn answer_or_refuse<T: Threads + Wait + Clock + Eprint + Sync, R: Read>(
             }),
         };
     }
-    let mut input = Watched::new(&mut *reader);
-    let script = match read_all(alloc, &mut input) {
+    let script = match read_all(alloc, input) {
         Ok(script) => script,
         Err(error) => {
             return Err(Refusal {
@@ -104,7 +109,7 @@ fn answer_or_refuse<T: Threads + Wait + Clock + Eprint + Sync, R: Read>(
             });
         }
     };
-    match answer(rt, alloc, request, &mut script.as_slice()) {
+    match answer(rt, alloc, request, &mut Watched::new(script.as_slice())) {
         Ok(text) => Ok(text),
         Err(error) => Err(Refusal {
             error,
@@ -120,15 +125,15 @@ fn answer<T: Threads + Wait + Clock + Eprint + Sync, R: Read>(
     rt: &T,
     alloc: Global,
     request: Request,
-    reader: &mut R,
+    input: &mut Watched<R>,
 ) -> Result<Vec<u8>, TaskError>
-    ensures granted { IfOk result (λ text. IfSome (R.remaining reader.old) (λ script. Grants ⟦<Locks as DoneOver>⟧.done_over request.wish script text.items)) }
-    ensures denied { IfErr result (λ error. IfSome (R.remaining reader.old) (λ script. MayDeny request.wish script error)) }
+    ensures granted { IfOk result (λ text. IfSome (R.remaining (inner_of input.old)) (λ script. Grants ⟦<Locks as DoneOver>⟧.done_over request.wish script text.items)) }
+    ensures denied { IfErr result (λ error. IfSome (R.remaining (inner_of input.old)) (λ script. MayDeny request.wish script error)) }
+    ensures read_fault { (result ≡ Err (TaskError.Replay ReplayError.Read)) ↔ (has_failed input.new ≡ true) }
     ensures no_writer { result ≢ Err (TaskError.Replay ReplayError.Write) }
 {
-    let mut input = Watched::new(&mut *reader);
     let mut text = Watched::new(Vec::new(alloc));
-    match grant(rt, alloc, request, &mut input, &mut text) {
+    match grant(rt, alloc, request, input, &mut text) {
         Ok(()) => Ok(text.into_inner()),
         // Nothing but want of memory keeps a vector from growing.
         Err(TaskError::Replay(ReplayError::Write)) => Err(TaskError::Replay(ReplayError::Memory)),

@@ -18,23 +18,23 @@ use Rattle.qolb_draw.specs.LineRuns.{Step, callers, event_of, mark_at, steps_on}
 use Rattle.qolb_draw.specs.Timelines.{Arrow, Call, Lane, Name, Number, Shape, arrow_of, bar_of, bars_from, bytes_of, column_shapes, columns_of, is_same, name_count, names_of, no_event, row_of, row_shapes, stand_of, stands_of}
 
 -- whether a bar is over a column
-abbrev is_over : ℕ → ℕ → ℕ → Bool
+abbrev pub is_over : ℕ → ℕ → ℕ → Bool
 is_over start end column = nat_le start column && nat_lt column end
 
-over : (start end column : ℕ) → start ≤ column → column < end → is_over start end column ≡ true
+pub over : (start end column : ℕ) → start ≤ column → column < end → is_over start end column ≡ true
 over start end column from to =
     let begun : nat_le start column ≡ true = grind (arith, nat_tests) in
     let going : nat_lt column end ≡ true = grind (arith, nat_tests) in
     ap (λ b. b && nat_lt column end) begun ∙ going
 
-not_yet : (start end column : ℕ) → column < start → is_over start end column ≡ false
+pub not_yet : (start end column : ℕ) → column < start → is_over start end column ≡ false
 not_yet start end column lt = let ahead : nat_le start column ≡ false = grind (arith, nat_tests) in ap (λ b. b && nat_lt column end) ahead
 
-and_false : (b : Bool) → (b && false) ≡ false
+pub and_false : (b : Bool) → (b && false) ≡ false
 and_false true = refl
 and_false false = refl
 
-no_more : (start end column : ℕ) → end ≤ column → is_over start end column ≡ false
+pub no_more : (start end column : ℕ) → end ≤ column → is_over start end column ≡ false
 no_more start end column le = let past : nat_lt column end ≡ false = grind (arith, nat_tests) in ap (λ b. nat_le start column && b) past ∙ and_false (nat_le start column)
 
 -- one bar

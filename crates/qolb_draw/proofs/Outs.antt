@@ -17,14 +17,14 @@ use Rattle.qolb_draw.specs.declared.mark.Mark.{Mark}
 use Rattle.qolb_draw.specs.declared.mark.Mark.TheVariants as mark
 use Rattle.qolb_draw.specs.declared.text.TheConstants.{COLUMNS}
 use Rattle.qolb_draw.specs.LineRuns.{Step, event_of, mark_at, steps_on, callers}
-use Rattle.qolb_draw.specs.Pictures.{letter_of, label_of, heads_text, row_text, block_text, block_at, block_count, blocks_text, line_text}
+use Rattle.qolb_draw.specs.Pictures.{letter_of, label_of, label_room, heads_text, row_text, block_text, block_at, block_count, blocks_text, line_text}
 use Rattle.qolb_draw.specs.Grids.{IsGrid, numbers_of, nodes_of, marks_of, mark_out_of, row_out_of, block_out_of, blocks_out_of, shown_out_of, line_out_of, stands_out_of, row_shapes_out_of, shapes_out_of, line_svg_out_of}
 use Rattle.qolb_draw.specs.Svg.{columns_on, height_of, line_begin, rows_on, texts, top_of, widest, width_of}
 use Rattle.qolb_draw.specs.Timelines.{columns_of, row_shapes, stand_of, stands_of, timeline_of}
 use Rattle.qolb_draw.proofs.Rows.{range_more}
 
 -- a step, where none is asked for
-abbrev no_step : Step
+abbrev pub no_step : Step
 no_step = record { number = 0; command = Enq 0 0; before = no_line }
 
 -- each step has a mark for each node
@@ -86,8 +86,8 @@ block_found nodes k steps shown all =
     let long : length (numbers_of steps) ≡ length steps = length-map steps (λ (step : Step). step.number) in
     let many : count ≡ min COLUMNS (length (drop start steps)) = ap (λ m. min COLUMNS (m - start)) long ∙ ap (min COLUMNS) (sym (length-drop start steps)) in
     let taken : take count (drop start steps) ≡ block_at steps k = ap (λ m. take m (drop start steps)) many ∙ take_within COLUMNS (drop start steps) in
-    ap (λ ns. 10 ∷ [] ++ heads_text ns ++ flat_map (row_out_of nodes (marks_of nodes steps) start count) shown) (ap (take count) (drop-map (λ (step : Step). step.number) start steps) ∙ take-map (λ (step : Step). step.number) count (drop start steps))
-    ∙ ap (λ t. 10 ∷ [] ++ heads_text (numbers_of (take count (drop start steps))) ++ t) (rows_text_found nodes start count steps shown all (omega (arith, long)))
+    ap (λ ns. 10 ∷ [] ++ heads_text label_room ns ++ flat_map (row_out_of nodes (marks_of nodes steps) start count) shown) (ap (take count) (drop-map (λ (step : Step). step.number) start steps) ∙ take-map (λ (step : Step). step.number) count (drop start steps))
+    ∙ ap (λ t. 10 ∷ [] ++ heads_text label_room (numbers_of (take count (drop start steps))) ++ t) (rows_text_found nodes start count steps shown all (omega (arith, long)))
     ∙ ap (block_text shown) taken
 
 same_blocks : (f g : ℕ → List ℕ) → ((k : ℕ) → f k ≡ g k) → (xs : List ℕ) → flat_map f xs ≡ flat_map g xs

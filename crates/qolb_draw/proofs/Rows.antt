@@ -30,37 +30,37 @@ node_left_out n called shown after b was is missed same =
     same ∙ was ∙ sym (shown_more n called ∙ ap (λ t. shown_out_of n called ++ cond t ((n + 1) ∷ []) []) (sym is ∙ missed) ∙ append-nil (shown_out_of n called))
 
 -- a row of digits more, where the last number has that place, and none where it has not
-heads_cond : (numbers : List ℕ) (b : Bool) (v : ℕ) → flat_map (head_text numbers) (cond b (v ∷ []) []) ≡ cond b (head_text numbers v) []
-heads_cond numbers true v = append-nil (head_text numbers v)
-heads_cond numbers false v = refl
+heads_cond : (margin numbers : List ℕ) (b : Bool) (v : ℕ) → flat_map (head_text margin numbers) (cond b (v ∷ []) []) ≡ cond b (head_text margin numbers v) []
+heads_cond margin numbers true v = append-nil (head_text margin numbers v)
+heads_cond margin numbers false v = refl
 
-heads_more : (numbers : List ℕ) (last : ℕ) (values : List ℕ) (i d : ℕ) → i < length values
-    → flat_map (head_text numbers) (filter (λ value. nat_le value last) (take (i + 1) values)) ≡ flat_map (head_text numbers) (filter (λ value. nat_le value last) (take i values)) ++ cond (nat_le (get_or values i d) last) (head_text numbers (get_or values i d)) []
-heads_more numbers last values i d lt =
-    ap (flat_map (head_text numbers)) (filter_more (λ value. nat_le value last) values i d lt)
-    ∙ flat_map-append (head_text numbers) (filter (λ value. nat_le value last) (take i values)) (cond (nat_le (get_or values i d) last) (get_or values i d ∷ []) [])
-    ∙ ap (λ t. flat_map (head_text numbers) (filter (λ value. nat_le value last) (take i values)) ++ t) (heads_cond numbers (nat_le (get_or values i d) last) (get_or values i d))
+heads_more : (margin numbers : List ℕ) (last : ℕ) (values : List ℕ) (i d : ℕ) → i < length values
+    → flat_map (head_text margin numbers) (filter (λ value. nat_le value last) (take (i + 1) values)) ≡ flat_map (head_text margin numbers) (filter (λ value. nat_le value last) (take i values)) ++ cond (nat_le (get_or values i d) last) (head_text margin numbers (get_or values i d)) []
+heads_more margin numbers last values i d lt =
+    ap (flat_map (head_text margin numbers)) (filter_more (λ value. nat_le value last) values i d lt)
+    ∙ flat_map-append (head_text margin numbers) (filter (λ value. nat_le value last) (take i values)) (cond (nat_le (get_or values i d) last) (get_or values i d ∷ []) [])
+    ∙ ap (λ t. flat_map (head_text margin numbers) (filter (λ value. nat_le value last) (take i values)) ++ t) (heads_cond margin numbers (nat_le (get_or values i d) last) (get_or values i d))
 
 -- the text so far, with the rows of digits at the first i places
-pub record HasHeads (numbers : List ℕ) (last : ℕ) (values : List ℕ) (before : List ℕ) (i : ℕ) (text : List ℕ) : Type 0 where
-  pub text_is : text ≡ before ++ flat_map (head_text numbers) (filter (λ value. nat_le value last) (take i values))
+pub record HasHeads (margin numbers : List ℕ) (last : ℕ) (values : List ℕ) (before : List ℕ) (i : ℕ) (text : List ℕ) : Type 0 where
+  pub text_is : text ≡ before ++ flat_map (head_text margin numbers) (filter (λ value. nat_le value last) (take i values))
 
-pub head_pushed : (numbers : List ℕ) (last : ℕ) (values before : List ℕ) (i d : ℕ) (text after : List ℕ) → HasHeads numbers last values before i text → i < length values
-    → get_or values i d ≤ last → after ≡ text ++ head_text numbers (get_or values i d) → HasHeads numbers last values before (i + 1) after
-head_pushed numbers last values before i d text after had lt le pushed =
+pub head_pushed : (margin numbers : List ℕ) (last : ℕ) (values before : List ℕ) (i d : ℕ) (text after : List ℕ) → HasHeads margin numbers last values before i text → i < length values
+    → get_or values i d ≤ last → after ≡ text ++ head_text margin numbers (get_or values i d) → HasHeads margin numbers last values before (i + 1) after
+head_pushed margin numbers last values before i d text after had lt le pushed =
     let b : nat_le (get_or values i d) last ≡ true = grind (arith, nat_tests) in
     record {
-      text_is = pushed ∙ ap (λ t. t ++ head_text numbers (get_or values i d)) had.text_is ∙ append_assoc before _ (head_text numbers (get_or values i d))
-          ∙ ap (λ t. before ++ t) (sym (heads_more numbers last values i d lt ∙ ap (λ c. flat_map (head_text numbers) (filter (λ value. nat_le value last) (take i values)) ++ cond c (head_text numbers (get_or values i d)) []) b));
+      text_is = pushed ∙ ap (λ t. t ++ head_text margin numbers (get_or values i d)) had.text_is ∙ append_assoc before _ (head_text margin numbers (get_or values i d))
+          ∙ ap (λ t. before ++ t) (sym (heads_more margin numbers last values i d lt ∙ ap (λ c. flat_map (head_text margin numbers) (filter (λ value. nat_le value last) (take i values)) ++ cond c (head_text margin numbers (get_or values i d)) []) b));
     }
 
-pub head_left_out : (numbers : List ℕ) (last : ℕ) (values before : List ℕ) (i d : ℕ) (text after : List ℕ) → HasHeads numbers last values before i text → i < length values
-    → last < get_or values i d → after ≡ text → HasHeads numbers last values before (i + 1) after
-head_left_out numbers last values before i d text after had lt gt same =
+pub head_left_out : (margin numbers : List ℕ) (last : ℕ) (values before : List ℕ) (i d : ℕ) (text after : List ℕ) → HasHeads margin numbers last values before i text → i < length values
+    → last < get_or values i d → after ≡ text → HasHeads margin numbers last values before (i + 1) after
+head_left_out margin numbers last values before i d text after had lt gt same =
     let b : nat_le (get_or values i d) last ≡ false = grind (arith, nat_tests) in
     record {
       text_is = same ∙ had.text_is
-          ∙ ap (λ t. before ++ t) (sym (heads_more numbers last values i d lt ∙ ap (λ c. flat_map (head_text numbers) (filter (λ value. nat_le value last) (take i values)) ++ cond c (head_text numbers (get_or values i d)) []) b ∙ append-nil _));
+          ∙ ap (λ t. before ++ t) (sym (heads_more margin numbers last values i d lt ∙ ap (λ c. flat_map (head_text margin numbers) (filter (λ value. nat_le value last) (take i values)) ++ cond c (head_text margin numbers (get_or values i d)) []) b ∙ append-nil _));
     }
 
 -- one mark more in a row

@@ -17,11 +17,11 @@ opened_at terms (suc n) zero lt = refl
 opened_at terms (suc n) (suc k) lt = opened_at terms n k (omega (arith, lt))
 
 -- a run after a command that is on the line, or is not
-abbrev run_by : LineRun → Command → Bool → LineRun
+abbrev pub run_by : LineRun → Command → Bool → LineRun
 run_by run c true = record { done = run.done + 1; now = after_command run.now c; steps = run.steps ++ record { number = run.done + 1; command = c; before = run.now } ∷ [] }
 run_by run c false = record run { done = run.done + 1 }
 
-stepped : (line : ℕ) (run : LineRun) (c : Command) → run_step line run c ≡ run_by run c (line_of c == line)
+pub stepped : (line : ℕ) (run : LineRun) (c : Command) → run_step line run c ≡ run_by run c (line_of c == line)
 stepped line run c = by (line_of c == line)
   where
     by : (b : Bool) → cond b (record { done = run.done + 1; now = after_command run.now c; steps = run.steps ++ record { number = run.done + 1; command = c; before = run.now } ∷ [] }) (record run { done = run.done + 1 }) ≡ run_by run c b

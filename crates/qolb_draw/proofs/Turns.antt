@@ -139,7 +139,7 @@ any_map : (p : ℕ → Bool) (ws : List Waiter) → list_any p (map (λ w. w.nod
 any_map p [] = refl
 any_map p (w ∷ ws) = ap (λ b. p w.node || b) (any_map p ws)
 
-or_none : (a b : Bool) → (a || b) ≡ false → (a ≡ false) × (b ≡ false)
+pub or_none : (a b : Bool) → (a || b) ≡ false → (a ≡ false) × (b ≡ false)
 or_none false b h = (refl, h)
 or_none true b h = absurd (let not_so : true ≡ false = h in cc not_so)
 

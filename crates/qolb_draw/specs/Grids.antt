@@ -14,7 +14,7 @@ use Rattle.qolb_draw.specs.declared.bar.Stand.{Stand}
 use Rattle.qolb_draw.specs.declared.bar.Stand.TheVariants as stand
 use Rattle.qolb_draw.specs.Svg.{line_begin, texts}
 use Rattle.qolb_draw.specs.Timelines.{Shape, bars_from, columns_of, row_shapes, stand_of}
-use Rattle.qolb_draw.specs.Pictures.{letter_of, label_of, heads_text, block_count}
+use Rattle.qolb_draw.specs.Pictures.{letter_of, label_of, label_room, heads_text, block_count}
 
 -- the marks of nodes 1 to `nodes` after each step, and the step's number and node
 abbrev pub marks_of : ℕ → List Step → List Mark
@@ -47,7 +47,7 @@ abbrev pub row_out_of : ℕ → List Mark → ℕ → ℕ → ℕ → List ℕ
 row_out_of nodes marks start count n = label_of n ++ map (λ k. letter_of (mark_out_of nodes marks n k)) (range_with_len start count) ++ 10 ∷ []
 
 abbrev pub block_out_of : ℕ → List Mark → List ℕ → List ℕ → ℕ → ℕ → List ℕ
-block_out_of nodes marks numbers shown start count = 10 ∷ [] ++ heads_text (take count (drop start numbers)) ++ flat_map (row_out_of nodes marks start count) shown
+block_out_of nodes marks numbers shown start count = 10 ∷ [] ++ heads_text label_room (take count (drop start numbers)) ++ flat_map (row_out_of nodes marks start count) shown
 
 abbrev pub blocks_out_of : ℕ → List Mark → List ℕ → List ℕ → List ℕ
 blocks_out_of nodes marks numbers shown =

@@ -1,13 +1,14 @@
--- What pictures have to do with replays. (Of this project.)
-use Rattle.std.specs.Prelude.{◌≡◌, ℕ, ◌<◌, ◌≤◌, ◌==◌, ◌&&◌, nat_le, nat_lt, true, if◌then◌else◌, List, [], ◌∷◌, flat_map, Some, slice_get}
-use Rattle.std.specs.List.{list_any}
+-- What pictures have to do with replays, and that nothing of them lies outside. (Of this project.)
+use Rattle.std.specs.Prelude.{◌≡◌, ℕ, ◌+◌, ◌-◌, ◌*◌, max, ◌<◌, ◌≤◌, ◌==◌, ◌&&◌, nat_le, nat_lt, true, if◌then◌else◌, List, [], ◌∷◌, flat_map, Some, slice_get}
+use Rattle.std.specs.List.{All, list_any}
 use Rattle.qolb_script.specs.Commands.{node_of}
-use Rattle.qolb_script.specs.Script.{Script}
+use Rattle.qolb_script.specs.Script.{IsInRange, Script}
 use Rattle.qolb_script.specs.Reply.{replay_of, line_at}
 use Rattle.qolb_draw.specs.declared.bar.Stand.{Stand}
 use Rattle.qolb_draw.specs.declared.bar.Stand.TheVariants as stand
 use Rattle.qolb_draw.specs.LineRuns.{Step, mark_at, run_of, steps_on}
-use Rattle.qolb_draw.specs.Timelines.{Shape, Bar, stand_of, timeline_of}
+use Rattle.qolb_draw.specs.Svg.{name_y, top_of, widest, x_of, y_of}
+use Rattle.qolb_draw.specs.Timelines.{Shape, Lane, Bar, Name, Number, Arrow, Bytes, Call, stand_of, timeline_of}
 
 -- the commands on a line leave it as all commands of the script do, so after each command of a script it is drawn in the state that it has
 -- in the replay
@@ -31,3 +32,31 @@ shown_as s = s ∷ []
 -- has none
 abbrev pub BarsCoverMarks : Type 0
 BarsCoverMarks = (script : Script) (line n column : ℕ) (step : Step) → 1 ≤ n → n ≤ script.nodes → list_any (λ (s : Step). node_of s.command == n) (steps_on line script) ≡ true → slice_get (steps_on line script) column ≡ Some step → kinds_over n column (timeline_of script line) ≡ shown_as (stand_of (mark_at step n))
+
+-- where a shape ends, from the left and from the top of its line: a sign is 8 pixels wide on each side of its middle and 12 high, half a word
+-- above a row 24 wide, and letters go 3 below their line
+abbrev pub right_of : Shape → ℕ
+right_of (Lane row columns) = x_of columns
+right_of (Bar row start end s node) = x_of start + 32 * (end - start)
+right_of (Name row column node) = x_of column
+right_of (Number column number) = x_of column + 24
+right_of (Arrow column number giver from taker to) = x_of column + 8
+right_of (Bytes row column bytes places) = x_of column + 24
+right_of (Call row column event) = x_of column + 8
+
+abbrev pub foot_of : Shape → ℕ
+foot_of (Lane row columns) = y_of row + 1
+foot_of (Bar row start end s node) = y_of row + 8
+foot_of (Name row column node) = name_y row column + 3
+foot_of (Number column number) = 36 + 3
+foot_of (Arrow column number giver from taker to) = max (y_of giver) (y_of taker)
+foot_of (Bytes row column bytes places) = y_of row - 13 + 3
+foot_of (Call row column event) = y_of row + 12
+
+-- a shape of a line lies within the picture's width, and above the next line
+abbrev pub IsWithin : Script → ℕ → Shape → Type 0
+IsWithin script line shape = (right_of shape ≤ widest script script.lines) × (top_of script line + foot_of shape ≤ top_of script (line + 1))
+
+-- no shape of a line lies outside the picture, nor in the next line
+abbrev pub ShapesLieWithin : Type 0
+ShapesLieWithin = (script : Script) (line : ℕ) → IsInRange script → line < script.lines → All (IsWithin script line) (timeline_of script line) × (top_of script (line + 1) ≤ top_of script script.lines)

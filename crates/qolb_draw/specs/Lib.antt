@@ -9,3 +9,4 @@ pub mod StepShapes
 pub mod StepSvg
 pub mod StepPictures
 pub mod Laws
+pub mod StepLaws

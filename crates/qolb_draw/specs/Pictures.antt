@@ -29,28 +29,32 @@ letter_of mark.Takes = 60
 abbrev pub digit_at : ℕ → ℕ → ℕ
 digit_at value n = if nat_lt n value then 32 else 48 + n / value % 10
 
--- a row of digits, at one place of each command's number
-abbrev pub head_text : List ℕ → ℕ → List ℕ
-head_text numbers value = replicate 9 32 ++ map (digit_at value) numbers ++ 10 ∷ []
+-- a row of digits, at one place of each number, behind a margin
+abbrev pub head_text : List ℕ → List ℕ → ℕ → List ℕ
+head_text margin numbers value = margin ++ map (digit_at value) numbers ++ 10 ∷ []
 
 -- the values of the places that a number has, of at most six
 abbrev pub places_of : ℕ → List ℕ
 places_of n = filter (λ value. nat_le value n) (100000 ∷ 10000 ∷ 1000 ∷ 100 ∷ 10 ∷ 1 ∷ [])
 
--- the numbers of commands, above one another's digits; the last is the greatest
-abbrev pub heads_text : List ℕ → List ℕ
-heads_text numbers = flat_map (head_text numbers) (places_of (slice_index_or numbers (length numbers - 1) 0))
+-- some numbers, digit below digit; the last is the greatest
+abbrev pub heads_text : List ℕ → List ℕ → List ℕ
+heads_text margin numbers = flat_map (head_text margin numbers) (places_of (slice_index_or numbers (length numbers - 1) 0))
 
 -- a node's row: its number, in three places, and its mark after each command
 abbrev pub label_of : ℕ → List ℕ
 label_of n = codes "node " ++ map (λ value. digit_at value n) (100 ∷ 10 ∷ 1 ∷ []) ++ 32 ∷ []
+
+-- as many spaces as that has characters
+abbrev pub label_room : List ℕ
+label_room = replicate 9 32
 
 abbrev pub row_text : List Step → ℕ → List ℕ
 row_text steps n = label_of n ++ map (λ step. letter_of (mark_at step n)) steps ++ 10 ∷ []
 
 -- a block: an empty line, the numbers of its commands, and the rows of these nodes
 abbrev pub block_text : List ℕ → List Step → List ℕ
-block_text nodes steps = 10 ∷ [] ++ heads_text (map (λ step. step.number) steps) ++ flat_map (row_text steps) nodes
+block_text nodes steps = 10 ∷ [] ++ heads_text label_room (map (λ step. step.number) steps) ++ flat_map (row_text steps) nodes
 
 -- the steps of block k, and how many blocks there are
 abbrev pub block_at : List Step → ℕ → List Step

@@ -1,7 +1,6 @@
 -- The picture of a step script in either form. (Of this project.)
-use Rattle.std.specs.Prelude.{◌≡◌, ◌≤◌, ℕ, ◌+◌, max, List, [], ◌∷◌, ◌++◌, length, map, flat_map, drop, codes, Ok}
+use Rattle.std.specs.Prelude.{◌≡◌, ◌≤◌, ℕ, ◌+◌, max, List, [], ◌∷◌, ◌++◌, length, map, codes, Ok}
 use Rattle.std.specs.List.{range_with_len}
-use Rattle.link_core.specs.declared.event.Event.{Event}
 use Rattle.link_core.specs.declared.point.Point.{Point}
 use Rattle.link_core.specs.declared.point.Point.TheVariants as at
 use Rattle.link_core.specs.declared.state.State.{State}
@@ -14,8 +13,9 @@ use Rattle.qolb_draw.specs.declared.draw.Form.TheVariants as form
 use Rattle.qolb_draw.specs.declared.step_text.TheConstants.{LETTERS}
 use Rattle.qolb_draw.specs.declared.step_svg.TheConstants.{STEPS_LEGEND}
 use Rattle.qolb_draw.specs.declared.svg.TheConstants.{TAIL}
+use Rattle.qolb_draw.specs.Pictures.{heads_text}
 use Rattle.qolb_draw.specs.Svg.{svg_head}
-use Rattle.qolb_draw.specs.StepShapes.{Seen, Watches, event_shapes, lane_shapes}
+use Rattle.qolb_draw.specs.StepShapes.{Seen, Watches, step_timeline}
 use Rattle.qolb_draw.specs.StepSvg.{place_words, step_texts, step_x, step_y, told_words}
 
 -- the letter of a point
@@ -41,20 +41,16 @@ letters_of c = map (λ k. letter_at (point c (k + 1))) (range_with_len 0 c.nodes
 abbrev pub event_line : ℕ → Seen → List ℕ
 event_line column seen = letters_of seen.after ++ codes "  " ++ told_words column seen.event seen.told ++ codes "; " ++ place_words seen.after.place ++ codes "\n"
 
--- an event that these follow, in a form
-abbrev pub event_in : Form → ℕ → Seen → List Event → List ℕ
-event_in form.Text column seen rest = event_line column seen
-event_in form.Svg column seen rest = step_texts (event_shapes column seen rest)
+-- those of what was seen of some events, from a column on
+abbrev pub event_lines : ℕ → List Seen → List ℕ
+event_lines column [] = []
+event_lines column (seen ∷ all) = event_line column seen ++ event_lines (column + 1) all
 
--- what was seen of some events, from a column on
-abbrev pub events_in : Form → ℕ → List Event → List Seen → List ℕ
-events_in form column events [] = []
-events_in form column events (seen ∷ all) = event_in form column seen (drop 1 events) ++ events_in form (column + 1) (drop 1 events) all
+-- the numbers of all nodes, digit below digit, over their letters
+abbrev pub node_heads : ℕ → List ℕ
+node_heads nodes = heads_text [] (range_with_len 1 nodes)
 
--- the rows, and how wide and high the whole is
-abbrev pub lanes_text : ℕ → ℕ → List ℕ
-lanes_text nodes columns = flat_map (λ row. step_texts (lane_shapes columns row)) (range_with_len 0 (nodes + 1))
-
+-- how wide and high an SVG is
 abbrev pub step_width : ℕ → ℕ
 step_width columns = max 800 (step_x columns + 32)
 
@@ -63,10 +59,9 @@ step_height nodes = 64 + step_y nodes + 36
 
 -- the picture of a script of which this was seen
 abbrev pub steps_in : Form → StepScript → List Seen → List ℕ
-steps_in form.Text script all = events_in form.Text 0 script.events all ++ LETTERS.now
+steps_in form.Text script all = node_heads script.nodes ++ event_lines 0 all ++ LETTERS.now
 steps_in form.Svg script all =
-    svg_head (step_width (length script.events)) (step_height script.nodes) ++ STEPS_LEGEND.now
-    ++ (lanes_text script.nodes (length script.events) ++ events_in form.Svg 0 script.events all ++ codes "</g>\n") ++ TAIL.now
+    svg_head (step_width (length script.events)) (step_height script.nodes) ++ STEPS_LEGEND.now ++ (step_texts (step_timeline script all) ++ codes "</g>\n") ++ TAIL.now
 
 -- the text is a picture of a run of the script
 pub record IsDrawn (form : Form) (script : StepScript) (text : List ℕ) : Type 0 where

@@ -1,6 +1,7 @@
 -- The picture of a step script: which shapes it has, and where. A column is an event, counted from 0. Row 0 is the home word, and row n is
 -- node n with its entry. (Of this project.)
-use Rattle.std.specs.Prelude.{ℕ, ◌+◌, ◌*◌, ◌==◌, ◌&&◌, not, Bool, true, if◌then◌else◌, List, [], ◌∷◌, ◌++◌, map, flat_map, Option, Some, None}
+use Rattle.std.specs.Prelude.{ℕ, ◌+◌, ◌*◌, ◌==◌, ◌&&◌, Bool, if◌then◌else◌, List, [], ◌∷◌, ◌++◌, length, map, flat_map, drop, Option, Some, None}
+use Rattle.std.specs.Bool.{beq}
 use Rattle.std.specs.List.{range_with_len, slice_index_or}
 use Rattle.link_core.specs.declared.entry.Entry.{Entry}
 use Rattle.link_core.specs.declared.event.Event.{Event}
@@ -11,6 +12,7 @@ use Rattle.link_core.specs.declared.told.Told.{Told}
 use Rattle.link_core.specs.declared.told.NotEnabled.{NotEnabled}
 use Rattle.link_core.specs.State.{empty, entry, point}
 use Rattle.link_core.specs.Steps.{Step, IsRefused, node_of}
+use Rattle.qolb_script.specs.StepScript.{StepScript}
 use Rattle.qolb_draw.specs.declared.timeline.TheConstants.{NAMED_EVERY}
 use Rattle.qolb_draw.specs.Timelines.{name_count}
 
@@ -62,16 +64,12 @@ home_shapes column was is = if is == was then [] else Home column is ∷ []
 abbrev pub entries_of : State → List Entry
 entries_of c = map (λ k. entry c (k + 1)) (range_with_len 0 c.nodes)
 
-abbrev pub is_same_flag : Bool → Bool → Bool
-is_same_flag true b = b
-is_same_flag a b = not b
-
 abbrev pub is_same_entry : Entry → Entry → Bool
-is_same_entry a b = is_same_flag a.granted b.granted && (is_same_flag a.rolled b.rolled && (is_same_flag a.done b.done && (is_same_flag a.freed b.freed && (a.link == b.link))))
+is_same_entry a b = beq a.granted b.granted && (beq a.rolled b.rolled && (beq a.done b.done && (beq a.freed b.freed && (a.link == b.link))))
 
 -- the entries that are others
 abbrev pub word_shapes : ℕ → ℕ → Entry → Entry → List StepShape
-word_shapes column node was is = if is_same_entry was is then [] else Word column node is ∷ []
+word_shapes column node was is = if is_same_entry is was then [] else Word column node is ∷ []
 
 abbrev pub words_shapes : ℕ → List Entry → State → List StepShape
 words_shapes column were c = flat_map (λ k. word_shapes column (k + 1) (slice_index_or were k empty) (entry c (k + 1))) (range_with_len 0 c.nodes)
@@ -82,3 +80,16 @@ abbrev pub event_shapes : ℕ → Seen → List Event → List StepShape
 event_shapes column seen rest =
     Number column ∷ At (node_of seen.event) column (column + (until (node_of seen.event) rest + 1)) (point seen.after (node_of seen.event)) ∷ Lies column seen.after.place ∷ []
     ++ home_shapes column seen.before.home seen.after.home ++ words_shapes column (entries_of seen.before) seen.after ++ Act column seen.event seen.told ∷ []
+
+-- what is shown of some events, from a column on
+abbrev pub seen_shapes : ℕ → List Event → List Seen → List StepShape
+seen_shapes column events [] = []
+seen_shapes column events (seen ∷ all) = event_shapes column seen (drop 1 events) ++ seen_shapes (column + 1) (drop 1 events) all
+
+-- the rows of the home word and of all nodes
+abbrev pub rows_shapes : ℕ → ℕ → List StepShape
+rows_shapes nodes columns = flat_map (lane_shapes columns) (range_with_len 0 (nodes + 1))
+
+-- the shapes of a script of which this was seen
+abbrev pub step_timeline : StepScript → List Seen → List StepShape
+step_timeline script all = rows_shapes script.nodes (length script.events) ++ seen_shapes 0 script.events all

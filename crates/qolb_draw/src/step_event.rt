@@ -5,14 +5,11 @@ ghost use Rattle.qolb_script.specs.declared.schedule.TheConstants.{MOST_COMMANDS
 ghost use Rattle.link_core.specs.declared.state.State.{State};
 ghost use Rattle.link_core.specs.State.{IsNode};
 ghost use Rattle.link_core.specs.Steps.{node_of};
-ghost use Rattle.qolb_draw.specs.StepPictures.{event_in};
 ghost use Rattle.qolb_draw.specs.StepShapes.{Seen};
 ghost use Rattle.qolb_draw.specs.StepShapes as spec;
 ghost use Rattle.qolb_draw.specs.StepSvg.{step_texts};
 
-use crate::draw::Form;
 use crate::step_svg::{push_act, push_at, push_home, push_lies, push_step_number, push_word};
-use crate::step_text::push_event_line;
 use link_core::{Core, Entry, Event, Told};
 use std::alloc::{AllocError, Allocator};
 
@@ -60,24 +57,6 @@ fn until(node: u64, rest: &[Event]) -> u32
     rest.len() as u32
 }
 
-/// The flags are the same.
-fn is_same_flag(one: bool, other: bool) -> bool
-    ensures { result ≡ spec.is_same_flag one other }
-{
-    if one { other } else { !other }
-}
-
-/// The entries are the same.
-fn is_same_entry(one: &Entry, other: &Entry) -> bool
-    ensures { result ≡ spec.is_same_entry one.now other.now }
-{
-    is_same_flag(one.granted, other.granted)
-        && is_same_flag(one.rolled, other.rolled)
-        && is_same_flag(one.done, other.done)
-        && is_same_flag(one.freed, other.freed)
-        && one.link == other.link
-}
-
 /// Appends what the home word has become, if it is another.
 fn push_other_home<A: Allocator>(
     svg: &mut Vec<u8, A>,
@@ -104,7 +83,7 @@ fn push_other_word<A: Allocator>(
     requires { node ≤ MOST_NODES }
     ensures { OnOk result (svg.new.items ≡ svg.old.items ++ step_texts (spec.word_shapes column node was.now is.now)) }
 {
-    if !is_same_entry(was, is) {
+    if is != was {
         push_word(svg, column, node, is)?;
     }
     Ok(())
@@ -129,7 +108,7 @@ fn push_other_words<A: Allocator>(
 }
 
 /// Appends the shapes of an event, made in this column at these words, that left the core so and that these follow.
-fn push_event_shapes<A: Allocator>(
+pub fn push_event_shapes<A: Allocator>(
     alloc: A,
     svg: &mut Vec<u8, A>,
     column: u32,
@@ -154,31 +133,5 @@ fn push_event_shapes<A: Allocator>(
     push_other_home(svg, column, words.home, core.home())?;
     push_other_words(svg, column, &words.entries, core)?;
     push_act(alloc, svg, column, event, told)?;
-    Ok(())
-}
-
-/// Appends the event in this form.
-pub fn push_event<A: Allocator>(
-    alloc: A,
-    text: &mut Vec<u8, A>,
-    form: Form,
-    column: u32,
-    event: &Event,
-    told: Option<Told>,
-    words: &Words<A>,
-    core: &Core,
-    rest: &[Event],
-) -> Result<(), AllocError>
-    requires node { IsNode core.now (node_of event.now) }
-    requires nodes { core.now.nodes ≤ MOST_NODES }
-    requires size { length words.now.entries.items ≡ core.now.nodes }
-    requires column { column ≤ MOST_COMMANDS }
-    requires rest { length rest.now ≤ MOST_COMMANDS }
-    ensures { OnOk result ((s : State) → words.now.home ≡ s.home → words.now.entries.items ≡ spec.entries_of s → let seen : Seen = record { event = event.now; told = told; before = s; after = core.now } in text.new.items ≡ text.old.items ++ event_in form column seen rest.now) }
-{
-    match form {
-        Form::Text => push_event_line(alloc, text, column, event, told, core)?,
-        Form::Svg => push_event_shapes(alloc, text, column, event, told, words, core, rest)?,
-    }
     Ok(())
 }

@@ -4,7 +4,7 @@ ghost use Rattle.qolb_model.specs.declared.terms.TheConstants.{MOST_NODES};
 ghost use Rattle.qolb_script.specs.declared.schedule.TheConstants.{MOST_COMMANDS};
 ghost use Rattle.link_core.specs.Steps.{node_of};
 ghost use Rattle.qolb_draw.specs.StepPictures as pictures;
-ghost use Rattle.qolb_draw.specs.StepShapes.{lane_shapes};
+ghost use Rattle.qolb_draw.specs.StepShapes.{lane_shapes, rows_shapes};
 ghost use Rattle.qolb_draw.specs.StepSvg as spec;
 
 use crate::step_words::{
@@ -17,8 +17,18 @@ use std::alloc::{AllocError, Allocator};
 
 /// What stands before the shapes: the colours that a timeline has not, and the legend.
 pub const STEPS_LEGEND: &[u8] = b"<style>
-.at{font-size:9px;pointer-events:none}.rests,.mailbox{fill:none;stroke:#d0d7de;pointer-events:all}.hand,.home{fill:#8250df}.mailbox{stroke:#8250df}.home{fill-opacity:.4}
-@media(prefers-color-scheme:dark){.at{paint-order:stroke;stroke:#0d1117;stroke-width:2px}.rests{stroke:#30363d}.hand,.home{fill:#a371f7}.mailbox{stroke:#a371f7}}
+.at{font-size:9px;pointer-events:none}
+.rests{fill:none;stroke:#d0d7de;pointer-events:all}
+.hand{fill:#8250df}
+.mailbox{fill:none;stroke:#8250df;pointer-events:all}
+.home{fill:#8250df;fill-opacity:.4}
+@media(prefers-color-scheme:dark){
+.at{paint-order:stroke;stroke:#0d1117;stroke-width:2px}
+.rests{stroke:#30363d}
+.hand{fill:#a371f7}
+.mailbox{stroke:#a371f7}
+.home{fill:#a371f7}
+}
 </style>
 <rect class='rests' x='8' y='8' width='32' height='16'/><text x='46' y='20'>in no call</text>
 <rect class='waits' x='132' y='8' width='32' height='16'/><text x='170' y='20'>asks or waits</text>
@@ -143,7 +153,7 @@ pub fn push_lanes<A: Allocator>(
 ) -> Result<(), AllocError>
     requires nodes { nodes ≤ MOST_NODES }
     requires columns { columns ≤ MOST_COMMANDS }
-    ensures { OnOk result (svg.new.items ≡ svg.old.items ++ pictures.lanes_text nodes columns) }
+    ensures { OnOk result (svg.new.items ≡ svg.old.items ++ spec.step_texts (rows_shapes nodes columns)) }
 {
     for row in 0..nodes + 1 {
         push_row(svg, row, columns)?;

@@ -1,10 +1,13 @@
-//! The picture of a step script as plain text: a line for each event.
-ghost use Rattle.std.specs.Prelude.{◌≡◌, ◌++◌, OnOk};
+//! The picture of a step script as plain text: the numbers of nodes, and a line for each event.
+ghost use Rattle.std.specs.Prelude.{◌≡◌, ◌≤◌, ◌++◌, IfOk, OnOk};
+ghost use Rattle.std.specs.List.{range_with_len};
+ghost use Rattle.qolb_model.specs.declared.terms.TheConstants.{MOST_NODES};
 ghost use Rattle.link_core.specs.declared.state.State.{State};
 ghost use Rattle.qolb_draw.specs.StepPictures as spec;
 ghost use Rattle.qolb_draw.specs.StepShapes.{Seen};
 
 use crate::step_words::{push_place, push_told};
+use crate::text::push_heads;
 use link_core::{Core, Event, Point, Told};
 use std::alloc::{AllocError, Allocator};
 
@@ -30,6 +33,32 @@ fn letter_at(point: Point) -> u8
         Point::Rolled => b'x',
         Point::Shut => b'-',
     }
+}
+
+/// Appends the numbers of all nodes, digit below digit, over their letters.
+pub fn push_node_heads<A: Allocator>(
+    alloc: A,
+    text: &mut Vec<u8, A>,
+    nodes: u64,
+) -> Result<(), AllocError>
+    requires { nodes ≤ MOST_NODES }
+    ensures { OnOk result (text.new.items ≡ text.old.items ++ spec.node_heads nodes) }
+{
+    let numbers = numbers_to(alloc, nodes)?;
+    push_heads(text, b"", &numbers)?;
+    Ok(())
+}
+
+/// The numbers of so many nodes, in order.
+fn numbers_to<A: Allocator>(alloc: A, nodes: u64) -> Result<Vec<u64, A>, AllocError>
+    requires { nodes ≤ MOST_NODES }
+    ensures { IfOk result (λ numbers. numbers.items ≡ range_with_len 1 nodes) }
+{
+    let mut numbers = Vec::new(alloc);
+    for before in 0..nodes {
+        numbers.push(before + 1)?;
+    }
+    Ok(numbers)
 }
 
 /// Appends the letters of all nodes.

@@ -1,6 +1,7 @@
 //! Pictures of step scripts: what a reader gives is drawn, and the picture written.
-ghost use Rattle.std.specs.Prelude.{◌≡◌, ◌≢◌, ◌↔◌, ◌++◌, ℕ, List, true, Ok, Err, OnOk, IfOk, IfErr, IfSome, false};
+ghost use Rattle.std.specs.Prelude.{◌≡◌, ◌≢◌, ◌≤◌, ◌↔◌, ◌++◌, ℕ, List, true, Ok, Err, OnOk, IfOk, IfErr, IfSome, false};
 ghost use Rattle.std.specs.Io.KnownBytes.{Appends};
+ghost use Rattle.qolb_model.specs.declared.terms.TheConstants.{MOST_NODES};
 ghost use Rattle.link_core.specs.declared.state.State.{State};
 ghost use Rattle.link_core.specs.State.{first};
 ghost use Rattle.qolb_script.specs.Watched.{inner_of, has_failed};
@@ -8,14 +9,15 @@ ghost use Rattle.qolb_run.specs.Outcome.{MayFail};
 ghost use Rattle.qolb_run.specs.StepRuns.{line_of};
 ghost use Rattle.qolb_run.specs.declared.task.Task.TheVariants as task;
 ghost use Rattle.qolb_run.specs.declared.task.Detail.TheVariants as detail;
-ghost use Rattle.qolb_draw.specs.StepPictures.{IsDrawn, IsStepPicture, events_in};
-ghost use Rattle.qolb_draw.specs.StepShapes.{Seen, Watches};
+ghost use Rattle.qolb_draw.specs.StepPictures.{IsDrawn, IsStepPicture, event_lines};
+ghost use Rattle.qolb_draw.specs.StepShapes.{Seen, Watches, seen_shapes};
+ghost use Rattle.qolb_draw.specs.StepSvg.{step_texts};
 ghost use Rattle.qolb_draw.specs.declared.draw.Form.TheVariants as form;
 
 use crate::draw::Form;
-use crate::step_event::{push_event, words_of};
+use crate::step_event::{push_event_shapes, words_of};
 use crate::step_svg::{STEPS_LEGEND, push_lanes, step_height, step_width};
-use crate::step_text::LETTERS;
+use crate::step_text::{LETTERS, push_event_line, push_node_heads};
 use crate::svg::svg_of;
 use line_lanes::Line64;
 use link_core::Core;
@@ -70,7 +72,8 @@ fn lines<A: Allocator + Copy>(alloc: A, steps: &Steps<A>) -> Result<Vec<u8, A>, 
     ensures { IfOk result (λ text. IsDrawn form.Text steps.now text.items) }
 {
     let mut text = Vec::new(alloc);
-    push_events(alloc, &mut text, steps, Form::Text)?;
+    push_node_heads(alloc, &mut text, steps.nodes())?;
+    push_lines(alloc, &mut text, steps)?;
     text.extend_from_slice(LETTERS)?;
     Ok(text)
 }
@@ -82,7 +85,7 @@ fn timeline<A: Allocator + Copy>(alloc: A, steps: &Steps<A>) -> Result<Vec<u8, A
     let mut shapes = Vec::new(alloc);
     let columns = steps.events().len();
     push_lanes(&mut shapes, steps.nodes(), columns)?;
-    push_events(alloc, &mut shapes, steps, Form::Svg)?;
+    push_shapes(alloc, &mut shapes, steps)?;
     shapes.extend_from_slice(b"</g>\n")?;
     let width = step_width(columns as u32);
     let height = step_height(steps.nodes());
@@ -90,40 +93,56 @@ fn timeline<A: Allocator + Copy>(alloc: A, steps: &Steps<A>) -> Result<Vec<u8, A
     Ok(svg)
 }
 
-/// Appends the events of a script in this form, each made on the core that those before it left.
-fn push_events<A: Allocator + Copy>(
-    alloc: A,
-    text: &mut Vec<u8, A>,
-    steps: &Steps<A>,
-    form: Form,
-) -> Result<(), AllocError>
-    ensures { OnOk result ((all : List Seen) × (last : State) × Watches (first (line_of steps.now)) steps.now.events all last × (text.new.items ≡ text.old.items ++ events_in form 0 steps.now.events all)) }
+/// The core of a script before its first event.
+fn opened<A: Allocator>(steps: &Steps<A>) -> Core
+    ensures core { result ≡ first (line_of steps.now) }
+    ensures few { result.nodes ≤ MOST_NODES }
 {
     let terms = Terms {
         nodes: steps.nodes(),
         opening: Line64::zero(),
         lease: steps.lease(),
     };
-    let Some(mut core) = Core::with_terms(terms) else {
+    let Some(core) = Core::with_terms(terms) else {
         unreachable!();
     };
+    core
+}
+
+/// Appends a line for each event, made on the core that those before it left.
+fn push_lines<A: Allocator + Copy>(
+    alloc: A,
+    text: &mut Vec<u8, A>,
+    steps: &Steps<A>,
+) -> Result<(), AllocError>
+    ensures { OnOk result ((all : List Seen) × (last : State) × Watches (first (line_of steps.now)) steps.now.events all last × (text.new.items ≡ text.old.items ++ event_lines 0 all)) }
+{
+    let mut core = opened(steps);
+    let events = steps.events();
+    for column in 0..events.len() {
+        let event = events[column];
+        let told = core.step(event).ok();
+        push_event_line(alloc, text, column as u32, &event, told, &core)?;
+    }
+    Ok(())
+}
+
+/// Appends the shapes of each event, made on the core that those before it left.
+fn push_shapes<A: Allocator + Copy>(
+    alloc: A,
+    svg: &mut Vec<u8, A>,
+    steps: &Steps<A>,
+) -> Result<(), AllocError>
+    ensures { OnOk result ((all : List Seen) × (last : State) × Watches (first (line_of steps.now)) steps.now.events all last × (svg.new.items ≡ svg.old.items ++ step_texts (seen_shapes 0 steps.now.events all))) }
+{
+    let mut core = opened(steps);
     let events = steps.events();
     let mut words = words_of(alloc, &core)?;
     for column in 0..events.len() {
         let event = events[column];
         let told = core.step(event).ok();
         let rest = &events[column + 1..];
-        push_event(
-            alloc,
-            text,
-            form,
-            column as u32,
-            &event,
-            told,
-            &words,
-            &core,
-            rest,
-        )?;
+        push_event_shapes(alloc, svg, column as u32, &event, told, &words, &core, rest)?;
         words = words_of(alloc, &core)?;
     }
     Ok(())

@@ -9,16 +9,35 @@ use crate::event::Event;
 use itoa::Buffer;
 use std::alloc::{AllocError, Allocator};
 
-/// What stands between the picture's height and its legend: the colours, on a light and on a dark page, and the signs of commands.
+/// What stands between the picture's height and its legend: the colours, on a light page and what is other on a dark one, and the signs of
+/// commands.
 pub const STYLE: &[u8] = b"' font-family='monospace' font-size='12'>
 <style>
-svg{background:#fff}text{fill:#1f2328}.small{font-size:9px;text-anchor:middle}
-.lane{stroke:#d0d7de}.waits{fill:#b6d4fe}.turn{fill:#f2c14e}.holds{fill:#2da44e}.withdrawn{fill:none;stroke:#8c959f;stroke-dasharray:3 2;pointer-events:all}
-.arrow{fill:none;stroke:#cf222e;stroke-width:2;marker-end:url(#tip)}#tip path,#told path{fill:#cf222e}#call circle{fill:#1f2328}
-#out path,#misuse path{fill:none;stroke:#cf222e;stroke-width:2}.point{fill:#fff;fill-opacity:0;stroke:none}
-@media(prefers-color-scheme:dark){svg{background:#0d1117}text{fill:#e6edf3}.lane{stroke:#30363d}.waits{fill:#1f4a7d}
-.turn{fill:#b8860b}.holds{fill:#3fb950}.arrow{stroke:#ff7b72}#tip path,#told path{fill:#ff7b72}#call circle{fill:#e6edf3}
-#out path,#misuse path{stroke:#ff7b72}}
+svg{background:#fff}
+text{fill:#1f2328}
+.small{font-size:9px;text-anchor:middle}
+.lane{stroke:#d0d7de}
+.waits{fill:#b6d4fe}
+.turn{fill:#f2c14e}
+.holds{fill:#2da44e}
+.withdrawn{fill:none;stroke:#8c959f;stroke-dasharray:3 2;pointer-events:all}
+.arrow{fill:none;stroke:#cf222e;stroke-width:2;marker-end:url(#tip)}
+#tip path,#told path{fill:#cf222e}
+#out path,#misuse path{fill:none;stroke:#cf222e;stroke-width:2}
+#call circle{fill:#1f2328}
+.point{fill:#fff;fill-opacity:0;stroke:none}
+@media(prefers-color-scheme:dark){
+svg{background:#0d1117}
+text{fill:#e6edf3}
+.lane{stroke:#30363d}
+.waits{fill:#1f4a7d}
+.turn{fill:#b8860b}
+.holds{fill:#3fb950}
+.arrow{stroke:#ff7b72}
+#tip path,#told path{fill:#ff7b72}
+#out path,#misuse path{stroke:#ff7b72}
+#call circle{fill:#e6edf3}
+}
 </style>
 <defs>
 <marker id='tip' viewBox='0 0 8 8' refX='8' refY='4' markerWidth='5' markerHeight='5' orient='auto'><path d='M0 0L8 4L0 8z'/></marker>

@@ -15,7 +15,7 @@ pub const COLUMNS: usize = 70;
 /// As many spaces as the label of a row has characters.
 const MARGIN: &[u8] = b"         ";
 
-/// The values of the places of a command's number.
+/// The values of the places of a number.
 const PLACES: [u64; 6] = [100_000, 10_000, 1000, 100, 10, 1];
 
 /// What the letters mean.
@@ -51,16 +51,17 @@ fn digit_at(value: u64, number: u64) -> u8
     }
 }
 
-/// Appends a row of digits, at one place of each number.
+/// Appends a row of digits, at one place of each number, behind a margin.
 fn push_head<A: Allocator>(
     text: &mut Vec<u8, A>,
+    margin: &[u8],
     numbers: &[u64],
     value: u64,
 ) -> Result<(), AllocError>
     requires { 1 ≤ value }
-    ensures { OnOk result (text.new.items ≡ text.old.items ++ spec.head_text numbers.now value) }
+    ensures { OnOk result (text.new.items ≡ text.old.items ++ spec.head_text margin.now numbers.now value) }
 {
-    text.extend_from_slice(MARGIN)?;
+    text.extend_from_slice(margin)?;
     for number in numbers {
         text.push(digit_at(value, *number))?;
     }
@@ -68,14 +69,18 @@ fn push_head<A: Allocator>(
     Ok(())
 }
 
-/// Appends the numbers of commands, digit below digit.
-fn push_heads<A: Allocator>(text: &mut Vec<u8, A>, numbers: &[u64]) -> Result<(), AllocError>
-    ensures { OnOk result (text.new.items ≡ text.old.items ++ spec.heads_text numbers.now) }
+/// Appends some numbers, digit below digit, behind a margin. The last is the greatest.
+pub fn push_heads<A: Allocator>(
+    text: &mut Vec<u8, A>,
+    margin: &[u8],
+    numbers: &[u64],
+) -> Result<(), AllocError>
+    ensures { OnOk result (text.new.items ≡ text.old.items ++ spec.heads_text margin.now numbers.now) }
 {
     let last = numbers.last().copied().unwrap_or(0);
     for value in PLACES.iter() {
         if *value <= last {
-            push_head(text, numbers, *value)?;
+            push_head(text, margin, numbers, *value)?;
         }
     }
     Ok(())
@@ -131,7 +136,7 @@ fn push_block<A: Allocator>(
     ensures { OnOk result (text.new.items ≡ text.old.items ++ block_out_of grid.now.nodes grid.now.marks.items grid.now.numbers.items shown.now start (end - start)) }
 {
     text.push(b'\n')?;
-    push_heads(text, &grid.numbers[start..end])?;
+    push_heads(text, MARGIN, &grid.numbers[start..end])?;
     for node in shown {
         push_row(text, grid, *node, start, end)?;
     }

@@ -3,8 +3,7 @@ use Rattle.std.proofs.Common.{◌≡◌, ℕ, zero, suc, ◌+◌, ◌<◌, ◌�
 use Rattle.std.proofs.lemmas.List.{length-take-le}
 use Rattle.std.proofs.lemmas.List.Sums.{length-filter, count_by-le-length}
 use Rattle.std.proofs.lemmas.Option.{slice_get_within, get_or_from_slice_get}
-use Rattle.std.specs.Prelude.{IfSome, MatchOption, Vec}
-use Rattle.std.specs.Global.{Global}
+use Rattle.std.specs.Prelude.{MatchOption}
 use Rattle.qolb_model.proofs.Lists.{same_some}
 use Rattle.qolb_script.specs.declared.job.Job.{Job}
 use Rattle.qolb_script.specs.Jobs.{worker_of}
@@ -15,7 +14,7 @@ use Rattle.qolb_model.specs.Opening.{AreNew, new_view}
 use Rattle.line_threads.specs.Places.{AllAt}
 use Rattle.qolb_run.specs.JustOpened.{AreJustOpened}
 use Rattle.qolb_run.specs.Jobs.{jobs_of}
-use Rattle.qolb_run.specs.Workers.{AreBack, AreDone, AreFresh, AreRefused, HasEnded, MayBeGone}
+use Rattle.qolb_run.specs.Workers.{AreBack, AreDone, AreFresh, AreRefused, HasEnded, IsFirstGone}
 use Rattle.qolb_run.specs.declared.work.RunError.TheVariants.{Stalled}
 
 -- what stands at a place of a list that was mapped is of what stood there
@@ -41,7 +40,7 @@ there [] rest j lt = absurd (omega (arith, lt))
 there (h ∷ hands) rest zero lt = (h, refl)
 there (h ∷ hands) rest (suc j) lt = there hands rest j (omega (arith, lt))
 
-pub first_gone : {H : Type 0} (hands : List H) (rest back : List (Option H)) (number : ℕ) → map Some hands ++ None ∷ rest ≡ back → number ≡ length hands + 1 → MayBeGone back (Stalled number)
+pub first_gone : {H : Type 0} (hands : List H) (rest back : List (Option H)) (number : ℕ) → map Some hands ++ None ∷ rest ≡ back → number ≡ length hands + 1 → IsFirstGone back (Stalled number)
 first_gone {H} hands rest back number is e = (
   length hands,
   e,
@@ -82,13 +81,11 @@ module _ {Site Hand : Type 0} (has_done : Site → ℕ → Hand → List Job →
   given_at : (all : List (Option Hand)) → AllAt MayGiveBack all → (k : ℕ) (back : Option Hand) → slice_get all k ≡ Some back → MayGiveBack k back
   given_at all each k back at = subst (λ (back : Option Hand). MayGiveBack k back) (get_or_from_slice_get all k back back at) (each k back (slice_get_within all k back at))
 
-  pub back_at : (o : Option (Vec (Option Hand) Global)) → IfSome o (λ all. AllAt MayGiveBack all.items) → IfSome o (λ all. AreBack has_done site jobs all.items)
-  back_at None each = tt
-  back_at (Some all) each = λ k hand at. given_at all.items each k (Some hand) at
+  pub back_at : (all : List (Option Hand)) → AllAt MayGiveBack all → AreBack has_done site jobs all
+  back_at all each = λ k hand at. given_at all each k (Some hand) at
 
-  pub refused_at : (o : Option (Vec (Option Hand) Global)) → IfSome o (λ all. AllAt MayGiveBack all.items) → IfSome o (λ all. AreRefused may_refuse all.items)
-  refused_at None each = tt
-  refused_at (Some all) each = λ k at. given_at all.items each k None at
+  pub refused_at : (all : List (Option Hand)) → AllAt MayGiveBack all → AreRefused may_refuse all
+  refused_at all each = λ k at. given_at all each k None at
 
 -- ports as they were opened
 get_map : {P V : Type 0} (view : P → V) (ports : List P) (k : ℕ) (port : P) → slice_get ports k ≡ Some port → slice_get (map view ports) k ≡ Some (view port)

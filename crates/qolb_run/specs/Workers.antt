@@ -24,10 +24,10 @@ AreDone {Site} {Hand} has_done site jobs hands = (k : ℕ) (hand : Hand) → sli
 abbrev pub AreFresh : {Site Hand : Type 0} → (Site → ℕ → Hand → List Job → Type 0) → Site → List Hand → Type 0
 AreFresh {Site} {Hand} has_done site hands = (k : ℕ) (hand : Hand) → slice_get hands k ≡ Some hand → has_done site (k + 1) hand []
 
--- why not all did: want of memory, or the first worker that gave up
-abbrev pub MayBeGone : {Hand : Type 0} → List (Option Hand) → RunError → Type 0
-MayBeGone back Memory = Unit {0}
-MayBeGone {Hand} back (Stalled worker) =
+-- why not all did: the first worker that gave up, and nothing else
+abbrev pub IsFirstGone : {Hand : Type 0} → List (Option Hand) → RunError → Type 0
+IsFirstGone back Memory = ⊥
+IsFirstGone {Hand} back (Stalled worker) =
     (k : ℕ) × (worker ≡ k + 1) × (slice_get back k ≡ Some None) × ((j : ℕ) → j < k → (hand : Hand) × (slice_get back j ≡ Some (Some hand)))
 
 -- each that gave up is a worker that its gate may refuse

@@ -261,9 +261,9 @@ where
 {
     let room = Vec::with_capacity(alloc, desks.len())?;
     let bank = Bank { lines };
-    let Some(back) = work_all(rt, alloc, gate, &bank, work, desks) else {
+    let Some(joined) = work_all(rt, alloc, gate, &bank, work, desks) else {
         return Err(RunError::Memory);
     };
-    let desks = all_done(back, room)?;
+    let desks = all_done(joined, room)?;
     finish(alloc, bank, work, desks)
 }

@@ -285,9 +285,9 @@ where
     let hands = fresh_hands(alloc, &line, ports)?;
     let room = Vec::with_capacity(alloc, hands.len())?;
     let board = Board { line };
-    let Some(back) = work_all(rt, alloc, gate, &board, work, hands) else {
+    let Some(joined) = work_all(rt, alloc, gate, &board, work, hands) else {
         return Err(RunError::Memory);
     };
-    let hands = all_done(back, room)?;
+    let hands = all_done(joined, room)?;
     finish(alloc, board, work, hands)
 }

@@ -1,10 +1,10 @@
 //! Workers: each does its jobs at one site, in a thread of its own.
-ghost use Rattle.std.specs.Prelude.{◌≡◌, ◌+◌, ◌++◌, ◌∷◌, [], ◌<◌, ◌≤◌, ℕ, List, All, IfSome, IfOk, IfErr, MatchOption, Some, length, map, vec_len};
+ghost use Rattle.std.specs.Prelude.{◌≡◌, ◌+◌, ◌++◌, ◌∷◌, [], ◌<◌, ◌≤◌, ℕ, List, All, IfSome, IfOk, IfErr, MatchOption, Some, length, map, vec_len, vec_capacity};
 ghost use Rattle.qolb_script.specs.declared.job.Job.{Job};
 ghost use Rattle.qolb_script.specs.declared.schedule.TheConstants.{MOST_COMMANDS};
 ghost use Rattle.qolb_model.specs.declared.terms.TheConstants.{MOST_NODES};
 ghost use Rattle.qolb_run.specs.Jobs.{jobs_of};
-ghost use Rattle.qolb_run.specs.Workers.{AreBack, AreFresh, AreRefused, HasEnded, MayBeGone};
+ghost use Rattle.qolb_run.specs.Workers.{AreBack, AreFresh, AreRefused, HasEnded, IsFirstGone};
 
 use crate::gate::{Gate, passes};
 use crate::work::RunError;
@@ -71,6 +71,14 @@ where
     }
 }
 
+/// What came back of all workers, whose threads are joined: what each has in hand, or nothing of one that gave up.
+///
+/// It is not `Drop`, and `all_done` alone takes it apart, into room that is there. So once the threads are joined no want of memory hides who
+/// gave up: whoever wants room takes it before.
+pub(crate) struct Joined<H> {
+    back: Vec<Option<H>>,
+}
+
 /// A thread for each hand, whose worker does its jobs. `None` where memory or a thread was refused; those that were started have ended then.
 pub(crate) fn work_all<R: Threads + Wait + Sync, G: Gate + Sync, S: Site + Sync>(
     rt: &R,
@@ -79,17 +87,18 @@ pub(crate) fn work_all<R: Threads + Wait + Sync, G: Gate + Sync, S: Site + Sync>
     site: &S,
     work: &Work,
     hands: Vec<S::Hand>,
-) -> Option<Vec<Option<S::Hand>>>
+) -> Option<Joined<S::Hand>>
 where
     S::Hand: Send + Drop,
     requires fresh { AreFresh S.has_done site.now hands.items }
     requires takes { All (S.takes site.now) work.now.jobs }
-    ensures as_many { IfSome result (λ back. vec_len back ≡ vec_len hands) }
-    ensures back { IfSome result (λ back. AreBack (HasEnded S.has_done S.was_told) site.now work.now.jobs back.items) }
-    ensures refused { IfSome result (λ back. AreRefused (G.may_refuse gate.now) back.items) }
+    ensures as_many { IfSome result (λ joined. vec_len joined.back ≡ vec_len hands) }
+    ensures back { IfSome result (λ joined. AreBack (HasEnded S.has_done S.was_told) site.now work.now.jobs joined.back.items) }
+    ensures refused { IfSome result (λ joined. AreRefused (G.may_refuse gate.now) joined.back.items) }
 {
     let jobs = Jobs { gate, work };
-    together::together(rt, alloc, &jobs, site, hands)
+    let back = together::together(rt, alloc, &jobs, site, hands)?;
+    Some(Joined { back })
 }
 
 /// A worker does its jobs one after another, each once the gate lets it, until it is told that a line is closed. `None` where the gate refuses
@@ -126,12 +135,14 @@ where
 }
 
 /// What all workers have in hand, gathered into the room that there is; or the first that gave up.
-pub(crate) fn all_done<H: Drop>(back: Vec<Option<H>>, room: Vec<H>) -> Result<Vec<H>, RunError>
-    requires room { room.items ≡ [] }
-    requires few { vec_len back ≤ MOST_NODES }
-    ensures all { IfOk result (λ hands. map Some hands.items ≡ back.items) }
-    ensures stalled { IfErr result (MayBeGone back.items) }
+pub(crate) fn all_done<H: Drop>(joined: Joined<H>, room: Vec<H>) -> Result<Vec<H>, RunError>
+    requires empty { room.items ≡ [] }
+    requires room { vec_len joined.back ≤ vec_capacity room }
+    requires few { vec_len joined.back ≤ MOST_NODES }
+    ensures all { IfOk result (λ hands. map Some hands.items ≡ joined.back.items) }
+    ensures stalled { IfErr result (IsFirstGone joined.back.items) }
 {
+    let Joined { back } = joined;
     let mut hands = room;
     for hand in back {
         let number = hands.len() as u64 + 1;
@@ -139,7 +150,8 @@ pub(crate) fn all_done<H: Drop>(back: Vec<Option<H>>, room: Vec<H>) -> Result<Ve
             return Err(RunError::Stalled(number));
         };
         if hands.push(hand).is_err() {
-            return Err(RunError::Memory);
+            // There was room for each.
+            unreachable!();
         }
     }
     Ok(hands)

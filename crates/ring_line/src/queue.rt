@@ -19,7 +19,8 @@ use array_line::{WORDS, cell_word};
 use atomic_table::Closed;
 use qolb_model::{Keep, PortState};
 use shared_line::{
-    Asked, Discipline, Parcel, Released, Requested, ToWake, put_alone, take_alone, unlay_alone,
+    Asked, Discipline, LocalCopy, Parcel, Released, Requested, ToWake, put_alone, take_alone,
+    unlay_alone,
 };
 use std::alloc::{AllocError, Global};
 
@@ -48,7 +49,13 @@ impl<K: Keep> Discipline<K> for Ring {
     }
 
     #[inline]
-    fn take(ground: &Ground<K>, seat: &mut RingSeat, _size: u64, _mark: u64, parcel: &mut Parcel) {
+    fn take(
+        ground: &Ground<K>,
+        seat: &mut RingSeat,
+        _size: u64,
+        _mark: u64,
+        parcel: &mut LocalCopy,
+    ) {
         take_alone(ground, seat, parcel);
     }
 
@@ -58,7 +65,7 @@ impl<K: Keep> Discipline<K> for Ring {
         seat: &mut RingSeat,
         _size: u64,
         _mark: u64,
-        parcel: &Parcel,
+        parcel: &LocalCopy,
         closed: bool,
     ) {
         put_alone(ground, seat, parcel, closed);

@@ -11,3 +11,5 @@ mod scarce;
 mod step_pictures;
 #[cfg(test)]
 mod steps;
+#[cfg(test)]
+mod styles;

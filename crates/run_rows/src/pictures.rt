@@ -1,4 +1,5 @@
 //! Pictures of schedules.
+use crate::styles::head;
 use linked_list_allocator::LocalHeap;
 use qolb_draw::{Form, draw_schedule};
 use qolb_run::ReplayError;
@@ -156,6 +157,49 @@ fn draws_the_longest_script_as_an_svg(rt: HostRuntime) -> Result<(), Fail> {
     Ok(())
 }
 
+/// 100,000 commands of 200 nodes: the first holds, and each other one waits from its first command on.
+fn largest_script(alloc: Global) -> Result<String, Fail> {
+    let mut script = String::from_str(alloc, "nodes 200 lines 1\n")?;
+    for node in 1..201u64 {
+        script.push_str(format!(in alloc; "enq {node} 0\n")?.as_str())?;
+    }
+    for _ in 200..100_000 {
+        script.push_str("poll 200 0\n")?;
+    }
+    Ok(script)
+}
+
+#[test]
+fn draws_as_many_marks_as_there_may_be(rt: HostRuntime) -> Result<(), Fail> {
+    let script = largest_script(rt.alloc())?;
+    let picture = drawn(rt.alloc(), script.as_str(), Form::Text)?;
+    // a row has 70 commands, behind a label of nine letters
+    let mut letters = 0usize;
+    for line in picture.lines() {
+        if line.starts_with("node ") {
+            letters = letters.saturating_add(line.len().saturating_sub(9));
+        }
+    }
+    assert_eq!(rt; letters, 20_000_000);
+    Ok(())
+}
+
+#[test]
+fn draws_as_many_marks_as_an_svg(rt: HostRuntime) -> Result<(), Fail> {
+    let script = largest_script(rt.alloc())?;
+    let svg = drawn(rt.alloc(), script.as_str(), Form::Svg)?;
+    // 200 rows
+    assert!(rt; svg.contains(" width='3200128' height='8124' "));
+    // from the last of the 200 that ask to the end
+    assert!(rt;
+        svg.contains(
+            "<rect class='waits' x='6464' y='8020' width='3193632' height='16'><title>node 200 waits</title></rect>\n"
+        )
+    );
+    assert!(rt; svg.ends_with("<title>100000: poll 200 0: waiting</title></use>\n</g>\n</svg>\n"));
+    Ok(())
+}
+
 #[test]
 fn refuses_what_a_replay_refuses(rt: HostRuntime) {
     for (script, error) in [
@@ -305,7 +349,7 @@ fn draws_a_timeline(rt: HostRuntime) -> Result<(), Fail> {
 }
 
 /// Scripts, and a line of their timelines.
-static SHAPES: [(&str, &str); 9] = [
+static SHAPES: [(&str, &str); 10] = [
     // two bytes from place 63 back, as they were written, and the first two of three
     (
         "nodes 1 lines 1\nenq 1 0\nwrite 1 0 62 0aF0\n",
@@ -343,6 +387,11 @@ static SHAPES: [(&str, &str); 9] = [
     (
         "nodes 2 lines 1\nenq 2 0\nenq 1 0\nshut 2 0\n",
         "<path class='arrow' d='M160 108V68'><title>3: node 2 hands over to node 1</title></path>\n<use href='#call' x='160' y='108'><title>3: shut 2 0: shut</title></use>\n",
+    ),
+    // a node that looks
+    (
+        "nodes 2 lines 1\nenq 1 0\nenq 2 0\npoll 2 0\n",
+        "<use href='#call' x='160' y='108'><title>3: poll 2 0: waiting</title></use>\n",
     ),
     // the bytes of a line
     (
@@ -393,52 +442,37 @@ const LEGEND: &str =
 <use href='#misuse' x='508' y='42'/><text x='520' y='46'>not allowed</text>
 ";
 
-/// The colours of a light page and of a dark one.
-static COLOURS: [(&str, &str); 7] = [
-    ("svg{background:#fff}", "svg{background:#0d1117}"),
-    ("text{fill:#1f2328}", "text{fill:#e6edf3}"),
-    (".lane{stroke:#d0d7de}", ".lane{stroke:#30363d}"),
-    (".waits{fill:#b6d4fe}", ".waits{fill:#1f4a7d}"),
-    (".turn{fill:#f2c14e}", ".turn{fill:#b8860b}"),
-    (".holds{fill:#2da44e}", ".holds{fill:#3fb950}"),
-    (
-        "#tip path,#told path{fill:#cf222e}",
-        "#tip path,#told path{fill:#ff7b72}",
-    ),
-];
-
-/// The signs: a dot, a cross, a diamond and a bar over a dot, each over what the pointer may point at.
-static SIGNS: [(&str, &str); 4] = [
-    ("<g id='call'>", "<circle r='3'/></g>"),
-    ("<g id='out'>", "<path d='M-5 -5L5 5M-5 5L5 -5'/></g>"),
-    ("<g id='told'>", "<path d='M0 -6L6 0L0 6L-6 0z'/></g>"),
-    ("<g id='misuse'>", "<path d='M0 -7V2M0 4V7'/></g>"),
-];
-
 #[test]
 fn a_timeline_has_its_style_and_its_legend(rt: HostRuntime) -> Result<(), Fail> {
     let alloc = rt.alloc();
     let svg = drawn(alloc, "nodes 1 lines 1\n", Form::Svg)?;
-    let (style, rest) = svg.split_once("</style>\n<defs>\n").ok_or("a style")?;
-    let (signs, rest) = rest.split_once("</defs>\n").ok_or("signs")?;
-    let (legend, _) = rest.split_once("<g transform=").ok_or("a line")?;
-    assert_eq!(rt; legend, LEGEND);
-    let (light, dark) = style
-        .split_once("@media(prefers-color-scheme:dark){")
-        .ok_or("a dark page")?;
-    for (bright, dim) in &COLOURS {
-        assert!(rt; light.contains(*bright) && dark.contains(*dim), "{bright}");
-    }
-    assert!(rt;
-        light.contains(
-            ".withdrawn{fill:none;stroke:#8c959f;stroke-dasharray:3 2;pointer-events:all}"
-        )
-    );
-    for (begin, shape) in &SIGNS {
-        let sign = format!(in alloc;
-            "{begin}<rect class='point' x='-8' y='-12' width='16' height='24'/>{shape}\n"
-        )?;
-        assert!(rt; signs.contains(sign.as_str()), "{begin}");
+    // as wide as the legend, and 60 high for a line without rows
+    let head = head(alloc, 640, 124)?;
+    let whole = format!(in alloc;
+        "{head}{LEGEND}<g transform='translate(0,64)'><text x='8' y='16'>line 0</text>\n</g>\n</svg>\n"
+    )?;
+    assert_eq!(rt; svg, whole);
+    Ok(())
+}
+
+/// Scripts with some commands on line 0 and one on line 1, and the size of their timelines.
+static SIZES: [(usize, &str); 3] = [
+    // 96 pixels before the first column and 32 for each column and behind the last
+    (16, " width='640' height='264' "),
+    (17, " width='672' height='264' "),
+    (100, " width='3328' height='264' "),
+];
+
+#[test]
+fn a_timeline_is_as_wide_as_its_longest_line(rt: HostRuntime) -> Result<(), Fail> {
+    for (commands, size) in &SIZES {
+        let mut script = String::from_str(rt.alloc(), "nodes 2 lines 2\n")?;
+        for _ in 0..*commands {
+            script.push_str("poll 1 0\n")?;
+        }
+        script.push_str("enq 2 1\n")?;
+        let svg = drawn(rt.alloc(), script.as_str(), Form::Svg)?;
+        assert!(rt; svg.contains(*size), "{size}");
     }
     Ok(())
 }

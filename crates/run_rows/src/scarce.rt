@@ -12,7 +12,7 @@ use std::test::Fail;
 const MANY_NODES: &str = "nodes 200 lines 8\n";
 
 /// The kinds of lines, those that take less memory first. With 200 nodes a plain line takes 3.3 KB, a list 26 KB of words, a ring 33 KB, a
-/// ticket line as many and 49 KB of slots; and each of the last three 27 KB of ports.
+/// ticket line as many and 33 KB of slots; and each of the last three 27 KB of ports.
 static BY_SIZE: [Kind; 4] = [Kind::Plain, Kind::Link, Kind::Ring, Kind::Ticket];
 
 /// Rooms, in KB, in each of which eight lines of one kind more find place.

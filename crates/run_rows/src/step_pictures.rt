@@ -1,4 +1,5 @@
 //! Pictures of step scripts. The expected ones were written by hand, by what each event does.
+use crate::styles::{STEP_COLOURS, head, sheet};
 use linked_list_allocator::LocalHeap;
 use qolb_draw::{Form, draw_steps};
 use qolb_run::ReplayError;
@@ -33,23 +34,47 @@ const PASSED: &str =
 const CLOSED: &str = "nodes 1\nreset 1\nprepend 1\nclose 1\nhome 1\nreset 1\nprepend 1\nhome 1\n";
 
 /// Scripts and their pictures as text, without what the letters mean.
-static PICTURES: [(&str, &str); 5] = [
-    ("nodes 3\n", ""),
+static PICTURES: [(&str, &str); 7] = [
+    ("nodes 3\n", "123\n"),
+    // a number's digits stand one below another
+    (
+        "nodes 11\nreset 10\n",
+        "         11
+12345678901
+.........r.  1: reset 10: went; the line lies at home
+",
+    ),
     (
         "nodes 1\nlink 1\n",
-        ".  1: link 1: refused; the line lies at home\n",
+        "1\n.  1: link 1: refused; the line lies at home\n",
     ),
     (
         "nodes 1\nreset 1\nprepend 1\nwrite 1 62 0aF0\nclose 1\n",
-        "r  1: reset 1: went; the line lies at home
+        "1
+r  1: reset 1: went; the line lies at home
 H  2: prepend 1: granted; the line lies in the hand of node 1
 H  3: write 1 62 0af0: went; the line lies in the hand of node 1
 h  4: close 1: went; the line lies in the hand of node 1
 ",
     ),
     (
+        LATE_LINK,
+        "12
+r.  1: reset 1: went; the line lies at home
+H.  2: prepend 1: granted; the line lies in the hand of node 1
+Hr  3: reset 2: went; the line lies in the hand of node 1
+Hl  4: prepend 2: went; the line lies in the hand of node 1
+ml  5: home 1: went; the line lies in the hand of node 1
+Ll  6: done 1: released; the line lies in the mailbox of node 1
+Ll  7: load 1: busy; the line lies in the mailbox of node 1
+LH  8: link 2: granted; the line lies in the hand of node 2
+.H  9: load 1: free; the line lies in the hand of node 2
+",
+    ),
+    (
         PASSED,
-        "r.  1: reset 1: went; the line lies at home
+        "12
+r.  1: reset 1: went; the line lies at home
 H.  2: prepend 1: granted; the line lies in the hand of node 1
 Hr  3: reset 2: went; the line lies in the hand of node 1
 Hl  4: prepend 2: went; the line lies in the hand of node 1
@@ -66,7 +91,8 @@ fx  11: load 2: busy; the line lies at home
     ),
     (
         CLOSED,
-        "r  1: reset 1: went; the line lies at home
+        "1
+r  1: reset 1: went; the line lies at home
 H  2: prepend 1: granted; the line lies in the hand of node 1
 h  3: close 1: went; the line lies in the hand of node 1
 -  4: home 1: shut; the line lies at home
@@ -131,8 +157,8 @@ fn draws_one_turn(rt: HostRuntime) -> Result<(), Fail> {
 }
 
 /// Scripts, and some lines of their pictures.
-static SHAPES: [(&str, &str); 15] = [
-    // a bar is there until the node's next event, and from its last one for a column
+static SHAPES: [(&str, &str); 20] = [
+    // a bar is there until the node's next event
     (
         LATE_LINK,
         "<rect class='holds' x='168' y='108' width='216' height='16'><title>node 1: Holding</title></rect>\n<text class='at' x='176' y='119'>Holding</text>\n",
@@ -144,6 +170,20 @@ static SHAPES: [(&str, &str); 15] = [
     (
         LATE_LINK,
         "<rect class='turn' x='384' y='108' width='72' height='16'><title>node 1: Marking 1</title></rect>\n",
+    ),
+    // where it has left the line to a late linker, or ended its call by closing it, it is in no call
+    (
+        LATE_LINK,
+        "<rect class='rests' x='456' y='108' width='72' height='16'><title>node 1: Left</title></rect>\n<text class='at' x='464' y='119'>Left</text>\n",
+    ),
+    (
+        CLOSED,
+        "<rect class='rests' x='312' y='108' width='72' height='16'><title>node 1: Shut</title></rect>\n<text class='at' x='320' y='119'>Shut</text>\n",
+    ),
+    // the last bar of a node that makes no event more goes on to the end
+    (
+        LATE_LINK,
+        "<rect class='holds' x='600' y='156' width='144' height='16'><title>node 2: Holding</title></rect>\n",
     ),
     // the line stays in a mailbox, whose entry is done, and is taken from there
     (
@@ -175,6 +215,14 @@ static SHAPES: [(&str, &str); 15] = [
     (
         PASSED,
         "<text class='small' x='888' y='153'><title>the entry of node 2 is grf0</title>grf0</text>\n<use href='#call' x='888' y='116'><title>12: freed 1: released</title></use>\n",
+    ),
+    (
+        PASSED,
+        "<rect class='waits' x='384' y='156' width='216' height='16'><title>node 2: Queued</title></rect>\n<text class='at' x='392' y='167'>Queued</text>\n",
+    ),
+    (
+        PASSED,
+        "<rect class='turn' x='744' y='108' width='144' height='16'><title>node 1: Freeing</title></rect>\n<text class='at' x='752' y='119'>Freeing</text>\n",
     ),
     (PASSED, "<title>node 1: Granting 2</title>"),
     (PASSED, "<title>node 1: Leaving 2</title>"),
@@ -236,8 +284,43 @@ fn longest_script(alloc: Global) -> Result<String, Fail> {
 fn draws_the_longest_step_script(rt: HostRuntime) -> Result<(), Fail> {
     let script = longest_script(rt.alloc())?;
     let text = drawn(rt.alloc(), script.as_str(), Form::Text)?;
-    // An empty line and two of what the letters mean are behind the events.
-    assert_eq!(rt; text.lines().count(), 100_003);
+    // One line of the node's number, and behind the events an empty one and two of what the letters mean.
+    assert_eq!(rt; text.lines().count(), 100_004);
+    Ok(())
+}
+
+/// 100,000 events of the last of 200 nodes, of which all but the first are refused.
+fn largest_script(alloc: Global) -> Result<String, Fail> {
+    let mut script = String::from_str(alloc, "nodes 200\nreset 200\n")?;
+    for _ in 1..100_000 {
+        script.push_str("load 200\n")?;
+    }
+    Ok(script)
+}
+
+#[test]
+fn draws_as_many_letters_as_there_may_be(rt: HostRuntime) -> Result<(), Fail> {
+    let script = largest_script(rt.alloc())?;
+    let text = drawn(rt.alloc(), script.as_str(), Form::Text)?;
+    let mut letters = 0usize;
+    for line in text.lines() {
+        if let Some((points, _)) = line.split_once("  ") {
+            if points.ends_with(".r") {
+                letters = letters.saturating_add(points.len());
+            }
+        }
+    }
+    assert_eq!(rt; letters, 20_000_000);
+    Ok(())
+}
+
+#[test]
+fn draws_as_many_events_of_as_many_nodes_as_an_svg(rt: HostRuntime) -> Result<(), Fail> {
+    let script = largest_script(rt.alloc())?;
+    let svg = drawn(rt.alloc(), script.as_str(), Form::Svg)?;
+    // 200 rows below the home word
+    assert!(rt; svg.contains(" width='7200128' height='9768' "));
+    assert!(rt; svg.ends_with("<title>100000: load 200: refused</title></use>\n</g>\n</svg>\n"));
     Ok(())
 }
 
@@ -367,28 +450,21 @@ const LEGEND: &str =
 <use href='#misuse' x='718' y='42'/><text x='730' y='46'>refused</text>
 ";
 
-/// The colours of a light page and of a dark one, beside those of a timeline.
-static COLOURS: [(&str, &str); 3] = [
-    (".hand,.home{fill:#8250df}", ".hand,.home{fill:#a371f7}"),
-    (
-        ".rests,.mailbox{fill:none;stroke:#d0d7de;",
-        ".rests{stroke:#30363d}",
-    ),
-    (".mailbox{stroke:#8250df}", ".mailbox{stroke:#a371f7}"),
-];
+/// What stands below the legend, above the rows.
+const ABOVE: &str =
+    "<g transform='translate(0,64)'><text x='8' y='16'>Above a row: what its word has become: g granted, r rolled, d done, f freed, and the link</text>
+";
 
 #[test]
 fn a_step_picture_has_its_colours_and_its_legend(rt: HostRuntime) -> Result<(), Fail> {
-    let svg = drawn(rt.alloc(), "nodes 1\n", Form::Svg)?;
-    let (_, rest) = svg.split_once("</defs>\n<style>\n").ok_or("a style")?;
-    let (style, rest) = rest.split_once("</style>\n").ok_or("its end")?;
-    let (legend, _) = rest.split_once("<g transform=").ok_or("shapes")?;
-    assert_eq!(rt; legend, LEGEND);
-    let (light, dark) = style
-        .split_once("@media(prefers-color-scheme:dark){")
-        .ok_or("a dark page")?;
-    for (bright, dim) in &COLOURS {
-        assert!(rt; light.contains(*bright) && dark.contains(*dim), "{bright}");
-    }
+    let alloc = rt.alloc();
+    let svg = drawn(alloc, "nodes 1\n", Form::Svg)?;
+    // as wide as the legend
+    let head = head(alloc, 800, 216)?;
+    let colours = sheet(alloc, STEP_COLOURS.as_slice())?;
+    let whole = format!(in alloc;
+        "{head}{colours}{LEGEND}{ABOVE}<path class='lane' d='M96 68H96'/>\n<path class='lane' d='M96 116H96'/>\n</g>\n</svg>\n"
+    )?;
+    assert_eq!(rt; svg, whole);
     Ok(())
 }

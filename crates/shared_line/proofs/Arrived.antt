@@ -4,7 +4,7 @@ use Rattle.atomic_table.specs.Seated.{TableId}
 use Rattle.qolb_model.specs.declared.answer.PortState.{PortState}
 use Rattle.qolb_model.specs.declared.answer.PortState.TheVariants as shows
 use Rattle.qolb_model.proofs.Going.{continues_sound, sound_goes}
-use Rattle.shared_line.specs.declared.rule.Parcel.{Parcel}
+use Rattle.shared_line.specs.declared.rule.LocalCopy.{LocalCopy}
 use Rattle.shared_line.specs.declared.rule.Setup.{Setup}
 use Rattle.shared_line.specs.Entries.{LineSeat}
 use Rattle.shared_line.specs.Phases.{Phases}
@@ -12,7 +12,7 @@ use Rattle.shared_line.specs.Steps.{entry_of, Went}
 use Rattle.shared_line.specs.Ports.{IsPort, IsPassedOn, IsSeated}
 
 -- its fields are as they are between calls
-pub passed_port : {O : Type 0} {allows : List ℕ → List ℕ → Type 0} {q : Phases O} {s t : LineSeat O} {n : ℕ} (label node mark : ℕ) (z : Parcel) (state : PortState)
+pub passed_port : {O : Type 0} {allows : List ℕ → List ℕ → Type 0} {q : Phases O} {s t : LineSeat O} {n : ℕ} (label node mark : ℕ) (z : LocalCopy) (state : PortState)
     → (entry_of q.fresh s).view.label ≡ label → (entry_of q.fresh s).view.node ≡ node → Went allows q.fresh s t n → IsPassedOn q t state × (state ≢ shows.Holding)
     → IsPort q label node t z mark state
 passed_port {t = t} label node mark z state label_is node_is went told = let r = told.0.0 mark in record {

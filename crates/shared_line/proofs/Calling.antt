@@ -23,12 +23,13 @@ use Rattle.qolb_model.proofs.Writes.{bytes_after-release}
 use Rattle.qolb_model.proofs.Going.{continues_sound, sound_goes, asks_goes, joined_goes}
 use Rattle.shared_line.specs.declared.queue.Asked.{Asked}
 use Rattle.shared_line.specs.declared.queue.Asked.TheVariants as asked
+use Rattle.shared_line.specs.declared.rule.LocalCopy.{LocalCopy}
 use Rattle.shared_line.specs.declared.rule.Parcel.{Parcel}
 use Rattle.shared_line.specs.declared.rule.Setup.{Setup}
 use Rattle.shared_line.specs.Entries.{LineSeat}
 use Rattle.shared_line.specs.Phases.{Phases}
-use Rattle.shared_line.specs.Steps.{SameSeat, entry_of, nodes_of, sole, HasLine, write_of, own_end, Carries, Went}
-use Rattle.shared_line.specs.Ports.{Standing, standing, Holds, IsPort, BelongsTo, IsSeated, IsPutBack}
+use Rattle.shared_line.specs.Steps.{SameSeat, entry_of, nodes_of, sole, HasLine, own_end, Carries, Went}
+use Rattle.shared_line.specs.Ports.{Standing, standing, write_in, Holds, IsPort, BelongsTo, IsSeated, IsPutBack}
 use Rattle.shared_line.proofs.Letting.{carries_served, holds_written}
 
 -- one that came, or stands behind another, was not busy
@@ -39,13 +40,13 @@ pub behind_asked : {answer : Asked} → answer ≡ asked.Behind → answer ≢ a
 behind_asked is busy = cc (is, busy)
 
 -- after n steps of a port of the line
-module _ {O : Type 0} {fresh : O} {good : List ℕ → Type 0} {allows : List ℕ → List ℕ → Type 0} {key : Setup} {table_id : TableId} {p : Standing} (s : LineSeat O) (y : Parcel) (steps looks : ℕ) (b : BelongsTo good allows key table_id p) (is : standing fresh s y steps looks ≡ p) {t : LineSeat O} {n : ℕ} (w : Went allows fresh s t n) where
+module _ {O : Type 0} {fresh : O} {good : List ℕ → Type 0} {allows : List ℕ → List ℕ → Type 0} {key : Setup} {table_id : TableId} {p : Standing} (s : LineSeat O) (y : LocalCopy) (steps looks : ℕ) (b : BelongsTo good allows key table_id p) (is : standing fresh s y steps looks ≡ p) {t : LineSeat O} {n : ℕ} (w : Went allows fresh s t n) where
   -- it goes on knowing
   pub call_continues : Continues allows p.view (entry_of fresh t).view
   call_continues = w.goes.continues p.view (subst (λ (x : Standing). Continues allows p.view x.view) (sym is) (continues_sound good allows key.label key.terms p.view b.sound))
 
   -- it belongs to the line
-  pub call_belongs : (z : Parcel) (steps : ℕ) {looks : ℕ} → BelongsTo good allows key table_id (standing fresh t z steps looks)
+  pub call_belongs : (z : LocalCopy) (steps : ℕ) {looks : ℕ} → BelongsTo good allows key table_id (standing fresh t z steps looks)
   call_belongs z steps {looks = looks} = record {
     table_is = w.same.0 ∙ (ap (λ (x : Standing). x.table) is ∙ b.table_is);
     sound = sound_goes good allows key.label key.terms p.view (entry_of fresh t).view b.sound call_continues;
@@ -61,11 +62,11 @@ module _ {O : Type 0} {fresh : O} {good : List ℕ → Type 0} {allows : List �
   }
 
 -- the count of a port's requests, as its contract shows it
-pub same_count : {O : Type 0} (fresh : O) {p : Standing} (w : View) (s : LineSeat O) (y : Parcel) (steps looks : ℕ) → standing fresh s y steps looks ≡ p → w.count ≡ (entry_of fresh s).view.count → w.count ≡ p.view.count
+pub same_count : {O : Type 0} (fresh : O) {p : Standing} (w : View) (s : LineSeat O) (y : LocalCopy) (steps looks : ℕ) → standing fresh s y steps looks ≡ p → w.count ≡ (entry_of fresh s).view.count → w.count ≡ p.view.count
 same_count fresh w s y steps looks is e = e ∙ ap (λ (x : Standing). x.view.count) is
 
 -- what a port made of its last request, as its contract shows it
-module _ {O : Type 0} (fresh : O) {p : Standing} (s : LineSeat O) (y : Parcel) (steps looks : ℕ) (is : standing fresh s y steps looks ≡ p) where
+module _ {O : Type 0} (fresh : O) {p : Standing} (s : LineSeat O) (y : LocalCopy) (steps looks : ℕ) (is : standing fresh s y steps looks ≡ p) where
   pub call_busy : {v : View} → IsBusy (entry_of fresh s).view v → IsBusy p.view v
   call_busy {v = v} busy = subst (λ (x : Standing). IsBusy x.view v) is busy
 
@@ -82,12 +83,12 @@ module _ {O : Type 0} (fresh : O) {p : Standing} (s : LineSeat O) (y : Parcel) (
   call_links_on {v = v} {w = w} links more same = call_links (record { count = same ∙ links.count; joined = joined_goes v w links.joined more same })
 
 -- it knows how many nodes the line has
-pub call_nodes : {O : Type 0} (fresh : O) {good : List ℕ → Type 0} {allows : List ℕ → List ℕ → Type 0} {key : Setup} {table_id : TableId} {p : Standing} (s : LineSeat O) (y : Parcel) (steps looks : ℕ) → BelongsTo good allows key table_id p → standing fresh s y steps looks ≡ p
+pub call_nodes : {O : Type 0} (fresh : O) {good : List ℕ → Type 0} {allows : List ℕ → List ℕ → Type 0} {key : Setup} {table_id : TableId} {p : Standing} (s : LineSeat O) (y : LocalCopy) (steps looks : ℕ) → BelongsTo good allows key table_id p → standing fresh s y steps looks ≡ p
     → nodes_of fresh s ≡ key.terms.nodes
 call_nodes fresh s y steps looks b is = ap (λ (t : Terms). t.nodes) (ap (λ (x : Standing). x.view.terms) is ∙ b.sound.terms_are)
 
 -- a port between calls
-module _ {O : Type 0} {q : Phases O} {label node : ℕ} {p : Standing} (s : LineSeat O) (y : Parcel) (mark steps looks : ℕ) (state : PortState) (between : IsPort q label node s y mark state) (is : standing q.fresh s y steps looks ≡ p) where
+module _ {O : Type 0} {q : Phases O} {label node : ℕ} {p : Standing} (s : LineSeat O) (y : LocalCopy) (mark steps looks : ℕ) (state : PortState) (between : IsPort q label node s y mark state) (is : standing q.fresh s y steps looks ≡ p) where
   -- the state that it shows is its own
   pub own_state : p.view.state ≡ state
   own_state = ap (λ (x : Standing). x.view.state) (sym is) ∙ between.shows_state
@@ -96,7 +97,7 @@ module _ {O : Type 0} {q : Phases O} {label node : ℕ} {p : Standing} (s : Line
   holds_of held = between.holds_so (sym own_state ∙ held)
 
   -- it writes
-  pub written_port : (z : Parcel) (mask : ℕ) (bytes : List ℕ) → p.view.state ≡ shows.Holding → z.bytes.bytes ≡ merged y.bytes.bytes bytes mask → z.mask.0 ≡ bit_or y.mask.0 mask → z.turns_left ≡ y.turns_left
+  pub written_port : (z : LocalCopy) (mask : ℕ) (bytes : List ℕ) → p.view.state ≡ shows.Holding → z.bytes.bytes ≡ merged y.bytes.bytes bytes mask → z.mask.0 ≡ bit_or y.mask.0 mask → z.turns_left ≡ y.turns_left
       → IsPort q label node s z mark state
   written_port z mask bytes held b m c = record {
     alone = between.alone;
@@ -149,7 +150,7 @@ module _ {O : Type 0} {q : Phases O} {label node : ℕ} {p : Standing} (s : Line
         here : EndsTurn (entry_of q.fresh s).view (own_end (is_closed (entry_of q.fresh s).view.ends) back.0) (left_by back.0.closed) (entry_of q.fresh t).view
         here = subst (λ e. EndsTurn e.view (own_end (is_closed e.view.ends) back.0) (left_by back.0.closed) (entry_of q.fresh t).view) entry l
 
-        what : own_end (is_closed (entry_of q.fresh s).view.ends) back.0 ≡ Served (write_of y) (closes (entry_of q.fresh s).view.terms.lease (entry_of q.fresh s).view.ends shut)
+        what : own_end (is_closed (entry_of q.fresh s).view.ends) back.0 ≡ Served (write_in y) (closes (entry_of q.fresh s).view.terms.lease (entry_of q.fresh s).view.ends shut)
         what = ap (λ k. own_end k back.0) its.is_open ∙ (λ i. Served (record { mask = back.2.mask i; bytes = back.2.bytes i }) ((back.2.closed_is ∙ put_closes) i))
 
         leaves : left_by back.0.closed ≡ left_by (closes (entry_of q.fresh s).view.terms.lease (entry_of q.fresh s).view.ends shut)

@@ -8,7 +8,7 @@ use Rattle.qolb_model.specs.PortStates.{may_ask}
 use Rattle.qolb_model.proofs.Lists.{at_either, at_one}
 use Rattle.qolb_model.specs.declared.answer.PortState.{PortState}
 use Rattle.qolb_model.specs.declared.answer.PortState.TheVariants as shows
-use Rattle.shared_line.specs.declared.rule.Parcel.{Parcel}
+use Rattle.shared_line.specs.declared.rule.LocalCopy.{LocalCopy}
 use Rattle.shared_line.specs.declared.rule.Entry.{Entry}
 use Rattle.shared_line.specs.Entries.{LineSeat, AtRest}
 use Rattle.shared_line.specs.Phases.{Phases}
@@ -36,7 +36,7 @@ pub all_rest : {A : Type 0} (P : A → Type 0) (x : A) (xs : List A) → All P (
 all_rest P x xs h = λ k d l. h (suc k) d (omega arith)
 
 -- the entries of one seat
-module _ {O : Type 0} (q : Phases O) (label node : ℕ) (s : LineSeat O) (y : Parcel) (mark steps looks : ℕ) (state : PortState) (p : Standing) (is : standing q.fresh s y steps looks ≡ p) (ok : IsPort q label node s y mark state) (quiet : may_ask p.view.state ≡ true) where
+module _ {O : Type 0} (q : Phases O) (label node : ℕ) (s : LineSeat O) (y : LocalCopy) (mark steps looks : ℕ) (state : PortState) (p : Standing) (is : standing q.fresh s y steps looks ≡ p) (ok : IsPort q label node s y mark state) (quiet : may_ask p.view.state ≡ true) where
   same_view : (entry_of q.fresh s).view ≡ p.view
   same_view = ap (λ (o : Standing). o.view) is
 
@@ -88,7 +88,7 @@ module _ {O : Type 0} (q : Phases O) (label node : ℕ) (s : LineSeat O) (y : Pa
   }
 
 -- the first seat, as the iterator over the ports gives it
-pub gathers_start : {O : Type 0} (q : Phases O) (label node : ℕ) (s : LineSeat O) (y : Parcel) (mark steps looks : ℕ) (state : PortState) (p : Standing) → standing q.fresh s y steps looks ≡ p → IsPort q label node s y mark state → (table_id : TableId) (ports items rest left : List Standing) → items ≡ ports → items ≡ p ∷ rest → left ≡ rest
+pub gathers_start : {O : Type 0} (q : Phases O) (label node : ℕ) (s : LineSeat O) (y : LocalCopy) (mark steps looks : ℕ) (state : PortState) (p : Standing) → standing q.fresh s y steps looks ≡ p → IsPort q label node s y mark state → (table_id : TableId) (ports items rest left : List Standing) → items ≡ ports → items ≡ p ∷ rest → left ≡ rest
     → All (λ (o : Standing). o.table ≡ table_id) ports → All (λ (o : Standing). may_ask o.view.state ≡ true) ports → Gathers q.rests table_id ports left s
 gathers_start q label node s y mark steps looks state p is ok table_id ports items rest left a b c tables quiets =
     let e : ports ≡ p ∷ rest = sym a ∙ b in

@@ -22,20 +22,21 @@ use Rattle.qolb_model.proofs.Prefixes.{prefix_get}
 use Rattle.qolb_model.proofs.Histories.{bytes_after-append, is_closed-append}
 use Rattle.qolb_model.proofs.Requests.{has_prefix}
 use Rattle.shared_line.specs.declared.rule.Entry.{Entry}
+use Rattle.shared_line.specs.declared.rule.LocalCopy.{LocalCopy}
 use Rattle.shared_line.specs.declared.rule.Parcel.{Parcel}
 use Rattle.shared_line.specs.Entries.{LineSeat}
 use Rattle.shared_line.specs.Steps.{entry_of, nodes_of, sole, write_of, own_end, Carries, Comes}
 use Rattle.shared_line.specs.Slots.{IsCopy}
 use Rattle.shared_line.specs.Phases.{Phases}
-use Rattle.shared_line.specs.Ports.{IsMerged, Holds, IsHeld, IsPutBack}
+use Rattle.shared_line.specs.Ports.{write_in, IsMerged, Holds, IsHeld, IsPutBack}
 
 -- the line that a holder puts back and lets go is the one after its turn
-pub carries_served : (allows : List ℕ → List ℕ → Type 0) (v : View) (turn y : Parcel) (shut : Bool) → is_closed v.ends ≡ false → turn.turns_left ≡ turns_left v.terms.lease v.ends → IsMerged v turn → MayRelease allows v (write_of turn)
+pub carries_served : (allows : List ℕ → List ℕ → Type 0) (v : View) (turn : LocalCopy) (y : Parcel) (shut : Bool) → is_closed v.ends ≡ false → turn.turns_left ≡ turns_left v.terms.lease v.ends → IsMerged v turn → MayRelease allows v (write_in turn)
     → IsPutBack turn (closes v.terms.lease v.ends shut) y → Carries allows v y
 carries_served allows v turn y shut unclosed left merged may back =
     let end : own_end (is_closed v.ends) y ≡ Served (write_of y) y.closed = ap (λ b. own_end b y) unclosed in
-    let same : write_of y ≡ write_of turn = (λ i. record { mask = back.mask i; bytes = back.bytes i }) in
-    let mine : IsMerged v y = subst (λ (z : Write). written (bytes_of v) z ≡ z.bytes.bytes) (sym same) merged in
+    let same : write_of y ≡ write_in turn = (λ i. record { mask = back.mask i; bytes = back.bytes i }) in
+    let mine : written (bytes_of v) (write_of y) ≡ y.bytes.bytes = subst (λ (z : Write). written (bytes_of v) z ≡ z.bytes.bytes) (sym same) merged in
     let allowed : MayRelease allows v (write_of y) = subst (MayRelease allows v) (sym same) may in
     record {
       bytes = ap (λ e. bytes_after v.terms.opening.bytes (v.ends ++ e ∷ [])) end ∙ (bytes_after-append v.terms.opening.bytes v.ends (Served (write_of y) y.closed ∷ []) ∙ mine);
@@ -82,10 +83,10 @@ told_by w t y c closed more l =
     }
 
 -- an open line that came is in the port's hand, and not written yet
-merged_fresh : (base : List ℕ) (z : Parcel) → length z.bytes.bytes ≡ 64 → z.mask.0 ≡ 0 → z.bytes.bytes ≡ base → written base (write_of z) ≡ z.bytes.bytes
+merged_fresh : (base : List ℕ) (z : LocalCopy) → length z.bytes.bytes ≡ 64 → z.mask.0 ≡ 0 → z.bytes.bytes ≡ base → written base (write_in z) ≡ z.bytes.bytes
 merged_fresh base z line mask is = ap (λ m. merged base z.bytes.bytes m) mask ∙ merged-none base z.bytes.bytes (ap length (sym is) ∙ line) ∙ sym is
 
-pub arrives : {O : Type 0} (q : Phases O) (nodes mark : ℕ) (s t : LineSeat O) (y z : Parcel) → nodes_of q.fresh s ≡ nodes → Comes q.holding q.refused mark (entry_of q.fresh s) y → t.me.0 ≡ s.me.0 → IsCopy z y → (y.closed ≡ false → q.keeps nodes mark y.turns_left t.me.1) → z.closed ≡ false
+pub arrives : {O : Type 0} (q : Phases O) (nodes mark : ℕ) (s t : LineSeat O) (y : Parcel) (z : LocalCopy) → nodes_of q.fresh s ≡ nodes → Comes q.holding q.refused mark (entry_of q.fresh s) y → t.me.0 ≡ s.me.0 → IsCopy z y → (y.closed ≡ false → q.keeps nodes mark y.turns_left t.me.1) → z.closed ≡ false
     → IsHeld q t z mark
 arrives q nodes mark s t y z many c same copied kept unclosed =
     let entry : entry_of q.fresh s ≡ entry_of q.fresh t = ap (sole q.fresh) (sym same) in
@@ -113,7 +114,7 @@ arrives q nodes mark s t y z many c same copied kept unclosed =
     )
 
 -- the holder writes
-pub holds_written : {O : Type 0} (q : Phases O) (s : LineSeat O) (y z : Parcel) (mark mask : ℕ) (bytes : List ℕ) → Holds q s y mark → z.bytes.bytes ≡ merged y.bytes.bytes bytes mask → z.mask.0 ≡ bit_or y.mask.0 mask → z.turns_left ≡ y.turns_left → Holds q s z mark
+pub holds_written : {O : Type 0} (q : Phases O) (s : LineSeat O) (y z : LocalCopy) (mark mask : ℕ) (bytes : List ℕ) → Holds q s y mark → z.bytes.bytes ≡ merged y.bytes.bytes bytes mask → z.mask.0 ≡ bit_or y.mask.0 mask → z.turns_left ≡ y.turns_left → Holds q s z mark
 holds_written q s y z mark mask bytes h b k c = record {
   at = h.at;
   kept = subst (λ left. q.keeps (nodes_of q.fresh s) mark left s.me.1) (sym c) h.kept;

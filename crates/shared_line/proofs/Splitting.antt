@@ -10,7 +10,7 @@ use Rattle.qolb_model.proofs.Agreeing.{opens_new}
 use Rattle.qolb_model.proofs.Seats.{each_from_more}
 use Rattle.shared_line.specs.declared.rule.Entry.{Entry}
 use Rattle.shared_line.specs.declared.rule.Setup.{Setup}
-use Rattle.shared_line.specs.declared.rule.Parcel.{Parcel}
+use Rattle.shared_line.specs.declared.rule.LocalCopy.{LocalCopy}
 use Rattle.shared_line.specs.Entries.{LineSeat, newcomer, newcomers_from}
 use Rattle.shared_line.specs.Phases.{Phases}
 use Rattle.shared_line.specs.Steps.{sole}
@@ -23,7 +23,7 @@ module _ {O : Type 0} (q : Phases O) (about : Setup) (n : ℕ) (old first rest :
   pub rest_me : rest.me ≡ (behind old.me.0, []) → rest.me ≡ (newcomers_from q.fresh about (n + 1) (about.terms.nodes - (n + 1)), [])
   rest_me e = e ∙ (λ i. (behind (whole i).0, [])) ∙ (λ i. (behind (each_from_more (newcomer q.fresh about) n about.terms.nodes more i), []))
 
-  pub first_port : ((nodes : ℕ) → q.rests nodes shows.Idle 0 q.fresh) → (y : Parcel) → first.me ≡ (front old.me.0, old.me.1) → IsPort q about.label (n + 1) first y 0 shows.Idle
+  pub first_port : ((nodes : ℕ) → q.rests nodes shows.Idle 0 q.fresh) → (y : LocalCopy) → first.me ≡ (front old.me.0, old.me.1) → IsPort q about.label (n + 1) first y 0 shows.Idle
   first_port new y e = let is = first_me e in record {
     alone = ap (λ m. m.0) is ∙ (λ i. sole q.fresh (sym is i).0 ∷ []);
     rests_so = λ _. (subst (λ (e : Entry O). q.rests e.view.terms.nodes shows.Idle 0 e.own) (ap (λ m. sole q.fresh m.0) (sym is)) (new about.terms.nodes), ap (λ m. m.1) is);
@@ -33,7 +33,7 @@ module _ {O : Type 0} (q : Phases O) (about : Setup) (n : ℕ) (old first rest :
     node_is = ap (λ m. (sole q.fresh m.0).view.node) is;
   }
 
-pub one_more : {O : Type 0} (fresh : O) (table_id : TableId) (about : Setup) (n : ℕ) (ports : List Standing) (first : LineSeat O) (y : Parcel) (looks : ℕ) → looks ≡ 0 → AreSplit table_id about n ports → first.table_id ≡ table_id → first.me ≡ (newcomer fresh about (n + 1) ∷ [], []) → AreSplit table_id about (n + 1) (ports ++ standing fresh first y 0 looks ∷ [])
+pub one_more : {O : Type 0} (fresh : O) (table_id : TableId) (about : Setup) (n : ℕ) (ports : List Standing) (first : LineSeat O) (y : LocalCopy) (looks : ℕ) → looks ≡ 0 → AreSplit table_id about n ports → first.table_id ≡ table_id → first.me ≡ (newcomer fresh about (n + 1) ∷ [], []) → AreSplit table_id about (n + 1) (ports ++ standing fresh first y 0 looks ∷ [])
 one_more fresh table_id about n ports first y looks none d t is = record {
   many = length-append ports (standing fresh first y 0 looks ∷ []) ∙ ap (λ k. k + 1) d.many;
   each = λ k p at. ⊎_elim (λ z. d.each k p z.1)

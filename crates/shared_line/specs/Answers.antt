@@ -16,6 +16,7 @@ use Rattle.qolb_model.specs.Calls.{TellEachOther}
 use Rattle.qolb_model.specs.LettingGo.{EndsTurn}
 use Rattle.shared_line.specs.declared.queue.Asked.{Asked}
 use Rattle.shared_line.specs.declared.queue.Asked.TheVariants as asked
+use Rattle.shared_line.specs.declared.rule.LocalCopy.{LocalCopy}
 use Rattle.shared_line.specs.declared.rule.Parcel.{Parcel}
 use Rattle.shared_line.specs.Entries.{LineSeat}
 use Rattle.shared_line.specs.Slots.{IsCopy}
@@ -64,14 +65,14 @@ module _ {O : Type 0} (q : Phases O) (nodes mark : ℕ) where
   HasGivenUp s = HasNoSlot s × IsGivenUp q.rests mark (entry_of q.fresh s)
 
   -- `take`: the port has a copy of the line that came, not written yet; a closed one is laid for the next
-  pub record Takes (old new : LineSeat O) (copy : Parcel) : Type 0 where
+  pub record Takes (old new : LineSeat O) (copy : LocalCopy) : Type 0 where
     pub same : SameSeat old new × (new.me.0 ≡ old.me.0)
     pub copied : (y : Parcel) → q.brings nodes mark y old.me.1 → IsCopy copy y
     pub kept : (y : Parcel) → q.brings nodes mark y old.me.1 → y.closed ≡ false → q.keeps nodes mark y.turns_left new.me.1
     pub laid : (y : Parcel) → q.brings nodes mark y old.me.1 → y.closed ≡ true → q.lays nodes mark y new.me.1
 
   -- `put`: the line of this turn is laid for the next, closed or not
-  pub record Puts (old new : LineSeat O) (turn : Parcel) (closed : Bool) : Type 0 where
+  pub record Puts (old new : LineSeat O) (turn : LocalCopy) (closed : Bool) : Type 0 where
     pub same : SameSeat old new × (new.me.0 ≡ old.me.0)
     pub put_back : (y : Parcel) × q.lays nodes mark y new.me.1 × IsPutBack turn closed y
 

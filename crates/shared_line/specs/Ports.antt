@@ -20,11 +20,12 @@ use Rattle.qolb_model.specs.Steps.{one_fewer}
 use Rattle.qolb_model.specs.Opening.{new_view, Opens}
 use Rattle.qolb_model.specs.Turns.{IsGranted}
 use Rattle.qolb_model.specs.LettingGo.{IsTold}
+use Rattle.shared_line.specs.declared.rule.LocalCopy.{LocalCopy}
 use Rattle.shared_line.specs.declared.rule.Parcel.{Parcel}
 use Rattle.shared_line.specs.declared.rule.Setup.{Setup}
 use Rattle.shared_line.specs.Entries.{LineSeat, newcomers_from}
 use Rattle.shared_line.specs.Phases.{Phases}
-use Rattle.shared_line.specs.Steps.{Alone, entry_of, nodes_of, HasNoSlot, write_of, Rests}
+use Rattle.shared_line.specs.Steps.{Alone, entry_of, nodes_of, HasNoSlot, Rests}
 
 -- a port as contracts see it: its table, what it knows, the line's bytes where it holds it with the mask of the turn's writes, and what it
 -- has counted
@@ -34,11 +35,15 @@ pub record Standing : Type 0 where
   pub turn : Write
   pub counters : Counters
 
-abbrev pub standing : {O : Type 0} → O → LineSeat O → Parcel → ℕ → ℕ → Standing
+-- what a port's copy has that its turn wrote
+abbrev pub write_in : LocalCopy → Write
+write_in y = record { mask = y.mask; bytes = y.bytes }
+
+abbrev pub standing : {O : Type 0} → O → LineSeat O → LocalCopy → ℕ → ℕ → Standing
 standing fresh s y steps count = record {
   table = s.table_id;
   view = (entry_of fresh s).view;
-  turn = write_of y;
+  turn = write_in y;
   counters = record { steps = steps; total_steps = (entry_of fresh s).steps; poll_count = count };
 }
 
@@ -50,11 +55,11 @@ call_steps asks_in lets_go_in most (withdraws answer) old new n = (answer ≢ ou
 call_steps asks_in lets_go_in most releases old new n = lets_go_in (length old.ends) (length new.ends) n × (n + 1 ≤ most)
 
 -- the turn's bytes are those of the earlier ends, changed under the mask
-abbrev pub IsMerged : View → Parcel → Type 0
-IsMerged v y = written (bytes_of v) (write_of y) ≡ y.bytes.bytes
+abbrev pub IsMerged : View → LocalCopy → Type 0
+IsMerged v y = written (bytes_of v) (write_in y) ≡ y.bytes.bytes
 
 -- the port has its own copy of the open line, which it may have written, and the slots in which it came and will lie
-pub record Holds {O : Type 0} (q : Phases O) (s : LineSeat O) (y : Parcel) (mark : ℕ) : Type 0 where
+pub record Holds {O : Type 0} (q : Phases O) (s : LineSeat O) (y : LocalCopy) (mark : ℕ) : Type 0 where
   pub at : q.holding mark (length (entry_of q.fresh s).view.ends) (entry_of q.fresh s).own
   pub kept : q.keeps (nodes_of q.fresh s) mark y.turns_left s.me.1
   pub merged : IsMerged (entry_of q.fresh s).view y
@@ -62,7 +67,7 @@ pub record Holds {O : Type 0} (q : Phases O) (s : LineSeat O) (y : Parcel) (mark
   pub turns : y.turns_left ≡ turns_left (entry_of q.fresh s).view.terms.lease (entry_of q.fresh s).view.ends
   pub some_left : y.turns_left ≢ Some 0
 
-pub record IsPort {O : Type 0} (q : Phases O) (label node : ℕ) (s : LineSeat O) (y : Parcel) (mark : ℕ) (state : PortState) : Type 0 where
+pub record IsPort {O : Type 0} (q : Phases O) (label node : ℕ) (s : LineSeat O) (y : LocalCopy) (mark : ℕ) (state : PortState) : Type 0 where
   pub alone : Alone q.fresh s.me
   pub rests_so : state ≢ shows.Holding → q.rests (nodes_of q.fresh s) state mark (entry_of q.fresh s).own × HasNoSlot s
   pub holds_so : state ≡ shows.Holding → Holds q s y mark
@@ -71,15 +76,15 @@ pub record IsPort {O : Type 0} (q : Phases O) (label node : ℕ) (s : LineSeat O
   pub node_is : (entry_of q.fresh s).view.node ≡ node
 
 -- the line has arrived: it is in the port's hand, open and not written, at no further step
-abbrev pub IsHeld : {O : Type 0} → Phases O → LineSeat O → Parcel → ℕ → Type 0
-IsHeld q s y mark = Holds q s y mark × ((entry_of q.fresh s).view.state ≡ shows.Holding) × IsGranted (entry_of q.fresh s).view (write_of y)
+abbrev pub IsHeld : {O : Type 0} → Phases O → LineSeat O → LocalCopy → ℕ → Type 0
+IsHeld q s y mark = Holds q s y mark × ((entry_of q.fresh s).view.state ≡ shows.Holding) × IsGranted (entry_of q.fresh s).view (write_in y)
 
 -- or, closed, it was passed on, and has left the port in this state
 abbrev pub IsPassedOn : {O : Type 0} → Phases O → LineSeat O → PortState → Type 0
 IsPassedOn q s state = ((mark : ℕ) → Rests q state mark s) × IsTold (entry_of q.fresh s).view
 
 -- the slot after a turn: the holder's bytes and mask; one turn fewer is left; and whether the turn closed it
-pub record IsPutBack (turn : Parcel) (closed : Bool) (y : Parcel) : Type 0 where
+pub record IsPutBack (turn : LocalCopy) (closed : Bool) (y : Parcel) : Type 0 where
   pub bytes : y.bytes ≡ turn.bytes
   pub mask : y.mask ≡ turn.mask
   pub turns : y.turns_left ≡ one_fewer turn.turns_left

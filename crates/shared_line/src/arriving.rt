@@ -2,13 +2,13 @@
 ghost use Rattle.std.specs.Prelude.{◌≡◌, ◌≢◌, ℕ, ◌+◌, ◌-◌, ◌<◌, ◌≤◌, true};
 ghost use Rattle.qolb_model.specs.Calls.{HasCome};
 ghost use Rattle.shared_line.specs.declared.rule.Parcel.{Parcel};
-ghost use Rattle.shared_line.specs.Steps.{Alone, entry_of, write_of, Went};
-ghost use Rattle.shared_line.specs.Ports.{IsPassedOn, IsPort, IsSeated};
+ghost use Rattle.shared_line.specs.Steps.{Alone, entry_of, Went};
+ghost use Rattle.shared_line.specs.Ports.{write_in, IsPassedOn, IsPort, IsSeated};
 ghost use Rattle.shared_line.specs.Answers.{IsSeatOfNode, HasNodes, HasArrived, HasLaidClosed};
 
 use crate::line::Line;
 use crate::queue::{Discipline, Released};
-use crate::rule::{Ground, LineSeat, Parcel};
+use crate::rule::{Ground, LineSeat, LocalCopy};
 use crate::sleeping::Waking;
 use qolb_model::{Keep, PortState};
 
@@ -19,7 +19,7 @@ impl<K: Keep, Q: Discipline<K>, W: Waking> Line<K, Q, W> {
     pub(crate) fn arrive<A: Copy>(
         &self,
         seat: &mut LineSeat<Q::Own>,
-        parcel: &mut Parcel,
+        parcel: &mut LocalCopy,
         state: &mut PortState,
         steps: &mut u64,
         node: u64,
@@ -35,7 +35,7 @@ impl<K: Keep, Q: Discipline<K>, W: Waking> Line<K, Q, W> {
         ensures more { steps.old ≤ steps.new }
         ensures went { Went K.allows Q.phases.fresh seat.old seat.new (steps.new - steps.old) }
         ensures count { (entry_of Q.phases.fresh seat.new).view.count ≡ (entry_of Q.phases.fresh seat.old).view.count }
-        ensures came { HasCome granted closed result (entry_of Q.phases.fresh seat.new).view (write_of parcel.new) }
+        ensures came { HasCome granted closed result (entry_of Q.phases.fresh seat.new).view (write_in parcel.new) }
         ensures counted { result ≢ closed → steps.new ≡ steps.old }
         ensures bound { steps.new + 1 ≤ steps.old + Q.most self.now.table.shared.key.terms.nodes }
     {

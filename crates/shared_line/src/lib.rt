@@ -18,6 +18,6 @@ mod slot;
 pub use line::{Line, Width};
 pub use port::Port;
 pub use queue::{Asked, Discipline, Linked, Released, Requested, Ruled, Shape};
-pub use rule::{Entry, Ground, LineSeat, LineTable, Parcel, Rule, Setup};
+pub use rule::{Entry, Ground, LineSeat, LineTable, LocalCopy, Parcel, Rule, Setup};
 pub use sleeping::{NoSleepers, Sleepers, ToWake, Waking};
 pub use slot::{put_alone, take_alone, unlay_alone};

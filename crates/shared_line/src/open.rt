@@ -9,7 +9,7 @@ use crate::line::{Line, Width};
 use crate::plays::Cut;
 use crate::port::Port;
 use crate::queue::{Discipline, Shape};
-use crate::rule::{Ground, LineSeat, Parcel, Setup};
+use crate::rule::{Ground, LineSeat, LocalCopy, Parcel, Setup};
 use crate::sleeping::Waking;
 use atomic_table::Table;
 use line_lanes::{Line64, Mask};
@@ -102,6 +102,7 @@ impl<K: Keep, Q: Discipline<K>, W: Waking> Line<K, Q, W> {
             mask: Mask(0),
             turns_left: terms.lease,
             closed: false,
+            padding: [0; 4],
         };
         let width = Width {
             words: words.len(),
@@ -159,7 +160,7 @@ fn split_ports<K: Keep, Q: Discipline<K>>(
 {
     let mut rest = rest;
     let label = setup.label;
-    let parcel = Parcel {
+    let parcel = LocalCopy {
         bytes: Line64::zero(),
         mask: Mask(0),
         turns_left: None,

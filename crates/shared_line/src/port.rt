@@ -2,7 +2,7 @@
 ghost use Rattle.std.specs.Prelude.{◌≡◌, ◌↔◌, IsTrue};
 
 use crate::queue::Shape;
-use crate::rule::{LineSeat, Parcel};
+use crate::rule::{LineSeat, LocalCopy};
 use qolb_model::{LinePort, Looks, PortState};
 use std::marker::Model;
 
@@ -12,7 +12,7 @@ use std::marker::Model;
 /// place, and the state last.
 #[derive(Drop)]
 pub struct Port<Q: Shape> {
-    pub(crate) parcel: Parcel,
+    pub(crate) parcel: LocalCopy,
     pub(crate) seat: LineSeat<Q::Own>,
     /// What the queue keeps of the last request.
     pub(crate) mark: u64,

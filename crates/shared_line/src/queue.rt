@@ -22,7 +22,7 @@ ghost use Rattle.shared_line.specs.Turns.{SeesTurn};
 ghost use Rattle.shared_line.specs.Entries.{Contents, newcomers, AllRest, views_of};
 ghost use Rattle.shared_line.specs.Steps.{Alone, entry_of, Rests, Went, met, parked, Looked};
 
-use crate::rule::{Ground, LineSeat, Parcel};
+use crate::rule::{Ground, LineSeat, LocalCopy, Parcel};
 use crate::sleeping::ToWake;
 use atomic_table::Closed;
 use qolb_model::{Keep, PortState};
@@ -154,7 +154,7 @@ pub trait Discipline<K: Keep>: Ruled<K> {
         seat: &mut LineSeat<Self::Own>,
         size: u64,
         mark: u64,
-        parcel: &mut Parcel,
+        parcel: &mut LocalCopy,
     )
         requires table { seat.old.table_id ≡ ground.now.table_id }
         requires size { size ≡ size_for ground.now.key.terms.nodes }
@@ -167,7 +167,7 @@ pub trait Discipline<K: Keep>: Ruled<K> {
         seat: &mut LineSeat<Self::Own>,
         size: u64,
         mark: u64,
-        parcel: &Parcel,
+        parcel: &LocalCopy,
         closed: bool,
     )
         requires table { seat.old.table_id ≡ ground.now.table_id }

@@ -17,18 +17,29 @@ pub struct Setup {
     pub terms: Terms,
 }
 
-/// The line, with the mask of what its holder has written in this turn, how many turns are left of its lease, and whether it is closed.
+/// The line in its slot, with the mask of what its holder has written in this turn, how many turns are left of its lease, and whether it is
+/// closed.
 ///
-/// The bytes stand first and the flag last, so that the bytes are copied from an even place.
+/// The bytes stand first, so that they are copied from an even place. With the padding, which nobody reads or copies, a slot has 128 bytes.
 #[derive(Clone, Copy)]
 pub struct Parcel {
     pub bytes: Line64,
     pub mask: Mask,
     pub turns_left: Option<u64>,
     pub closed: bool,
+    pub padding: [u64; 4],
 }
 
-impl Parcel {
+/// A port's own copy of the line: its bytes, which a holder writes, and all that a slot has beside them.
+#[derive(Clone, Copy)]
+pub struct LocalCopy {
+    pub bytes: Line64,
+    pub mask: Mask,
+    pub turns_left: Option<u64>,
+    pub closed: bool,
+}
+
+impl LocalCopy {
     /// Whether the line is closed after this turn: the holder shuts it, or the turn is its lease's last.
     #[inline]
     pub(crate) fn closes(&self, shut: bool) -> bool
@@ -65,8 +76,13 @@ impl<K: Keep, Q: Ruled<K>> TableRule<Parcel, LinkedList<Entry<Q::Own>>, Setup> f
 pub type Ground<K, Q> = Shared<Parcel, LinkedList<Entry<<Q as Shape>::Own>>, Setup, Rule<K, Q>>;
 
 /// The table of a line, as the line owns it.
-pub type LineTable<K, Q> =
-    Table<Parcel, LinkedList<Entry<<Q as Shape>::Own>>, Setup, Rule<K, Q>, Global>;
+pub type LineTable<K, Q> = Table<
+    Parcel,
+    LinkedList<Entry<<Q as Shape>::Own>>,
+    Setup,
+    Rule<K, Q>,
+    Global,
+>;
 
 /// A seat of the table: a port has one.
 pub type LineSeat<O> = Seat<Parcel, LinkedList<Entry<O>>>;

@@ -10,7 +10,7 @@ ghost use Rattle.shared_line.specs.declared.rule.Parcel.{Parcel};
 
 use crate::plays::Park;
 use crate::queue::{Discipline, Ruled};
-use crate::rule::{Ground, LineSeat, Parcel};
+use crate::rule::{Ground, LineSeat, LocalCopy, Parcel};
 use atomic_table::Closed;
 use line_lanes::Mask;
 use qolb_model::{Keep, PortState};
@@ -22,7 +22,7 @@ use std::alloc::Global;
 pub fn take_alone<K: Keep, Q: Ruled<K>>(
     ground: &Ground<K, Q>,
     seat: &mut LineSeat<Q::Own>,
-    parcel: &mut Parcel,
+    parcel: &mut LocalCopy,
 )
     requires table { seat.old.table_id ≡ ground.now.table_id }
     requires came { (y : Parcel) × lies_alone 0 y seat.old.me.1 }
@@ -45,7 +45,7 @@ pub fn take_alone<K: Keep, Q: Ruled<K>>(
 pub fn put_alone<K: Keep, Q: Ruled<K>>(
     ground: &Ground<K, Q>,
     seat: &mut LineSeat<Q::Own>,
-    parcel: &Parcel,
+    parcel: &LocalCopy,
     closed: bool,
 )
     requires table { seat.old.table_id ≡ ground.now.table_id }

@@ -14,14 +14,13 @@ use Rattle.array_line.proofs.Slots.{MayTake, MayGive, MayKeep, LaysOne, AreSpare
 use Rattle.array_line.specs.Counting.{cells_for}
 use Rattle.array_line.proofs.Counting.{two_cells, some_cells}
 use Rattle.array_line.proofs.Taking.{cells_apart}
-use Rattle.ticket_line.specs.declared.words.TheConstants.{SLOT_STRIDE}
 use Rattle.ticket_line.specs.Words.{ticket_after, cell_of}
 use Rattle.ticket_line.specs.Slots.{slot_of, slot_count, berths, brings}
 use Rattle.ticket_line.proofs.Numbers.{cell_ticket, ticket_next}
 
 -- in a line of so many nodes the slot of the place p, of the next and of the next but one are three
 slot_place : (nodes p : ℕ) → slot_of nodes (ticket_of p) ≡ slot_of nodes p
-slot_place nodes p = ap (λ c. SLOT_STRIDE * c) (cell_ticket nodes p)
+slot_place nodes p = cell_ticket nodes p
 
 slot_next : (nodes p : ℕ) → slot_of nodes (ticket_after (ticket_of p)) ≡ slot_of nodes (p + 1)
 slot_next nodes p = ap (slot_of nodes) (ticket_next p) ∙ slot_place nodes (p + 1)

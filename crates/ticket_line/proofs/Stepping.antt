@@ -1,4 +1,4 @@
--- The steps on cells, as the line's table allows them to a node that knows how many nodes the line has.
+-- The steps on cells, as the table allows them to a node that knows how many nodes the line has.
 use Rattle.std.proofs.Common.{◌≡◌, ℕ, ◌+◌, ◌≤◌, true, List, [], ◌∷◌, length, sym, ap, ◌∙◌, subst}
 use mathlib.Core.Option.{none}
 use Rattle.atomic_table.specs.Table.{Allows, step}
@@ -40,7 +40,7 @@ module _ (good : List ℕ → Type 0) (allows : List ℕ → List ℕ → Type 0
         (rolls_next (TicketCells about.terms.nodes) (berths about.terms.nodes) good allows about v queued ticket_of is_other is_granted (λ _. new) (take about.terms.nodes)
         (takes about.terms.nodes v.own.place v.view.node (λ _. new) (λ _ _. written v.own.place v.view.node new high says)) (stays about.terms.nodes v.own.place) (withdraws about.terms.nodes v.own.place v.view.node new says) me slots i m is own_word)
 
-  -- a node that has laid the line for the next one, and the word of the next one's cell: it is granted
+  -- a node that has laid the line for the next one grants that one's cell, by its word
   module _ (goes : (a b : List ℕ) → good a → allows a b → good b) (has_it : has_line v.own.point ≡ true) (y : Parcel) (carries : CarriesNext allows v y) (carried : Slots) (is : m ≡ (v ∷ [], carried)) (laid : lays about.terms.nodes (ticket_of (length v.view.ends)) y carried)
       (next : ℕ) (behind : next ≡ ticket_of (length v.view.ends + 1)) (word : i ≡ cell_at (cell_of about.terms.nodes next)) where
     next_word : i ≡ cell_at (cell_of about.terms.nodes (length v.view.ends + 1))

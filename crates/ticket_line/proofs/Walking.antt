@@ -16,7 +16,8 @@ use Rattle.ticket_line.specs.Slots.{berths}
 use Rattle.ticket_line.specs.Steps.{turn_ticket, HasCome, HasLaid}
 use Rattle.ticket_line.proofs.Numbers.{ticket_next}
 
--- in a line of m nodes, what a walk that began at the seat s has done so far: one step for each request that it passed; its last grant found this node, or 0
+-- In a line of m nodes, what a walk that began at the seat s has done so far: one step for each
+-- request that it passed; its last grant found this node, or 0.
 pub record IsWalking (m : ℕ) (allows : List ℕ → List ℕ → Type 0) (s : ArraySeat) (nodes : List ℕ) (ticket found : ℕ) (t : ArraySeat) : Type 0 where
   pub ticket_is : ticket ≡ turn_ticket t
   pub walking : walk.IsWalking (berths m) allows s nodes (length nodes) found found t

@@ -6,15 +6,14 @@ use Rattle.array_line.specs.Counting.{cells_for}
 use Rattle.array_line.specs.Words.{ticket_of, ticket_at}
 use Rattle.array_line.specs.Berths.{Berths}
 use Rattle.array_line.proofs.Counting.{some_cells}
-use Rattle.ticket_line.specs.declared.words.TheConstants.{SLOT_STRIDE}
 use Rattle.ticket_line.specs.Words.{ticket_after, cell_of}
 
 -- the slot of a ticket's cell
 abbrev pub slot_of : ℕ → ℕ → ℕ
-slot_of nodes ticket = SLOT_STRIDE * cell_of nodes ticket
+slot_of nodes ticket = cell_of nodes ticket
 
 abbrev pub slot_count : ℕ → ℕ
-slot_count nodes = SLOT_STRIDE * cells_for nodes
+slot_count nodes = cells_for nodes
 
 -- the line came to this ticket: it lies in the ticket's slot, and the node has the next one besides
 abbrev pub brings : ℕ → ℕ → Parcel → Slots → Type 0

@@ -39,7 +39,8 @@ Comes ticket w y = array.Comes ticket_of ticket w y
 abbrev pub IsRolled : ℕ → ArrayEntry → Type 0
 IsRolled ticket w = array.IsRolled ticket_of ticket w
 
--- the line, of so many nodes, has come to this ticket, in the seat's slots; it is laid there for the next one
+-- the line, of so many nodes, has come to this ticket, in the seat's slots; it is laid there for
+-- the next one
 abbrev pub HasCome : ℕ → ℕ → ArraySeat → Parcel → Type 0
 HasCome nodes ticket seat y = brings nodes ticket y seat.me.1
 

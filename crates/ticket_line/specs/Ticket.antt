@@ -15,7 +15,8 @@ pub record IsLater (nodes place mark word : ℕ) : Type 0 where
   pub withdrawn : 0 < mark → word ≡ layout.withdrawn place mark
   pub before : mark ≡ 0 → word / UNIT ≡ number_before nodes place
 
--- What the cells of a line of so many nodes say. None is ever cleared. The one at its turn has that place's number, and where nobody has the line it says nothing else.
+-- What the cells of a line of so many nodes say. None is ever cleared. The one at its turn has that
+-- place's number, and where nobody has the line it says nothing else.
 pub record TicketCells (nodes ended hand : ℕ) (cleared : Bool) (marks says : ℕ → ℕ) : Type 0 where
   pub kept : cleared ≡ false
   pub turn : says (cell_of nodes ended) / UNIT ≡ number ended

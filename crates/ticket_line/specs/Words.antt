@@ -28,7 +28,8 @@ withdrawn_by ticket word = if word / UNIT == number ticket then word % UNIT else
 abbrev pub may_come : ℕ → ℕ → Bool
 may_come ticket low = low == granted ticket % 2 ^ 32
 
--- in a line of so many nodes, the number of the place before that has the same cell, or 0 where there is none
+-- in a line of so many nodes, the number of the place before that has the same cell, or 0 where
+-- there is none
 abbrev pub number_before : ℕ → ℕ → ℕ
 number_before nodes place = (place + 1 - cells_for nodes) % NUMBERS
 

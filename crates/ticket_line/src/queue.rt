@@ -21,7 +21,7 @@ use crate::words::{cell_word, first_words, is_granted_half, slot_count, ticket_a
 use array_line::cell_count;
 use atomic_table::Closed;
 use qolb_model::{Keep, PortState};
-use shared_line::{Asked, Discipline, Parcel, Released, Requested, ToWake};
+use shared_line::{Asked, Discipline, LocalCopy, Parcel, Released, Requested, ToWake};
 use std::alloc::{AllocError, Global};
 
 impl<K: Keep> Discipline<K> for Ticket {
@@ -48,7 +48,13 @@ impl<K: Keep> Discipline<K> for Ticket {
     }
 
     #[inline]
-    fn take(ground: &Ground<K>, seat: &mut TicketSeat, size: u64, mark: u64, parcel: &mut Parcel) {
+    fn take(
+        ground: &Ground<K>,
+        seat: &mut TicketSeat,
+        size: u64,
+        mark: u64,
+        parcel: &mut LocalCopy,
+    ) {
         take(ground, seat, size, mark, parcel);
     }
 
@@ -58,7 +64,7 @@ impl<K: Keep> Discipline<K> for Ticket {
         seat: &mut TicketSeat,
         size: u64,
         mark: u64,
-        parcel: &Parcel,
+        parcel: &LocalCopy,
         closed: bool,
     ) {
         put(ground, seat, size, mark, parcel, closed);

@@ -17,7 +17,7 @@ use array_line::TICKET;
 use atomic_table::Closed;
 use line_lanes::Mask;
 use qolb_model::Keep;
-use shared_line::Parcel;
+use shared_line::{LocalCopy, Parcel};
 use std::alloc::Global;
 
 /// Copies the line out of the ticket's slot, for a turn in which nothing is written yet. A closed line is laid for the next at once.
@@ -27,7 +27,7 @@ pub(crate) fn take<K: Keep>(
     seat: &mut TicketSeat,
     size: u64,
     ticket: u64,
-    parcel: &mut Parcel,
+    parcel: &mut LocalCopy,
 )
     requires table { seat.old.table_id ≡ ground.now.table_id }
     requires size { size ≡ mask_for ground.now.key.terms.nodes }
@@ -69,7 +69,7 @@ pub(crate) fn put<K: Keep>(
     seat: &mut TicketSeat,
     size: u64,
     ticket: u64,
-    parcel: &Parcel,
+    parcel: &LocalCopy,
     closed: bool,
 )
     requires table { seat.old.table_id ≡ ground.now.table_id }

@@ -18,15 +18,11 @@ pub(crate) const UNIT: u64 = 256;
 /// How many numbers there are, 2^56: with the node below, a number fills its word. Then they begin again.
 pub(crate) const NUMBERS: u64 = 0x100_0000_0000_0000;
 
-/// How many slots lie between those of two cells. The one between them has no use but to keep their lines on cache lines of their own. (A
-/// field of padding would take a third less memory, and would be copied with each parcel.)
-pub(crate) const SLOT_STRIDE: usize = 2;
-
 /// How many slots a line of so many nodes has.
 pub(crate) fn slot_count(nodes: u64) -> usize
     ensures { result ≡ slots.slot_count nodes }
 {
-    SLOT_STRIDE * cell_count(nodes) as usize
+    cell_count(nodes) as usize
 }
 
 /// The cell of a ticket in this table, by the mask of its cells.
@@ -45,14 +41,14 @@ pub(crate) fn slot_of<K: Keep>(ground: &Ground<K>, mask: u64, ticket: u64) -> us
     requires { mask ≡ mask_for ground.now.key.terms.nodes }
     ensures { result ≡ slots.slot_of ground.now.key.terms.nodes ticket }
 {
-    SLOT_STRIDE * cell_of(ground, mask, ticket) as usize
+    cell_of(ground, mask, ticket) as usize
 }
 
 /// The slot of a ticket's cell in a line of so many nodes, where no mask is at hand.
 pub(crate) fn slot_for(nodes: u64, ticket: u64) -> usize
     ensures { result ≡ slots.slot_of nodes ticket }
 {
-    SLOT_STRIDE * (ticket % cell_count(nodes)) as usize
+    (ticket % cell_count(nodes)) as usize
 }
 
 /// The word of a ticket's cell.

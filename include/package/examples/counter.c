@@ -22,7 +22,7 @@ int main(void) {
     qolb_node node[THREADS] = {{0}};
     pthread_t thread[THREADS];
     uint64_t count;
-    if (qolb_open(QOLB_RING, 1, THREADS, QOLB_NO_LEASE, &zeros, node, THREADS) != QOLB_DONE) return 1;
+    if (qolb_open(QOLB_DEFAULT, 1, THREADS, QOLB_NO_LEASE, &zeros, node, THREADS) != QOLB_DONE) return 1;
     for (int k = 0; k < THREADS; k++)
         if (pthread_create(&thread[k], NULL, add, &node[k])) return 1;
     for (int k = 0; k < THREADS; k++) {

@@ -5,7 +5,7 @@
 #include <vector>
 
 int main() {
-    auto [opened, nodes] = qolb::Node::open(QOLB_RING, 1, 4, qolb_bytes{});
+    auto [opened, nodes] = qolb::Node::open(QOLB_DEFAULT, 1, 4, qolb_bytes{});
     if (opened != QOLB_DONE) return 1;
     std::vector<std::thread> threads;
     for (qolb::Node &node : nodes)

@@ -29,7 +29,7 @@ const HANDED_OVER_DRAWN: &str =
 const EARLY: &str = "nodes 1\nlink 1\n";
 
 const EARLY_DRAWN: &str =
-    ".  1: link 1: refused; the line lies at home\n\n. Idle   r Ready   l Linking   w Queued   H Holding   h Leaving   m Marking\ng Granting   f Freeing   L Left   x Rolled   - Shut\n";
+    "1\n.  1: link 1: refused; the line lies at home\n\n. Idle   r Ready   l Linking   w Queued   H Holding   h Leaving   m Marking\ng Granting   f Freeing   L Left   x Rolled   - Shut\n";
 
 /// The words of each subcommand, a script, and what is written.
 pub(super) static RUNS: [(&[&str], &str, &str); 14] = [
@@ -136,6 +136,52 @@ fn each_read_fails(rt: HostRuntime) -> Result<(), Fail> {
                     "{words:?} after {good} reads of {part}"
                 );
             }
+        }
+    }
+    Ok(())
+}
+
+/// Drawings as an SVG, and their scripts.
+static DRAWINGS: [(&[&str], &str); 4] = [
+    (&["draw", "--svg"], HAND_OVER),
+    (&["draw", "--svg", "--explain"], HAND_OVER),
+    (&["draw", "--steps", "--svg"], LATE_LINK),
+    (&["draw", "--steps", "--svg", "--explain"], LATE_LINK),
+];
+
+/// Each read fails in turn: that is told, and no picture is written. It is once no read is left to fail.
+#[test]
+fn each_read_of_a_drawing_fails(rt: HostRuntime) -> Result<(), Fail> {
+    for (words, script) in &DRAWINGS {
+        // One byte a read, and the last read tells that nothing is left.
+        let reads = script.len().saturating_add(1);
+        for good in 0..reads.saturating_add(1) {
+            let mut reader = FailingReader {
+                rest: script.as_bytes(),
+                part: 1,
+                good,
+            };
+            let mut out: Vec<u8> = Vec::new(rt.alloc());
+            let (status, err) = run(&rt, rt.alloc(), *words, &mut reader, &mut out)?;
+            let (want, fault) = if good < reads {
+                (4, "read fault\n")
+            } else {
+                (0, "")
+            };
+            assert_eq!(rt;
+                (status, err.as_str()),
+                (want, fault),
+                "{words:?} after {good} reads"
+            );
+            let picture = String::from_utf8(out)?;
+            assert!(rt;
+                picture.is_empty() == (good < reads),
+                "{words:?} after {good} reads"
+            );
+            assert!(rt;
+                picture.is_empty() || picture.ends_with("</g>\n</svg>\n"),
+                "{words:?}"
+            );
         }
     }
     Ok(())

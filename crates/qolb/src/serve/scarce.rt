@@ -89,7 +89,7 @@ fn each_allocation_is_refused(rt: HostRuntime) -> Result<(), Fail> {
 }
 
 /// The kinds of lines, those that take less memory first. With 200 nodes a plain line takes 3.3 KB, a list 26 KB of words, a ring 33 KB, a
-/// ticket line as many and 49 KB of slots; and each of the last three 27 KB of ports.
+/// ticket line as many and 33 KB of slots; and each of the last three 27 KB of ports.
 static BY_SIZE: [&str; 4] = ["plain", "link", "ring", "ticket"];
 
 /// Rooms, in KB, in each of which eight lines of one kind more find place.

@@ -94,7 +94,7 @@ fn replays_and_refuses_scripts(rt: HostRuntime) -> Result<(), Fail> {
 
 /// Words with `--explain`, scripts that are refused, and what is told of them: of each thing that can be wrong with a line but that it is
 /// past the most, which takes long.
-static EXPLAINED: [(&[&str], &str, &str); 15] = [
+static EXPLAINED: [(&[&str], &str, &str); 16] = [
     (
         &["replay", "--kind", "plain"],
         "",
@@ -139,6 +139,11 @@ static EXPLAINED: [(&[&str], &str, &str); 15] = [
         &["draw", "--steps"],
         "nodes 2\nload\n",
         "bad line 2\n    load\nwrong number of words\n",
+    ),
+    (
+        &["draw", "--steps", "--svg"],
+        "nodes 2\nreset 3\n",
+        "bad line 2\n    reset 3\nword 2 is no number from 1 to 2\n",
     ),
     (
         &["steps", "--rank"],
@@ -319,13 +324,15 @@ fn the_version_names_each_lock(rt: HostRuntime) -> Result<(), Fail> {
 }
 
 /// The words of a task of each name.
-static TASKS: [&[&str]; 6] = [
+static TASKS: [&[&str]; 8] = [
     &["replay", "--kind", "link"],
     &["steps"],
     &["board"],
     &["bank"],
     &["draw"],
+    &["draw", "--svg"],
     &["draw", "--steps"],
+    &["draw", "--steps", "--svg"],
 ];
 
 #[test]
@@ -536,7 +543,7 @@ const STEPPED: &str = "nodes 1\nreset 1\nprepend 1\nhome 1\n";
 fn draws_step_scripts(rt: HostRuntime) -> Result<(), Fail> {
     let (status, out, err) = told(&rt, rt.alloc(), &["draw", "--steps"], STEPPED)?;
     assert_eq!(rt; (status, err.as_str()), (0, ""));
-    assert!(rt; out.starts_with("r  1: reset 1: went; the line lies at home\n"));
+    assert!(rt; out.starts_with("1\nr  1: reset 1: went; the line lies at home\n"));
     let words = ["draw", "--svg", "--steps"];
     let (status, out, err) = told(&rt, rt.alloc(), words.as_slice(), STEPPED)?;
     assert_eq!(rt; (status, err.as_str()), (0, ""));

@@ -13,5 +13,5 @@ pub returns-in-Err-answer_or_refuse-clause-refused : goal.returns-in-Err-answer_
 returns-in-Err-answer_or_refuse-clause-refused g c one = (
   c.in-Ok.request.wish,
   c.in-Ok.ensures.wish,
-  known_denied c.in-Ok.request.wish c.in-Err-answer_or_refuse.refusal.error (g.R.Read.remaining c.args.reader.now) c.in-Err-answer_or_refuse.ensures.denied (sym c.refuse.ensures ∙ one),
+  known_denied c.in-Ok.request.wish c.in-Err-answer_or_refuse.refusal.error (g.R.Read.remaining c.args.reader.now) (rw c.new-input.ensures.inner at c.in-Err-answer_or_refuse.ensures.denied) (sym c.refuse.ensures ∙ one),
 )

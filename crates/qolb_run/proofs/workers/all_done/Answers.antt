@@ -5,4 +5,4 @@ use Rattle.qolb_run.proofs.workers.all_done.Goals as goal
 
 pub returns-in_default-clause-stalled : goal.returns-in_default-clause-stalled
 returns-in_default-clause-stalled g c =
-    first_gone c.loop-hand.hands.items (into_iter_items c.next.new.self) c.args.back.items _ (search rules) (search rules)
+    first_gone c.loop-hand.hands.items (into_iter_items c.next.new.self) c.args.joined.back.items _ (search rules) (search rules)

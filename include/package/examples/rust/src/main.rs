@@ -4,7 +4,7 @@ use std::error::Error;
 use std::thread;
 
 fn main() -> Result<(), Box<dyn Error>> {
-    let mut nodes = qolb::open(Kind::Ring, 1, 4, None, &Bytes([0; 64]))?;
+    let mut nodes = qolb::open(Kind::DEFAULT, 1, 4, None, &Bytes([0; 64]))?;
     thread::scope(|scope| {
         for node in &mut nodes {
             scope.spawn(move || {

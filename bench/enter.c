@@ -1,0 +1,124 @@
+/* What it takes to enter a lock that nobody else wants, and to leave it, by one thread: a qolb_lock beside a node of the same line (qolb_acquire and
+ * qolb_deqolb), a pthread_mutex, and with -DMCS, which wants Debian's package libck-dev, Concurrency Kit's MCS lock.
+ *
+ *   cc -std=c11 -O2 -pthread -Iinclude bench/enter.c crates/qolb_c/out/libqolb.a -o enter && ./enter [BATCHES]
+ *
+ * Prints nanoseconds a round, the least and the median of so many batches (101), in which the ways take turns, and each lock's of those of
+ * its node. The least is the figure to take where the machine has other work. With a second word, ./enter 1 "qolb_lock, ticket", it does
+ * 10,000 rounds of that way alone, to be counted by valgrind --tool=callgrind --toggle-collect='rounds_of*'. */
+#define _POSIX_C_SOURCE 200809L
+#include <pthread.h>
+#include <qolb.h>
+#include <stdio.h>
+#include <stdlib.h>
+#include <string.h>
+#include <time.h>
+#include <unistd.h>
+#ifdef MCS
+#include <ck_spinlock.h>
+static ck_spinlock_mcs_t mcs = CK_SPINLOCK_MCS_INITIALIZER;
+static ck_spinlock_mcs_context_t context;
+#endif
+
+enum { ROUNDS = 10000, MOST_BATCHES = 10001 };
+
+static _Alignas(QOLB_NODE_ALIGN) qolb_node nodes[3];
+static _Alignas(QOLB_NODE_ALIGN) qolb_lock locks[3];
+static pthread_mutex_t mutex = PTHREAD_MUTEX_INITIALIZER;
+
+#define ROUNDS_OF(name, enters, leaves)                                                \
+    static void rounds_of_##name(uint32_t kind) {                                      \
+        (void)kind;                                                                    \
+        for (int k = 0; k < ROUNDS; k++) {                                             \
+            if (enters) abort();                                                       \
+            if (leaves) abort();                                                       \
+        }                                                                              \
+    }
+
+ROUNDS_OF(node, qolb_acquire(&nodes[kind]) != QOLB_GRANTED, qolb_deqolb(&nodes[kind]) != QOLB_DONE)
+ROUNDS_OF(lock, qolb_lock_enter(&locks[kind]) != QOLB_GRANTED, qolb_lock_leave(&locks[kind]) != QOLB_DONE)
+ROUNDS_OF(mutex, pthread_mutex_lock(&mutex) != 0, pthread_mutex_unlock(&mutex) != 0)
+#ifdef MCS
+ROUNDS_OF(mcs, (ck_spinlock_mcs_lock(&mcs, &context), 0), (ck_spinlock_mcs_unlock(&mcs, &context), 0))
+#endif
+
+static const struct way {
+    const char *name;
+    void (*rounds)(uint32_t kind);
+    uint32_t kind;
+} ways[] = {
+    {"node, ticket", rounds_of_node, QOLB_TICKET},
+    {"qolb_lock, ticket", rounds_of_lock, QOLB_TICKET},
+    {"node, ring", rounds_of_node, QOLB_RING},
+    {"qolb_lock, ring", rounds_of_lock, QOLB_RING},
+    {"node, list", rounds_of_node, QOLB_LIST},
+    {"qolb_lock, list", rounds_of_lock, QOLB_LIST},
+    {"pthread_mutex", rounds_of_mutex, 0},
+#ifdef MCS
+    {"MCS", rounds_of_mcs, 0},
+#endif
+};
+enum { WAYS = sizeof ways / sizeof ways[0] };
+
+static double took[WAYS][MOST_BATCHES];
+
+static double now(void) {
+    struct timespec time;
+    clock_gettime(CLOCK_MONOTONIC, &time);
+    return (double)time.tv_sec * 1e9 + (double)time.tv_nsec;
+}
+
+static int by_size(const void *one, const void *other) {
+    double a = *(const double *)one, b = *(const double *)other;
+    return (a > b) - (a < b);
+}
+
+/* One node of three of each kind, and a lock of three seats. */
+static void opens(void) {
+    const qolb_bytes zeros = {{0}};
+    for (uint32_t kind = QOLB_RING; kind <= QOLB_TICKET; kind++) {
+        qolb_node all[3] = {{0}};
+        if (qolb_open(kind, kind, 3, QOLB_NO_LEASE, &zeros, all, 3) != QOLB_DONE) abort();
+        nodes[kind] = qolb_move(&all[0]);
+        locks[kind] = (qolb_lock)QOLB_LOCK_INIT_OF(kind, 3);
+    }
+}
+
+/* In a process of one thread the C library's mutex takes no locked instruction. */
+static void *sleeps(void *unused) {
+    pause();
+    return unused;
+}
+
+static int of_one(const char *name) {
+    for (int k = 0; k < WAYS; k++) {
+        if (strcmp(ways[k].name, name) != 0) continue;
+        ways[k].rounds(ways[k].kind);
+        return 0;
+    }
+    return fprintf(stderr, "enter: no way is called %s\n", name), 2;
+}
+
+int main(int argc, char **argv) {
+    int batches = argc > 1 ? atoi(argv[1]) : 101;
+    if (batches < 1 || batches > MOST_BATCHES) return 2;
+    pthread_t other;
+    if (pthread_create(&other, NULL, sleeps, NULL) != 0) return 1;
+    opens();
+    if (argc > 2) return of_one(argv[2]);
+    for (int b = 0; b < batches; b++) {
+        for (int k = 0; k < WAYS; k++) {
+            double since = now();
+            ways[k].rounds(ways[k].kind);
+            took[k][b] = (now() - since) / ROUNDS;
+        }
+    }
+    for (int k = 0; k < WAYS; k++) {
+        qsort(took[k], (size_t)batches, sizeof took[k][0], by_size);
+        printf("%-18s least %5.1f median %5.1f", ways[k].name, took[k][0], took[k][batches / 2]);
+        const double *it = took[k], *before = took[k - 1 + (k == 0)];
+        if (ways[k].rounds == rounds_of_lock) printf("   %.2f and %.2f of the node's", it[0] / before[0], it[batches / 2] / before[batches / 2]);
+        puts("");
+    }
+    return 0;
+}

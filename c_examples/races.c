@@ -1,0 +1,93 @@
+/* Data that a lock guards, and data that is used in some wrong way, for the thread sanitizer: it must be quiet about the first and report each other.
+ *
+ *   build/races WAY     its number below
+ *
+ * The second thread uses the data after the first has. Nothing but the lock or the condition tells the sanitizer so. */
+#define _GNU_SOURCE
+#include <qolb.h>
+#include <stdlib.h>
+
+#include "waiters.h"
+
+enum { GUARDED, BY_TWO_LOCKS, AFTER_LEAVING, AFTER_BUSY, AFTER_LATE, AFTER_A_SIGNAL, WAYS };
+
+static qolb_lock lock = QOLB_LOCK_INIT(4), other = QOLB_LOCK_INIT(4);
+static qolb_cond cond = QOLB_COND_INIT;
+static int way, is_ready, data;
+/* Whether the first has done its part. Relaxed, so that it hands nothing over. */
+static atomic_int done;
+
+static void until_done(void) {
+    while (!atomic_load_explicit(&done, memory_order_relaxed)) usleep(1000);
+}
+
+static void enter(qolb_lock *it) { MUST(qolb_lock_enter(it), QOLB_GRANTED); }
+static void leave(qolb_lock *it) { MUST(qolb_lock_leave(it), QOLB_DONE); }
+
+/* It keeps the lock for a while where the second is to be told that others have it. */
+static void *first(void *unused) {
+    enter(&lock);
+    if (way != AFTER_LEAVING && way != AFTER_A_SIGNAL) data++;
+    is_ready = 1;
+    if (way == GUARDED || way == AFTER_A_SIGNAL) MUST(qolb_cond_signal(&cond), QOLB_DONE);
+    if (way == AFTER_BUSY || way == AFTER_LATE) {
+        atomic_store_explicit(&done, 1, memory_order_relaxed);
+        usleep(200000);
+    }
+    leave(&lock);
+    if (way == AFTER_LEAVING || way == AFTER_A_SIGNAL) data++;
+    atomic_store_explicit(&done, 1, memory_order_relaxed);
+    return unused;
+}
+
+static void *second(void *unused) {
+    switch (way) {
+    case GUARDED:
+    case AFTER_A_SIGNAL:
+        enter(&lock);
+        while (!is_ready) MUST(qolb_cond_wait(&cond, &lock), QOLB_GRANTED);
+        leave(&lock);
+        until_done();
+        enter(&lock);
+        data++;
+        leave(&lock);
+        break;
+    case BY_TWO_LOCKS:
+        until_done();
+        enter(&other);
+        data++;
+        leave(&other);
+        break;
+    case AFTER_LEAVING:
+        until_done();
+        enter(&lock);
+        data++;
+        leave(&lock);
+        break;
+    case AFTER_BUSY:
+        until_done();
+        MUST(qolb_lock_try(&lock), QOLB_BUSY);
+        data++;
+        break;
+    case AFTER_LATE:
+        until_done();
+        MUST(qolb_lock_enter_within(&lock, 1000), QOLB_LATE);
+        data++;
+        break;
+    }
+    return unused;
+}
+
+int main(int argc, char **argv) {
+    pthread_t ids[2];
+    way = argc > 1 ? atoi(argv[1]) : GUARDED;
+    if (way < GUARDED || way >= WAYS) return 2;
+    alarm(600);
+    MUST(pthread_create(&ids[0], NULL, second, NULL), 0);
+    MUST(pthread_create(&ids[1], NULL, first, NULL), 0);
+    for (int k = 0; k < 2; k++) pthread_join(ids[k], NULL);
+    WANT(data, 2);
+    WANT(qolb_lock_close(&lock), QOLB_DONE);
+    WANT(qolb_lock_close(&other), QOLB_DONE);
+    return 0;
+}

@@ -1,0 +1,156 @@
+//! A line with its ports in a queue: a thread borrows one, works with it, and gives it back.
+ghost use Rattle.std.specs.Prelude.{◌≡◌, ◌<◌, All, IfOk, IfErr, IfSome, vec_len, map};
+ghost use Rattle.qolb_model.specs.Finishing.{MayRefuse};
+ghost use Rattle.line_seats.specs.Lending.{MayAsk, IsFinishedBySome, IsPortSetOf};
+
+use crate::ports::{Borrowed, PortSet, Seat};
+use crossbeam_queue::ArrayQueue;
+use crossbeam_utils::Backoff;
+use line_lanes::Line64;
+use qolb_model::{Keep, LineSync, Unfinished};
+use std::alloc::{AllocError, Global};
+use std::marker::Model;
+use std::sync::{Mutex, Wait};
+
+/// A line, and those of its ports that no thread has. Contracts see it as the line.
+#[derive(Drop)]
+pub struct Seats<K: Keep, L: LineSync<K>, S: PortSet<L::Port>> {
+    line: L,
+    free: ArrayQueue<Seat<L::Port, S>>,
+    /// Room for all ports, so that `finish` needs no memory to gather them. The lock is only there
+    /// so that threads may share it.
+    room: Mutex<Vec<L::Port>>,
+}
+
+impl<K: Keep, L: LineSync<K>, S: PortSet<L::Port>> Model for Seats<K, L, S> {
+    ghost use Rattle.line_seats.specs.Lending.{IsPortSetOf};
+
+    ghost Value = { L };
+
+    ghost view = { λ seats. seats.line };
+
+    ghost invariant = { λ seats. IsPortSetOf (L.belongs seats.line) L.view S.has };
+}
+
+impl<K: Keep, L: LineSync<K>, S: PortSet<L::Port>> Seats<K, L, S> {
+    /// A line and its ports, which no thread has yet.
+    ///
+    /// # Errors
+    ///
+    /// Memory was refused.
+    pub fn new(alloc: Global, line: L, ports: Vec<L::Port>) -> Result<Seats<K, L, S>, AllocError>
+    where
+        L: Drop,
+        L::Port: Drop,
+        requires some { 0 < vec_len ports }
+        requires set { IsPortSetOf (L.belongs line) L.view S.has }
+        requires ports { All (MayAsk (L.belongs line) L.view) ports.items }
+        ensures { IfOk result (λ seats. seats ≡ line) }
+    {
+        let room = Vec::with_capacity(alloc, ports.len())?;
+        let free = put_all(ArrayQueue::new(alloc, ports.len())?, ports)?;
+        Ok(Seats {
+            line,
+            free,
+            room: Mutex::new(room),
+        })
+    }
+
+    /// The line.
+    pub fn line(&self) -> &L
+        ensures { result.now ≡ self.now }
+    {
+        &self.line
+    }
+
+    /// Borrows a port, if there is one that no thread has.
+    pub fn try_borrow<R: Wait>(&self, rt: &R) -> Option<Borrowed<L::Port>>
+        ensures { IfSome result (λ borrowed. MayAsk (L.belongs self.now) L.view borrowed.port) }
+    {
+        let port = self.free.pop(rt)?.into_port();
+        Some(Borrowed::of(port))
+    }
+
+    /// Borrows a port, and waits until there is one.
+    pub fn borrow<R: Wait>(&self, rt: &R) -> Borrowed<L::Port>
+        ensures { MayAsk (L.belongs self.now) L.view result.port }
+    {
+        let backoff = Backoff::new();
+        for _ in rt.forever() {
+            if let Some(borrowed) = self.try_borrow(rt) {
+                return borrowed;
+            }
+            backoff.snooze();
+        }
+        unreachable!()
+    }
+
+    /// Gives a port back.
+    pub fn give_back<R: Wait>(&self, rt: &R, borrowed: Borrowed<L::Port>)
+        requires { MayAsk (L.belongs self.now) L.view borrowed.port }
+    {
+        put_back(rt, &self.free, Seat::of(borrowed.into_port()));
+    }
+
+    /// Takes the line apart, once all its ports are given back. Refused, it hands the line back, and
+    /// the ports that no thread has.
+    pub fn finish(self, alloc: Global) -> Result<Line64, Unfinished<L, L::Port>>
+    where
+        L::Port: Drop,
+        ensures finished { IfOk result (λ last. IsFinishedBySome K.good K.allows (L.label_of self) (L.terms_of self) last.bytes) }
+        ensures why { IfErr result (λ back. MayRefuse (L.label_of self) (L.terms_of self).nodes (map L.view back.ports.items) back.why) }
+        ensures line { IfErr result (λ back. back.line ≡ self) }
+        ensures ports { IfErr result (λ back. All (MayAsk (L.belongs self) L.view) back.ports.items) }
+    {
+        let Seats { line, free, room } = self;
+        let ports = take_all(free, room.into_inner());
+        line.finish(alloc, ports)
+    }
+}
+
+/// Puts the seat into the queue.
+fn put_back<R: Wait, P, S: PortSet<P>>(rt: &R, free: &ArrayQueue<Seat<P, S>>, seat: Seat<P, S>) {
+    let mut seat = seat;
+    for _ in rt.forever() {
+        // The queue has room for all ports that there are, so it is never full.
+        match free.push(rt, seat) {
+            Ok(()) => return,
+            Err(back) => seat = back,
+        }
+    }
+    unreachable!()
+}
+
+/// The queue, with all these ports put into it.
+fn put_all<P: Drop, S: PortSet<P>>(
+    free: ArrayQueue<Seat<P, S>>,
+    ports: Vec<P>,
+) -> Result<ArrayQueue<Seat<P, S>>, AllocError>
+    requires { All S.has ports.items }
+{
+    let mut free = free;
+    for port in ports {
+        if free.push_mut(Seat::of(port)).is_err() {
+            return Err(AllocError);
+        }
+    }
+    Ok(free)
+}
+
+/// All ports that are in the queue, laid into the room.
+fn take_all<P: Drop, S: PortSet<P>>(free: ArrayQueue<Seat<P, S>>, room: Vec<P>) -> Vec<P>
+    ensures { All S.has result.items }
+{
+    let mut free = free;
+    let mut ports = room;
+    ports.clear();
+    for _count in 0..ports.capacity() {
+        let Some(seat) = free.pop_mut() else {
+            break;
+        };
+        let Ok(()) = ports.push(seat.into_port()) else {
+            unreachable!()
+        };
+    }
+    ports
+}
