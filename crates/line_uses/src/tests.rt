@@ -1,6 +1,7 @@
 //! The uses, over all lines. What is tried is written for any line, and the locks are named in one place: it takes the prover some seconds to
 //! see that a lock is a line, wherever it is named.
 mod again;
+mod ahead;
 mod asleep;
 mod counted;
 mod held;
@@ -40,6 +41,7 @@ enum Row {
     Sleeps,
     LongSleeps,
     Sleepers,
+    Ahead,
     Busy,
 }
 
@@ -85,6 +87,7 @@ where
             counted::sleepers_are_counted::<R, L>(rt, alloc);
             parked::all_sleep_at_the_same_time::<R, L>(rt, alloc);
         }
+        Row::Ahead => ahead::each_release_wakes_one_ahead::<R, L>(rt, alloc),
         Row::Busy => again::each_manner::<R, L>(rt, alloc),
     }
     Ok(())
@@ -278,6 +281,11 @@ fn sleeps_last_as_long_as_they_may(rt: HostRuntime) -> Result<(), Fail> {
 #[test]
 fn sleepers_are_counted(rt: HostRuntime) -> Result<(), Fail> {
     over_each(&rt, rt.alloc(), Row::Sleepers)
+}
+
+#[test]
+fn a_release_wakes_one_turn_ahead(rt: HostRuntime) -> Result<(), Fail> {
+    over_each(&rt, rt.alloc(), Row::Ahead)
 }
 
 #[test]

@@ -1,5 +1,6 @@
 //! How a line is opened.
-ghost use Rattle.std.specs.Prelude.{◌≡◌, ◌<◌, [], length, Some, None, IfOk, IfErr};
+ghost use Rattle.std.specs.Prelude.{◌≡◌, ◌<◌, ◌≤◌, [], length, vec_capacity, Some, None, IfOk, IfErr};
+ghost use Rattle.qolb_model.specs.declared.terms.TheConstants.{MOST_NODES};
 ghost use Rattle.qolb_model.specs.Opening.{MayOpen, MayNotOpen};
 ghost use Rattle.shared_line.specs.Entries.{newcomers};
 ghost use Rattle.shared_line.specs.Ports.{AreSplit, IsOpened, AreUnused};
@@ -7,7 +8,7 @@ ghost use Rattle.shared_line.specs.Ports.{AreSplit, IsOpened, AreUnused};
 use crate::line::{Line, Width};
 use crate::plays::Cut;
 use crate::port::Port;
-use crate::queue::Discipline;
+use crate::queue::{Discipline, Shape};
 use crate::rule::{Ground, LineSeat, LocalCopy, Parcel, Setup};
 use crate::sleeping::Waking;
 use atomic_table::Table;
@@ -136,6 +137,15 @@ impl<K: Keep, Q: Discipline<K>, W: Waking> OpenLine<K> for Line<K, Q, W> {
     }
 }
 
+/// Room for the ports of so many nodes, and for no more.
+fn room_for<Q: Shape>(alloc: Global, nodes: u64) -> Result<Vec<Port<Q>>, AllocError>
+    requires { nodes ≤ MOST_NODES }
+    ensures none { IfOk result (λ ports. ports.items ≡ []) }
+    ensures exact { IfOk result (λ ports. vec_capacity ports ≡ nodes) }
+{
+    Vec::with_capacity(alloc, nodes as usize)
+}
+
 /// A port for each node, from the seat that has the entries of all.
 fn split_ports<K: Keep, Q: Discipline<K>>(
     alloc: Global,
@@ -156,7 +166,7 @@ fn split_ports<K: Keep, Q: Discipline<K>>(
         turns_left: None,
         closed: false,
     };
-    let mut ports = Vec::with_capacity(alloc, setup.terms.nodes as usize)?;
+    let mut ports = room_for::<Q>(alloc, setup.terms.nodes)?;
     for done in 0..setup.terms.nodes {
         let others = ground.split_seat::<Cut>(&mut rest);
         let seat = mem::replace(&mut rest, others);

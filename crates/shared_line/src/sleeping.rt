@@ -1,5 +1,5 @@
 //! Waiters that sleep, and whoever wakes them. None of it is a step of the queue: the table stays as it is.
-ghost use Rattle.std.specs.Prelude.{◌≡◌, ℕ, ◌<◌, ◌%◌, ◌^◌, false};
+ghost use Rattle.std.specs.Prelude.{◌≡◌, ℕ, ◌<◌, ◌/◌, ◌%◌, ◌^◌, false};
 ghost use Rattle.shared_line.specs.Answers.{IsSeatOfNode};
 ghost use Rattle.shared_line.specs.Steps.{Rests};
 
@@ -65,9 +65,17 @@ const STRIDE: usize = 16;
 
 /// The group of those who sleep on a word.
 fn group_of(word: usize) -> usize
-    ensures { result < GROUPS }
+    ensures group { result ≡ word / STRIDE % GROUPS }
+    ensures within { result < GROUPS }
 {
     word / STRIDE % GROUPS
+}
+
+/// All that the kernel compares of a word before it lets a thread sleep.
+fn low_half(word: u64) -> u32
+    ensures { result ≡ word % 2 ^ 32 }
+{
+    (word % (1 << 32)) as u32
 }
 
 /// How many waiters of a line sleep, or are about to: all of them, and those of each group.
@@ -133,6 +141,11 @@ impl<K: Keep, Q: Discipline<K>> Line<K, Q> {
         self.sleepers.all.load(Ordering::SeqCst)
     }
 
+    /// How many of them are counted in the group of this word.
+    pub fn sleepers_near(&self, word: usize) -> u64 {
+        self.sleepers.groups[group_of(word)].load(Ordering::SeqCst)
+    }
+
     /// Sleeps at the word where the node waits, so long as its lower half is this one, by which the node's turn has not come.
     fn park<R: Wait>(
         &self,
@@ -159,7 +172,7 @@ impl<K: Keep, Q: Discipline<K>> Sleeping<K> for Line<K, Q> {
     fn sleep<R: Wait>(&self, rt: &R, port: &Port<Q>, at_most: Duration) {
         let word = Q::awaited(&self.table.shared, self.width.size, port.node, port.mark);
         self.sleepers.enter(word);
-        let low = (self.table.shared.peek(word) % (1 << 32)) as u32;
+        let low = low_half(self.table.shared.peek(word));
         if !Q::may_have_come(port.mark, low) {
             self.park(rt, &port.seat, port.node, port.mark, low, at_most);
         }

@@ -4,8 +4,9 @@ use line_lanes::Line64;
 use link_line::Links;
 use qolb_model::{Free, LineSync, OpenError, PortState};
 use ring_line::Ring;
-use shared_line::{Discipline, Line};
+use shared_line::{Discipline, Line, Parcel};
 use std::alloc::Global;
+use std::mem::size_of;
 use std::process::Abort;
 use std::test::Fail;
 use ticket_line::Ticket;
@@ -49,4 +50,11 @@ fn lines_are_opened(rt: HostRuntime) -> Result<(), Fail> {
     each_opening::<_, Ring>(&rt, rt.alloc())?;
     each_opening::<_, Ticket>(&rt, rt.alloc())?;
     each_opening::<_, Links>(&rt, rt.alloc())
+}
+
+/// A slot takes two cache lines, so that no two slots share one.
+#[test]
+fn a_slot_has_128_bytes(rt: HostRuntime) -> Result<(), Fail> {
+    assert_eq!(rt; size_of::<Parcel>(), 128);
+    Ok(())
 }

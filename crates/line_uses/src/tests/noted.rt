@@ -16,12 +16,13 @@ use std::thread::{Threads, yield_now};
 use std::time::Duration;
 
 /// What is noted at a line: how often a node was to ask and was busy; how many looks were in vain, and how many of these before the first
-/// sleep; how many sleeps there were, how many nanoseconds the last and the longest were to take at most, and how often a holder let go.
+/// sleep and before the second; how many sleeps there were, how many nanoseconds the last and the longest were to take at most, and how often a holder let go.
 #[derive(Drop)]
 struct Notes {
     busy: AtomicU64,
     looks: AtomicU64,
     looks_before: AtomicU64,
+    looks_again: AtomicU64,
     sleeps: AtomicU64,
     last: AtomicU64,
     longest: AtomicU64,
@@ -34,6 +35,7 @@ impl Notes {
             busy: AtomicU64::new(0),
             looks: AtomicU64::new(0),
             looks_before: AtomicU64::new(0),
+            looks_again: AtomicU64::new(0),
             sleeps: AtomicU64::new(0),
             last: AtomicU64::new(0),
             longest: AtomicU64::new(0),
@@ -45,9 +47,12 @@ impl Notes {
         let nanos = u64::try_from(at_most.as_nanos()).unwrap_or(u64::MAX);
         self.last.store(nanos, Ordering::SeqCst);
         self.longest.fetch_max(nanos, Ordering::SeqCst);
-        if self.sleeps.fetch_add(1, Ordering::SeqCst) == 0 {
-            self.looks_before.store(self.looks(), Ordering::SeqCst);
+        match self.sleeps() {
+            0 => self.looks_before.store(self.looks(), Ordering::SeqCst),
+            1 => self.looks_again.store(self.looks(), Ordering::SeqCst),
+            _ => {}
         }
+        self.sleeps.fetch_add(1, Ordering::SeqCst);
     }
 
     fn busy(&self) -> u64 {
@@ -60,6 +65,10 @@ impl Notes {
 
     fn looks_before(&self) -> u64 {
         self.looks_before.load(Ordering::SeqCst)
+    }
+
+    fn looks_again(&self) -> u64 {
+        self.looks_again.load(Ordering::SeqCst)
     }
 
     fn sleeps(&self) -> u64 {
@@ -578,7 +587,7 @@ where
     }
 }
 
-/// Node 1 has the line until node 2, which waits for it, was to sleep.
+/// Node 1 has the line until node 2, which waits for it, was to sleep twice.
 #[derive(Drop)]
 struct Handing<'n> {
     notes: &'n Notes,
@@ -586,7 +595,7 @@ struct Handing<'n> {
 
 impl<R: Wait, L: Sleeping<Free>> Scene<R, L> for Handing<'_> {
     fn keep(&self, rt: &R, _line: &L) {
-        wait_until(rt, &self.notes.sleeps, 1);
+        wait_until(rt, &self.notes.sleeps, 2);
     }
 
     fn behind(&self, rt: &R, line: &L, port: &mut L::Port) -> bool {
@@ -594,7 +603,7 @@ impl<R: Wait, L: Sleeping<Free>> Scene<R, L> for Handing<'_> {
     }
 }
 
-/// Whether each of two nodes of a new line had it, the first until the second was to sleep.
+/// Whether each of two nodes of a new line had it, the first until the second was to sleep twice.
 fn hand_to_a_sleeper<R: Threads + Wait + Sync, L: OpenLine<Free> + Sleeping<Free> + Sync + Drop>(
     rt: &R,
     alloc: Global,
@@ -608,7 +617,8 @@ where
     Ok(all_see(rt, alloc, &line, ports, &Handing { notes }))
 }
 
-/// A waiter that sleeps does sleep where its turn does not come, at its 73rd look in vain, and for as long as it may.
+/// A waiter that sleeps does sleep where its turn does not come, at its 73rd look in vain, and for as long as it may. Woken ahead of its turn, it
+/// looks as often again before it sleeps again.
 fn a_long_wait_sleeps<
     R: Threads + Wait + Abort + Sync,
     L: OpenLine<Free> + Sleeping<Free> + Sync + Drop,
@@ -619,6 +629,7 @@ where
     let notes = Notes::none();
     assert_eq!(rt; hand_to_a_sleeper::<R, L>(rt, alloc, &notes), Ok(true));
     assert_eq!(rt; (notes.looks_before(), notes.last()), (73, u64::MAX));
+    assert_eq!(rt; notes.looks_again(), 146);
 }
 
 /// Each of these over lines of this type.

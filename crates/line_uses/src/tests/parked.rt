@@ -38,7 +38,7 @@ struct Took {
 }
 
 /// How long a sleep takes that waits no longer than this for its turn.
-fn sleep_for<R: Wait + Clock, L: Sleeping<Free>>(
+pub(super) fn sleep_for<R: Wait + Clock, L: Sleeping<Free>>(
     rt: &R,
     line: &L,
     port: &L::Port,
