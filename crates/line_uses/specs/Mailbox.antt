@@ -1,5 +1,5 @@
 -- What came of a turn at the mailbox, or of asking for one. (Of this project.)
-use Rattle.std.specs.Prelude.{◌≡◌, ◌≢◌, ◌⊎◌, ℕ, false, List, ◌∷◌, ◌++◌, length, replicate, slice_get, Some}
+use Rattle.std.specs.Prelude.{◌≡◌, ◌≢◌, ◌⊎◌, ℕ, false, List, ◌∷◌, ◌++◌, length, drop, replicate, slice_get, Some}
 use Rattle.line_lanes.specs.Lane.{lane_of}
 use Rattle.qolb_model.specs.declared.write.Write.{Write}
 use Rattle.qolb_model.specs.declared.end.End.{End}
@@ -20,8 +20,8 @@ IsLate old new = IsBusy old new ⊎ IsWithdrawn new
 abbrev pub HadNoTurn : View → View → Type 0
 HadNoTurn old new = IsLate old new ⊎ IsTold new
 
--- the port's request had its turn, which found the first value in the first lane and left the second there; it closed the line at the last
--- turn of a lease alone, and behind it only withdrawn requests ended
+-- the port's request had its turn, which found the first value in the first lane and left the second there, and left the other lanes; it
+-- closed the line at the last turn of a lease alone, and behind it only withdrawn requests ended
 pub record HadTurn (found left : ℕ) (new : View) : Type 0 where
   pub before : List End
   pub write : Write
@@ -30,6 +30,7 @@ pub record HadTurn (found left : ℕ) (new : View) : Type 0 where
   pub at_turn : slice_get new.order (length before) ≡ Some (own new)
   pub lay : lane_of (bytes_after new.terms.opening.bytes before) 0 ≡ found
   pub lies : lane_of (bytes_of new) 0 ≡ left
+  pub others : drop 8 (bytes_of new) ≡ drop 8 (bytes_after new.terms.opening.bytes before)
 
 -- it found a value there, and left it
 abbrev pub WasFull : View → Type 0

@@ -1,5 +1,5 @@
 //! Threads share one number. Each takes the line, adds 1 to its first lane, and hands it on.
-ghost use Rattle.std.specs.Prelude.{◌≡◌, ◌⊎◌, ◌+◌, ◌*◌, ◌%◌, ◌^◌, IfSome, IsTrue};
+ghost use Rattle.std.specs.Prelude.{◌≡◌, ◌⊎◌, ◌+◌, ◌*◌, ◌%◌, ◌^◌, IfSome, IsTrue, drop};
 ghost use Rattle.line_lanes.specs.Lane.{lane_of};
 ghost use Rattle.qolb_model.specs.PortStates.{may_ask};
 ghost use Rattle.qolb_model.specs.Views.{bytes_of};
@@ -24,6 +24,7 @@ pub(crate) fn add_one<L: LineSync<Free>>(port: &mut L::Port)
     requires { IsGranted (L.view port.old) (L.turn port.old) }
     ensures view { L.view port.new ≡ L.view port.old }
     ensures added { lane_of (L.turn port.new).bytes.bytes 0 ≡ (lane_of (bytes_of (L.view port.old)) 0 + 1) % 2 ^ 64 }
+    ensures others { drop 8 (L.turn port.new).bytes.bytes ≡ drop 8 (bytes_of (L.view port.old)) }
     ensures belongs { (line : L) → L.belongs line port.old → L.belongs line port.new }
 {
     let held = *L::bytes(port);

@@ -27,8 +27,14 @@ enum Again {
 /// How often whoever sleeps is busy before it naps between two tries.
 const AWAKE: u64 = 72;
 
+/// How often node 2 is busy after that, at least, before node 1 lets go.
+const NAPS: u64 = 20;
+
 /// Less than a nap, in nanoseconds.
 const HASTE: u64 = 100_000;
+
+/// Several naps, in nanoseconds. The system wakes who sleeps for very short some 60 microseconds late.
+const LONG: u64 = 1_000_000;
 
 /// How often a node was to ask and was busy, and how often that was in haste: so soon after the last time that it had not napped in between,
 /// though it was busy often enough before.
@@ -39,6 +45,8 @@ struct Tries<'r, R> {
     hasty: AtomicU64,
     /// When it was busy last, in nanoseconds.
     last: AtomicU64,
+    /// The shortest time from one try to the next, in nanoseconds, of those between which it may nap.
+    shortest: AtomicU64,
 }
 
 impl<'r, R: Clock> Tries<'r, R> {
@@ -48,6 +56,7 @@ impl<'r, R: Clock> Tries<'r, R> {
             count: AtomicU64::new(0),
             hasty: AtomicU64::new(0),
             last: AtomicU64::new(0),
+            shortest: AtomicU64::new(u64::MAX),
         }
     }
 
@@ -65,23 +74,30 @@ impl<R: Clock> Hooks for &Tries<'_, R> {
         let before = self.count.fetch_add(1, Ordering::SeqCst);
         let now = self.nanos();
         let last = self.last.swap(now, Ordering::SeqCst);
-        if before > AWAKE && now.saturating_sub(last) < HASTE {
-            self.hasty.fetch_add(1, Ordering::SeqCst);
+        if before > AWAKE {
+            let pause = now.saturating_sub(last);
+            self.shortest.fetch_min(pause, Ordering::SeqCst);
+            if pause < HASTE {
+                self.hasty.fetch_add(1, Ordering::SeqCst);
+            }
         }
     }
 }
 
 /// Node 2 gives its request up while node 1 has the line, and asks again at once.
 #[derive(Drop)]
-struct Asking {
+struct Asking<'t> {
     again: Again,
     late: AtomicU64,
+    /// How often it was busy.
+    busy: &'t AtomicU64,
 }
 
-impl<R: Wait + Clock, L: Sleeping<Free>> Scene<R, L> for Asking {
+impl<R: Wait + Clock, L: Sleeping<Free>> Scene<R, L> for Asking<'_> {
     fn keep(&self, rt: &R, _line: &L) {
         wait_until(rt, &self.late, 1);
         thread::sleep(rt, Duration::from_millis(BUSY_MILLIS));
+        wait_until(rt, self.busy, AWAKE + NAPS);
     }
 
     fn behind(&self, rt: &R, line: &L, port: &mut L::Port) -> bool {
@@ -97,12 +113,13 @@ impl<R: Wait + Clock, L: Sleeping<Free>> Scene<R, L> for Asking {
     }
 }
 
-/// Whether each of two nodes had the line, and how often the second was busy, and in haste.
+/// Whether each of two nodes had the line; how often the second was busy, and in haste; and the shortest pause of those that may be naps.
 #[derive(Clone, Copy, Debug)]
 struct Found {
     had: bool,
     busy: u64,
     hasty: u64,
+    shortest: u64,
 }
 
 /// Node 1 of a new line has it, and node 2 asks again until it has it after it.
@@ -114,11 +131,12 @@ fn ask_again<R: Threads + Wait + Clock + Sync, L: OpenLine<Free> + Sleeping<Free
 where
     L::Port: Send + Drop,
 {
+    let tries = Tries::none(rt);
     let asking = Asking {
         again,
         late: AtomicU64::new(0),
+        busy: &tries.count,
     };
-    let tries = Tries::none(rt);
     let (line, ports) = L::open_with(alloc, 1, for_nodes(2))?;
     let line = HookedLine::with(&tries, line);
     let had = all_see(rt, alloc, &line, ports, &asking);
@@ -126,11 +144,13 @@ where
         had,
         busy: tries.count.load(Ordering::SeqCst),
         hasty: tries.hasty.load(Ordering::SeqCst),
+        shortest: tries.shortest.load(Ordering::SeqCst),
     })
 }
 
 /// In each manner, over lines of this type. Whoever sleeps naps between its tries, each time for 200 microseconds, so that it is busy some
-/// hundred times in 30 milliseconds, and in haste at most where a nap ends early; without naps it is so many thousand times.
+/// hundred times in 30 milliseconds, and in haste at most where a nap ends early; without naps it is so many thousand times. Of its naps one
+/// takes hardly longer.
 pub(super) fn each_manner<
     R: Threads + Wait + Clock + Abort + Sync,
     L: OpenLine<Free> + Sleeping<Free> + Sync + Drop,
@@ -143,7 +163,8 @@ where
         let found = ask_again::<R, L>(rt, alloc, again);
         let held = found.is_ok_and(|found| {
             let naps = !matches!(again, Again::Awake);
-            found.had && found.busy > 0 && (found.hasty < 5 || !naps)
+            let naps_well = found.hasty < 5 && found.shortest < LONG;
+            found.had && found.busy > 0 && (naps_well || !naps)
         });
         assert!(rt; held, "{again:?}: {found:?}");
     }
