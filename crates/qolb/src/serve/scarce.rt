@@ -93,7 +93,7 @@ fn each_allocation_is_refused(rt: HostRuntime) -> Result<(), Fail> {
 static BY_SIZE: [&str; 4] = ["plain", "link", "ring", "ticket"];
 
 /// Rooms, in KB, in each of which eight lines of one kind more find place.
-static LARGER_ROOMS: [usize; 4] = [300, 450, 650, 1_200];
+static LARGER_ROOMS: [usize; 4] = [300, 490, 650, 1_200];
 
 /// What a replay of eight lines for 200 nodes says of them.
 const EIGHT_LINES: &str =
