@@ -6,7 +6,7 @@ changed or its tests are run. The gate tries those in must-fail/ alone.
 An edit shows something only where the prover refuses it by a goal: what the changed function promises, what a call in it requires, or what a
 caller of it relies on. An edit that only renames goals is refused because answers name goals that are gone, which a harmless rewrite of the
 same place would be too; such an edit shows nothing. A patch is what a test has to refuse, most often since no clause can say it (that threads run at the same
-time, say): its head has what it shows, the crate whose tests are run, and the test that must not pass. The tests are run without a proof, by `rt try --test`; but a test that takes all
+time, say): its head has what it shows, the crate whose tests are run, and the test that must not pass. That test alone is run without a proof, by `rt try --test`; but a test that takes all
 memory away fails there whatever the body, so such a patch is judged by `rt test`, and with --proved alone: it proves all crates from the one changed on.
 
 Edits are tried over the work that `tools/prove` keeps, which is called first. For each body a line:
