@@ -166,5 +166,5 @@ fn main() {
         guards(kind);
         waiter_is_dropped(kind);
     }
-    assert_eq!(qolb::version(), 10400);
+    assert_eq!(qolb::version(), 10500);
 }

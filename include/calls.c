@@ -1,7 +1,8 @@
 /* The calls on nodes, as the library exports them: each is the proved one, but for a node that a lock has lent (qolb_lock_turn). By that one its
  * holder reads and writes the line, and every call that would move the node on is misuse: its lock would not know of it.
  *
- * The calls that wait for a turn are here too, and all that let a line go ring its bell (bells.h). This is tested, not proved. */
+ * The calls that wait for a turn are here too, and all that let a line go ring its bell (bells.h). This is tested, not proved. So is what an open line
+ * takes of memory beside its table. */
 #define _GNU_SOURCE
 #include "bells.h"
 #include "proved.h"
@@ -177,6 +178,24 @@ SAYS(uint64_t, qolb_turns_left)
 SAYS(uint64_t, qolb_number)
 SAYS(uint64_t, qolb_label)
 SAYS(uint32_t, qolb_state)
+
+/* ---- Memory ----
+ *
+ * What an open line keeps, as its blocks are asked for. The proved part tells how much its table takes, whose words are one block and whose slots are
+ * another. The other blocks are always of these sizes, as c_examples/memory.c counts. Behind each block is a gap (gaps.c). */
+enum {
+    TABLE_BLOCKS = 2,
+    LINE_BYTES = 112, /* of the block with the line, which all nodes share, and the count of those that do */
+    NODE_BYTES = 152, /* of the block of each node, to which its handle points */
+    GAP_BYTES = QOLB_NODE_ALIGN
+};
+
+uint64_t qolb_memory(uint32_t kind, uint64_t nodes) {
+    uint64_t table = qolb_memory_proved_(kind, nodes);
+    if (table == 0) return 0;
+    uint64_t blocks = TABLE_BLOCKS + 1 + nodes;
+    return table + LINE_BYTES + nodes * NODE_BYTES + blocks * GAP_BYTES;
+}
 
 /* Of the library as it is released, with its parts in C: the proved one's is that of the last release which changed it. */
 uint32_t qolb_version(void) { return QOLB_VERSION; }

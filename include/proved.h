@@ -21,6 +21,7 @@ uint32_t qolb_close_proved_(qolb_node *node);
 uint64_t qolb_number_proved_(qolb_node *node);
 uint64_t qolb_label_proved_(qolb_node *node);
 uint32_t qolb_state_proved_(qolb_node *node);
+uint64_t qolb_memory_proved_(uint32_t kind, uint64_t nodes);
 uint32_t qolb_version_proved_(void);
 
 /* A lent node is a handle whose lowest bit is set: with it off, it is the address of a lock's hall. No node of the library's lies at an odd address.

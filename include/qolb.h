@@ -91,7 +91,7 @@
  *   withdrawn request takes one step on the words that nodes share, where a ring's takes two. By its answers nobody can tell it from a ring.
  *   Take this one, by the name QOLB_DEFAULT, unless memory is short or you want the two halves of asking.
  *
- * Bytes of heap that an open line keeps:
+ * Bytes of heap that an open line keeps, with what glibc's malloc adds to its blocks. qolb_memory tells them without that, for any number of nodes:
  *
  *     nodes                 1         2         8        64       200
  *     ticket line       1,312     2,104     6,856    51,208   122,072
@@ -199,7 +199,7 @@
 /* The version of this header. QOLB_VERSION is one number, 10000 for each major version, 100 for each minor one; qolb_version() is that of the
  * library that the program runs with. */
 #define QOLB_VERSION_MAJOR 1
-#define QOLB_VERSION_MINOR 4
+#define QOLB_VERSION_MINOR 5
 #define QOLB_VERSION_PATCH 0
 #define QOLB_VERSION (QOLB_VERSION_MAJOR * 10000 + QOLB_VERSION_MINOR * 100 + QOLB_VERSION_PATCH)
 
@@ -282,6 +282,10 @@ enum qolb_node_state {
  * closes at the end of its lease-th turn.
  * DONE; else, the first that stands of BAD_KIND, BAD_NODES, BAD_LEASE, TOO_FEW, OCCUPIED and NO_MEMORY. */
 uint32_t qolb_open(uint32_t kind, uint64_t label, uint64_t nodes, uint64_t lease, const qolb_bytes *opening, qolb_node *out, size_t handles) QOLB_LOOK;
+
+/* How many bytes of heap an open line of this kind with so many nodes keeps, as the library asks malloc for them. 0 where opening answers BAD_KIND or
+ * BAD_NODES. Opening takes more for a moment. This call takes none, and needs no line. */
+uint64_t qolb_memory(uint32_t kind, uint64_t nodes);
 
 /* Asks, and does not wait. Where the node may ask: GRANTED, QUEUED, CLOSED, BUSY. Else MISUSE. */
 uint32_t qolb_enqolb(qolb_node *node) QOLB_LOOK;

@@ -92,7 +92,7 @@ uint32_t qolb_open(uint32_t kind, uint64_t label, uint64_t nodes, uint64_t lease
     return QOLB_DONE;
 }
 
-/* Asking in halves, reading and writing are in no scene. All lines have one label. */
+/* Asking in halves, reading, writing and the memory of a line are in no scene. All lines have one label. */
 uint32_t qolb_prepend_proved_(qolb_node *node) { return (void)node, MUST(0), 0; }
 uint32_t qolb_link_proved_(qolb_node *node) { return (void)node, MUST(0), 0; }
 uint32_t qolb_read_proved_(qolb_node *node, qolb_bytes *out) { return (void)node, (void)out, MUST(0), 0; }
@@ -103,3 +103,4 @@ uint64_t qolb_turns_left_proved_(qolb_node *node) { return (void)node, MUST(0), 
 uint64_t qolb_number_proved_(qolb_node *node) { return (void)node, MUST(0), 0; }
 uint64_t qolb_label_proved_(qolb_node *node) { return (void)node, 1; }
 uint32_t qolb_state_proved_(qolb_node *node) { return (void)node, MUST(0), 0; }
+uint64_t qolb_memory_proved_(uint32_t kind, uint64_t nodes) { return (void)kind, (void)nodes, MUST(0), 0; }
