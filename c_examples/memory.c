@@ -1,30 +1,59 @@
 /* What a line takes of the heap, and a lock: the bytes that stay taken after qolb_open and after a lock's first use, by kind and number of nodes or of seats,
- * as malloc_usable_size counts them. What two nodes keep is to lie in no two cache lines that are fetched together. */
+ * as malloc_usable_size counts them. What qolb_memory tells is to be what opening has asked for and keeps. What two nodes keep is to lie in no two cache
+ * lines that are fetched together. */
 #include <malloc.h>
 #include <qolb.h>
 #include <stdio.h>
+#include <stdlib.h>
 
-static size_t taken;
+/* Of all blocks that are taken: the bytes that they have, and those that were asked for. */
+static size_t taken, asked;
+static struct {
+    void *block;
+    size_t asked;
+} blocks[1024];
 
 void *__real_malloc(size_t size);
 void *__real_realloc(void *block, size_t size);
 void __real_free(void *block);
 
-void *__wrap_malloc(size_t size) {
-    void *block = __real_malloc(size);
+/* Where the block stands; of NULL a place that is free. */
+static size_t place_of(const void *block) {
+    for (size_t k = 0; k < sizeof blocks / sizeof blocks[0]; k++)
+        if (blocks[k].block == block) return k;
+    abort();
+}
+
+static void *takes(void *block, size_t size) {
+    if (!block) return NULL;
+    size_t k = place_of(NULL);
+    blocks[k].block = block;
+    blocks[k].asked = size;
+    asked += size;
     taken += malloc_usable_size(block);
     return block;
 }
 
+static void gives_back(void *block) {
+    if (!block) return;
+    size_t k = place_of(block);
+    blocks[k].block = NULL;
+    asked -= blocks[k].asked;
+    taken -= malloc_usable_size(block);
+}
+
+void *__wrap_malloc(size_t size) { return takes(__real_malloc(size), size); }
+
+/* Where there is no memory the block stays. */
 void *__wrap_realloc(void *block, size_t size) {
-    size_t before = malloc_usable_size(block);
+    size_t before = block ? blocks[place_of(block)].asked : 0;
+    gives_back(block);
     void *moved = __real_realloc(block, size);
-    if (moved) taken += malloc_usable_size(moved) - before;
-    return moved;
+    return moved ? takes(moved, size) : (takes(block, before), NULL);
 }
 
 void __wrap_free(void *block) {
-    taken -= malloc_usable_size(block);
+    gives_back(block);
     __real_free(block);
 }
 
@@ -37,6 +66,32 @@ static int apart(const qolb_node *node, uint64_t nodes) {
         }
     }
     return 1;
+}
+
+/* Whether qolb_memory tells what a line of so many nodes has asked for and keeps, and takes nothing by that. */
+static int is_told(uint32_t kind, uint64_t nodes) {
+    qolb_bytes zeros = {{0}};
+    qolb_node node[200] = {{0}};
+    size_t before = asked;
+    uint64_t told = qolb_memory(kind, nodes);
+    if (asked != before || qolb_open(kind, 1, nodes, QOLB_NO_LEASE, &zeros, node, 200) != QOLB_DONE) return 0;
+    size_t keeps = asked - before;
+    for (uint64_t n = 0; n < nodes; n++)
+        if (qolb_close(&node[n]) != QOLB_DONE) return 0;
+    if (told == keeps && asked == before) return 1;
+    return printf("kind %d nodes %d: keeps %zu, and is told to keep %zu\n", (int)kind, (int)nodes, keeps, (size_t)told), 0;
+}
+
+/* So it is with few nodes and many; and of a line that opening refuses nothing is told. */
+static int all_are_told(void) {
+    static const uint64_t nodes[] = {1, 2, 3, 8, 64, 200}, refused[] = {0, 201, UINT64_MAX};
+    for (uint32_t kind = QOLB_RING; kind <= QOLB_TICKET; kind++) {
+        for (size_t k = 0; k < sizeof nodes / sizeof nodes[0]; k++)
+            if (!is_told(kind, nodes[k])) return 0;
+        for (size_t k = 0; k < sizeof refused / sizeof refused[0]; k++)
+            if (qolb_memory(kind, refused[k]) != 0) return 0;
+    }
+    return qolb_memory(QOLB_TICKET + 1, 2) == 0;
 }
 
 int main(void) {
@@ -59,5 +114,6 @@ int main(void) {
             if (qolb_lock_close(&lock) != QOLB_DONE || taken != before) return 1;
         }
     }
+    if (!all_are_told()) return puts("qolb_memory tells something else"), 1;
     return 0;
 }

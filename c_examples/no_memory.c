@@ -74,6 +74,7 @@ static int calls_take_none(uint32_t kind) {
     if (qolb_read(one, &bytes) != QOLB_DONE || qolb_read_lane(one, 1, &number) != QOLB_DONE || number != 7) return puts("not read"), 1;
     if (qolb_enqolb(two) != QOLB_QUEUED || qolb_poll(two) != QOLB_WAITING || qolb_wait(two, 3) != QOLB_WAITING) return puts("does not wait"), 1;
     if (qolb_number(two) != 2 || qolb_label(two) != 1 || qolb_state(two) != QOLB_STATE_QUEUED) return puts("not node 2"), 1;
+    if (qolb_memory(kind, 2) == 0) return puts("no memory is told"), 1;
     if (qolb_withdraw(two) != QOLB_WITHDRAWN || qolb_enqolb(two) != QOLB_BUSY || qolb_deqolb(one) != QOLB_DONE) return puts("not passed"), 1;
     if (kind == QOLB_LIST) {
         if (qolb_prepend(two) != QOLB_GRANTED || qolb_prepend(one) != QOLB_LINKING || qolb_link(one) != QOLB_QUEUED) return puts("not linked"), 1;
