@@ -192,10 +192,17 @@ bool rounds_up(qolb_kind kind) {
     return line.node.acquire_for(duration<int, std::ratio<60>>(1)) == qolb::Got::late && now - since == 60000000000;
 }
 
+// What a ticket line of two nodes keeps: four cells of 256 bytes, the line, two nodes, and a gap behind each of five blocks.
+bool tells_memory() {
+    constexpr std::uint64_t keeps = 4 * 256 + 112 + 2 * 152 + 5 * 128;
+    return qolb::memory(QOLB_TICKET, 2) == keeps && qolb::memory(QOLB_TICKET, 0) == 0 && qolb::memory(QOLB_TICKET, 201) == 0;
+}
+
 } // namespace
 
 int main() {
     alarm(300); // where a turn is lost, who waits for it does not end
+    if (!tells_memory()) return std::puts("what a line keeps of memory"), 1;
     for (qolb_kind kind : {QOLB_RING, QOLB_LIST, QOLB_TICKET}) {
         for (std::size_t k = 0; k < states; k++) {
             for (const Row &row : rows)

@@ -211,6 +211,12 @@ fn says() {
     assert_eq!(held.node.lock().unwrap().turns_left(), Some(LEASE - 1));
 }
 
+/// What a list of three nodes keeps: 256 bytes and 128 for each node, the line, three nodes, and a gap behind each of six blocks.
+fn tells_memory() {
+    assert_eq!(qolb::memory(Kind::List, 3), Some(256 + 3 * 128 + 112 + 3 * 152 + 6 * 128));
+    assert_eq!((qolb::memory(Kind::List, 0), qolb::memory(Kind::List, 201)), (None, None));
+}
+
 unsafe extern "C" {
     safe fn alarm(seconds: u32) -> u32;
     fn pthread_cancel(thread: std::os::unix::thread::RawPthread) -> i32;
@@ -243,6 +249,7 @@ fn is_cancelled(kind: Kind) {
 fn main() {
     alarm(300); // where a turn is lost, who waits for it does not end
     says();
+    tells_memory();
     for kind in [Kind::Ring, Kind::List, Kind::Ticket] {
         each_call(kind);
         is_cancelled(kind);

@@ -83,6 +83,9 @@ template <class Rep, class Period> std::uint64_t nanoseconds(const std::chrono::
 
 } // namespace detail
 
+// How many bytes of heap an open line keeps (qolb_memory); 0 where Node::open refuses the kind or the nodes.
+QOLB_NODISCARD inline std::uint64_t memory(qolb_kind kind, std::uint64_t nodes) { return qolb_memory(kind, nodes); }
+
 // A node of a line, or none. A node that is destroyed withdraws its request, or releases the line that it holds.
 //
 // It is a timed lock as the standard library means it, so std::unique_lock, std::lock_guard and std::scoped_lock take it.

@@ -159,6 +159,7 @@ pub struct Bytes(pub [u8; 64]);
 
 unsafe extern "C" {
     fn qolb_open(kind: u32, label: u64, nodes: u64, lease: u64, opening: &Bytes, out: *mut Handle, handles: usize) -> u32;
+    safe fn qolb_memory(kind: u32, nodes: u64) -> u64;
     fn qolb_enqolb(node: &mut Handle) -> u32;
     fn qolb_poll(node: &mut Handle) -> u32;
     fn qolb_wait(node: &mut Handle, polls: u64) -> u32;
@@ -220,6 +221,12 @@ pub fn open(kind: Kind, label: u64, nodes: u64, lease: Option<u64>, opening: &By
         }
         refused => Err(refused),
     }
+}
+
+/// How many bytes of heap an open line of this kind with so many nodes keeps, as the library asks `malloc` for them. `None` where `open` refuses: a line
+/// has 1 to 200 nodes. The `Vec` in which `open` gives the nodes is besides.
+pub fn memory(kind: Kind, nodes: u64) -> Option<u64> {
+    Some(qolb_memory(kind as u32, nodes)).filter(|bytes| *bytes != 0)
 }
 
 /// Its number, its line's label, and its state.
