@@ -18,11 +18,13 @@ use std::sync::Wait;
 use std::test::Fail;
 use ticket_line::TicketLine;
 
-/// How many word steps a release takes that passes two withdrawn nodes of three, and one that passes 199 of 200.
+/// What is known of a lock: how many word steps a release takes that passes two withdrawn nodes of three, and one that passes 199 of 200;
+/// and how many bytes the table of a line of four nodes has.
 #[derive(Drop)]
-struct Steps {
+struct Known {
     few: u64,
     many: u64,
+    table: usize,
 }
 
 /// What is tried of a line.
@@ -37,16 +39,18 @@ enum Part {
 fn try_part<R: Wait + Abort, L: Counted + Sleeping<Free> + Drop>(
     rt: &R,
     alloc: Global,
-    steps: &Steps,
+    known: &Known,
     part: Part,
 ) -> Result<(), Fail>
 where
     L::Port: Drop,
 {
     match part {
-        Part::Calls => each_call::<R, L>(rt, alloc, steps),
+        Part::Calls => each_call::<R, L>(rt, alloc, known),
         Part::OpeningWithoutMemory => lines::each_allocation_of_opening_is_refused::<R, L>(
-            rt, alloc,
+            rt,
+            alloc,
+            known.table,
         ),
     }
 }
@@ -55,7 +59,7 @@ where
 fn each_call<R: Wait + Abort, L: Counted + Sleeping<Free> + Drop>(
     rt: &R,
     alloc: Global,
-    steps: &Steps,
+    known: &Known,
 ) -> Result<(), Fail>
 where
     L::Port: Drop,
@@ -63,9 +67,9 @@ where
     asleep::a_waiter_that_has_slept_is_counted_no_more::<R, L>(rt, alloc);
     lines::lines_have_nodes_and_turns::<R, L>(rt, alloc);
     script::each_script::<R, L>(rt, alloc);
-    lines::a_release_passes_those_who_withdrew::<R, L>(rt, alloc, steps.few)?;
+    lines::a_release_passes_those_who_withdrew::<R, L>(rt, alloc, known.few)?;
     lines::one_node_takes_300_turns::<R, L>(rt, alloc)?;
-    lines::a_release_passes_all_other_nodes_of_200::<R, L>(rt, alloc, steps.many)?;
+    lines::a_release_passes_all_other_nodes_of_200::<R, L>(rt, alloc, known.many)?;
     lines::finish_wants_a_port_of_each_node::<R, L>(rt, alloc);
     lines::finish_wants_no_other_port::<R, L>(rt, alloc);
     lines::each_growth_of_finish_is_refused::<R, L>(rt, alloc)?;
@@ -74,18 +78,33 @@ where
 }
 
 fn over_rings<R: Wait + Abort>(rt: &R, alloc: Global, part: Part) -> Result<(), Fail> {
-    let steps = Steps { few: 8, many: 599 };
-    try_part::<_, RingLine<Free>>(rt, alloc, &steps, part)
+    // 256 cells, each with a node's word in 128 bytes, and a slot: as for 200 nodes.
+    let known = Known {
+        few: 8,
+        many: 599,
+        table: 257 * 128,
+    };
+    try_part::<_, RingLine<Free>>(rt, alloc, &known, part)
 }
 
 fn over_lists<R: Wait + Abort>(rt: &R, alloc: Global, part: Part) -> Result<(), Fail> {
-    let steps = Steps { few: 9, many: 797 };
-    try_part::<_, LinkLine<Free>>(rt, alloc, &steps, part)
+    // An entry of 128 bytes for each node, as much for the home word, and a slot.
+    let known = Known {
+        few: 9,
+        many: 797,
+        table: 6 * 128,
+    };
+    try_part::<_, LinkLine<Free>>(rt, alloc, &known, part)
 }
 
 fn over_ticket_lines<R: Wait + Abort>(rt: &R, alloc: Global, part: Part) -> Result<(), Fail> {
-    let steps = Steps { few: 5, many: 399 };
-    try_part::<_, TicketLine<Free>>(rt, alloc, &steps, part)
+    // Eight cells, each with a node's word in 128 bytes, and with a slot.
+    let known = Known {
+        few: 5,
+        many: 399,
+        table: 8 * 256,
+    };
+    try_part::<_, TicketLine<Free>>(rt, alloc, &known, part)
 }
 
 #[test]

@@ -3,3 +3,4 @@ pub mod Numbers
 pub mod Held
 pub mod Calls
 pub mod Opens
+pub mod Memory

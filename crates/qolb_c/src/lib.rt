@@ -7,6 +7,7 @@
 ghost use Rattle.std.specs.Prelude.{◌≡◌, true, false, None};
 ghost use Rattle.qolb_c.specs.declared.answer.Answer.{Answer};
 ghost use Rattle.qolb_c.specs.Numbers.{number_of};
+ghost use Rattle.qolb_c.specs.Memory.{TellsMemory};
 ghost use Rattle.qolb_c.specs.Opens.{Opens, terms_by};
 ghost use Rattle.qolb_c.specs.Calls.{Calls, Enqolbs, Polls, Waits, Prepends, LinksUp, Withdraws, Reads, ReadsLane, Writes, WritesLane, Releases, Closes, TurnsLeft, node_number, label_told, state_told};
 
@@ -70,6 +71,14 @@ pub extern "C" fn qolb_open(
         lease: if lease == NO_LEASE { None } else { Some(lease) },
     };
     opening::open(alloc, kind, label, terms, out).number()
+}
+
+/// How many bytes the table of an open line of this kind takes, for so many nodes; 0 where `qolb_open` would refuse. It takes none itself.
+#[unsafe(no_mangle)]
+pub extern "C" fn qolb_memory(kind: u32, nodes: u64) -> u64
+    ensures { TellsMemory kind nodes result }
+{
+    opening::memory(kind, nodes)
 }
 
 /// Asks for the line.

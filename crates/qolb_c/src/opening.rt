@@ -2,13 +2,15 @@
 ghost use Rattle.std.specs.Prelude.{◌≡◌, ◌≢◌, ◌≤◌, ◌++◌, ℕ, true, false, length, map, drop, Some, None, IsTrue, IfOk, IfErr};
 ghost use Rattle.qolb_model.specs.Opening.{MayOpen, MayNotOpen};
 ghost use Rattle.qolb_c.specs.Opens.{AreOfLine, AreNewNodes, held_by, AreEmpty, HasNode, AreOpened, WhyRefused, refused_by, IsKind};
+ghost use Rattle.qolb_c.specs.Memory.{TellsMemory};
 
 use crate::answer::Answer;
 use crate::any_node::{AnyNode, IntoAny};
 use crate::handle::Handle;
 use crate::kinds::{List, Ring, Ticket};
 use crate::node::Node;
-use qolb_model::{Free, OpenError, OpenLine, Terms};
+use locks::Lines;
+use qolb_model::{Free, MOST_NODES, OpenError, OpenLine, Terms};
 use std::alloc::Global;
 use std::sync::Arc;
 
@@ -45,6 +47,21 @@ pub fn open(alloc: Global, kind: u32, label: u64, terms: Terms, out: &mut [Handl
             Answer::Done
         }
         Err(error) => refusal(error),
+    }
+}
+
+/// How many bytes the table of a line of this kind takes, for so many nodes; 0 where it would not be opened.
+pub fn memory(kind: u32, nodes: u64) -> u64
+    ensures { TellsMemory kind nodes result }
+{
+    if nodes < 1 || nodes > MOST_NODES {
+        return 0;
+    }
+    match kind {
+        RING => Lines::Ring.bytes_for(nodes),
+        LIST => Lines::Link.bytes_for(nodes),
+        TICKET => Lines::Ticket.bytes_for(nodes),
+        _ => 0,
     }
 }
 

@@ -1,5 +1,6 @@
 //! Pictures of step scripts. The expected ones were written by hand, by what each event does.
-use crate::styles::{STEP_COLOURS, head, sheet};
+use crate::pictures::SIGNS;
+use crate::styles::{Sheet, are_seen, steps_are_seen};
 use linked_list_allocator::LocalHeap;
 use qolb_draw::{Form, draw_steps};
 use qolb_run::ReplayError;
@@ -459,12 +460,19 @@ const ABOVE: &str =
 fn a_step_picture_has_its_colours_and_its_legend(rt: HostRuntime) -> Result<(), Fail> {
     let alloc = rt.alloc();
     let svg = drawn(alloc, "nodes 1\n", Form::Svg)?;
+    let (front, sheet, behind) = Sheet::first(svg.as_str()).ok_or("a style sheet")?;
     // as wide as the legend
-    let head = head(alloc, 800, 216)?;
-    let colours = sheet(alloc, STEP_COLOURS.as_slice())?;
+    assert_eq!(rt;
+        front,
+        "<svg xmlns='http://www.w3.org/2000/svg' width='800' height='216' font-family='monospace' font-size='12'>\n"
+    );
+    are_seen(&rt, sheet);
+    let (signs, of_steps, behind) = Sheet::first(behind).ok_or("a sheet of its own")?;
+    assert_eq!(rt; signs, SIGNS);
+    steps_are_seen(&rt, sheet, of_steps);
     let whole = format!(in alloc;
-        "{head}{colours}{LEGEND}{ABOVE}<path class='lane' d='M96 68H96'/>\n<path class='lane' d='M96 116H96'/>\n</g>\n</svg>\n"
+        "{LEGEND}{ABOVE}<path class='lane' d='M96 68H96'/>\n<path class='lane' d='M96 116H96'/>\n</g>\n</svg>\n"
     )?;
-    assert_eq!(rt; svg, whole);
+    assert_eq!(rt; behind, whole.as_str());
     Ok(())
 }

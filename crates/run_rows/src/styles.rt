@@ -1,96 +1,192 @@
-//! The colours and signs that pictures have, as a person wants them.
-use std::alloc::Global;
-use std::test::Fail;
+//! What a person wants of the style of pictures, read from the pictures themselves: that what is drawn is seen on a light page and on a
+//! dark one, and that no two kinds of bars look alike.
+use std::process::Abort;
 
-/// What has a style: the style on a light page, and what is other on a dark one.
-pub type Rule = (&'static str, &'static str, &'static str);
+/// Red, green and blue.
+type Colour = [u8; 3];
 
-/// Those of each picture.
-static COLOURS: [Rule; 13] = [
-    ("svg", "background:#fff", "background:#0d1117"),
-    ("text", "fill:#1f2328", "fill:#e6edf3"),
-    // a small text stands in the middle, above a column
-    (".small", "font-size:9px;text-anchor:middle", ""),
-    (".lane", "stroke:#d0d7de", "stroke:#30363d"),
-    // a bar is light, yellow, green, or dashed round nothing, where it still answers the pointer
-    (".waits", "fill:#b6d4fe", "fill:#1f4a7d"),
-    (".turn", "fill:#f2c14e", "fill:#b8860b"),
-    (".holds", "fill:#2da44e", "fill:#3fb950"),
-    (
-        ".withdrawn",
-        "fill:none;stroke:#8c959f;stroke-dasharray:3 2;pointer-events:all",
-        "",
-    ),
-    // an arrow, a diamond, a cross and the `!` are red, and a dot is as text
-    (
-        ".arrow",
-        "fill:none;stroke:#cf222e;stroke-width:2;marker-end:url(#tip)",
-        "stroke:#ff7b72",
-    ),
-    ("#tip path,#told path", "fill:#cf222e", "fill:#ff7b72"),
-    (
-        "#out path,#misuse path",
-        "fill:none;stroke:#cf222e;stroke-width:2",
-        "stroke:#ff7b72",
-    ),
-    ("#call circle", "fill:#1f2328", "fill:#e6edf3"),
-    // what the pointer may point at is not seen
-    (".point", "fill:#fff;fill-opacity:0;stroke:none", ""),
-];
-
-/// Those that only a picture of a step script has.
-pub static STEP_COLOURS: [Rule; 5] = [
-    // a point's name is in its bar, which answers the pointer; on a dark page it has a dark rim
-    (
-        ".at",
-        "font-size:9px;pointer-events:none",
-        "paint-order:stroke;stroke:#0d1117;stroke-width:2px",
-    ),
-    (
-        ".rests",
-        "fill:none;stroke:#d0d7de;pointer-events:all",
-        "stroke:#30363d",
-    ),
-    // the line is purple: full in a hand, hollow in a mailbox, and pale at home
-    (".hand", "fill:#8250df", "fill:#a371f7"),
-    (
-        ".mailbox",
-        "fill:none;stroke:#8250df;pointer-events:all",
-        "stroke:#a371f7",
-    ),
-    (".home", "fill:#8250df;fill-opacity:.4", "fill:#a371f7"),
-];
-
-/// The signs of commands: a dot, a cross, a diamond, and a bar over a dot, each over what the pointer may point at; and an arrow's tip.
-const SIGNS: &str = "<defs>
-<marker id='tip' viewBox='0 0 8 8' refX='8' refY='4' markerWidth='5' markerHeight='5' orient='auto'><path d='M0 0L8 4L0 8z'/></marker>
-<g id='call'><rect class='point' x='-8' y='-12' width='16' height='24'/><circle r='3'/></g>
-<g id='out'><rect class='point' x='-8' y='-12' width='16' height='24'/><path d='M-5 -5L5 5M-5 5L5 -5'/></g>
-<g id='told'><rect class='point' x='-8' y='-12' width='16' height='24'/><path d='M0 -6L6 0L0 6L-6 0z'/></g>
-<g id='misuse'><rect class='point' x='-8' y='-12' width='16' height='24'/><path d='M0 -7V2M0 4V7'/></g>
-</defs>
-";
-
-/// A style sheet of these rules: those of a light page, and then those of a dark one.
-pub fn sheet(alloc: Global, rules: &[Rule]) -> Result<String, Fail> {
-    let mut light = String::from_str(alloc, "<style>\n")?;
-    let mut dark = String::from_str(alloc, "@media(prefers-color-scheme:dark){\n")?;
-    for (what, by_day, at_night) in rules {
-        light.push_str(format!(in alloc; "{what}{{{by_day}}}\n")?.as_str())?;
-        if !at_night.is_empty() {
-            dark.push_str(format!(in alloc; "{what}{{{at_night}}}\n")?.as_str())?;
-        }
-    }
-    light.push_str(dark.as_str())?;
-    light.push_str("}\n</style>\n")?;
-    Ok(light)
+/// The channel that two hex digits are.
+fn channel(high: u8, low: u8) -> Option<u8> {
+    let value = |digit: u8| u8::try_from(char::from(digit).to_digit(16)?).ok();
+    Some(value(high)?.saturating_mul(16).saturating_add(value(low)?))
 }
 
-/// What stands before the legend of a picture of this size.
-pub fn head(alloc: Global, width: u64, height: u64) -> Result<String, Fail> {
-    let colours = sheet(alloc, COLOURS.as_slice())?;
-    let head = format!(in alloc;
-        "<svg xmlns='http://www.w3.org/2000/svg' width='{width}' height='{height}' font-family='monospace' font-size='12'>\n{colours}{SIGNS}"
-    )?;
-    Ok(head)
+/// The colour that `#rrggbb` or `#rgb` is.
+fn colour(text: &str) -> Option<Colour> {
+    match text.strip_prefix("#")?.as_bytes() {
+        [r, g, b] => Some([channel(*r, *r)?, channel(*g, *g)?, channel(*b, *b)?]),
+        [r, s, g, h, b, c] => Some([channel(*r, *s)?, channel(*g, *h)?, channel(*b, *c)?]),
+        _ => None,
+    }
+}
+
+/// How bright a colour is, from 0 to 10,000 times 255 squared: as the guidelines of the W3C for accessible pages weigh its channels, with
+/// their squares in place of powers of 2.4.
+fn brightness(colour: Colour) -> u64 {
+    [2_126u64, 7_152, 722]
+        .iter()
+        .zip(&colour)
+        .fold(0, |sum, (weight, channel)| {
+            let channel = u64::from(*channel);
+            weight
+                .saturating_mul(channel.saturating_mul(channel))
+                .saturating_add(sum)
+        })
+}
+
+/// A twentieth of the brightness of white, which those guidelines add to both colours of a contrast.
+const GLARE: u64 = 32_512_500;
+
+/// The contrast between two colours, in tenths: 10 for equal ones, and 210 between black and white.
+fn contrast(one: Colour, other: Colour) -> u64 {
+    let (a, b) = (brightness(one), brightness(other));
+    let (dark, light) = if a < b { (a, b) } else { (b, a) };
+    light.saturating_add(GLARE).saturating_mul(10) / dark.saturating_add(GLARE)
+}
+
+/// How far two colours lie from each other: the sum over the channels, at most 765.
+fn distance(one: Colour, other: Colour) -> u64 {
+    one.iter().zip(&other).fold(
+        0u64,
+        |sum, (a, b)| sum.saturating_add(u64::from(a.abs_diff(*b))),
+    )
+}
+
+/// A style sheet: what it says of a light page, and what is other on a dark one.
+#[derive(Clone, Copy)]
+pub struct Sheet<'a> {
+    by_day: &'a str,
+    at_night: &'a str,
+}
+
+/// What a part of a sheet says of a property of what it names so.
+fn said<'a>(part: &'a str, what: &str, property: &str) -> Option<&'a str> {
+    let rules = part.lines().find_map(|line| line
+        .strip_prefix(what)?
+        .strip_prefix("{")?
+        .strip_suffix("}"))?;
+    rules
+        .split(';')
+        .find_map(|rule| rule.strip_prefix(property)?.strip_prefix(":"))
+}
+
+impl<'a> Sheet<'a> {
+    /// The first sheet of a picture, and what stands before it and behind it.
+    pub fn first(picture: &'a str) -> Option<(&'a str, Sheet<'a>, &'a str)> {
+        let (before, rest) = picture.split_once("<style>\n")?;
+        let (by_day, rest) = rest.split_once("@media(prefers-color-scheme:dark){\n")?;
+        let (at_night, behind) = rest.split_once("}\n</style>\n")?;
+        Some((before, Sheet { by_day, at_night }, behind))
+    }
+
+    /// What it says of a property on a light page.
+    fn said(self, what: &str, property: &str) -> Option<&'a str> {
+        said(self.by_day, what, property)
+    }
+
+    /// The colour of what is named so, on a light page or on a dark one.
+    fn colour(self, is_dark: bool, what: &str, property: &str) -> Option<Colour> {
+        let night = if is_dark {
+            said(self.at_night, what, property)
+        } else {
+            None
+        };
+        colour(night.or(self.said(what, property))?)
+    }
+
+    /// Whether it hides nothing but what the pointer may point at, which is seen through.
+    fn hides_points_alone(self) -> bool {
+        let is_said = |word: &str| self.by_day.contains(word) || self.at_night.contains(word);
+        let hides = is_said("display")
+            || is_said("visibility")
+            || self.at_night.contains("opacity");
+        let rest = self
+            .by_day
+            .split_once(".point{fill:#fff;fill-opacity:0;stroke:none}\n");
+        !hides
+            && rest.is_some_and(|(before, behind)| !before.contains("opacity")
+                && !behind.contains("opacity"))
+    }
+}
+
+/// What has to be seen on the page, by which property, and its least contrast to it in tenths.
+static SEEN: [(&str, &str, u64); 10] = [
+    ("text", "fill", 70),
+    (".lane", "stroke", 12),
+    (".waits", "fill", 14),
+    (".turn", "fill", 14),
+    (".holds", "fill", 25),
+    (".withdrawn", "stroke", 25),
+    (".arrow", "stroke", 45),
+    ("#tip path,#told path", "fill", 45),
+    ("#out path,#misuse path", "stroke", 45),
+    ("#call circle", "fill", 70),
+];
+
+/// The bars of timelines, by how clearly they are seen.
+const BARS: [&str; 3] = [".waits", ".turn", ".holds"];
+
+/// What a picture of a step script has besides.
+static SEEN_IN_STEPS: [(&str, &str, u64); 4] = [
+    (".rests", "stroke", 12),
+    (".hand", "fill", 25),
+    (".mailbox", "stroke", 25),
+    (".home", "fill", 25),
+];
+
+/// What is hollow, and answers the pointer inside too.
+fn is_hollow(sheet: Sheet, what: &str) -> bool {
+    sheet.said(what, "fill") == Some("none") && sheet.said(what, "pointer-events") == Some("all")
+}
+
+/// The colours of a picture, on both pages.
+pub fn are_seen<R: Abort>(rt: &R, sheet: Sheet) {
+    for is_dark in [false, true] {
+        let page = sheet.colour(is_dark, "svg", "background");
+        let seen = |what: &str, property: &str| {
+            Some(contrast(sheet.colour(is_dark, what, property)?, page?))
+        };
+        for (what, property, least) in &SEEN {
+            assert!(rt;
+                seen(what, property) >= Some(*least),
+                "{what}, dark {is_dark}"
+            );
+        }
+        for (fainter, clearer) in BARS.iter().zip(BARS.iter().skip(1)) {
+            let far = sheet
+                .colour(is_dark, fainter, "fill")
+                .zip(sheet.colour(is_dark, clearer, "fill"))
+                .map(|(a, b)| distance(a, b));
+            assert!(rt;
+                seen(fainter, "fill") < seen(clearer, "fill"),
+                "{fainter}, dark {is_dark}"
+            );
+            assert!(rt; far >= Some(100), "{fainter} and {clearer}, dark {is_dark}");
+        }
+    }
+    assert!(rt; is_hollow(sheet, ".withdrawn"));
+    assert!(rt; sheet.hides_points_alone());
+    assert_eq!(rt; sheet.said(".small", "text-anchor"), Some("middle"));
+    assert_eq!(rt; sheet.said(".arrow", "marker-end"), Some("url(#tip)"));
+}
+
+/// What a picture of a step script has besides: its own sheet, on the same page.
+pub fn steps_are_seen<R: Abort>(rt: &R, sheet: Sheet, of_steps: Sheet) {
+    for is_dark in [false, true] {
+        let page = sheet.colour(is_dark, "svg", "background");
+        for (what, property, least) in &SEEN_IN_STEPS {
+            let seen = of_steps
+                .colour(is_dark, what, property)
+                .zip(page)
+                .map(|(a, b)| contrast(a, b));
+            assert!(rt; seen >= Some(*least), "{what}, dark {is_dark}");
+        }
+    }
+    assert!(rt; is_hollow(of_steps, ".rests"));
+    assert!(rt; is_hollow(of_steps, ".mailbox"));
+    assert!(rt; of_steps.said(".home", "fill-opacity").is_some());
+    // A point's name is in its bar, which answers the pointer; on a dark page it has a rim as dark as the page.
+    assert_eq!(rt; of_steps.said(".at", "pointer-events"), Some("none"));
+    let rim = said(of_steps.at_night, ".at", "stroke").and_then(colour);
+    assert_eq!(rt; rim, sheet.colour(true, "svg", "background"));
 }

@@ -310,11 +310,15 @@ where
     }
 }
 
+/// What a port takes.
+const PORT: usize = 136;
+
 /// In a room that grows by the grain of the heap a line is refused for want of memory, until all that it takes is there; each of its
-/// allocations is refused on the way.
+/// allocations is refused on the way. That is its table, which is there twice for a moment, its ports, and little else.
 pub(super) fn each_allocation_of_opening_is_refused<R: Abort, L: Counted + Drop>(
     rt: &R,
     alloc: Global,
+    table: usize,
 ) -> Result<(), Fail>
 where
     L::Port: Drop,
@@ -324,8 +328,11 @@ where
     for grains in 2..20_000usize {
         match opened_in::<L>(alloc, &siege, GRAIN * grains).ok_or("a room, or finished")? {
             Ok(bytes) => {
+                let room = GRAIN * grains;
                 assert_eq!(rt; bytes, [3; 64]);
                 assert!(rt; refused > 0);
+                assert!(rt; table + 4 * PORT <= room, "{room}");
+                assert!(rt; room <= 2 * table + 8 * PORT + 512, "{room}");
                 return Ok(());
             }
             Err(why) => assert_eq!(rt; why, OpenError::Memory, "at {grains}"),
