@@ -60,8 +60,8 @@ def by_check(log, goals):
     same = [(folder, goal) for folder, goal in open_goals if goal in goals.get(folder, set())]
     if same:
         return "search", two(same)
-    if open_goals:
-        return "new", two(open_goals)
+    if open_goals or answers:
+        return "new", two(open_goals or sorted(answers))
     first = next((line for line in log.splitlines() if ": error" in line or ": no proof" in line or ": not proved" in line), "")
     return "names", ("gone: " if gone else "") + first[:160]
 
