@@ -47,10 +47,10 @@ def left_out(crate):
 
 
 def leave_out(folder, names):
-    """Removes these tests from a copy of their crate: from the attribute to the brace below it, as rt fmt lays them out."""
+    """Removes these tests from a copy of their crate: from their comment to the brace below, as rt fmt lays them out."""
     if not names:
         return
-    whole = re.compile(rf"^( *){HEAD}(?:{'|'.join(names)})\(.*?^\1}}\n", re.M | re.S)
+    whole = re.compile(rf"^(?: *///[^\n]*\n)*( *){HEAD}(?:{'|'.join(names)})\(.*?^\1}}\n", re.M | re.S)
     for file in (folder / "src").rglob("*.rt"):
         text = file.read_text()
         file.write_text(whole.sub("", text))

@@ -328,11 +328,14 @@ where
     for grains in 2..20_000usize {
         match opened_in::<L>(alloc, &siege, GRAIN * grains).ok_or("a room, or finished")? {
             Ok(bytes) => {
-                let room = GRAIN * grains;
+                let besides = (GRAIN * grains).saturating_sub(table);
                 assert_eq!(rt; bytes, [3; 64]);
                 assert!(rt; refused > 0);
-                assert!(rt; table + 4 * PORT <= room, "{room}");
-                assert!(rt; room <= 2 * table + 8 * PORT + 512, "{room}");
+                assert!(rt; besides >= 4 * PORT, "{besides}");
+                assert!(rt;
+                    besides.saturating_sub(table) <= 8 * PORT + 512,
+                    "{besides}"
+                );
                 return Ok(());
             }
             Err(why) => assert_eq!(rt; why, OpenError::Memory, "at {grains}"),
