@@ -173,10 +173,18 @@ def ran(words, folder):
     return run.stdout + run.stderr, run.returncode
 
 
-class Edits:
-    """The edits of one crate, each tried in a copy of it over the work that was kept."""
+def is_of_tests(crate, text):
+    """Whether an edit changes what its crate's root reads for the tests alone."""
+    root = next(it for it in crate.files() if it.name in ("lib.rt", "main.rt") and it.parent.name == "src")
+    read = re.findall(r"^#\[cfg\(test\)\]\nmod (\w+);", root.read_text(), re.M)
+    return any(it in read for it in re.findall(r"^file: src/(\w+)", text, re.M))
 
-    def __init__(self, crates, crate, room):
+
+class Edits:
+    """The edits of one crate, each tried in a copy of it over the work that was kept; with its tests if an edit is of what is read for these alone."""
+
+    def __init__(self, crates, crate, texts, room):
+        self.with_tests = ["--test"] * any(is_of_tests(crate, it) for it in texts)
         self.folder = lay_out(crates, crate.name, room / "repository")
         take_kept(crate, self.folder)
         if not is_proved(self.check()):
@@ -187,7 +195,7 @@ class Edits:
         self.goals = goals_of(generated)
 
     def check(self, *more):
-        return ran(["rt", "check", "--jobs", "1", *more], self.folder)[0]
+        return ran(["rt", "check", "--jobs", "1", *self.with_tests, *more], self.folder)[0]
 
     def check_with(self, text):
         """What a check says of the crate with the edit; the crate is then as it was."""
@@ -239,7 +247,7 @@ def try_batch(crates, bodies, record, args):
             if body.is_patch:
                 kind, where, log = tried_by_test(crates, body, pathlib.Path(room))
             else:
-                edits = edits or Edits(crates, body.crate, pathlib.Path(room))
+                edits = edits or Edits(crates, body.crate, [it.text for it in bodies], pathlib.Path(room))
                 kind, where, log = edits.tried(body)
             record.write(body, kind, where)
             print(f"{kind:7} {body.name}  {where}", flush=True)
