@@ -16,7 +16,7 @@ Edits are tried over the work that `tools/prove` keeps, which is called first. F
   false   CRATE/EDIT  FUNCTION: GOAL    the goal is false: the prover found values
   meant   CRATE/EDIT  FUNCTION: GOAL    the same edit made harmless is proved: a condition that it adds is what is refused
   test    PATCH       TEST              the test failed, or did not end
-  new     CRATE/EDIT  FUNCTION: GOAL    only goals are open that have a new name: look whether a harmless rewrite is refused alike
+  new     CRATE/EDIT  FUNCTION: GOAL    only goals are open, or answers refused, that have a new name: look whether a harmless rewrite is refused alike
   shape   CRATE/EDIT  FUNCTION: GOAL    the same edit made harmless is refused alike: it shows nothing, rewrite it
   names   CRATE/EDIT  FUNCTION          only names of the proof are gone: it shows nothing, rewrite it
   ALIVE   ..                            the contracts let it through, or the test passed

@@ -1,5 +1,5 @@
 //! Pictures of schedules.
-use crate::styles::{Sheet, are_seen};
+use crate::styles::{Sheet, are_seen, signs_differ};
 use linked_list_allocator::LocalHeap;
 use qolb_draw::{Form, draw_schedule};
 use qolb_run::ReplayError;
@@ -429,16 +429,6 @@ fn names_stand_again(rt: HostRuntime) -> Result<(), Fail> {
     Ok(())
 }
 
-/// The signs of commands: a dot, a cross, a diamond, and a bar over a dot, each over what the pointer may point at; and an arrow's tip.
-pub const SIGNS: &str = "<defs>
-<marker id='tip' viewBox='0 0 8 8' refX='8' refY='4' markerWidth='5' markerHeight='5' orient='auto'><path d='M0 0L8 4L0 8z'/></marker>
-<g id='call'><rect class='point' x='-8' y='-12' width='16' height='24'/><circle r='3'/></g>
-<g id='out'><rect class='point' x='-8' y='-12' width='16' height='24'/><path d='M-5 -5L5 5M-5 5L5 -5'/></g>
-<g id='told'><rect class='point' x='-8' y='-12' width='16' height='24'/><path d='M0 -6L6 0L0 6L-6 0z'/></g>
-<g id='misuse'><rect class='point' x='-8' y='-12' width='16' height='24'/><path d='M0 -7V2M0 4V7'/></g>
-</defs>
-";
-
 /// The legend: a bar or a sign, with its meaning beside it.
 const LEGEND: &str =
     "<rect class='waits' x='8' y='8' width='32' height='16'/><text x='46' y='20'>waits</text>
@@ -463,8 +453,10 @@ fn a_timeline_has_its_style_and_its_legend(rt: HostRuntime) -> Result<(), Fail> 
         "<svg xmlns='http://www.w3.org/2000/svg' width='640' height='124' font-family='monospace' font-size='12'>\n"
     );
     are_seen(&rt, sheet);
+    let (signs, behind) = behind.split_once("</defs>\n").ok_or("signs")?;
+    signs_differ(&rt, signs);
     let whole = format!(in alloc;
-        "{SIGNS}{LEGEND}<g transform='translate(0,64)'><text x='8' y='16'>line 0</text>\n</g>\n</svg>\n"
+        "{LEGEND}<g transform='translate(0,64)'><text x='8' y='16'>line 0</text>\n</g>\n</svg>\n"
     )?;
     assert_eq!(rt; behind, whole.as_str());
     Ok(())

@@ -1,6 +1,5 @@
 //! Pictures of step scripts. The expected ones were written by hand, by what each event does.
-use crate::pictures::SIGNS;
-use crate::styles::{Sheet, are_seen, steps_are_seen};
+use crate::styles::{Sheet, are_seen, signs_differ, steps_are_seen};
 use linked_list_allocator::LocalHeap;
 use qolb_draw::{Form, draw_steps};
 use qolb_run::ReplayError;
@@ -468,7 +467,7 @@ fn a_step_picture_has_its_colours_and_its_legend(rt: HostRuntime) -> Result<(), 
     );
     are_seen(&rt, sheet);
     let (signs, of_steps, behind) = Sheet::first(behind).ok_or("a sheet of its own")?;
-    assert_eq!(rt; signs, SIGNS);
+    signs_differ(&rt, signs);
     steps_are_seen(&rt, sheet, of_steps);
     let whole = format!(in alloc;
         "{LEGEND}{ABOVE}<path class='lane' d='M96 68H96'/>\n<path class='lane' d='M96 116H96'/>\n</g>\n</svg>\n"

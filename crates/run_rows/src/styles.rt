@@ -100,12 +100,13 @@ impl<'a> Sheet<'a> {
         let hides = is_said("display")
             || is_said("visibility")
             || self.at_night.contains("opacity");
-        let rest = self
-            .by_day
-            .split_once(".point{fill:#fff;fill-opacity:0;stroke:none}\n");
-        !hides
-            && rest.is_some_and(|(before, behind)| !before.contains("opacity")
-                && !behind.contains("opacity"))
+        let others = self.by_day.lines().any(|line| line.contains("opacity")
+            && !line.starts_with(".point{"));
+        let point = (
+            self.said(".point", "fill-opacity"),
+            self.said(".point", "stroke"),
+        );
+        !hides && !others && point == (Some("0"), Some("none"))
     }
 }
 
@@ -189,4 +190,31 @@ pub fn steps_are_seen<R: Abort>(rt: &R, sheet: Sheet, of_steps: Sheet) {
     assert_eq!(rt; of_steps.said(".at", "pointer-events"), Some("none"));
     let rim = said(of_steps.at_night, ".at", "stroke").and_then(colour);
     assert_eq!(rt; rim, sheet.colour(true, "svg", "background"));
+}
+
+/// The signs of commands.
+const SIGNS: [&str; 4] = ["call", "out", "told", "misuse"];
+
+/// The shape of a sign, which lies over what the pointer may point at.
+fn shape_of<'a>(signs: &'a str, name: &str) -> Option<&'a str> {
+    let sign = signs.lines().find_map(|line| {
+        line.strip_prefix("<g id='")?
+            .strip_prefix(name)?
+            .strip_prefix("'><rect class='point' ")?
+            .strip_suffix("</g>")
+    })?;
+    sign.split_once("/>").map(|parts| parts.1)
+}
+
+/// Each sign has a shape that reaches three pixels from its middle, and no two have the same; and an arrow has its tip.
+pub fn signs_differ<R: Abort>(rt: &R, signs: &str) {
+    for (place, name) in SIGNS.iter().enumerate() {
+        let shape = shape_of(signs, name);
+        let is_large = shape.is_some_and(|it| it.bytes().any(|byte| matches!(byte, b'3'..=b'9')));
+        assert!(rt; is_large, "{name}");
+        for other in SIGNS.iter().take(place) {
+            assert!(rt; shape != shape_of(signs, other), "{name} and {other}");
+        }
+    }
+    assert!(rt; signs.contains("<marker id='tip' "));
 }
