@@ -2,7 +2,7 @@
 """Runs the gate and says what it took: processor minutes and the peak of memory by crate and kind of work, as a table for docs/CHANGING.md.
 
     tools/gate_times.py [--anew] [--folder CHECKOUT] [--log FILE] [NAME ..]
-    tools/gate_times.py --functions [NAME ..]
+    tools/gate_times.py --functions [--jobs N] [NAME ..]
 
 It starts `rt ci` (with the names, if given) in the checkout, with RT_JOBS as .ci/run sets it, and looks at its processes in /proc twice a second.
 With `--anew` it takes nothing from earlier runs: a toolchain that keeps what passed is told so, and any other keeps nothing. The kinds: the crate's
@@ -11,11 +11,13 @@ what it took since the last look; the total is the system's own count. The longe
 processor minutes, which are minutes by the clock where each check has one job. What `rt ci` says goes to the log. It ends as `rt ci` does.
 
 With --functions it checks each crate that is named (all, if none is) at one job, over nothing kept, with its tests, and says which twenty functions
-take the prover longest, as tools/times.py does. Crates below must be proved (tools/prove). Times are by the clock: let nothing else run.
+take the prover longest, as tools/times.py does. Crates below must be proved (tools/prove). So many crates are checked side by side. Times are by the
+clock: let nothing else run.
 """
 
 import argparse
 import collections
+import concurrent.futures
 import os
 import pathlib
 import re
@@ -183,18 +185,25 @@ def words_of(crate, crates, kept):
     return [*words, "--jobs", "1", "--incremental", kept]
 
 
+def took_of(crate, crates):
+    """The seconds that the prover took for each function of a crate, or what it said if it is not proved."""
+    with tempfile.TemporaryDirectory(prefix="gate-times-") as kept:
+        ran = subprocess.run(words_of(crate, crates, kept), cwd=crate.folder, capture_output=True, text=True)
+        if ran.returncode:
+            return {}, (ran.stdout + ran.stderr)[-2000:]
+        return times.by_function(times.took(kept)), ""
+
+
 def functions(args, crates):
     """Says which functions the prover takes longest for."""
     took = collections.Counter()
-    for name in named(crates, args.names):
-        show(f"checking {name}")
-        with tempfile.TemporaryDirectory(prefix="gate-times-") as kept:
-            ran = subprocess.run(words_of(crates[name], crates, kept), cwd=crates[name].folder, capture_output=True, text=True)
-            if ran.returncode:
-                say(f"{name}: not proved\n{(ran.stdout + ran.stderr)[-2000:]}")
+    names = named(crates, args.names)
+    with concurrent.futures.ThreadPoolExecutor(args.jobs) as pool:
+        for name, (seconds, why) in zip(names, pool.map(lambda it: took_of(crates[it], crates), names)):
+            if why:
+                say(f"{name}: not proved\n{why}")
                 return 1
-            for function, seconds in times.by_function(times.took(kept)).items():
-                took[f"{name}::{function}"] += seconds
+            took.update({f"{name}::{function}": much for function, much in seconds.items()})
     print("| Function | Seconds |\n|---|---|")
     for function, seconds in took.most_common(MOST):
         print(f"| `{function}` | {seconds:.0f} |")
@@ -207,6 +216,7 @@ def main():
     parser.add_argument("--folder", default=ROOT)
     parser.add_argument("--log", default=os.path.join(tempfile.gettempdir(), "gate_times.log"))
     parser.add_argument("--functions", action="store_true")
+    parser.add_argument("--jobs", type=int, default=1)
     parser.add_argument("names", nargs="*", metavar="NAME")
     args = parser.parse_args()
     return (functions if args.functions else gate)(args, read_crates())
