@@ -11,13 +11,14 @@ what it took since the last look; the total is the system's own count. The longe
 processor minutes, which are minutes by the clock where each check has one job. What `rt ci` says goes to the log. It ends as `rt ci` does.
 
 With --functions it checks each crate that is named (all, if none is) at one job, over nothing kept, with its tests, and says which twenty functions
-take the prover longest, as tools/times.py does. Crates below must be proved (tools/prove). So many crates are checked side by side. Times are by the
-clock: let nothing else run.
+take the prover longest, as tools/times.py does, but by the processor's time: so other work may run, and so many crates are checked side by side.
+Crates below must be proved (tools/prove).
 """
 
 import argparse
 import collections
 import concurrent.futures
+import contextlib
 import os
 import pathlib
 import re
@@ -185,13 +186,40 @@ def words_of(crate, crates, kept):
     return [*words, "--jobs", "1", "--incremental", kept]
 
 
+def spent(pid):
+    """The seconds of a processor that a process took, with those below it."""
+    try:
+        words = pathlib.Path(f"/proc/{pid}/stat").read_text().rpartition(") ")[2].split()
+        below_it = [it for task in os.listdir(f"/proc/{pid}/task") for it in pathlib.Path(f"/proc/{pid}/task/{task}/children").read_text().split()]
+    except OSError:
+        return 0.0
+    return sum(map(int, words[11:15])) / TICK + sum(map(spent, below_it))
+
+
+def new_files(folder, seen):
+    """The files of a folder and those below it that were not seen yet, as they were written one after another."""
+    found = []
+    for top, _, names in os.walk(folder):
+        for path in (os.path.join(top, name) for name in names if name.endswith("antt")):
+            if path not in seen:
+                with contextlib.suppress(FileNotFoundError):
+                    found.append((os.stat(path).st_mtime_ns, path))
+    return [path for _, path in sorted(found)]
+
+
 def took_of(crate, crates):
-    """The seconds that the prover took for each function of a crate, or what it said if it is not proved."""
-    with tempfile.TemporaryDirectory(prefix="gate-times-") as kept:
-        ran = subprocess.run(words_of(crate, crates, kept), cwd=crate.folder, capture_output=True, text=True)
-        if ran.returncode:
-            return {}, (ran.stdout + ran.stderr)[-2000:]
-        return times.by_function(times.took(kept)), ""
+    """The seconds of a processor that the prover took for each function of a crate, and what it said if the crate is not proved."""
+    with tempfile.TemporaryDirectory(prefix="gate-times-") as kept, tempfile.TemporaryFile("w+") as log:
+        running = subprocess.Popen(words_of(crate, crates, kept), cwd=crate.folder, stdout=log, stderr=subprocess.STDOUT)
+        seen = {}
+        while running.poll() is None:
+            now = spent(running.pid)
+            seen |= {it: (now, times.module_of(pathlib.Path(it))) for it in new_files(kept, seen)}
+            time.sleep(EVERY)
+        if running.returncode:
+            log.seek(0)
+            return {}, log.read()[-2000:]
+        return times.by_function(times.between(list(seen.values()))), ""
 
 
 def functions(args, crates):

@@ -35,7 +35,11 @@ def module_of(path):
 def took(kept, since=0.0):
     """The seconds that each module took, by what a check kept in this folder."""
     files = sorted((path.stat().st_mtime, module_of(path)) for path in pathlib.Path(kept).rglob("*") if path.is_file())
-    files = [it for it in files if it[0] >= since]
+    return between([it for it in files if it[0] >= since], since)
+
+
+def between(files, since=0.0):
+    """The seconds that each module took, by the time at which each file was there, in their order."""
     seconds, before = collections.Counter(), since or (files[0][0] if files else 0.0)
     for time, module in files:
         seconds[module] += time - before
