@@ -62,7 +62,7 @@ impl<Q: Linked<Rising>, W: Waking> Asking<Line<Rising, Q, W>> for OnList {
     fn ask(
         &self,
         line: &Line<Rising, Q, W>,
-        port: &mut Port<Q>,
+        port: &mut Port<Q, W>,
         rng: &mut Xoshiro256PlusPlus,
     ) -> Enq {
         if !self.apart {

@@ -3,20 +3,21 @@
 
 mod asleep;
 mod did;
+mod elsewhere;
 mod late;
 mod lines;
 mod named;
 mod script;
 
 use crate::row::Counted;
-use link_line::LinkLine;
+use link_line::{LinkLine, Links};
 use qolb_model::{Free, Sleeping};
-use ring_line::RingLine;
+use ring_line::{Ring, RingLine};
 use std::alloc::Global;
 use std::process::Abort;
 use std::sync::Wait;
 use std::test::Fail;
-use ticket_line::TicketLine;
+use ticket_line::{Ticket, TicketLine};
 
 /// What is known of a lock: how many word steps a release takes that passes two withdrawn nodes of three, and one that passes 199 of 200;
 /// and how many bytes the table of a line of four nodes has.
@@ -120,6 +121,22 @@ fn a_list_answers_each_call(rt: HostRuntime) -> Result<(), Fail> {
 #[test]
 fn a_ticket_line_answers_each_call(rt: HostRuntime) -> Result<(), Fail> {
     over_ticket_lines(&rt, rt.alloc(), Part::Calls)
+}
+
+#[test]
+fn a_line_tells_to_whom_it_went(rt: HostRuntime) {
+    assert_eq!(rt;
+        elsewhere::each_names_the_next::<Ring>(rt.alloc()),
+        Some(true)
+    );
+    assert_eq!(rt;
+        elsewhere::each_names_the_next::<Links>(rt.alloc()),
+        Some(true)
+    );
+    assert_eq!(rt;
+        elsewhere::each_names_the_next::<Ticket>(rt.alloc()),
+        Some(true)
+    );
 }
 
 #[test]

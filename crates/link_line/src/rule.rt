@@ -62,7 +62,7 @@ impl<K: Keep> Ruled<K> for Links {
 pub type LinkLine<K, W = Sleepers> = Line<K, Links, W>;
 
 /// A node's end of the line.
-pub type Port = shared_line::Port<Links>;
+pub type Port<W = Sleepers> = shared_line::Port<Links, W>;
 
 /// The table of a list, as all its nodes see it.
 pub(crate) type Ground<K> = shared_line::Ground<K, Links>;

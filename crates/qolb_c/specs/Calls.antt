@@ -18,12 +18,14 @@ use Rattle.qolb_model.specs.Calls as line
 use Rattle.qolb_model.specs.Leases.{turns_left}
 use Rattle.qolb_model.specs.OneOwner.{turn_after}
 use Rattle.qolb_model.specs.PortStates.{may_ask}
+use Rattle.shared_line.specs.Turns.{Names, SeesTurn}
 use Rattle.qolb_c.specs.declared.answer.Answer.{Answer}
 use Rattle.qolb_c.specs.declared.answer.Answer.TheVariants as answer
 use Rattle.qolb_c.specs.declared.any_node.AnyNode.{AnyNode}
 use Rattle.qolb_c.specs.declared.any_node.AnyNode.TheVariants as kind
 use Rattle.qolb_c.specs.Nodes.{anything, PollsWithin}
 use Rattle.qolb_c.specs.Numbers.{number_of, state_number, turns_number}
+use Rattle.qolb_c.specs.Waits.{nowhere, waits_at_of, turn_word_of, went_to_of}
 
 -- what the node's port knows of its line
 abbrev pub view_of : AnyNode → View
@@ -45,6 +47,10 @@ poll_count_of (kind.Ticket node) = node.port.counters.poll_count
 
 abbrev pub state_of : AnyNode → PortState
 state_of node = (view_of node).state
+
+-- the node has noted the word of the one whose turn it is, as it knows: it let the line go to that one
+abbrev pub NamesNext : AnyNode → Type 0
+NamesNext node = Names (turn_word_of node (view_of node)) (went_to_of node)
 
 -- two nodes are of one line
 abbrev pub AreOfOneLine : AnyNode → AnyNode → Type 0
@@ -93,29 +99,29 @@ pub record IsCall {A : Type 0} (Allowed : Type 0) (told : A → Answer) (Promise
 abbrev pub IsDone : Type 0 → Type 0 → AnyNode → AnyNode → Answer → Type 0
 IsDone Allowed Promise was now a = IsCall Allowed (λ (made : Unit {0}). answer.Done) (λ _. Promise) was now a
 
--- `enqolb`: where the node neither waits nor holds. It does not poll
+-- `enqolb`: where the node neither waits nor holds. It does not poll. Told that the line is closed, the node has passed it on, and names to whom
 abbrev pub Enqolbs : AnyNode → AnyNode → Answer → Type 0
-Enqolbs was now a = IsCall (may_ask (state_of was) ≡ true) enq_told (λ made. line.Enqueues anything (view_of was) (view_of now) (turn_of now) made × (poll_count_of now ≡ poll_count_of was)) was now a
+Enqolbs was now a = IsCall (may_ask (state_of was) ≡ true) enq_told (λ made. line.Enqueues anything (view_of was) (view_of now) (turn_of now) made × (poll_count_of now ≡ poll_count_of was) × (made ≡ enq.Closed → NamesNext now)) was now a
 
 -- `poll`: where it waits. It polls once
 abbrev pub Polls : AnyNode → AnyNode → Answer → Type 0
-Polls was now a = IsCall (state_of was ≡ Queued) poll_told (λ made. line.Polls anything (view_of was) (view_of now) (turn_of now) made × (poll_count_of now ≡ poll_count_of was + 1)) was now a
+Polls was now a = IsCall (state_of was ≡ Queued) poll_told (λ made. line.Polls anything (view_of was) (view_of now) (turn_of now) made × (poll_count_of now ≡ poll_count_of was + 1) × (made ≡ poll.Closed → NamesNext now)) was now a
 
 -- `wait`: where it waits, and may poll at least once; it promises what `poll` does, and how often it polls
 abbrev pub Waits : ℕ → AnyNode → AnyNode → Answer → Type 0
 Waits polls was now a =
-    IsCall ((state_of was ≡ Queued) × (0 < polls)) poll_told (λ made. line.Polls anything (view_of was) (view_of now) (turn_of now) made × PollsWithin polls (poll_count_of was) (poll_count_of now) made) was now a
+    IsCall ((state_of was ≡ Queued) × (0 < polls)) poll_told (λ made. line.Polls anything (view_of was) (view_of now) (turn_of now) made × PollsWithin polls (poll_count_of was) (poll_count_of now) made × (made ≡ poll.Closed → NamesNext now)) was now a
 
 -- `prepend` and `link`, of a list: where the node neither waits nor holds, and where it is linking. Neither polls
 abbrev pub Prepends : AnyNode → AnyNode → Answer → Type 0
-Prepends was now a = IsCall ((kind_of was ≡ 1) × (may_ask (state_of was) ≡ true)) prep_told (λ made. line.Prepends anything (view_of was) (view_of now) (turn_of now) made × (poll_count_of now ≡ poll_count_of was)) was now a
+Prepends was now a = IsCall ((kind_of was ≡ 1) × (may_ask (state_of was) ≡ true)) prep_told (λ made. line.Prepends anything (view_of was) (view_of now) (turn_of now) made × (poll_count_of now ≡ poll_count_of was) × (made ≡ prep.Closed → NamesNext now)) was now a
 
 abbrev pub LinksUp : AnyNode → AnyNode → Answer → Type 0
-LinksUp was now a = IsCall ((kind_of was ≡ 1) × (state_of was ≡ Linking)) enq_told (λ made. line.LinksUp anything (view_of was) (view_of now) (turn_of now) made × (poll_count_of now ≡ poll_count_of was)) was now a
+LinksUp was now a = IsCall ((kind_of was ≡ 1) × (state_of was ≡ Linking)) enq_told (λ made. line.LinksUp anything (view_of was) (view_of now) (turn_of now) made × (poll_count_of now ≡ poll_count_of was) × (made ≡ enq.Closed → NamesNext now)) was now a
 
 -- `withdraw`: where it waits. It does not poll
 abbrev pub Withdraws : AnyNode → AnyNode → Answer → Type 0
-Withdraws was now a = IsCall (state_of was ≡ Queued) out_told (λ made. line.Withdraws anything (view_of was) (view_of now) (turn_of now) made × (poll_count_of now ≡ poll_count_of was)) was now a
+Withdraws was now a = IsCall (state_of was ≡ Queued) out_told (λ made. line.Withdraws anything (view_of was) (view_of now) (turn_of now) made × (poll_count_of now ≡ poll_count_of was) × (made ≡ out.Closed → NamesNext now)) was now a
 
 -- `read`: where it holds, its bytes are written to `out`, and nothing else changes
 abbrev pub Reads : List ℕ → List ℕ → AnyNode → AnyNode → Answer → Type 0
@@ -134,9 +140,9 @@ abbrev pub WritesLane : ℕ → ℕ → AnyNode → AnyNode → Answer → Type 
 WritesLane k value was now a =
     IsDone ((state_of was ≡ Holding) × (k < 8)) ((view_of now ≡ view_of was) × (turn_of now ≡ turn_after (turn_of was) (placed_mask (8 * k) 8) (with_lane_of (turn_of was).bytes.bytes k value))) was now a
 
--- `deqolb`, and with true `shut`: where it holds
+-- `deqolb`, and with true `shut`: where it holds. The node names to whom the line went
 abbrev pub Releases : Bool → AnyNode → AnyNode → Answer → Type 0
-Releases shut was now a = IsDone (state_of was ≡ Holding) (line.Releases anything shut (view_of was) (view_of now) (turn_of was)) was now a
+Releases shut was now a = IsDone (state_of was ≡ Holding) (line.Releases anything shut (view_of was) (view_of now) (turn_of was) × NamesNext now) was now a
 
 -- a call of an empty handle is misuse, and the handle stays empty; else its node is called, and the answer's number is told
 abbrev pub Calls : (AnyNode → AnyNode → Answer → Type 0) → Option AnyNode → Option AnyNode → ℕ → Type 0
@@ -171,3 +177,18 @@ pub record TellsTurns (node : AnyNode) (n : ℕ) : Type 0 where
 abbrev pub TurnsLeft : Option AnyNode → ℕ → Type 0
 TurnsLeft None n = n ≡ 0
 TurnsLeft (Some node) n = TellsTurns node n
+
+-- the word at which the node waits; where it holds, that is the word of its turn, as any port sees it that sees whose turn it is
+pub record TellsWord (node : AnyNode) (n : ℕ) : Type 0 where
+  pub word : n ≡ waits_at_of node
+  pub turn : state_of node ≡ Holding → (u : View) → SeesTurn u (view_of node) → n ≡ turn_word_of node u
+
+-- `waits_at`: of an empty handle no word; nothing changes
+abbrev pub WaitsAt : Option AnyNode → ℕ → Type 0
+WaitsAt None n = n ≡ nowhere
+WaitsAt (Some node) n = TellsWord node n
+
+-- `went_to`: the word that the node noted, and of an empty handle no word; nothing changes
+abbrev pub WentTo : Option AnyNode → ℕ → Type 0
+WentTo None n = n ≡ nowhere
+WentTo (Some node) n = went_to_of node ≡ Some n

@@ -8,7 +8,10 @@ pub record NodeOf (Line Port : Type 0) : Type 0 where
   pub line : Line
   pub port : Port
 
--- the law of these lines: a turn may make any change
+-- the law of these lines: any bytes are good, and a turn may make any change
+abbrev pub any_bytes : List ℕ → Type 0
+any_bytes bytes = Unit {0}
+
 abbrev pub anything : List ℕ → List ℕ → Type 0
 anything old new = Unit {0}
 

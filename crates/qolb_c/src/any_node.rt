@@ -1,7 +1,8 @@
 //! A node of a line of any kind.
-ghost use Rattle.std.specs.Prelude.{◌≡◌, ◌≢◌, ℕ, true, false, MatchOption, MatchResult};
+ghost use Rattle.std.specs.Prelude.{◌≡◌, ◌≢◌, ℕ, true, false, Some, MatchOption, MatchResult};
 ghost use Rattle.qolb_model.specs.PortStates.{may_ask};
-ghost use Rattle.qolb_c.specs.Calls.{view_of, turn_of, state_of, Enqolbs, Polls, Waits, Prepends, LinksUp, Withdraws, Reads, ReadsLane, Writes, WritesLane, Releases, TellsTurns};
+ghost use Rattle.qolb_c.specs.Calls.{view_of, turn_of, state_of, Enqolbs, Polls, Waits, Prepends, LinksUp, Withdraws, Reads, ReadsLane, Writes, WritesLane, Releases, TellsTurns, TellsWord};
+ghost use Rattle.qolb_c.specs.Waits.{went_to_of};
 ghost use Rattle.qolb_c.specs.declared.any_node.AnyNode.{AnyNode};
 
 use crate::answer::Answer;
@@ -134,6 +135,25 @@ impl AnyNode {
         ensures { TellsTurns self.now result }
     {
         self.shown().turns_left
+    }
+
+    /// The word at which the node waits, if it does.
+    pub fn waits_at(&self) -> u64
+        ensures { TellsWord self.now result }
+    {
+        of_any!(self, node => node.waits_at())
+    }
+
+    /// The word at which the one waits to whom the node last let the line go.
+    pub fn went_to(&self) -> u64
+        ensures { went_to_of self.now ≡ Some result }
+    {
+        of_any!(self, node => node.went_to())
+    }
+
+    /// The word of the waiter behind that one.
+    pub fn went_ahead(&self) -> u64 {
+        of_any!(self, node => node.went_ahead())
     }
 
     /// The holder reads the line.

@@ -9,7 +9,8 @@ ghost use Rattle.qolb_c.specs.declared.answer.Answer.{Answer};
 ghost use Rattle.qolb_c.specs.Numbers.{number_of};
 ghost use Rattle.qolb_c.specs.Memory.{TellsMemory};
 ghost use Rattle.qolb_c.specs.Opens.{Opens, terms_by};
-ghost use Rattle.qolb_c.specs.Calls.{Calls, Enqolbs, Polls, Waits, Prepends, LinksUp, Withdraws, Reads, ReadsLane, Writes, WritesLane, Releases, Closes, TurnsLeft, node_number, label_told, state_told};
+ghost use Rattle.qolb_c.specs.Calls.{Calls, Enqolbs, Polls, Waits, Prepends, LinksUp, Withdraws, Reads, ReadsLane, Writes, WritesLane, Releases, Closes, TurnsLeft, WaitsAt, WentTo, node_number, label_told, state_told};
+ghost use Rattle.qolb_c.specs.Waits.{nowhere};
 
 mod answer;
 mod any_node;
@@ -34,6 +35,9 @@ pub struct Bytes {
 
 /// The version of the library: 10,000 for each major version, 100 for each minor one. The header has it too, as `QOLB_VERSION`.
 const VERSION: u32 = 10_200;
+
+/// A number that no word of a line has, so that nobody waits there.
+const NO_WORD: u64 = u64::MAX;
 
 /// Takes the node out of its handle, calls it, puts it back, and gives the answer's number. An empty handle is misuse.
 macro_rules! told {
@@ -208,6 +212,54 @@ pub extern "C" fn qolb_shut(alloc: Global, node: &mut Handle) -> u32
     ensures { Calls (Releases true) node.old.held node.new.held result }
 {
     told!(node, alloc, taken => taken.shut())
+}
+
+/// The word at which the node waits, if it does; 2^64 - 1, which no word is, where there is no node.
+#[unsafe(no_mangle)]
+pub extern "C" fn qolb_waits_at(alloc: Global, node: &mut Handle) -> u64
+    ensures held { node.new.held ≡ node.old.held }
+    ensures word { WaitsAt node.old.held result }
+{
+    match node.take(alloc) {
+        None => NO_WORD,
+        Some(taken) => {
+            let word = taken.waits_at();
+            node.put(taken);
+            word
+        }
+    }
+}
+
+/// The word at which the one waits to whom the node last let the line go, to be asked after a call that did; 2^64 - 1 where there is none.
+#[unsafe(no_mangle)]
+pub extern "C" fn qolb_went_to(alloc: Global, node: &mut Handle) -> u64
+    ensures held { node.new.held ≡ node.old.held }
+    ensures went_to { WentTo node.old.held result }
+{
+    match node.take(alloc) {
+        None => NO_WORD,
+        Some(taken) => {
+            let word = taken.went_to();
+            node.put(taken);
+            word
+        }
+    }
+}
+
+/// The word of the waiter behind that one, who may be woken a turn ahead; a number at which nobody waits where there is none.
+#[unsafe(no_mangle)]
+pub extern "C" fn qolb_went_ahead(alloc: Global, node: &mut Handle) -> u64
+    ensures held { node.new.held ≡ node.old.held }
+    ensures empty { node.old.held ≡ None → result ≡ nowhere }
+{
+    match node.take(alloc) {
+        None => NO_WORD,
+        Some(taken) => {
+            let word = taken.went_ahead();
+            node.put(taken);
+            word
+        }
+    }
 }
 
 /// Lets go of a node that neither waits nor holds. The last one of a line frees the line.

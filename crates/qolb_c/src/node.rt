@@ -5,13 +5,17 @@ ghost use Rattle.qolb_model.specs.Calls.{Enqueues, Prepends, LinksUp, Polls, Wit
 ghost use Rattle.qolb_model.specs.Leases.{turns_left};
 ghost use Rattle.qolb_model.specs.OneOwner.{turn_after};
 ghost use Rattle.qolb_model.specs.PortStates.{may_ask};
+ghost use Rattle.qolb_model.specs.declared.view.View.{View};
+ghost use Rattle.shared_line.specs.Turns.{Names, SeesTurn};
+ghost use Rattle.link_line.specs.Stances as list;
 ghost use Rattle.qolb_c.specs.Nodes.{anything, PollsWithin};
 ghost use Rattle.qolb_c.specs.Numbers.{turns_number};
 
 use crate::answer::{Misuse, turns_number};
-use crate::kinds::List;
+use crate::kinds::{LineFor, List};
 use line_lanes::{Line64, Mask};
 use qolb_model::{Enq, Free, LineSync, Out, Poll, PortState, Prep};
+use shared_line::{Discipline, Port, SleepersElsewhere};
 use std::alloc::Global;
 use std::hint::spin_loop;
 use std::marker::Model;
@@ -82,53 +86,6 @@ impl<L: LineSync<Free>> Node<L> {
         L::state(&self.port)
     }
 
-    /// Asks for the line.
-    ///
-    /// # Errors
-    ///
-    /// `Misuse` where the node waits or holds.
-    pub fn enqolb(&mut self) -> Result<Enq, Misuse>
-        ensures line { self.new.line ≡ self.old.line }
-        ensures enqueues { MatchResult result (λ answer. (may_ask (L.view self.old.port).state ≡ true) × Enqueues anything (L.view self.old.port) (L.view self.new.port) (L.turn self.new.port) answer × ((L.counters self.new.port).poll_count ≡ (L.counters self.old.port).poll_count)) (λ _. (may_ask (L.view self.old.port).state ≢ true) × (self.new ≡ self.old)) }
-    {
-        if self.state().may_ask() {
-            Ok(self.line.enqolb(&mut self.port))
-        } else {
-            Err(Misuse)
-        }
-    }
-
-    /// Looks at most so many times whether the request has come to its turn, with a pause between two.
-    ///
-    /// # Errors
-    ///
-    /// `Misuse` where the node does not wait, or may not look even once.
-    #[inline(always)]
-    pub fn wait(&mut self, polls: u64) -> Result<Poll, Misuse>
-        ensures line { self.new.line ≡ self.old.line }
-        ensures polls { MatchResult result (λ answer. ((L.view self.old.port).state ≡ PortState.Queued) × (0 < polls) × Polls anything (L.view self.old.port) (L.view self.new.port) (L.turn self.new.port) answer × PollsWithin polls (L.counters self.old.port).poll_count (L.counters self.new.port).poll_count answer) (λ _. (((L.view self.old.port).state ≡ PortState.Queued) × (0 < polls) → ⊥) × (self.new ≡ self.old)) }
-    {
-        if polls == 0 || self.state() != PortState::Queued {
-            return Err(Misuse);
-        }
-        Ok(poll_on(&*self.line, &mut self.port, polls))
-    }
-
-    /// Gives the request up, unless it has come to its turn.
-    ///
-    /// # Errors
-    ///
-    /// `Misuse` where the node does not wait.
-    pub fn withdraw(&mut self) -> Result<Out, Misuse>
-        ensures line { self.new.line ≡ self.old.line }
-        ensures withdraws { MatchResult result (λ answer. ((L.view self.old.port).state ≡ PortState.Queued) × Withdraws anything (L.view self.old.port) (L.view self.new.port) (L.turn self.new.port) answer × ((L.counters self.new.port).poll_count ≡ (L.counters self.old.port).poll_count)) (λ _. ((L.view self.old.port).state ≢ PortState.Queued) × (self.new ≡ self.old)) }
-    {
-        if self.state() != PortState::Queued {
-            return Err(Misuse);
-        }
-        Ok(self.line.withdraw(&mut self.port))
-    }
-
     /// The line's bytes as the holder sees them.
     ///
     /// # Errors
@@ -176,6 +133,65 @@ impl<L: LineSync<Free>> Node<L> {
         Ok(())
     }
 
+    /// Two nodes of one line tell each other what they know, which is of one history. C has no call for it: it says what it means that the
+    /// nodes of an opened line are of one line.
+    pub fn meet(&mut self, other: &mut Node<L>)
+        requires one_line { other.old.line ≡ self.old.line }
+        ensures lines { (self.new.line ≡ self.old.line) × (other.new.line ≡ other.old.line) }
+        ensures tell { TellEachOther anything (L.view self.old.port) (L.view other.old.port) (L.view self.new.port) (L.view other.new.port) }
+    {
+        self.line.meet(&mut self.port, &mut other.port);
+    }
+}
+
+impl<Q: Discipline<Free>> Node<LineFor<Q>> {
+    /// Asks for the line.
+    ///
+    /// # Errors
+    ///
+    /// `Misuse` where the node waits or holds.
+    pub fn enqolb(&mut self) -> Result<Enq, Misuse>
+        ensures line { self.new.line ≡ self.old.line }
+        ensures enqueues { MatchResult result (λ answer. (may_ask self.old.port.view.state ≡ true) × Enqueues anything self.old.port.view self.new.port.view self.new.port.turn answer × (self.new.port.counters.poll_count ≡ self.old.port.counters.poll_count) × (answer ≡ Enq.Closed → Names (Q.turn_word self.new.port.view) self.new.port.went_to)) (λ _. (may_ask self.old.port.view.state ≢ true) × (self.new ≡ self.old)) }
+    {
+        if self.state().may_ask() {
+            Ok(self.line.enqolb(&mut self.port))
+        } else {
+            Err(Misuse)
+        }
+    }
+
+    /// Looks at most so many times whether the request has come to its turn, with a pause between two.
+    ///
+    /// # Errors
+    ///
+    /// `Misuse` where the node does not wait, or may not look even once.
+    #[inline(always)]
+    pub fn wait(&mut self, polls: u64) -> Result<Poll, Misuse>
+        ensures line { self.new.line ≡ self.old.line }
+        ensures polls { MatchResult result (λ answer. (self.old.port.view.state ≡ PortState.Queued) × (0 < polls) × Polls anything self.old.port.view self.new.port.view self.new.port.turn answer × PollsWithin polls self.old.port.counters.poll_count self.new.port.counters.poll_count answer × (answer ≡ Poll.Closed → Names (Q.turn_word self.new.port.view) self.new.port.went_to)) (λ _. ((self.old.port.view.state ≡ PortState.Queued) × (0 < polls) → ⊥) × (self.new ≡ self.old)) }
+    {
+        if polls == 0 || self.state() != PortState::Queued {
+            return Err(Misuse);
+        }
+        Ok(poll_on(&*self.line, &mut self.port, polls))
+    }
+
+    /// Gives the request up, unless it has come to its turn.
+    ///
+    /// # Errors
+    ///
+    /// `Misuse` where the node does not wait.
+    pub fn withdraw(&mut self) -> Result<Out, Misuse>
+        ensures line { self.new.line ≡ self.old.line }
+        ensures withdraws { MatchResult result (λ answer. (self.old.port.view.state ≡ PortState.Queued) × Withdraws anything self.old.port.view self.new.port.view self.new.port.turn answer × (self.new.port.counters.poll_count ≡ self.old.port.counters.poll_count) × (answer ≡ Out.Closed → Names (Q.turn_word self.new.port.view) self.new.port.went_to)) (λ _. (self.old.port.view.state ≢ PortState.Queued) × (self.new ≡ self.old)) }
+    {
+        if self.state() != PortState::Queued {
+            return Err(Misuse);
+        }
+        Ok(self.line.withdraw(&mut self.port))
+    }
+
     /// Releases the line, and closes it if `shut`.
     ///
     /// # Errors
@@ -184,7 +200,7 @@ impl<L: LineSync<Free>> Node<L> {
     #[inline(always)]
     pub fn release(&mut self, shut: bool) -> Result<(), Misuse>
         ensures line { self.new.line ≡ self.old.line }
-        ensures releases { MatchResult result (λ _. ((L.view self.old.port).state ≡ PortState.Holding) × Releases anything shut (L.view self.old.port) (L.view self.new.port) (L.turn self.old.port)) (λ _. ((L.view self.old.port).state ≢ PortState.Holding) × (self.new ≡ self.old)) }
+        ensures releases { MatchResult result (λ _. (self.old.port.view.state ≡ PortState.Holding) × Releases anything shut self.old.port.view self.new.port.view self.old.port.turn × Names (Q.turn_word self.new.port.view) self.new.port.went_to) (λ _. (self.old.port.view.state ≢ PortState.Holding) × (self.new ≡ self.old)) }
     {
         if self.state() != PortState::Holding {
             return Err(Misuse);
@@ -197,14 +213,24 @@ impl<L: LineSync<Free>> Node<L> {
         Ok(())
     }
 
-    /// Two nodes of one line tell each other what they know, which is of one history. C has no call for it: it says what it means that the
-    /// nodes of an opened line are of one line.
-    pub fn meet(&mut self, other: &mut Node<L>)
-        requires one_line { other.old.line ≡ self.old.line }
-        ensures lines { (self.new.line ≡ self.old.line) × (other.new.line ≡ other.old.line) }
-        ensures tell { TellEachOther anything (L.view self.old.port) (L.view other.old.port) (L.view self.new.port) (L.view other.new.port) }
+    /// The word at which the node waits, if it does. Where it holds, the line came to it there.
+    pub fn waits_at(&self) -> u64
+        ensures word { result ≡ Q.waits_at self.now.port.view.terms.nodes self.now.port.view.node self.now.port.mark }
+        ensures turn { self.now.port.view.state ≡ PortState.Holding → (u : View) → SeesTurn u self.now.port.view → result ≡ Q.turn_word u }
     {
-        self.line.meet(&mut self.port, &mut other.port);
+        self.line.waits_at(&self.port) as u64
+    }
+
+    /// The word at which the one waits to whom the node last let the line go.
+    pub fn went_to(&self) -> u64
+        ensures { self.now.port.went_to ≡ Some result }
+    {
+        self.line.went_to(&self.port) as u64
+    }
+
+    /// The word of the waiter behind that one.
+    pub fn went_ahead(&self) -> u64 {
+        self.line.went_ahead(&self.port) as u64
     }
 }
 
@@ -216,7 +242,7 @@ impl Node<List> {
     /// `Misuse` where the node waits or holds.
     pub fn prepend(&mut self) -> Result<Prep, Misuse>
         ensures line { self.new.line ≡ self.old.line }
-        ensures prepends { MatchResult result (λ answer. (may_ask self.old.port.view.state ≡ true) × Prepends anything self.old.port.view self.new.port.view self.new.port.turn answer × (self.new.port.counters.poll_count ≡ self.old.port.counters.poll_count)) (λ _. (may_ask self.old.port.view.state ≢ true) × (self.new ≡ self.old)) }
+        ensures prepends { MatchResult result (λ answer. (may_ask self.old.port.view.state ≡ true) × Prepends anything self.old.port.view self.new.port.view self.new.port.turn answer × (self.new.port.counters.poll_count ≡ self.old.port.counters.poll_count) × (answer ≡ Prep.Closed → Names (list.turn_word self.new.port.view) self.new.port.went_to)) (λ _. (may_ask self.old.port.view.state ≢ true) × (self.new ≡ self.old)) }
     {
         if !self.state().may_ask() {
             return Err(Misuse);
@@ -231,7 +257,7 @@ impl Node<List> {
     /// `Misuse` where the node has no request to link.
     pub fn link(&mut self) -> Result<Enq, Misuse>
         ensures line { self.new.line ≡ self.old.line }
-        ensures links { MatchResult result (λ answer. (self.old.port.view.state ≡ PortState.Linking) × LinksUp anything self.old.port.view self.new.port.view self.new.port.turn answer × (self.new.port.counters.poll_count ≡ self.old.port.counters.poll_count)) (λ _. (self.old.port.view.state ≢ PortState.Linking) × (self.new ≡ self.old)) }
+        ensures links { MatchResult result (λ answer. (self.old.port.view.state ≡ PortState.Linking) × LinksUp anything self.old.port.view self.new.port.view self.new.port.turn answer × (self.new.port.counters.poll_count ≡ self.old.port.counters.poll_count) × (answer ≡ Enq.Closed → Names (list.turn_word self.new.port.view) self.new.port.went_to)) (λ _. (self.old.port.view.state ≢ PortState.Linking) × (self.new ≡ self.old)) }
     {
         if self.state() != PortState::Linking {
             return Err(Misuse);
@@ -241,13 +267,18 @@ impl Node<List> {
 }
 
 /// Polls at most so many times, with a pause between two: just so many times where the request waits still.
-fn poll_on<L: LineSync<Free>>(line: &L, port: &mut L::Port, polls: u64) -> Poll
-    requires belongs { L.belongs line.now port.old }
-    requires state { (L.view port.old).state ≡ PortState.Queued }
+fn poll_on<Q: Discipline<Free>>(
+    line: &LineFor<Q>,
+    port: &mut Port<Q, SleepersElsewhere>,
+    polls: u64,
+) -> Poll
+    requires belongs { ⟦<LineFor<Q> as LineSync<Free>>⟧.belongs line.now port.old }
+    requires state { port.old.view.state ≡ PortState.Queued }
     requires some { 0 < polls }
-    ensures belongs { L.belongs line.now port.new }
-    ensures polls { Polls anything (L.view port.old) (L.view port.new) (L.turn port.new) result }
-    ensures within { PollsWithin polls (L.counters port.old).poll_count (L.counters port.new).poll_count result }
+    ensures belongs { ⟦<LineFor<Q> as LineSync<Free>>⟧.belongs line.now port.new }
+    ensures polls { Polls anything port.old.view port.new.view port.new.turn result }
+    ensures within { PollsWithin polls port.old.counters.poll_count port.new.counters.poll_count result }
+    ensures went_to { result ≡ Poll.Closed → Names (Q.turn_word port.new.view) port.new.went_to }
 {
     for _look in 1..polls {
         match line.poll(port) {

@@ -63,7 +63,7 @@ impl<K: Keep> Ruled<K> for Ring {
 pub type RingLine<K, W = Sleepers> = shared_line::Line<K, Ring, W>;
 
 /// A node's end of such a line.
-pub type Port = shared_line::Port<Ring>;
+pub type Port<W = Sleepers> = shared_line::Port<Ring, W>;
 
 /// The table of a ring, as all its nodes see it.
 pub(crate) type Ground<K> = shared_line::Ground<K, Ring>;

@@ -1,5 +1,5 @@
 -- What a port's fields, and what its contract shows of them, are after a call.
-use Rattle.std.proofs.Common.{◌≡◌, ◌≢◌, ℕ, List, true, false, sym, ap, ◌∙◌, subst, Bool, ◌||◌, bit_or}
+use Rattle.std.proofs.Common.{◌≡◌, ◌≢◌, ℕ, length, List, Option, true, false, sym, ap, ◌∙◌, subst, Bool, ◌||◌, bit_or}
 use Rattle.line_lanes.specs.Line.{merged}
 use Rattle.atomic_table.specs.Seated.{TableId}
 use Rattle.qolb_model.specs.declared.answer.PortState.{PortState}
@@ -30,6 +30,7 @@ use Rattle.shared_line.specs.Entries.{LineSeat}
 use Rattle.shared_line.specs.Phases.{Phases}
 use Rattle.shared_line.specs.Steps.{SameSeat, entry_of, nodes_of, sole, HasLine, own_end, Carries, Went}
 use Rattle.shared_line.specs.Ports.{Standing, standing, write_in, Holds, IsPort, BelongsTo, IsSeated, IsPutBack}
+use Rattle.shared_line.specs.Turns.{SeesTurn}
 use Rattle.shared_line.proofs.Letting.{carries_served, holds_written}
 
 -- one that came, or stands behind another, was not busy
@@ -40,13 +41,13 @@ pub behind_asked : {answer : Asked} → answer ≡ asked.Behind → answer ≢ a
 behind_asked is busy = cc (is, busy)
 
 -- after n steps of a port of the line
-module _ {O : Type 0} {fresh : O} {good : List ℕ → Type 0} {allows : List ℕ → List ℕ → Type 0} {key : Setup} {table_id : TableId} {p : Standing} (s : LineSeat O) (y : LocalCopy) (steps looks : ℕ) (b : BelongsTo good allows key table_id p) (is : standing fresh s y steps looks ≡ p) {t : LineSeat O} {n : ℕ} (w : Went allows fresh s t n) where
+module _ {O : Type 0} {fresh : O} {good : List ℕ → Type 0} {allows : List ℕ → List ℕ → Type 0} {key : Setup} {table_id : TableId} {p : Standing} (s : LineSeat O) (y : LocalCopy) (steps looks : ℕ) {mark : ℕ} {went_to : Option ℕ} (b : BelongsTo good allows key table_id p) (is : standing fresh s y steps looks mark went_to ≡ p) {t : LineSeat O} {n : ℕ} (w : Went allows fresh s t n) where
   -- it goes on knowing
   pub call_continues : Continues allows p.view (entry_of fresh t).view
   call_continues = w.goes.continues p.view (subst (λ (x : Standing). Continues allows p.view x.view) (sym is) (continues_sound good allows key.label key.terms p.view b.sound))
 
   -- it belongs to the line
-  pub call_belongs : (z : LocalCopy) (steps : ℕ) {looks : ℕ} → BelongsTo good allows key table_id (standing fresh t z steps looks)
+  pub call_belongs : (z : LocalCopy) (steps : ℕ) {looks mark : ℕ} {went_to : Option ℕ} → BelongsTo good allows key table_id (standing fresh t z steps looks mark went_to)
   call_belongs z steps {looks = looks} = record {
     table_is = w.same.0 ∙ (ap (λ (x : Standing). x.table) is ∙ b.table_is);
     sound = sound_goes good allows key.label key.terms p.view (entry_of fresh t).view b.sound call_continues;
@@ -62,11 +63,11 @@ module _ {O : Type 0} {fresh : O} {good : List ℕ → Type 0} {allows : List �
   }
 
 -- the count of a port's requests, as its contract shows it
-pub same_count : {O : Type 0} (fresh : O) {p : Standing} (w : View) (s : LineSeat O) (y : LocalCopy) (steps looks : ℕ) → standing fresh s y steps looks ≡ p → w.count ≡ (entry_of fresh s).view.count → w.count ≡ p.view.count
+pub same_count : {O : Type 0} (fresh : O) {p : Standing} (w : View) (s : LineSeat O) (y : LocalCopy) (steps looks : ℕ) {mark : ℕ} {went_to : Option ℕ} → standing fresh s y steps looks mark went_to ≡ p → w.count ≡ (entry_of fresh s).view.count → w.count ≡ p.view.count
 same_count fresh w s y steps looks is e = e ∙ ap (λ (x : Standing). x.view.count) is
 
 -- what a port made of its last request, as its contract shows it
-module _ {O : Type 0} (fresh : O) {p : Standing} (s : LineSeat O) (y : LocalCopy) (steps looks : ℕ) (is : standing fresh s y steps looks ≡ p) where
+module _ {O : Type 0} (fresh : O) {p : Standing} (s : LineSeat O) (y : LocalCopy) (steps looks : ℕ) {mark : ℕ} {went_to : Option ℕ} (is : standing fresh s y steps looks mark went_to ≡ p) where
   pub call_busy : {v : View} → IsBusy (entry_of fresh s).view v → IsBusy p.view v
   call_busy {v = v} busy = subst (λ (x : Standing). IsBusy x.view v) is busy
 
@@ -83,18 +84,29 @@ module _ {O : Type 0} (fresh : O) {p : Standing} (s : LineSeat O) (y : LocalCopy
   call_links_on {v = v} {w = w} links more same = call_links (record { count = same ∙ links.count; joined = joined_goes v w links.joined more same })
 
 -- it knows how many nodes the line has
-pub call_nodes : {O : Type 0} (fresh : O) {good : List ℕ → Type 0} {allows : List ℕ → List ℕ → Type 0} {key : Setup} {table_id : TableId} {p : Standing} (s : LineSeat O) (y : LocalCopy) (steps looks : ℕ) → BelongsTo good allows key table_id p → standing fresh s y steps looks ≡ p
+pub call_nodes : {O : Type 0} (fresh : O) {good : List ℕ → Type 0} {allows : List ℕ → List ℕ → Type 0} {key : Setup} {table_id : TableId} {p : Standing} (s : LineSeat O) (y : LocalCopy) (steps looks : ℕ) {mark : ℕ} {went_to : Option ℕ} → BelongsTo good allows key table_id p → standing fresh s y steps looks mark went_to ≡ p
     → nodes_of fresh s ≡ key.terms.nodes
 call_nodes fresh s y steps looks b is = ap (λ (t : Terms). t.nodes) (ap (λ (x : Standing). x.view.terms) is ∙ b.sound.terms_are)
 
 -- a port between calls
-module _ {O : Type 0} {q : Phases O} {label node : ℕ} {p : Standing} (s : LineSeat O) (y : LocalCopy) (mark steps looks : ℕ) (state : PortState) (between : IsPort q label node s y mark state) (is : standing q.fresh s y steps looks ≡ p) where
+module _ {O : Type 0} {q : Phases O} {label node : ℕ} {p : Standing} (s : LineSeat O) (y : LocalCopy) (mark steps looks : ℕ) {went_to : Option ℕ} (state : PortState) (between : IsPort q label node s y mark state) (is : standing q.fresh s y steps looks mark went_to ≡ p) where
   -- the state that it shows is its own
   pub own_state : p.view.state ≡ state
   own_state = ap (λ (x : Standing). x.view.state) (sym is) ∙ between.shows_state
 
   pub holds_of : p.view.state ≡ shows.Holding → Holds q s y mark
   holds_of held = between.holds_so (sym own_state ∙ held)
+
+  -- the word at which its node waits, by what its contract shows
+  pub own_word : (waits_at : ℕ → ℕ → ℕ → ℕ) (nodes : ℕ) → nodes_of q.fresh s ≡ nodes → waits_at nodes node mark ≡ waits_at p.view.terms.nodes p.view.node p.mark
+  own_word waits_at nodes many = λ i. waits_at ((sym many ∙ ap (λ (x : Standing). x.view.terms.nodes) is) i) ((sym between.node_is ∙ ap (λ (x : Standing). x.view.node) is) i) (is i).mark
+
+  -- where it holds, that is the word of the turn, as any port sees it that sees whose turn it is
+  pub held_word : (waits_at : ℕ → ℕ → ℕ → ℕ) (turn_word : View → ℕ) (nodes : ℕ) → nodes_of q.fresh s ≡ nodes
+      → ((m : ℕ) (u v : View) (own : O) → q.holding m (length v.ends) own → SeesTurn u v → waits_at v.terms.nodes v.node m ≡ turn_word u)
+      → p.view.state ≡ shows.Holding → (u : View) → SeesTurn u p.view → waits_at nodes node mark ≡ turn_word u
+  held_word waits_at turn_word nodes many law held u sees =
+      (λ i. waits_at (sym many i) (sym between.node_is i) mark) ∙ law mark u (entry_of q.fresh s).view (entry_of q.fresh s).own (holds_of held).at (subst (λ (x : Standing). SeesTurn u x.view) (sym is) sees)
 
   -- it writes
   pub written_port : (z : LocalCopy) (mask : ℕ) (bytes : List ℕ) → p.view.state ≡ shows.Holding → z.bytes.bytes ≡ merged y.bytes.bytes bytes mask → z.mask.0 ≡ bit_or y.mask.0 mask → z.turns_left ≡ y.turns_left

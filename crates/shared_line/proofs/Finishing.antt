@@ -1,5 +1,5 @@
 -- How the seats of the ports handed to `finish` are joined.
-use Rattle.std.proofs.Common.{Some, slice_get, ◌≡◌, ℕ, suc, List, [], ◌∷◌, ◌++◌, map, true, false, sym, ap, ◌∙◌, subst, ⊎_elim, arith, append_assoc}
+use Rattle.std.proofs.Common.{Option, Some, slice_get, ◌≡◌, ℕ, suc, List, [], ◌∷◌, ◌++◌, length, map, true, false, sym, ap, ◌∙◌, subst, ⊎_elim, arith, append_assoc, append-nil}
 use Rattle.std.specs.List.{All}
 use Rattle.std.proofs.lemmas.List.{map-append}
 use Rattle.atomic_table.specs.Seated.{TableId}
@@ -10,11 +10,11 @@ use Rattle.qolb_model.specs.declared.answer.PortState.{PortState}
 use Rattle.qolb_model.specs.declared.answer.PortState.TheVariants as shows
 use Rattle.shared_line.specs.declared.rule.LocalCopy.{LocalCopy}
 use Rattle.shared_line.specs.declared.rule.Entry.{Entry}
-use Rattle.shared_line.specs.Entries.{LineSeat, AtRest}
+use Rattle.shared_line.specs.Entries.{LineSeat, AtRest, views_of}
 use Rattle.shared_line.specs.Phases.{Phases}
 use Rattle.shared_line.specs.Steps.{entry_of, nodes_of}
 use Rattle.shared_line.specs.Ports.{Standing, standing, IsPort}
-use Rattle.shared_line.specs.Finish.{Gathers}
+use Rattle.shared_line.specs.Finish.{Gathers, IsGathered}
 
 -- what the ports know
 abbrev pub views : List Standing → List View
@@ -36,7 +36,7 @@ pub all_rest : {A : Type 0} (P : A → Type 0) (x : A) (xs : List A) → All P (
 all_rest P x xs h = λ k d l. h (suc k) d (omega arith)
 
 -- the entries of one seat
-module _ {O : Type 0} (q : Phases O) (label node : ℕ) (s : LineSeat O) (y : LocalCopy) (mark steps looks : ℕ) (state : PortState) (p : Standing) (is : standing q.fresh s y steps looks ≡ p) (ok : IsPort q label node s y mark state) (quiet : may_ask p.view.state ≡ true) where
+module _ {O : Type 0} (q : Phases O) (label node : ℕ) (s : LineSeat O) (y : LocalCopy) (mark steps looks : ℕ) {went_to : Option ℕ} (state : PortState) (p : Standing) (is : standing q.fresh s y steps looks mark went_to ≡ p) (ok : IsPort q label node s y mark state) (quiet : may_ask p.view.state ≡ true) where
   same_view : (entry_of q.fresh s).view ≡ p.view
   same_view = ap (λ (o : Standing). o.view) is
 
@@ -88,9 +88,14 @@ module _ {O : Type 0} (q : Phases O) (label node : ℕ) (s : LineSeat O) (y : Lo
   }
 
 -- the first seat, as the iterator over the ports gives it
-pub gathers_start : {O : Type 0} (q : Phases O) (label node : ℕ) (s : LineSeat O) (y : LocalCopy) (mark steps looks : ℕ) (state : PortState) (p : Standing) → standing q.fresh s y steps looks ≡ p → IsPort q label node s y mark state → (table_id : TableId) (ports items rest left : List Standing) → items ≡ ports → items ≡ p ∷ rest → left ≡ rest
+pub gathers_start : {O : Type 0} (q : Phases O) (label node : ℕ) (s : LineSeat O) (y : LocalCopy) (mark steps looks : ℕ) {went_to : Option ℕ} (state : PortState) (p : Standing) → standing q.fresh s y steps looks mark went_to ≡ p → IsPort q label node s y mark state → (table_id : TableId) (ports items rest left : List Standing) → items ≡ ports → items ≡ p ∷ rest → left ≡ rest
     → All (λ (o : Standing). o.table ≡ table_id) ports → All (λ (o : Standing). may_ask o.view.state ≡ true) ports → Gathers q.rests table_id ports left s
 gathers_start q label node s y mark steps looks state p is ok table_id ports items rest left a b c tables quiets =
     let e : ports ≡ p ∷ rest = sym a ∙ b in
     subst (λ l. Gathers q.rests table_id ports l s) (sym c)
     (gathers_head q label node s y mark steps looks state p is ok (all_first (λ (o : Standing). may_ask o.view.state ≡ true) p rest (subst (All (λ (o : Standing). may_ask o.view.state ≡ true)) e quiets)) table_id ports rest e tables quiets)
+
+-- no port is left to come
+pub gathered : {O : Type 0} {rests : ℕ → PortState → ℕ → O → Type 0} (table_id : TableId) (ports left : List Standing) (n : ℕ) (whole : LineSeat O) → n ≡ length left → n ≡ 0 → Gathers rests table_id ports left whole → IsGathered rests table_id ports whole
+gathered table_id ports [] n whole is none h = record { table = h.table; views = sym (append-nil (views_of whole.me.0)) ∙ h.views; at_rest = h.at_rest }
+gathered table_id ports (p ∷ left) n whole is none h = absurd (omega arith)

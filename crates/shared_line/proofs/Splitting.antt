@@ -1,5 +1,5 @@
 -- How the entries of all nodes are split into ports.
-use Rattle.std.proofs.Common.{◌≡◌, ℕ, ◌+◌, ◌-◌, ◌<◌, List, [], ◌∷◌, ◌++◌, sym, ap, ◌∙◌, subst, ⊎_elim, length-append}
+use Rattle.std.proofs.Common.{◌≡◌, ℕ, ◌+◌, ◌-◌, ◌<◌, Option, List, [], ◌∷◌, ◌++◌, sym, ap, ◌∙◌, subst, ⊎_elim, length-append}
 use Rattle.std.proofs.lemmas.Option.{get_or_from_slice_get}
 use Rattle.atomic_table.specs.Seated.{TableId}
 use Rattle.qolb_model.specs.declared.answer.PortState.TheVariants as shows
@@ -33,12 +33,12 @@ module _ {O : Type 0} (q : Phases O) (about : Setup) (n : ℕ) (old first rest :
     node_is = ap (λ m. (sole q.fresh m.0).view.node) is;
   }
 
-pub one_more : {O : Type 0} (fresh : O) (table_id : TableId) (about : Setup) (n : ℕ) (ports : List Standing) (first : LineSeat O) (y : LocalCopy) (looks : ℕ) → looks ≡ 0 → AreSplit table_id about n ports → first.table_id ≡ table_id → first.me ≡ (newcomer fresh about (n + 1) ∷ [], []) → AreSplit table_id about (n + 1) (ports ++ standing fresh first y 0 looks ∷ [])
-one_more fresh table_id about n ports first y looks none d t is = record {
-  many = length-append ports (standing fresh first y 0 looks ∷ []) ∙ ap (λ k. k + 1) d.many;
+pub one_more : {O : Type 0} (fresh : O) (table_id : TableId) (about : Setup) (n : ℕ) (ports : List Standing) (first : LineSeat O) (y : LocalCopy) (looks mark : ℕ) (went_to : Option ℕ) → looks ≡ 0 → AreSplit table_id about n ports → first.table_id ≡ table_id → first.me ≡ (newcomer fresh about (n + 1) ∷ [], []) → AreSplit table_id about (n + 1) (ports ++ standing fresh first y 0 looks mark went_to ∷ [])
+one_more fresh table_id about n ports first y looks mark went_to none d t is = record {
+  many = length-append ports (standing fresh first y 0 looks mark went_to ∷ []) ∙ ap (λ k. k + 1) d.many;
   each = λ k p at. ⊎_elim (λ z. d.each k p z.1)
       (λ z. subst (λ (q : ℕ × Standing). (q.1.table ≡ table_id) × (q.1.view ≡ new_view about.label about.terms (q.0 + 1)) × IsUnused q.1) (λ i. (sym (z.0 ∙ d.many) i, sym z.1 i)) (t, ap (λ m. (sole fresh m.0).view) is, λ i. record { steps = 0; total_steps = (sole fresh (is i).0).steps; poll_count = none i }))
-      (push_cases ports (standing fresh first y 0 looks) k p at);
+      (push_cases ports (standing fresh first y 0 looks mark went_to) k p at);
 }
 
 -- the ports of a new line, which took no step

@@ -1,5 +1,5 @@
 -- What a port knows and holds.
-use Rattle.std.specs.Prelude.{◌≡◌, ◌≢◌, ℕ, ◌+◌, ◌-◌, ◌≤◌, length, slice_get, Bool, false, List, [], Some}
+use Rattle.std.specs.Prelude.{◌≡◌, ◌≢◌, ℕ, ◌+◌, ◌-◌, ◌≤◌, length, slice_get, Bool, false, List, [], Option, Some}
 use Rattle.std.specs.List.{All}
 use Rattle.atomic_table.specs.Seated.{TableId}
 use Rattle.qolb_model.specs.declared.answer.PortState.{PortState}
@@ -8,7 +8,7 @@ use Rattle.qolb_model.specs.declared.answer.Enq.{Enq}
 use Rattle.qolb_model.specs.declared.answer.Enq.TheVariants as enq
 use Rattle.qolb_model.specs.declared.answer.Poll.TheVariants as poll
 use Rattle.qolb_model.specs.declared.answer.Out.TheVariants as out
-use Rattle.qolb_model.specs.Counting.{Counters, Call, asks, polls, withdraws, releases}
+use Rattle.qolb_model.specs.Counting.{Counters, Counts, Call, asks, polls, withdraws, releases}
 use Rattle.qolb_model.specs.declared.terms.Terms.{Terms}
 use Rattle.qolb_model.specs.declared.view.View.{View}
 use Rattle.qolb_model.specs.declared.write.Write.{Write}
@@ -27,24 +27,28 @@ use Rattle.shared_line.specs.Entries.{LineSeat, newcomers_from}
 use Rattle.shared_line.specs.Phases.{Phases}
 use Rattle.shared_line.specs.Steps.{Alone, entry_of, nodes_of, HasNoSlot, Rests}
 
--- a port as contracts see it: its table, what it knows, the line's bytes where it holds it with the mask of the turn's writes, and what it
--- has counted
+-- a port as contracts see it: its table, what it knows, the line's bytes where it holds it with the mask of the turn's writes, what it
+-- has counted, the number that it keeps for its queue, and the word of the one to whom it let the line go, if it notes that
 pub record Standing : Type 0 where
   pub table : TableId
   pub view : View
   pub turn : Write
   pub counters : Counters
+  pub mark : ℕ
+  pub went_to : Option ℕ
 
 -- what a port's copy has that its turn wrote
 abbrev pub write_in : LocalCopy → Write
 write_in y = record { mask = y.mask; bytes = y.bytes }
 
-abbrev pub standing : {O : Type 0} → O → LineSeat O → LocalCopy → ℕ → ℕ → Standing
-standing fresh s y steps count = record {
+abbrev pub standing : {O : Type 0} → O → LineSeat O → LocalCopy → ℕ → ℕ → ℕ → Option ℕ → Standing
+standing fresh s y steps count mark went_to = record {
   table = s.table_id;
   view = (entry_of fresh s).view;
   turn = write_in y;
   counters = record { steps = steps; total_steps = (entry_of fresh s).steps; poll_count = count };
+  mark = mark;
+  went_to = went_to;
 }
 
 -- how many word steps a call takes, by what its lock says of asking and of letting go, and of the most
@@ -53,6 +57,10 @@ call_steps asks_in lets_go_in most (asks answer) old new n = (answer ≢ enq.Clo
 call_steps asks_in lets_go_in most (polls answer) old new n = (answer ≢ poll.Closed → n ≡ 1) × (n ≤ most)
 call_steps asks_in lets_go_in most (withdraws answer) old new n = (answer ≢ out.Closed → n ≡ 1) × (n ≤ most)
 call_steps asks_in lets_go_in most releases old new n = lets_go_in (length old.ends) (length new.ends) n × (n + 1 ≤ most)
+
+-- and what a port counts of a call
+abbrev pub CountsCall : (PortState → Enq → ℕ → Type 0) → (ℕ → ℕ → ℕ → Type 0) → ℕ → Call → Standing → Standing → Type 0
+CountsCall asks_in lets_go_in most call old new = Counts (call_steps asks_in lets_go_in most) (most + 3) call old.view new.view old.counters new.counters
 
 -- the turn's bytes are those of the earlier ends, changed under the mask
 abbrev pub IsMerged : View → LocalCopy → Type 0

@@ -1,5 +1,5 @@
 -- Whose turn it is, as a port sees it.
-use Rattle.std.specs.Prelude.{◌≡◌, length, Some}
+use Rattle.std.specs.Prelude.{◌≡◌, ℕ, length, Option, Some}
 use Rattle.qolb_model.specs.declared.view.View.{View}
 use Rattle.qolb_model.specs.Histories.{turn_of}
 use Rattle.qolb_model.specs.Requests.{Has}
@@ -13,3 +13,7 @@ pub record SeesTurn (u v : View) : Type 0 where
   pub ended : length u.ends ≡ length v.ends
   pub turn : turn_of u.order u.ends ≡ Some (own v)
   pub joined : Has u.joined (own v)
+
+-- A port that notes the word of the one to whom it let the line go, if it notes any, has noted this one.
+abbrev pub Names : ℕ → Option ℕ → Type 0
+Names word noted = (w : ℕ) → noted ≡ Some w → w ≡ word

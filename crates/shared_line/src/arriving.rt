@@ -5,6 +5,7 @@ ghost use Rattle.shared_line.specs.declared.rule.Parcel.{Parcel};
 ghost use Rattle.shared_line.specs.Steps.{Alone, entry_of, Went};
 ghost use Rattle.shared_line.specs.Ports.{write_in, IsPassedOn, IsPort, IsSeated};
 ghost use Rattle.shared_line.specs.Answers.{IsSeatOfNode, HasNodes, HasArrived, HasLaidClosed};
+ghost use Rattle.shared_line.specs.Turns.{Names};
 
 use crate::line::Line;
 use crate::queue::{Discipline, Released};
@@ -22,6 +23,7 @@ impl<K: Keep, Q: Discipline<K>, W: Waking> Line<K, Q, W> {
         parcel: &mut LocalCopy,
         state: &mut PortState,
         steps: &mut u64,
+        note: &mut W::Note,
         node: u64,
         mark: u64,
         granted: A,
@@ -38,6 +40,7 @@ impl<K: Keep, Q: Discipline<K>, W: Waking> Line<K, Q, W> {
         ensures came { HasCome granted closed result (entry_of Q.phases.fresh seat.new).view (write_in parcel.new) }
         ensures counted { result ≢ closed → steps.new ≡ steps.old }
         ensures bound { steps.new + 1 ≤ steps.old + Q.most self.now.table.shared.key.terms.nodes }
+        ensures went_to { granted ≢ closed → result ≡ closed → Names (Q.turn_word (entry_of Q.phases.fresh seat.new).view) (W.went_to note.new) }
     {
         let ground = &self.table.shared;
         let size = self.width.size;
@@ -53,7 +56,7 @@ impl<K: Keep, Q: Discipline<K>, W: Waking> Line<K, Q, W> {
         } = pass_on(ground, seat, size, node, mark);
         *state = left;
         *steps += more;
-        self.wake(to_wake);
+        self.wake(note, to_wake);
         closed
     }
 }

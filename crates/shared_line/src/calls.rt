@@ -1,12 +1,13 @@
 //! The line as one that many nodes share: the calls by which they queue at it.
-ghost use Rattle.std.specs.Prelude.{◌≡◌, ◌+◌, map, All, IfOk, IfErr};
+ghost use Rattle.std.specs.Prelude.{◌≡◌, ◌+◌, map, All, IsTrue, IfOk, IfErr, true, false};
 ghost use Rattle.qolb_model.specs.OneOwner.{turn_after};
 ghost use Rattle.qolb_model.specs.Kept.{MayRelease};
-ghost use Rattle.qolb_model.specs.Calls.{Releases};
-ghost use Rattle.qolb_model.specs.Counting.{Counts};
+ghost use Rattle.qolb_model.specs.PortStates as states;
+ghost use Rattle.qolb_model.specs.Calls.{Enqueues, Polls, Withdraws, Releases};
 ghost use Rattle.qolb_model.specs.Counting as call;
 ghost use Rattle.qolb_model.specs.Finishing.{MayRefuse, IsFinished};
-ghost use Rattle.shared_line.specs.Ports.{BelongsTo, call_steps};
+ghost use Rattle.shared_line.specs.Ports.{BelongsTo, call_steps, CountsCall};
+ghost use Rattle.shared_line.specs.Turns.{Names};
 
 use crate::line::Line;
 use crate::meeting::meet_seats;
@@ -19,7 +20,7 @@ use qolb_model::{Enq, Keep, LineSync, Out, Poll, PortState, Unfinished};
 use std::alloc::Global;
 
 impl<K: Keep, Q: Discipline<K>, W: Waking> LineSync<K> for Line<K, Q, W> {
-    type Port = Port<Q>;
+    type Port = Port<Q, W>;
 
     ghost view = { λ port. port.view };
 
@@ -47,28 +48,28 @@ impl<K: Keep, Q: Discipline<K>, W: Waking> LineSync<K> for Line<K, Q, W> {
         self.nodes
     }
 
-    fn node(port: &Port<Q>) -> u64 {
+    fn node(port: &Port<Q, W>) -> u64 {
         port.node
     }
 
-    fn state(port: &Port<Q>) -> PortState {
+    fn state(port: &Port<Q, W>) -> PortState {
         port.state
     }
 
-    fn owns(&self, port: &Port<Q>) -> bool {
+    fn owns(&self, port: &Port<Q, W>) -> bool {
         port.label == self.label
     }
 
-    fn bytes(port: &Port<Q>) -> &Line64 {
+    fn bytes(port: &Port<Q, W>) -> &Line64 {
         &port.parcel.bytes
     }
 
-    fn turns_left(&self, port: &Port<Q>) -> Option<u64> {
+    fn turns_left(&self, port: &Port<Q, W>) -> Option<u64> {
         port.parcel.turns_left
     }
 
     #[inline(always)]
-    fn write(port: &mut Port<Q>, mask: Mask, bytes: &Line64)
+    fn write(port: &mut Port<Q, W>, mask: Mask, bytes: &Line64)
         requires { port.old.view.state ≡ PortState.Holding }
         ensures view { port.new.view ≡ port.old.view }
         ensures turn { port.new.turn ≡ turn_after port.old.turn mask.0 bytes.now.bytes }
@@ -79,7 +80,14 @@ impl<K: Keep, Q: Discipline<K>, W: Waking> LineSync<K> for Line<K, Q, W> {
         port.parcel.mask = Mask(port.parcel.mask.0 | mask.0);
     }
 
-    fn enqolb(&self, port: &mut Port<Q>) -> Enq {
+    fn enqolb(&self, port: &mut Port<Q, W>) -> Enq
+        requires belongs { BelongsTo K.good K.allows self.now.table.shared.key self.now.table.shared.table_id port.old }
+        requires state { IsTrue (states.may_ask port.old.view.state) }
+        ensures belongs { BelongsTo K.good K.allows self.now.table.shared.key self.now.table.shared.table_id port.new }
+        ensures enqueues { Enqueues K.allows port.old.view port.new.view port.new.turn result }
+        ensures counts { CountsCall Q.asks_in Q.lets_go_in (Q.most self.now.table.shared.key.terms.nodes) (call.asks result) port.old port.new }
+        ensures went_to { result ≡ Enq.Closed → Names (Q.turn_word port.new.view) port.new.went_to }
+    {
         let ground = &self.table.shared;
         let made = Q::ask(
             ground,
@@ -103,6 +111,7 @@ impl<K: Keep, Q: Discipline<K>, W: Waking> LineSync<K> for Line<K, Q, W> {
                     &mut port.parcel,
                     &mut port.state,
                     &mut port.steps,
+                    &mut port.note,
                     port.node,
                     port.mark,
                     Enq::Granted,
@@ -113,7 +122,15 @@ impl<K: Keep, Q: Discipline<K>, W: Waking> LineSync<K> for Line<K, Q, W> {
     }
 
     #[inline]
-    fn poll(&self, port: &mut Port<Q>) -> Poll {
+    fn poll(&self, port: &mut Port<Q, W>) -> Poll
+        requires belongs { BelongsTo K.good K.allows self.now.table.shared.key self.now.table.shared.table_id port.old }
+        requires state { port.old.view.state ≡ PortState.Queued }
+        ensures belongs { BelongsTo K.good K.allows self.now.table.shared.key self.now.table.shared.table_id port.new }
+        ensures polls { Polls K.allows port.old.view port.new.view port.new.turn result }
+        ensures counts { CountsCall Q.asks_in Q.lets_go_in (Q.most self.now.table.shared.key.terms.nodes) (call.polls result) port.old port.new }
+        ensures mark { port.new.mark ≡ port.old.mark }
+        ensures went_to { result ≡ Poll.Closed → Names (Q.turn_word port.new.view) port.new.went_to }
+    {
         let ground = &self.table.shared;
         port.looks = port.looks.and_one();
         port.steps = 1;
@@ -131,6 +148,7 @@ impl<K: Keep, Q: Discipline<K>, W: Waking> LineSync<K> for Line<K, Q, W> {
             &mut port.parcel,
             &mut port.state,
             &mut port.steps,
+            &mut port.note,
             port.node,
             port.mark,
             Poll::Granted,
@@ -138,7 +156,15 @@ impl<K: Keep, Q: Discipline<K>, W: Waking> LineSync<K> for Line<K, Q, W> {
         )
     }
 
-    fn withdraw(&self, port: &mut Port<Q>) -> Out {
+    fn withdraw(&self, port: &mut Port<Q, W>) -> Out
+        requires belongs { BelongsTo K.good K.allows self.now.table.shared.key self.now.table.shared.table_id port.old }
+        requires state { port.old.view.state ≡ PortState.Queued }
+        ensures belongs { BelongsTo K.good K.allows self.now.table.shared.key self.now.table.shared.table_id port.new }
+        ensures withdraws { Withdraws K.allows port.old.view port.new.view port.new.turn result }
+        ensures counts { CountsCall Q.asks_in Q.lets_go_in (Q.most self.now.table.shared.key.terms.nodes) (call.withdraws result) port.old port.new }
+        ensures mark { port.new.mark ≡ port.old.mark }
+        ensures went_to { result ≡ Out.Closed → Names (Q.turn_word port.new.view) port.new.went_to }
+    {
         let ground = &self.table.shared;
         port.steps = 1;
         if !Q::roll(
@@ -156,6 +182,7 @@ impl<K: Keep, Q: Discipline<K>, W: Waking> LineSync<K> for Line<K, Q, W> {
             &mut port.parcel,
             &mut port.state,
             &mut port.steps,
+            &mut port.note,
             port.node,
             port.mark,
             Out::Granted,
@@ -164,15 +191,31 @@ impl<K: Keep, Q: Discipline<K>, W: Waking> LineSync<K> for Line<K, Q, W> {
     }
 
     #[inline(always)]
-    fn deqolb(&self, port: &mut Port<Q>) {
+    fn deqolb(&self, port: &mut Port<Q, W>)
+        requires belongs { BelongsTo K.good K.allows self.now.table.shared.key self.now.table.shared.table_id port.old }
+        requires state { port.old.view.state ≡ PortState.Holding }
+        requires allowed { MayRelease K.allows port.old.view port.old.turn }
+        ensures belongs { BelongsTo K.good K.allows self.now.table.shared.key self.now.table.shared.table_id port.new }
+        ensures releases { Releases K.allows false port.old.view port.new.view port.old.turn }
+        ensures counts { CountsCall Q.asks_in Q.lets_go_in (Q.most self.now.table.shared.key.terms.nodes) call.releases port.old port.new }
+        ensures went_to { Names (Q.turn_word port.new.view) port.new.went_to }
+    {
         self.let_go(port, false);
     }
 
-    fn shut(&self, port: &mut Port<Q>) {
+    fn shut(&self, port: &mut Port<Q, W>)
+        requires belongs { BelongsTo K.good K.allows self.now.table.shared.key self.now.table.shared.table_id port.old }
+        requires state { port.old.view.state ≡ PortState.Holding }
+        requires allowed { MayRelease K.allows port.old.view port.old.turn }
+        ensures belongs { BelongsTo K.good K.allows self.now.table.shared.key self.now.table.shared.table_id port.new }
+        ensures releases { Releases K.allows true port.old.view port.new.view port.old.turn }
+        ensures counts { CountsCall Q.asks_in Q.lets_go_in (Q.most self.now.table.shared.key.terms.nodes) call.releases port.old port.new }
+        ensures went_to { Names (Q.turn_word port.new.view) port.new.went_to }
+    {
         self.let_go(port, true);
     }
 
-    fn meet(&self, a: &mut Port<Q>, b: &mut Port<Q>) {
+    fn meet(&self, a: &mut Port<Q, W>, b: &mut Port<Q, W>) {
         let ground = &self.table.shared;
         if !b.holds() {
             meet_seats(ground, &mut a.seat, &mut b.seat);
@@ -190,8 +233,8 @@ impl<K: Keep, Q: Discipline<K>, W: Waking> LineSync<K> for Line<K, Q, W> {
     fn finish(
         self,
         alloc: Global,
-        ports: Vec<Port<Q>>,
-    ) -> Result<Line64, Unfinished<Line<K, Q, W>, Port<Q>>>
+        ports: Vec<Port<Q, W>>,
+    ) -> Result<Line64, Unfinished<Line<K, Q, W>, Port<Q, W>>>
         requires belong { All (λ port. port.view.label ≡ self.table.shared.key.label → BelongsTo K.good K.allows self.table.shared.key self.table.shared.table_id port) ports.items }
         ensures finished { IfOk result (λ line. IsFinished K.good K.allows self.table.shared.key.label self.table.shared.key.terms (map (λ port. port.view) ports.items) line.bytes) }
         ensures why { IfErr result (λ back. MayRefuse self.table.shared.key.label self.table.shared.key.terms.nodes (map (λ port. port.view) ports.items) back.why) }
@@ -207,13 +250,14 @@ impl<K: Keep, Q: Discipline<K>, W: Waking> LineSync<K> for Line<K, Q, W> {
 impl<K: Keep, Q: Discipline<K>, W: Waking> Line<K, Q, W> {
     /// The holder's turn is over: the line is laid for the next, closed where the holder shuts it or the lease is used up, and let go.
     #[inline(always)]
-    fn let_go(&self, port: &mut Port<Q>, shut: bool)
+    fn let_go(&self, port: &mut Port<Q, W>, shut: bool)
         requires belongs { BelongsTo K.good K.allows self.now.table.shared.key self.now.table.shared.table_id port.old }
         requires state { port.old.view.state ≡ PortState.Holding }
         requires allowed { MayRelease K.allows port.old.view port.old.turn }
         ensures belongs { BelongsTo K.good K.allows self.now.table.shared.key self.now.table.shared.table_id port.new }
         ensures releases { Releases K.allows shut port.old.view port.new.view port.old.turn }
-        ensures counts { Counts (call_steps Q.asks_in Q.lets_go_in (Q.most self.now.table.shared.key.terms.nodes)) (Q.most self.now.table.shared.key.terms.nodes + 3) call.releases port.old.view port.new.view port.old.counters port.new.counters }
+        ensures counts { CountsCall Q.asks_in Q.lets_go_in (Q.most self.now.table.shared.key.terms.nodes) call.releases port.old port.new }
+        ensures went_to { Names (Q.turn_word port.new.view) port.new.went_to }
     {
         let ground = &self.table.shared;
         let size = self.width.size;
@@ -234,6 +278,6 @@ impl<K: Keep, Q: Discipline<K>, W: Waking> Line<K, Q, W> {
         } = gone;
         port.steps = steps;
         port.state = state;
-        self.wake(to_wake);
+        self.wake(&mut port.note, to_wake);
     }
 }

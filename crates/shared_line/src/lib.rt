@@ -3,6 +3,7 @@
 
 mod arriving;
 mod calls;
+mod elsewhere;
 mod finish;
 mod line;
 mod linking;
@@ -15,6 +16,7 @@ mod rule;
 mod sleeping;
 mod slot;
 
+pub use elsewhere::{NO_WORD, SleepersElsewhere, WentTo};
 pub use line::{Line, Width};
 pub use port::Port;
 pub use queue::{Asked, Discipline, Linked, Released, Requested, Ruled, Shape};

@@ -44,7 +44,7 @@ pub struct Line<K: Keep, Q: Discipline<K>, W: Waking = Sleepers> {
 
 impl<K: Keep, Q: Discipline<K>, W: Waking> Line<K, Q, W> {
     /// How many word steps the port's last call took that asks, looks, withdraws or lets go; 0 before the first.
-    pub fn steps(&self, port: &Port<Q>) -> u64
+    pub fn steps(&self, port: &Port<Q, W>) -> u64
         ensures { result ≡ port.now.counters.steps }
     {
         port.steps

@@ -25,7 +25,7 @@ impl<K: Keep, Q: Discipline<K>, W: Waking> Line<K, Q, W> {
         label: u64,
         nodes: u64,
         opening: Line64,
-    ) -> Result<(Line<K, Q, W>, Vec<Port<Q>>), OpenError>
+    ) -> Result<(Line<K, Q, W>, Vec<Port<Q, W>>), OpenError>
         requires { K.good opening.bytes }
         ensures opens { IfOk result (λ r. IsOpened K.good K.allows r.0.table.shared.key r.0.table.shared.table_id label (record { nodes = nodes; opening = opening; lease = None }) r.1.items) }
         ensures unused { IfOk result (λ r. AreUnused r.1.items) }
@@ -47,7 +47,7 @@ impl<K: Keep, Q: Discipline<K>, W: Waking> Line<K, Q, W> {
         nodes: u64,
         opening: Line64,
         lease: u64,
-    ) -> Result<(Line<K, Q, W>, Vec<Port<Q>>), OpenError>
+    ) -> Result<(Line<K, Q, W>, Vec<Port<Q, W>>), OpenError>
         requires { K.good opening.bytes }
         ensures opens { IfOk result (λ r. IsOpened K.good K.allows r.0.table.shared.key r.0.table.shared.table_id label (record { nodes = nodes; opening = opening; lease = Some lease }) r.1.items) }
         ensures unused { IfOk result (λ r. AreUnused r.1.items) }
@@ -67,7 +67,7 @@ impl<K: Keep, Q: Discipline<K>, W: Waking> Line<K, Q, W> {
         alloc: Global,
         label: u64,
         terms: Terms,
-    ) -> Result<(Line<K, Q, W>, Vec<Port<Q>>), OpenError>
+    ) -> Result<(Line<K, Q, W>, Vec<Port<Q, W>>), OpenError>
         requires { K.good terms.opening.bytes }
         ensures opens { IfOk result (λ r. IsOpened K.good K.allows r.0.table.shared.key r.0.table.shared.table_id label terms r.1.items) }
         ensures unused { IfOk result (λ r. AreUnused r.1.items) }
@@ -79,7 +79,7 @@ impl<K: Keep, Q: Discipline<K>, W: Waking> Line<K, Q, W> {
         let Ok((line, rest)) = Line::<K, Q, W>::new_table(alloc, &setup) else {
             return Err(OpenError::Memory);
         };
-        let Ok(ports) = split_ports(alloc, &line.table.shared, rest, &setup) else {
+        let Ok(ports) = split_ports::<K, Q, W>(alloc, &line.table.shared, rest, &setup) else {
             return Err(OpenError::Memory);
         };
         Ok((line, ports))
@@ -132,13 +132,13 @@ impl<K: Keep, Q: Discipline<K>, W: Waking> OpenLine<K> for Line<K, Q, W> {
         alloc: Global,
         label: u64,
         terms: Terms,
-    ) -> Result<(Line<K, Q, W>, Vec<Port<Q>>), OpenError> {
+    ) -> Result<(Line<K, Q, W>, Vec<Port<Q, W>>), OpenError> {
         Line::<K, Q, W>::with_terms(alloc, label, terms)
     }
 }
 
 /// Room for the ports of so many nodes, and for no more.
-fn room_for<Q: Shape>(alloc: Global, nodes: u64) -> Result<Vec<Port<Q>>, AllocError>
+fn room_for<Q: Shape, W: Waking>(alloc: Global, nodes: u64) -> Result<Vec<Port<Q, W>>, AllocError>
     requires { nodes ≤ MOST_NODES }
     ensures none { IfOk result (λ ports. ports.items ≡ []) }
     ensures exact { IfOk result (λ ports. vec_capacity ports ≡ nodes) }
@@ -147,12 +147,12 @@ fn room_for<Q: Shape>(alloc: Global, nodes: u64) -> Result<Vec<Port<Q>>, AllocEr
 }
 
 /// A port for each node, from the seat that has the entries of all.
-fn split_ports<K: Keep, Q: Discipline<K>>(
+fn split_ports<K: Keep, Q: Discipline<K>, W: Waking>(
     alloc: Global,
     ground: &Ground<K, Q>,
     rest: LineSeat<Q::Own>,
     setup: &Setup,
-) -> Result<Vec<Port<Q>>, AllocError>
+) -> Result<Vec<Port<Q, W>>, AllocError>
     requires table { (rest.table_id ≡ ground.now.table_id) × (0 < ground.now.table_id.words) }
     requires terms { MayOpen setup.now.terms }
     requires whole { rest.me ≡ (newcomers Q.phases.fresh setup.now, []) }
@@ -166,7 +166,7 @@ fn split_ports<K: Keep, Q: Discipline<K>>(
         turns_left: None,
         closed: false,
     };
-    let mut ports = room_for::<Q>(alloc, setup.terms.nodes)?;
+    let mut ports = room_for::<Q, W>(alloc, setup.terms.nodes)?;
     for done in 0..setup.terms.nodes {
         let others = ground.split_seat::<Cut>(&mut rest);
         let seat = mem::replace(&mut rest, others);
@@ -177,6 +177,7 @@ fn split_ports<K: Keep, Q: Discipline<K>>(
             label,
             node: done + 1,
             steps: 0,
+            note: W::blank(),
             state: PortState::Idle,
             looks: Looks::none(),
         })?;

@@ -1,7 +1,8 @@
 //! Waiters that sleep, and whoever wakes them. None of it is a step of the queue: the table stays as it is.
-ghost use Rattle.std.specs.Prelude.{◌≡◌, ℕ, ◌<◌, ◌/◌, ◌%◌, ◌^◌, false};
+ghost use Rattle.std.specs.Prelude.{◌≡◌, ℕ, ◌<◌, ◌/◌, ◌%◌, ◌^◌, false, Option, None};
 ghost use Rattle.shared_line.specs.Answers.{IsSeatOfNode};
 ghost use Rattle.shared_line.specs.Steps.{Rests};
+ghost use Rattle.shared_line.specs.Turns.{Names};
 
 use crate::line::Line;
 use crate::port::Port;
@@ -36,12 +37,29 @@ impl ToWake {
 
 /// Who wakes the waiters of a line that sleep, if any may.
 pub trait Waking: Drop {
+    /// What a port notes of the one to whom it let the line go.
+    type Note: Copy + Drop;
+
+    /// The word on which that one may sleep, where a port notes it.
+    ghost went_to: { Self.Note → Option ℕ };
+
     /// That of a new line, at which nobody sleeps.
     fn none() -> Self;
 
-    /// Wakes who sleeps at the word that was granted, and who sleeps at the word ahead, if the table has it.
-    fn wake<K: Keep, Q: Discipline<K>>(&self, table: &LineTable<K, Q>, word: usize, ahead: usize)
-        requires word { word < table.now.shared.table_id.words };
+    /// The note of a new port, which never let the line go.
+    fn blank() -> Self::Note;
+
+    /// Wakes who sleeps at the word that was granted, and who sleeps at the word ahead, if the table has it; or notes the two words, for
+    /// whoever wakes.
+    fn wake<K: Keep, Q: Discipline<K>>(
+        &self,
+        table: &LineTable<K, Q>,
+        note: &mut Self::Note,
+        word: usize,
+        ahead: usize,
+    )
+        requires word { word < table.now.shared.table_id.words }
+        ensures notes { Names word (went_to note.new) };
 }
 
 /// Nobody sleeps at the line, and no release wakes: what a lock takes that may not call the system.
@@ -49,12 +67,25 @@ pub trait Waking: Drop {
 pub struct NoSleepers;
 
 impl Waking for NoSleepers {
+    type Note = ();
+
+    ghost went_to = { λ _. None };
+
     fn none() -> NoSleepers {
         NoSleepers
     }
 
     #[inline(always)]
-    fn wake<K: Keep, Q: Discipline<K>>(&self, _: &LineTable<K, Q>, _word: usize, _ahead: usize) {}
+    fn blank() {}
+
+    #[inline(always)]
+    fn wake<K: Keep, Q: Discipline<K>>(
+        &self,
+        _: &LineTable<K, Q>,
+        _note: &mut (),
+        _word: usize,
+        _ahead: usize,
+    ) {}
 }
 
 /// In how many groups sleepers are counted, by the word on which they sleep.
@@ -120,6 +151,10 @@ impl Sleepers {
 }
 
 impl Waking for Sleepers {
+    type Note = ();
+
+    ghost went_to = { λ _. None };
+
     fn none() -> Sleepers {
         Sleepers {
             all: CachePadded::new(AtomicU64::new(0)),
@@ -128,7 +163,16 @@ impl Waking for Sleepers {
     }
 
     #[inline(always)]
-    fn wake<K: Keep, Q: Discipline<K>>(&self, table: &LineTable<K, Q>, word: usize, ahead: usize) {
+    fn blank() {}
+
+    #[inline(always)]
+    fn wake<K: Keep, Q: Discipline<K>>(
+        &self,
+        table: &LineTable<K, Q>,
+        _note: &mut (),
+        word: usize,
+        ahead: usize,
+    ) {
         if self.all.load(Ordering::SeqCst) != 0 {
             self.wake_both(table, word, ahead);
         }
@@ -181,12 +225,13 @@ impl<K: Keep, Q: Discipline<K>> Sleeping<K> for Line<K, Q> {
 }
 
 impl<K: Keep, Q: Discipline<K>, W: Waking> Line<K, Q, W> {
-    /// Wakes who sleeps at the word that was granted, and who sleeps at the one ahead.
+    /// Wakes who sleeps at the word that was granted, and who sleeps at the one ahead; or notes the two words.
     #[inline(always)]
-    pub(crate) fn wake(&self, to_wake: ToWake)
+    pub(crate) fn wake(&self, note: &mut W::Note, to_wake: ToWake)
         requires { to_wake.word < Q.word_count self.now.table.shared.key.terms.nodes }
+        ensures { Names to_wake.word (W.went_to note.new) }
     {
         let ToWake { word, ahead } = to_wake;
-        self.sleepers.wake(&self.table, word, ahead);
+        self.sleepers.wake(&self.table, note, word, ahead);
     }
 }

@@ -63,7 +63,7 @@ impl<K: Keep> Ruled<K> for Ticket {
 pub type TicketLine<K, W = Sleepers> = shared_line::Line<K, Ticket, W>;
 
 /// A node's end of such a line.
-pub type Port = shared_line::Port<Ticket>;
+pub type Port<W = Sleepers> = shared_line::Port<Ticket, W>;
 
 /// The table of a ticket line, as all its nodes see it.
 pub(crate) type Ground<K> = shared_line::Ground<K, Ticket>;

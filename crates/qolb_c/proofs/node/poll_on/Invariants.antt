@@ -1,13 +1,15 @@
 use Rattle.std.proofs.Common.{◌≡◌, ◌+◌}
 use Rattle.qolb_model.specs.declared.answer.PortState.TheVariants.{Queued}
 use Rattle.qolb_model.specs.Views.{Extends}
+use Rattle.shared_line.specs.Ports.{BelongsTo}
+use Rattle.qolb_c.specs.Nodes.{any_bytes, anything}
 use Rattle.qolb_c.proofs.node.poll_on.Given as goal
 
 abbrev pub invariant-loop-look : goal.invariant-loop-look
 invariant-loop-look g l = record {
-  belongs : g.L.LineSync.belongs l.line l.port;
-  state : (g.L.LineSync.view l.port).state ≡ Queued;
-  extends : Extends (g.L.LineSync.view l.initial.port) (g.L.LineSync.view l.port);
-  count : (g.L.LineSync.view l.port).count ≡ (g.L.LineSync.view l.initial.port).count;
-  looks : (g.L.LineSync.counters l.port).poll_count + 1 ≡ (g.L.LineSync.counters l.initial.port).poll_count + l._look;
+  belongs : BelongsTo any_bytes anything l.line.table.shared.key l.line.table.shared.table_id l.port;
+  state : l.port.view.state ≡ Queued;
+  extends : Extends l.initial.port.view l.port.view;
+  count : l.port.view.count ≡ l.initial.port.view.count;
+  looks : l.port.counters.poll_count + 1 ≡ l.initial.port.counters.poll_count + l._look;
 }

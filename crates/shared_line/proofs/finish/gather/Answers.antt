@@ -1,6 +1,6 @@
 use Rattle.std.proofs.Common.{subst}
 use Rattle.shared_line.specs.Finish.{Gathers}
-use Rattle.shared_line.proofs.Finishing.{none_carried, head_quiet, head_table, gathers_start, gathers_more}
+use Rattle.shared_line.proofs.Finishing.{none_carried, head_quiet, head_table, gathers_start, gathers_more, gathered}
 use Rattle.shared_line.proofs.finish.gather.Goals as goal
 
 pub loop-port-init : goal.loop-port-init
@@ -25,3 +25,6 @@ loop-port-preserved g c =
     let quiet = head_quiet c.args.ground.now.table_id c.args.ports.items c.loop-port.port-iterator.rest.items c.next-in-loop-port.new.self.rest.items c.loop-port.whole c.in-Some-port.port c.in-Some-port.ensures.steps.0 i in
     gathers_more g.Q.Shape.phases c.port.inside.label c.port.inside.node c.port.inside.seat c.port.inside.parcel c.port.inside.mark c.port.inside.steps c.port.inside.looks.count c.port.inside.state c.in-Some-port.port c.port.view_is c.port.invariant quiet c.args.ground.now.table_id c.args.ports.items c.next-in-loop-port.new.self.rest.items c.loop-port.whole c.join_seat.new.seat
     (subst (λ rest. Gathers g.Q.Shape.phases.rests c.args.ground.now.table_id c.args.ports.items rest c.loop-port.whole) c.in-Some-port.ensures.steps.0 i) c.join_seat.ensures.0 c.join_seat.ensures.2
+
+pub returns : goal.returns
+returns g c = gathered c.args.ground.now.table_id c.args.ports.items c.loop-port.port-iterator.rest.items _ c.loop-port.whole c.loop-port.port-iterator.rest.ok.0 c.in-None.ensures.steps.0 c.loop-port.invariant

@@ -35,3 +35,6 @@ returns-in-Came-clause-enqueues g c = let q = c.port.inside in let more = c.arri
     enqueues_came (call_continues q.seat q.parcel q.steps q.looks.count c.requires.belongs c.port.view_is {t = c.arrive.new.seat} (then_to c.ask-made.ensures.went c.arrive.ensures.more c.arrive.ensures.went))
     (call_asks_on g.Q.Shape.phases.fresh q.seat q.parcel q.steps q.looks.count c.port.view_is (c.ask-made.ensures.request.asks (came_asked c.in-Came.is)) more c.arrive.ensures.count)
     (joined_goes (entry_of g.Q.Shape.phases.fresh c.ask-made.new.seat).view (entry_of g.Q.Shape.phases.fresh c.arrive.new.seat).view (c.ask-made.ensures.request.joined (came_asked c.in-Came.is)) more c.arrive.ensures.count) c.arrive.ensures.came
+
+pub returns-in-Came-clause-went_to : goal.returns-in-Came-clause-went_to
+returns-in-Came-clause-went_to g c = c.arrive.ensures.went_to (λ e. cc e)

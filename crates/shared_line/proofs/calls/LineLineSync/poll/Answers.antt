@@ -23,3 +23,6 @@ pub returns-clause-polls : goal.returns-clause-polls
 returns-clause-polls g c = let q = c.port.inside in
     polls_came (call_continues q.seat q.parcel q.steps q.looks.count c.requires.belongs c.port.view_is {t = c.arrive.new.seat} (then_to c.look.ensures.went c.arrive.ensures.more c.arrive.ensures.went))
     (same_count g.Q.Shape.phases.fresh (entry_of g.Q.Shape.phases.fresh c.arrive.new.seat).view q.seat q.parcel q.steps q.looks.count c.port.view_is (c.arrive.ensures.count ∙ c.look.ensures.looks.count)) c.arrive.ensures.came
+
+pub returns-clause-went_to : goal.returns-clause-went_to
+returns-clause-went_to g c = c.arrive.ensures.went_to (λ e. cc e)

@@ -23,3 +23,6 @@ pub returns-clause-withdraws : goal.returns-clause-withdraws
 returns-clause-withdraws g c = let q = c.port.inside in
     withdraws_came (call_continues q.seat q.parcel q.steps q.looks.count c.requires.belongs c.port.view_is {t = c.arrive.new.seat} (then_to c.roll.ensures.went c.arrive.ensures.more c.arrive.ensures.went))
     (same_count g.Q.Shape.phases.fresh (entry_of g.Q.Shape.phases.fresh c.arrive.new.seat).view q.seat q.parcel q.steps q.looks.count c.port.view_is (c.arrive.ensures.count ∙ c.roll.ensures.rolls.count)) c.arrive.ensures.came
+
+pub returns-clause-went_to : goal.returns-clause-went_to
+returns-clause-went_to g c = c.arrive.ensures.went_to (λ e. cc e)

@@ -1,6 +1,7 @@
-use Rattle.std.proofs.Common.{◌≡◌, ◌+◌, ◌-◌, ◌∷◌, [], refl, sym, ap, ◌∙◌, subst, arith}
+use Rattle.std.proofs.Common.{◌≡◌, ℕ, ◌+◌, ◌-◌, ◌∷◌, [], refl, sym, ap, ◌∙◌, subst, arith}
 use Rattle.qolb_model.specs.declared.terms.Terms.{Terms}
 use Rattle.shared_line.specs.Steps.{sole, Went}
+use Rattle.shared_line.specs.Turns.{Names}
 use Rattle.shared_line.proofs.Turning.{put_then}
 use Rattle.shared_line.proofs.Letting.{arrives}
 use Rattle.shared_line.proofs.Arrived.{passed_port, seated_goes}
@@ -31,3 +32,9 @@ pub returns-clause-went : goal.returns-clause-went
 returns-clause-went g c = let gone = c.pass_on-left.ensures in
     let e : c.pass_on-left.result.steps ≡ c.args.steps.now + c.pass_on-left.result.steps - c.args.steps.now = omega arith in
     subst (Went g.K.Keep.allows g.Q.Shape.phases.fresh c.args.seat.now c.pass_on-left.new.seat) e (put_then c.take.ensures.same gone.went)
+
+pub returns-then-not-parcel-clause-went_to : goal.returns-then-not-parcel-clause-went_to
+returns-then-not-parcel-clause-went_to g c apart is = absurd (apart is)
+
+pub returns-clause-went_to : goal.returns-clause-went_to
+returns-clause-went_to g c apart is = subst (λ (word : ℕ). Names word (g.W.Waking.went_to c.wake.new.note)) c.pass_on-left.ensures.wakes c.wake.ensures

@@ -1,5 +1,6 @@
 use Rattle.std.proofs.Common.{◌∙◌, ℕ, ap, subst}
 use Rattle.shared_line.specs.Steps.{sole}
+use Rattle.shared_line.specs.Turns.{Names}
 use Rattle.shared_line.proofs.Turning.{put_then}
 use Rattle.shared_line.proofs.Calling.{call_nodes, holds_of, put_carries, let_go_releases, call_belongs}
 use Rattle.shared_line.proofs.line.Line.let_go.Goals as goal
@@ -31,3 +32,6 @@ pub put-requires-clause-kept : goal.put-requires-clause-kept
 put-requires-clause-kept g c = let q = c.port.inside in
     subst (λ (n : ℕ). g.Q.Shape.phases.keeps n q.mark q.parcel.turns_left q.seat.me.1) (call_nodes g.Q.Shape.phases.fresh q.seat q.parcel q.steps q.looks.count c.requires.belongs c.port.view_is)
     (holds_of q.seat q.parcel q.mark q.steps q.looks.count q.state c.port.invariant c.port.view_is c.requires.state).kept
+
+pub returns-clause-went_to : goal.returns-clause-went_to
+returns-clause-went_to g c = subst (λ (word : ℕ). Names word (g.W.Waking.went_to c.wake.new.note)) c.release-gone.ensures.wakes c.wake.ensures

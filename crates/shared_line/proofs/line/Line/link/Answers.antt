@@ -22,3 +22,6 @@ pub returns-clause-links_up : goal.returns-clause-links_up
 returns-clause-links_up g c = let q = c.port.inside in
     links_came (call_continues q.seat q.parcel q.steps q.looks.count c.requires.belongs c.port.view_is {t = c.arrive.new.seat} (then_to c.link.ensures.went c.arrive.ensures.more c.arrive.ensures.went))
     (call_links_on g.Q.Shape.phases.fresh q.seat q.parcel q.steps q.looks.count c.port.view_is c.link.ensures.links.links c.arrive.ensures.went.goes.extends c.arrive.ensures.count) c.arrive.ensures.came
+
+pub returns-clause-went_to : goal.returns-clause-went_to
+returns-clause-went_to g c = c.arrive.ensures.went_to (λ e. cc e)

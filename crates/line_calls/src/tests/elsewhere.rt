@@ -1,0 +1,48 @@
+//! Waiters that sleep elsewhere: a line tells at which word each waits, and to whom it went.
+
+use line_lanes::Line64;
+use qolb_model::{Enq, Free, LineSync, OpenLine, Poll, Terms};
+use shared_line::{Discipline, Line, SleepersElsewhere};
+use std::alloc::Global;
+
+/// A line whose waiters sleep elsewhere.
+type Told<Q> = Line<Free, Q, SleepersElsewhere>;
+
+/// Node 1 has the line, and nodes 2 and 3 stand behind it. Node 1 releases, node 2 closes the line, and node 3 is told so. Whether each names the
+/// word of the one behind it, node 1 also that of the one ahead of its turn, and node 3 no word of theirs.
+pub(super) fn each_names_the_next<Q: Discipline<Free>>(alloc: Global) -> Option<bool> {
+    let terms = Terms {
+        nodes: 3,
+        opening: Line64::zero(),
+        lease: None,
+    };
+    let (line, mut ports) = Told::<Q>::open_with(alloc, 0, terms).ok()?;
+    let mut three = ports.pop()?;
+    let mut two = ports.pop()?;
+    let mut one = ports.pop()?;
+    let Enq::Granted = line.enqolb(&mut one) else {
+        return None;
+    };
+    let Enq::Queued = line.enqolb(&mut two) else {
+        return None;
+    };
+    let Enq::Queued = line.enqolb(&mut three) else {
+        return None;
+    };
+    let (next, last) = (line.waits_at(&two), line.waits_at(&three));
+    line.deqolb(&mut one);
+    let Poll::Granted = line.poll(&mut two) else {
+        return None;
+    };
+    line.shut(&mut two);
+    let Poll::Closed = line.poll(&mut three) else {
+        return None;
+    };
+    let told = [
+        line.went_to(&one),
+        line.went_ahead(&one),
+        line.went_to(&two),
+    ];
+    let end = line.went_to(&three);
+    Some(told == [next, last, last] && end != next && end != last)
+}
