@@ -179,6 +179,19 @@ where
         answer
     }
 
+    /// Whether the node's last request is clear, if its port may ask.
+    pub fn is_clear(&mut self, node: u64) -> Option<bool> {
+        let mut port = self.take(node)?;
+        let may_ask = L::state(&port).may_ask();
+        let answer = if self.owns(&port) && may_ask {
+            Some(self.line.is_clear(&mut port))
+        } else {
+            None
+        };
+        self.put(port);
+        answer
+    }
+
     /// How many turns are left of the lease, if the node's port holds the line.
     pub fn turns_left(&mut self, node: u64) -> Option<Option<u64>> {
         let port = self.take(node)?;

@@ -146,6 +146,10 @@ impl<H: Hooks + Drop, K: Keep, L: Sleeping<K>> LineSync<K> for HookedLine<H, L> 
         self.line.withdraw(port)
     }
 
+    fn is_clear(&self, port: &mut L::Port) -> bool {
+        self.line.is_clear(port)
+    }
+
     fn deqolb(&self, port: &mut L::Port) {
         self.hooks.lets_go(&self.line, port);
         self.line.deqolb(port)

@@ -100,6 +100,10 @@ impl<'r, R: Wait, K: Keep, L: Sleeping<K>> LineSync<K> for SleepingLine<'r, R, L
         self.line.withdraw(port)
     }
 
+    fn is_clear(&self, port: &mut L::Port) -> bool {
+        self.line.is_clear(port)
+    }
+
     fn deqolb(&self, port: &mut L::Port) {
         self.line.deqolb(port)
     }

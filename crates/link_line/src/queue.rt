@@ -5,7 +5,7 @@ ghost use Rattle.link_line.specs.Laws.Lasting as lasting;
 ghost use Rattle.link_line.specs.Laws.Meets as meeting;
 ghost use Rattle.link_line.specs.Laws.Seats as seats;
 
-use crate::asking::request;
+use crate::asking::{look_at_rest, request};
 use crate::release::release;
 use crate::rule::{Ground, LinkSeat, Links};
 use crate::steps::{link, load, roll};
@@ -13,8 +13,8 @@ use crate::words::{entry_word, is_granted, word_count};
 use atomic_table::Closed;
 use qolb_model::{Keep, PortState};
 use shared_line::{
-    Asked, Discipline, Linked, LocalCopy, Parcel, Released, Requested, put_alone, take_alone,
-    unlay_alone,
+    Asked, Discipline, Linked, LocalCopy, Parcel, Released, Requested, Rested, put_alone,
+    take_alone, unlay_alone,
 };
 use std::alloc::{AllocError, Global};
 
@@ -88,6 +88,17 @@ impl<K: Keep> Discipline<K> for Links {
             mark: made.mark,
             steps: made.steps + 1,
         }
+    }
+
+    /// A node whose last request is clear is idle again.
+    #[inline]
+    fn look_at_rest(
+        ground: &Ground<K>,
+        seat: &mut LinkSeat,
+        node: u64,
+        state: PortState,
+    ) -> Rested {
+        look_at_rest(ground, seat, node, state)
     }
 
     #[inline]

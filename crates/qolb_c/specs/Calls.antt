@@ -88,6 +88,11 @@ prep_told prep.Linking = answer.Linking
 prep_told prep.Closed = answer.Closed
 prep_told prep.Busy = answer.Busy
 
+-- whether a node is clear
+abbrev pub clear_told : Bool → Answer
+clear_told true = answer.Done
+clear_told false = answer.Busy
+
 -- a call that the node's state may forbid. Forbidden, it is misuse, and nothing changes; allowed, the line's call is made, which promises this of
 -- its own answer. The node stays of its line
 pub record IsCall {A : Type 0} (Allowed : Type 0) (told : A → Answer) (Promise : A → Type 0) (was now : AnyNode) (a : Answer) : Type 0 where
@@ -122,6 +127,10 @@ LinksUp was now a = IsCall ((kind_of was ≡ 1) × (state_of was ≡ Linking)) e
 -- `withdraw`: where it waits. It does not poll
 abbrev pub Withdraws : AnyNode → AnyNode → Answer → Type 0
 Withdraws was now a = IsCall (state_of was ≡ Queued) out_told (λ made. line.Withdraws anything (view_of was) (view_of now) (turn_of now) made × (poll_count_of now ≡ poll_count_of was) × (made ≡ out.Closed → NamesNext now)) was now a
+
+-- `clear`: where it neither waits nor holds. It asks nothing, and does not poll
+abbrev pub LooksIfClear : AnyNode → AnyNode → Answer → Type 0
+LooksIfClear was now a = IsCall (may_ask (state_of was) ≡ true) clear_told (λ clear. line.LooksIfClear anything (view_of was) (view_of now) clear × (poll_count_of now ≡ poll_count_of was)) was now a
 
 -- `read`: where it holds, its bytes are written to `out`, and nothing else changes
 abbrev pub Reads : List ℕ → List ℕ → AnyNode → AnyNode → Answer → Type 0

@@ -1,7 +1,7 @@
 //! What a call answers, and C's numbers for it.
 ghost use Rattle.std.specs.Prelude.{◌≡◌, MatchResult};
 ghost use Rattle.qolb_c.specs.Numbers.{number_of, state_number, turns_number};
-ghost use Rattle.qolb_c.specs.Calls.{enq_told, prep_told, poll_told, out_told};
+ghost use Rattle.qolb_c.specs.Calls.{enq_told, prep_told, poll_told, out_told, clear_told};
 
 use qolb_model::{Enq, Out, Poll, PortState, Prep};
 
@@ -91,6 +91,17 @@ impl Answer {
             Ok(Out::Withdrawn) => Answer::Withdrawn,
             Ok(Out::Granted) => Answer::Granted,
             Ok(Out::Closed) => Answer::Closed,
+            Err(Misuse) => Answer::Misuse,
+        }
+    }
+
+    /// What is told of looking whether a node is clear.
+    pub fn of_clear(made: Result<bool, Misuse>) -> Answer
+        ensures { MatchResult made (λ clear. result ≡ clear_told clear) (λ _. result ≡ Answer.Misuse) }
+    {
+        match made {
+            Ok(true) => Answer::Done,
+            Ok(false) => Answer::Busy,
             Err(Misuse) => Answer::Misuse,
         }
     }

@@ -1,7 +1,7 @@
 //! A node of a line of any kind.
 ghost use Rattle.std.specs.Prelude.{◌≡◌, ◌≢◌, ℕ, true, false, Some, MatchOption, MatchResult};
 ghost use Rattle.qolb_model.specs.PortStates.{may_ask};
-ghost use Rattle.qolb_c.specs.Calls.{view_of, turn_of, state_of, Enqolbs, Polls, Waits, Prepends, LinksUp, Withdraws, Reads, ReadsLane, Writes, WritesLane, Releases, TellsTurns, TellsWord};
+ghost use Rattle.qolb_c.specs.Calls.{view_of, turn_of, state_of, Enqolbs, Polls, Waits, Prepends, LinksUp, Withdraws, LooksIfClear, Reads, ReadsLane, Writes, WritesLane, Releases, TellsTurns, TellsWord};
 ghost use Rattle.qolb_c.specs.Waits.{went_to_of};
 ghost use Rattle.qolb_c.specs.declared.any_node.AnyNode.{AnyNode};
 
@@ -121,6 +121,13 @@ impl AnyNode {
         ensures { Withdraws self.old self.new result }
     {
         of_any!(self, node => Answer::of_out(node.withdraw()))
+    }
+
+    /// Whether the node's last request is clear. It asks nothing.
+    pub fn is_clear(&mut self) -> Answer
+        ensures { LooksIfClear self.old self.new result }
+    {
+        of_any!(self, node => Answer::of_clear(node.is_clear()))
     }
 
     /// The line's bytes, where the node holds the line.

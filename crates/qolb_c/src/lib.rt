@@ -9,7 +9,7 @@ ghost use Rattle.qolb_c.specs.declared.answer.Answer.{Answer};
 ghost use Rattle.qolb_c.specs.Numbers.{number_of};
 ghost use Rattle.qolb_c.specs.Memory.{TellsMemory};
 ghost use Rattle.qolb_c.specs.Opens.{Opens, terms_by};
-ghost use Rattle.qolb_c.specs.Calls.{Calls, Enqolbs, Polls, Waits, Prepends, LinksUp, Withdraws, Reads, ReadsLane, Writes, WritesLane, Releases, Closes, TurnsLeft, WaitsAt, WentTo, node_number, label_told, state_told};
+ghost use Rattle.qolb_c.specs.Calls.{Calls, Enqolbs, Polls, Waits, Prepends, LinksUp, Withdraws, LooksIfClear, Reads, ReadsLane, Writes, WritesLane, Releases, Closes, TurnsLeft, WaitsAt, WentTo, node_number, label_told, state_told};
 ghost use Rattle.qolb_c.specs.Waits.{nowhere};
 
 mod answer;
@@ -131,6 +131,14 @@ pub extern "C" fn qolb_withdraw(alloc: Global, node: &mut Handle) -> u32
     ensures { Calls Withdraws node.old.held node.new.held result }
 {
     told!(node, alloc, taken => taken.withdraw())
+}
+
+/// Looks whether the node may ask and would not be busy. It asks nothing.
+#[unsafe(no_mangle)]
+pub extern "C" fn qolb_clear(alloc: Global, node: &mut Handle) -> u32
+    ensures { Calls LooksIfClear node.old.held node.new.held result }
+{
+    told!(node, alloc, taken => taken.is_clear())
 }
 
 /// The holder reads the line.

@@ -1,7 +1,7 @@
 //! A node of a line that several share, for any kind of line.
 ghost use Rattle.std.specs.Prelude.{◌≡◌, ◌≢◌, ℕ, ◌+◌, ◌<◌, ◌≤◌, true, false, Some, MatchResult};
 ghost use Rattle.std.specs.Arc.{arc_value};
-ghost use Rattle.qolb_model.specs.Calls.{Enqueues, Prepends, LinksUp, Polls, Withdraws, Releases, TellEachOther};
+ghost use Rattle.qolb_model.specs.Calls.{Enqueues, Prepends, LinksUp, Polls, Withdraws, LooksIfClear, Releases, TellEachOther};
 ghost use Rattle.qolb_model.specs.Leases.{turns_left};
 ghost use Rattle.qolb_model.specs.OneOwner.{turn_after};
 ghost use Rattle.qolb_model.specs.PortStates.{may_ask};
@@ -84,6 +84,21 @@ impl<L: LineSync<Free>> Node<L> {
         ensures { result ≡ (L.view self.now.port).state }
     {
         L::state(&self.port)
+    }
+
+    /// Whether the node's last request is clear, so that asking next is not answered busy.
+    ///
+    /// # Errors
+    ///
+    /// `Misuse` where the node waits or holds.
+    pub fn is_clear(&mut self) -> Result<bool, Misuse>
+        ensures line { self.new.line ≡ self.old.line }
+        ensures looks { MatchResult result (λ clear. (may_ask (L.view self.old.port).state ≡ true) × LooksIfClear anything (L.view self.old.port) (L.view self.new.port) clear × ((L.counters self.new.port).poll_count ≡ (L.counters self.old.port).poll_count)) (λ _. (may_ask (L.view self.old.port).state ≢ true) × (self.new ≡ self.old)) }
+    {
+        if !self.state().may_ask() {
+            return Err(Misuse);
+        }
+        Ok(self.line.is_clear(&mut self.port))
     }
 
     /// The line's bytes as the holder sees them.

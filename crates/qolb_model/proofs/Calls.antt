@@ -1,5 +1,5 @@
 -- What each call of a plain line answers, the moves that it makes, and the state that it leaves.
-use Rattle.std.proofs.Common.{◌≡◌, ℕ, ◌≤◌, Bool, true, false, ◌&&◌, if◌then◌else◌, List, [], ◌∷◌, ◌++◌, map, refl, ap, sym, ◌∙◌, subst}
+use Rattle.std.proofs.Common.{◌≡◌, ℕ, ◌≤◌, Bool, true, false, not, ◌&&◌, if◌then◌else◌, List, [], ◌∷◌, ◌++◌, map, refl, ap, sym, ◌∙◌, subst}
 use Rattle.std.specs.List.{list_any}
 use Rattle.qolb_model.specs.declared.answer.Poll.{Poll}
 use Rattle.qolb_model.specs.declared.answer.Poll.TheVariants as poll
@@ -8,7 +8,7 @@ use Rattle.qolb_model.specs.declared.waiter.Waiter.{Waiter}
 use Rattle.qolb_model.specs.declared.answer.PortState.TheVariants as port
 use Rattle.qolb_model.specs.Requests.{has, last_of}
 use Rattle.qolb_model.specs.Queue.{ask, Runs}
-use Rattle.qolb_model.specs.OneOwner.{LineState, is_first, is_open, is_rolled, poll_answer, poll_moves, after_poll, as_enq, after_ask, enq_answer, enq_moves, after_enq, as_out, out_answer, mark_last, out_moves, after_out, after_moves, release_moves, after_release}
+use Rattle.qolb_model.specs.OneOwner.{LineState, is_first, is_open, is_rolled, poll_answer, poll_moves, after_poll, as_enq, after_ask, enq_answer, enq_moves, after_enq, clear_answer, as_out, out_answer, mark_last, out_moves, after_out, after_moves, release_moves, after_release}
 use Rattle.qolb_model.specs.Plain.{PlainView, is_at, is_oldest, node_state, Agrees}
 use Rattle.qolb_model.specs.PortStates.{may_ask}
 use Rattle.qolb_model.specs.Steps.{withdrawn_at, joined_by, turn_served, look_answer, looked}
@@ -173,3 +173,12 @@ module _ (line : PlainView) (s : LineState) (node : ℕ) (shut : Bool) (a : Agre
 
   pub releases-agrees : Agrees (turn_served shut line) (after_release s shut)
   releases-agrees = ends_so.1
+
+pub not-not : (b : Bool) → not (not b) ≡ b
+not-not true = refl
+not-not false = refl
+
+-- a node that may ask is clear where it has no entry
+pub clear-answer : (line : PlainView) (s : LineState) (node : ℕ) → Agrees line s → may_ask (node_state line node) ≡ true → 1 ≤ node → node ≤ line.nodes → (b : Bool) → list_any (is_at node) line.waiting ≡ b → not b ≡ clear_answer s node
+clear-answer line s node a may low high true waits = ap not (sym (rolled line s node a may waits))
+clear-answer line s node a may low high false quiet = ap not (sym (not_rolled line s node a low high quiet))

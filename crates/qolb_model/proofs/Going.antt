@@ -1,11 +1,11 @@
 -- What stays true of a port's view while its steps go on, in a line of whatever kind.
-use Rattle.std.proofs.Common.{◌≡◌, ℕ, ◌≤◌, List, sym, refl, ◌∙◌, subst, ap, Some, arith}
+use Rattle.std.proofs.Common.{◌≡◌, ℕ, ◌≤◌, List, true, false, sym, refl, ◌∙◌, subst, ap, Some, ⊎_elim, arith}
 use Rattle.qolb_model.specs.declared.terms.Terms.{Terms}
 use Rattle.qolb_model.specs.declared.view.View.{View}
 use Rattle.qolb_model.specs.Requests.{Has}
 use Rattle.qolb_model.specs.Views.{own, Extends}
 use Rattle.qolb_model.specs.Sound.{Continues, IsSound}
-use Rattle.qolb_model.specs.Asking.{Asks, IsJoined}
+use Rattle.qolb_model.specs.Asking.{IsBusy, IsClear, Asks, IsJoined}
 use Rattle.qolb_model.proofs.Prefixes.{prefix_self, prefix_get, prefix_length}
 use Rattle.qolb_model.proofs.Requests.{same_request, has_prefix}
 use Rattle.qolb_model.proofs.Agreeing.{extends_trans}
@@ -56,6 +56,13 @@ continues_sound good allows label terms v s = record {
 -- the same request, seen later
 pub same_own : (v w : View) → Extends v w → w.count ≡ v.count → own w ≡ own v
 same_own v w e c = same_request w.node v.node w.count v.count e.node c
+
+-- a port that is clear is not busy later
+pub clear_not_busy : (v w : View) → Extends v w → IsClear v → IsBusy v w → ⊥
+clear_not_busy v w e clear busy =
+    ⊎_elim (λ neither. ⊎_elim neither.0 neither.1 busy.was)
+    (λ known. let later : Has w.clear (own w) = subst (Has w.clear) (sym (same_own v w e busy.count)) (has_prefix v.clear w.clear (own v) e.clear known) in let no : true ≡ false = sym later ∙ busy.unclear in cc no)
+    clear
 
 -- what was asked stays asked
 pub asks_goes : (u v w : View) → Asks u v → Extends v w → w.count ≡ v.count → Asks u w

@@ -1,5 +1,5 @@
 -- How many requests end before one's own.
-use Rattle.std.proofs.Common.{◌≡◌, ℕ, ◌+◌, ◌<◌, ◌≤◌, List, ◌∷◌, [], length, drop, Some, slice_get, sym, ap, ◌∙◌, subst, arith, length-drop}
+use Rattle.std.proofs.Common.{◌≡◌, ℕ, ◌+◌, ◌<◌, ◌≤◌, List, ◌∷◌, [], length, drop, Some, slice_get, sym, ap, ◌∙◌, arith, length-drop}
 use Rattle.std.proofs.lemmas.Option.{slice_get_within}
 use Rattle.qolb_model.specs.declared.request.Request.{Request}
 use Rattle.qolb_model.specs.declared.view.View.{View}
@@ -7,7 +7,7 @@ use Rattle.qolb_model.specs.declared.write.Write.{Write}
 use Rattle.qolb_model.specs.Views.{own, Extends}
 use Rattle.qolb_model.specs.OneHistory.{OneHistory}
 use Rattle.qolb_model.specs.Turns.{IsQueued, IsGranted}
-use Rattle.qolb_model.specs.Requests.{count_of, last_of}
+use Rattle.qolb_model.specs.Requests.{last_of}
 use Rattle.qolb_model.specs.OneOwner.{LineState}
 use Rattle.qolb_model.specs.Plain.{IsReached}
 use Rattle.qolb_model.proofs.Lists.{at_drop}

@@ -1,5 +1,5 @@
 -- A line that none of its ports has shut.
-use Rattle.std.proofs.Common.{◌≡◌, ◌≢◌, ℕ, zero, suc, ◌+◌, ◌<◌, ◌≤◌, ◌⊎◌, inl, inr, Bool, true, false, ◌||◌, List, [], ◌∷◌, ◌++◌, length, take, drop, replicate, Option, Some, None, slice_get, refl, ap, sym, ◌∙◌, subst, arith}
+use Rattle.std.proofs.Common.{◌≡◌, ℕ, suc, ◌+◌, ◌≤◌, Bool, true, false, ◌||◌, List, [], ◌∷◌, take, drop, replicate, Option, Some, None, slice_get, refl, ap, sym, ◌∙◌, subst, arith}
 use Rattle.std.proofs.lemmas.Bool.{eqb-true}
 use Rattle.std.proofs.lemmas.List.{take-append-le, take-append-drop}
 use Rattle.std.proofs.lemmas.Option.{slice_get_within}
@@ -16,7 +16,7 @@ use Rattle.qolb_model.specs.OneHistory.{IsAmong}
 use Rattle.qolb_model.specs.Finishing.{IsFinished}
 use Rattle.qolb_model.specs.LettingGo.{IsTold}
 use Rattle.qolb_model.specs.Sums.{KnowsOwnPlaces, HasNotShut}
-use Rattle.qolb_model.proofs.Lists.{never, same_some, element_at, take_with}
+use Rattle.qolb_model.proofs.Lists.{same_some, element_at, take_with}
 use Rattle.qolb_model.proofs.Prefixes.{prefix_get}
 use Rattle.qolb_model.proofs.Histories.{is_closed-append}
 use Rattle.qolb_model.proofs.Leases.{served-append, lease_bounds}

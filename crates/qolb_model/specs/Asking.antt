@@ -1,5 +1,5 @@
 -- Asking for the line. (A requester puts itself at the head of the line's list: IEEE Std 1596-1992.)
-use Rattle.std.specs.Prelude.{◌≡◌, ◌⊎◌, ℕ, ◌+◌, ◌≤◌, length, slice_get, Some}
+use Rattle.std.specs.Prelude.{◌≡◌, ◌≢◌, ◌⊎◌, ℕ, ◌+◌, ◌≤◌, length, slice_get, Some}
 use Rattle.qolb_model.specs.declared.answer.PortState.TheVariants.{Left, Rolled}
 use Rattle.qolb_model.specs.declared.view.View.{View}
 use Rattle.qolb_model.specs.Requests.{Has, Lacks}
@@ -11,6 +11,10 @@ pub record IsBusy (old new : View) : Type 0 where
   pub unclear : Lacks new.clear (own new)
   pub state : new.state ≡ old.state
   pub count : new.count ≡ old.count
+
+-- a port that may not be busy: its last request neither ended in its own mailbox nor was withdrawn, or the port knows that it is clear
+abbrev pub IsClear : View → Type 0
+IsClear v = ((v.state ≢ Left) × (v.state ≢ Rolled)) ⊎ Has v.clear (own v)
 
 -- the port asked: its last request was clear, and its next one stands behind all that it knew
 pub record Asks (old new : View) : Type 0 where

@@ -1,6 +1,6 @@
 -- What each call of a port promises: one record a call, one field an answer. `old` and `new` are what the port knew before and after, and
 -- `turn` is what its holder has written. (The calls are named after Goodman, Vernon and Woest, 1989; their rules are of this project.)
-use Rattle.std.specs.Prelude.{◌≡◌, ◌≢◌, ◌⊎◌, ℕ, Bool, List, [], ◌∷◌}
+use Rattle.std.specs.Prelude.{◌≡◌, ◌≢◌, ◌⊎◌, ℕ, Bool, true, false, List, [], ◌∷◌}
 use Rattle.qolb_model.specs.declared.answer.Enq.{Enq}
 use Rattle.qolb_model.specs.declared.answer.Enq.TheVariants as enq
 use Rattle.qolb_model.specs.declared.answer.Prep.{Prep}
@@ -9,7 +9,7 @@ use Rattle.qolb_model.specs.declared.answer.Poll.{Poll}
 use Rattle.qolb_model.specs.declared.answer.Poll.TheVariants as poll
 use Rattle.qolb_model.specs.declared.answer.Out.{Out}
 use Rattle.qolb_model.specs.declared.answer.Out.TheVariants as out
-use Rattle.qolb_model.specs.declared.answer.PortState.TheVariants.{Holding}
+use Rattle.qolb_model.specs.declared.answer.PortState.TheVariants.{Holding, Idle}
 use Rattle.qolb_model.specs.declared.end.End.TheVariants.{Served}
 use Rattle.qolb_model.specs.declared.view.View.{View}
 use Rattle.qolb_model.specs.declared.write.Write.{Write}
@@ -18,7 +18,7 @@ use Rattle.qolb_model.specs.Leases.{closes}
 use Rattle.qolb_model.specs.Views.{bytes_of}
 use Rattle.qolb_model.specs.OneHistory.{OneHistory}
 use Rattle.qolb_model.specs.Sound.{Continues}
-use Rattle.qolb_model.specs.Asking.{IsBusy, Asks, IsJoined}
+use Rattle.qolb_model.specs.Asking.{IsBusy, IsClear, Asks, IsJoined}
 use Rattle.qolb_model.specs.Turns.{IsGranted, IsQueued, IsWithdrawn}
 use Rattle.qolb_model.specs.LettingGo.{EndsTurn, IsTold}
 use Rattle.qolb_model.specs.Linking.{IsLinking, Links}
@@ -73,6 +73,15 @@ module _ (allows : List ℕ → List ℕ → Type 0) where
     pub withdrawn : answer ≡ out.Withdrawn → IsWithdrawn new
     pub granted : answer ≡ out.Granted → IsGranted new turn
     pub told : answer ≡ out.Closed → IsTold new
+
+  -- `is_clear`: it looks whether its last request is clear, and asks nothing. If that is clear, asking next is not answered busy, and a line may show
+  -- the port as idle again; if not, the port is as one that asked and was busy
+  pub record LooksIfClear (old new : View) (answer : Bool) : Type 0 where
+    pub continues : Continues allows old new
+    pub count : new.count ≡ old.count
+    pub state : (new.state ≡ old.state) ⊎ (new.state ≡ Idle)
+    pub clear : answer ≡ true → IsClear new
+    pub busy : answer ≡ false → IsBusy old new
 
   -- `deqolb`, and with `shut` the call of that name: its request is served with what its turn wrote, which closes the line where the holder
   -- shuts it, and at the last turn of a lease

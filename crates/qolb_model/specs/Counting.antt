@@ -1,5 +1,5 @@
 -- What a port counts of its calls.
-use Rattle.std.specs.Prelude.{◌≡◌, ◌+◌, ◌≤◌, ℕ}
+use Rattle.std.specs.Prelude.{◌≡◌, ◌+◌, ◌≤◌, ℕ, Bool}
 use Rattle.qolb_model.specs.declared.answer.Enq.{Enq}
 use Rattle.qolb_model.specs.declared.answer.Poll.{Poll}
 use Rattle.qolb_model.specs.declared.answer.Out.{Out}
@@ -16,6 +16,7 @@ pub data Call : Type 0 where
   asks : (answer : Enq) → Call
   polls : (answer : Poll) → Call
   withdraws : (answer : Out) → Call
+  looks_if_clear : (clear : Bool) → Call
   releases : Call
 
 -- how often a port was polled, after a call: each poll counts, and no other call
@@ -23,6 +24,7 @@ abbrev pub polls_after : Call → ℕ → ℕ
 polls_after (asks answer) count = count
 polls_after (polls answer) count = count + 1
 polls_after (withdraws answer) count = count
+polls_after (looks_if_clear clear) count = count
 polls_after releases count = count
 
 -- a port's counters after a call: the call took as many word steps as the lock says, no more than the most, and they are counted

@@ -2,6 +2,8 @@
 use Rattle.std.specs.Prelude.{◌≡◌, ◌≢◌, ℕ, ◌+◌, ◌<◌, ◌≤◌, true, false, List, [], ◌∷◌, length, take, slice_get, filter, Option, None, Some}
 use Rattle.std.specs.List.{sum_by}
 use mathlib.Core.List.{IsPrefix}
+use Rattle.qolb_model.specs.declared.answer.Enq.{Enq}
+use Rattle.qolb_model.specs.declared.answer.Enq.TheVariants.{Busy}
 use Rattle.qolb_model.specs.declared.answer.PortState.TheVariants.{Holding}
 use Rattle.qolb_model.specs.declared.request.Request.{Request}
 use Rattle.qolb_model.specs.declared.end.End.{End}
@@ -21,6 +23,7 @@ use Rattle.qolb_model.specs.Sums.{sum_of_all, sum_of_own, KnowsOwnPlaces, HasNot
 use Rattle.qolb_model.specs.Kept.{AreAllowed}
 use Rattle.qolb_model.specs.Opening.{AreNew}
 use Rattle.qolb_model.specs.Meeting.{Meets}
+use Rattle.qolb_model.specs.Calls.{Enqueues, LooksIfClear}
 use Rattle.qolb_model.specs.OneOwner.{LineState}
 use Rattle.qolb_model.specs.Plain.{IsReached}
 
@@ -50,6 +53,10 @@ OnlyServedEndsWrite = (bytes : List ℕ) (ends : List End) → bytes_after bytes
 -- bytes that are good stay good under turns that keep the law
 abbrev pub GoodStaysGood : (List ℕ → Type 0) → (List ℕ → List ℕ → Type 0) → Type 0
 GoodStaysGood good allows = (bytes : List ℕ) (ends : List End) → good bytes → AreAllowed allows bytes ends → good (bytes_after bytes ends)
+
+-- a port that is clear is not busy when it asks next
+abbrev pub ClearPortIsNotBusy : (List ℕ → List ℕ → Type 0) → Type 0
+ClearPortIsNotBusy allows = (old clear new : View) (turn : Write) (answer : Enq) → LooksIfClear allows old clear true → Enqueues allows clear new turn answer → answer ≢ Busy
 
 -- a view that was extended twice was extended
 abbrev pub ExtendsThrough : Type 0

@@ -1,6 +1,6 @@
 -- What each call answers, and which moves of the queue it makes, where one owner makes all calls of a line one after another.
 -- (Of this project: the table of a script's answers.)
-use Rattle.std.specs.Prelude.{ℕ, ◌+◌, Bool, true, false, ◌&&◌, if◌then◌else◌, List, [], ◌∷◌, length, drop, map, take_while, bit_or}
+use Rattle.std.specs.Prelude.{ℕ, ◌+◌, Bool, true, false, not, ◌&&◌, if◌then◌else◌, List, [], ◌∷◌, length, drop, map, take_while, bit_or}
 use Rattle.std.specs.Option.{option_map_or}
 use Rattle.line_lanes.specs.Line.{merged}
 use Rattle.qolb_model.specs.declared.answer.Enq.{Enq}
@@ -100,6 +100,10 @@ after_ask s node = after_moves (ask node ∷ []) s
 
 abbrev pub enq_answer : LineState → ℕ → Enq
 enq_answer s node = if is_rolled s.queue node then enq.Busy else as_enq (poll_answer (after_ask s node) node)
+
+-- the node's last request is clear: it would not be busy
+abbrev pub clear_answer : LineState → ℕ → Bool
+clear_answer s node = not (is_rolled s.queue node)
 
 abbrev pub enq_moves : LineState → ℕ → List Move
 enq_moves s node = if is_rolled s.queue node then [] else ask node ∷ poll_moves (poll_answer (after_ask s node) node) (after_ask s node)

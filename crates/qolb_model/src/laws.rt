@@ -1,6 +1,6 @@
 //! Laws of the definitions that a line's contracts speak of. Each is the contract of a function that does nothing.
 ghost use Rattle.std.specs.Prelude.{◌≡◌};
-ghost use Rattle.qolb_model.specs.Laws.{NoRequestStandsTwice, NoneIsServedAfterClosing, LeaseBounds, OpenLineHasTurns, OnlyServedEndsWrite, GoodStaysGood, ExtendsThrough, PartIsOfOneHistory, EachTwoAreOfOneHistory, FewerEndsBegin, SameEndsSameBytes, OneNodeHolds, FewEndBefore, FewTurnsBefore, FewWaitAtOnce, NewPortsAreOfOneHistory, PortsThatMetKnowTheSame, SumsAreOfEachPort, ClosedByLeaseAlone, NoneIsTold};
+ghost use Rattle.qolb_model.specs.Laws.{NoRequestStandsTwice, NoneIsServedAfterClosing, LeaseBounds, OpenLineHasTurns, OnlyServedEndsWrite, GoodStaysGood, ClearPortIsNotBusy, ExtendsThrough, PartIsOfOneHistory, EachTwoAreOfOneHistory, FewerEndsBegin, SameEndsSameBytes, OneNodeHolds, FewEndBefore, FewTurnsBefore, FewWaitAtOnce, NewPortsAreOfOneHistory, PortsThatMetKnowTheSame, SumsAreOfEachPort, ClosedByLeaseAlone, NoneIsTold};
 
 use crate::keep::Keep;
 use crate::terms::MOST_NODES;
@@ -33,6 +33,11 @@ pub fn only_served_ends_write()
 /// Good bytes stay good while the law is kept.
 pub fn good_stays_good<K: Keep>()
     ensures { GoodStaysGood K.good K.allows }
+{}
+
+/// A port that is clear is not busy when it asks next.
+pub fn clear_port_is_not_busy<K: Keep>()
+    ensures { ClearPortIsNotBusy K.allows }
 {}
 
 /// A port that forgets nothing, call after call, forgets nothing.

@@ -1,7 +1,7 @@
 //! The reference line: one owner, no threads, no memory.
 ghost use Rattle.std.specs.Prelude.{◌≡◌, ◌≢◌, ℕ, ◌≤◌, Bool, true, false, IsTrue, IfOk, IfErr, MatchResult, ◌<◌, length, map, find, Option, Some, None};
 ghost use Rattle.qolb_model.specs.Queue.{Runs};
-ghost use Rattle.qolb_model.specs.OneOwner.{LineState, opened, state_of, shown, enq_answer, enq_moves, after_enq, poll_answer, poll_moves, after_poll, as_enq, out_answer, out_moves, after_out, release_moves, after_release, after_write};
+ghost use Rattle.qolb_model.specs.OneOwner.{LineState, opened, state_of, shown, enq_answer, enq_moves, after_enq, clear_answer, poll_answer, poll_moves, after_poll, as_enq, out_answer, out_moves, after_out, release_moves, after_release, after_write};
 ghost use Rattle.qolb_model.specs.declared.terms.Terms.{Terms};
 ghost use Rattle.qolb_model.specs.PortStates.{may_ask};
 ghost use Rattle.qolb_model.specs.Leases.{turns_left};
@@ -148,6 +148,16 @@ impl PlainLine {
             withdrawn: false,
         });
         as_enq(self.look(node))
+    }
+
+    /// Whether the node's last request is clear, so that asking is not answered busy.
+    pub fn is_clear(&self, node: u64) -> bool
+        requires first { 1 ≤ node }
+        requires last { node ≤ self.now.nodes }
+        requires may_ask { IsTrue (may_ask (node_state self.now node)) }
+        ensures { (s : LineState) → Agrees self.now s → result ≡ clear_answer s node }
+    {
+        self.entry(node).is_none()
     }
 
     /// The node that waits looks whether it has come to its turn.

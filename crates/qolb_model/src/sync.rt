@@ -9,7 +9,7 @@ ghost use Rattle.qolb_model.specs.Leases.{turns_left};
 ghost use Rattle.qolb_model.specs.Kept.{MayRelease};
 ghost use Rattle.qolb_model.specs.Turns.{IsTurn};
 ghost use Rattle.qolb_model.specs.Sound.{IsSound};
-ghost use Rattle.qolb_model.specs.Calls.{Enqueues, Polls, Withdraws, Releases, TellEachOther};
+ghost use Rattle.qolb_model.specs.Calls.{Enqueues, Polls, Withdraws, LooksIfClear, Releases, TellEachOther};
 ghost use Rattle.qolb_model.specs.Counting.{Counters, Call, Counts};
 ghost use Rattle.qolb_model.specs.Counting as call;
 ghost use Rattle.qolb_model.specs.Finishing.{MayRefuse, IsFinished};
@@ -122,6 +122,14 @@ pub trait LineSync<K: Keep> {
         ensures belongs { belongs self.now port.new }
         ensures withdraws { Withdraws K.allows (view port.old) (view port.new) (turn port.new) result }
         ensures counts { Counts (call_steps self.now) (most self.now) (call.withdraws result) (view port.old) (view port.new) (counters port.old) (counters port.new) };
+
+    /// Looks whether the port's last request is clear, so that asking next is not answered busy. It asks nothing.
+    fn is_clear(&self, port: &mut Self::Port) -> bool
+        requires belongs { belongs self.now port.old }
+        requires state { IsTrue (may_ask (view port.old).state) }
+        ensures belongs { belongs self.now port.new }
+        ensures looks { LooksIfClear K.allows (view port.old) (view port.new) result }
+        ensures counts { Counts (call_steps self.now) (most self.now) (call.looks_if_clear result) (view port.old) (view port.new) (counters port.old) (counters port.new) };
 
     /// Releases the line: the request has been served. The last turn of a lease closes the line, as `shut` does.
     fn deqolb(&self, port: &mut Self::Port)

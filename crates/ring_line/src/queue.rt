@@ -13,14 +13,14 @@ ghost use Rattle.ring_line.specs.Laws.{first_cells, enough};
 
 use crate::release::{release, renew};
 use crate::rule::{Ground, Ring, RingSeat};
-use crate::steps::{draw, load, roll};
+use crate::steps::{draw, load, load_node, roll};
 use crate::words::{cell_after, cell_of, first_words, is_granted};
-use array_line::{WORDS, cell_word};
+use array_line::{WORDS, cell_word, is_freed};
 use atomic_table::Closed;
 use qolb_model::{Keep, PortState};
 use shared_line::{
-    Asked, Discipline, LocalCopy, Parcel, Released, Requested, ToWake, put_alone, take_alone,
-    unlay_alone,
+    Asked, Discipline, LocalCopy, Parcel, Released, Requested, Rested, ToWake, put_alone,
+    take_alone, unlay_alone,
 };
 use std::alloc::{AllocError, Global};
 
@@ -101,6 +101,28 @@ impl<K: Keep> Discipline<K> for Ring {
             answer,
             mark: cell,
             steps: renewing + 2,
+        }
+    }
+
+    /// The last request of a node is clear, unless it was withdrawn and is not passed yet.
+    #[inline]
+    fn look_at_rest(
+        ground: &Ground<K>,
+        seat: &mut RingSeat,
+        node: u64,
+        state: PortState,
+    ) -> Rested {
+        if state != PortState::Rolled {
+            return Rested {
+                clear: true,
+                state,
+                steps: 0,
+            };
+        }
+        Rested {
+            clear: is_freed(load_node(ground, seat, node)),
+            state,
+            steps: 1,
         }
     }
 

@@ -2,5 +2,6 @@ mod Turning
 mod Letting
 mod Calling
 mod Arrived
+mod Resting
 mod Splitting
 mod Finishing

@@ -1,5 +1,5 @@
 -- What the calls of a discipline ask of a node and tell it, each by how many nodes the line has, and by the mark that the node's port keeps.
-use Rattle.std.specs.Prelude.{◌≡◌, ◌≢◌, ◌≤◌, ℕ, List, [], ◌∷◌, Bool, true, false}
+use Rattle.std.specs.Prelude.{◌≡◌, ◌≢◌, ◌⊎◌, ◌≤◌, ℕ, List, [], ◌∷◌, Bool, true, false}
 use Rattle.atomic_table.specs.Seated.{TableId}
 use Rattle.qolb_model.specs.declared.answer.PortState.{PortState}
 use Rattle.qolb_model.specs.declared.answer.PortState.TheVariants as shows
@@ -9,7 +9,7 @@ use Rattle.qolb_model.specs.declared.view.View.{View}
 use Rattle.qolb_model.specs.declared.terms.TheConstants.{MOST_NODES}
 use Rattle.qolb_model.specs.PortStates.{left_by}
 use Rattle.qolb_model.specs.Ends.{is_closed}
-use Rattle.qolb_model.specs.Asking.{IsBusy, Asks, IsJoined}
+use Rattle.qolb_model.specs.Asking.{IsBusy, IsClear, Asks, IsJoined}
 use Rattle.qolb_model.specs.Linking.{Links}
 use Rattle.qolb_model.specs.Meeting.{longer}
 use Rattle.qolb_model.specs.Calls.{TellEachOther}
@@ -38,6 +38,15 @@ pub record CountsRequest (asks_in : PortState → Enq → ℕ → Type 0) (state
   pub behind : answer ≡ asked.Behind → asks_in state enq.Queued steps
   pub came : answer ≡ asked.Came → asks_in state enq.Granted steps
   pub bound : steps ≤ 4
+
+-- `look_at_rest`: the node's last request is clear, or it is not, and the node is busy. By the mark that it had, it rests as that of a port in the state
+-- that is left: the one that it was in, or idle
+pub record LooksAtRest {O : Type 0} (q : Phases O) (state : PortState) (old new : LineSeat O) (left : PortState) (clear : Bool) : Type 0 where
+  pub stays : (m : ℕ) → Rests q state m old → Rests q left m new
+  pub leaves : (left ≡ state) ⊎ (left ≡ shows.Idle)
+  pub count : (entry_of q.fresh new).view.count ≡ (entry_of q.fresh old).view.count
+  pub clears : clear ≡ true → IsClear (entry_of q.fresh new).view
+  pub busy : clear ≡ false → IsBusy (entry_of q.fresh old).view (entry_of q.fresh new).view
 
 -- two seats with one entry each have met, of which the first may have slots in hand: each learned what the other knows
 pub record HaveMet {O : Type 0} (allows : List ℕ → List ℕ → Type 0) (fresh : O) (a b a_then b_then : LineSeat O) : Type 0 where

@@ -1,5 +1,5 @@
 -- What a port knows and holds.
-use Rattle.std.specs.Prelude.{◌≡◌, ◌≢◌, ℕ, ◌+◌, ◌-◌, ◌≤◌, length, slice_get, Bool, false, List, [], Option, Some}
+use Rattle.std.specs.Prelude.{◌≡◌, ◌≢◌, ◌⊎◌, ℕ, ◌+◌, ◌-◌, ◌≤◌, length, slice_get, Bool, false, List, [], Option, Some}
 use Rattle.std.specs.List.{All}
 use Rattle.atomic_table.specs.Seated.{TableId}
 use Rattle.qolb_model.specs.declared.answer.PortState.{PortState}
@@ -8,7 +8,7 @@ use Rattle.qolb_model.specs.declared.answer.Enq.{Enq}
 use Rattle.qolb_model.specs.declared.answer.Enq.TheVariants as enq
 use Rattle.qolb_model.specs.declared.answer.Poll.TheVariants as poll
 use Rattle.qolb_model.specs.declared.answer.Out.TheVariants as out
-use Rattle.qolb_model.specs.Counting.{Counters, Counts, Call, asks, polls, withdraws, releases}
+use Rattle.qolb_model.specs.Counting.{Counters, Counts, Call, asks, polls, withdraws, looks_if_clear, releases}
 use Rattle.qolb_model.specs.declared.terms.Terms.{Terms}
 use Rattle.qolb_model.specs.declared.view.View.{View}
 use Rattle.qolb_model.specs.declared.write.Write.{Write}
@@ -51,11 +51,16 @@ standing fresh s y steps count mark went_to = record {
   went_to = went_to;
 }
 
+-- a look whether a port is clear takes a step where it may be busy, and else none
+abbrev pub looks_at_rest_in : PortState → ℕ → Type 0
+looks_at_rest_in state n = ((state ≡ shows.Left) ⊎ (state ≡ shows.Rolled) → n ≡ 1) × (state ≢ shows.Left → state ≢ shows.Rolled → n ≡ 0)
+
 -- how many word steps a call takes, by what its lock says of asking and of letting go, and of the most
 abbrev pub call_steps : (PortState → Enq → ℕ → Type 0) → (ℕ → ℕ → ℕ → Type 0) → ℕ → Call → View → View → ℕ → Type 0
 call_steps asks_in lets_go_in most (asks answer) old new n = (answer ≢ enq.Closed → asks_in old.state answer n) × (n ≤ most + 3)
 call_steps asks_in lets_go_in most (polls answer) old new n = (answer ≢ poll.Closed → n ≡ 1) × (n ≤ most)
 call_steps asks_in lets_go_in most (withdraws answer) old new n = (answer ≢ out.Closed → n ≡ 1) × (n ≤ most)
+call_steps asks_in lets_go_in most (looks_if_clear clear) old new n = looks_at_rest_in old.state n
 call_steps asks_in lets_go_in most releases old new n = lets_go_in (length old.ends) (length new.ends) n × (n + 1 ≤ most)
 
 -- and what a port counts of a call

@@ -190,6 +190,14 @@ impl<K: Keep, Q: Discipline<K>, W: Waking> LineSync<K> for Line<K, Q, W> {
         )
     }
 
+    fn is_clear(&self, port: &mut Port<Q, W>) -> bool {
+        let ground = &self.table.shared;
+        let looked = Q::look_at_rest(ground, &mut port.seat, port.node, port.state);
+        port.state = looked.state;
+        port.steps = looked.steps;
+        looked.clear
+    }
+
     #[inline(always)]
     fn deqolb(&self, port: &mut Port<Q, W>)
         requires belongs { BelongsTo K.good K.allows self.now.table.shared.key self.now.table.shared.table_id port.old }

@@ -17,7 +17,8 @@ ghost use Rattle.shared_line.specs.declared.rule.Parcel.{Parcel};
 ghost use Rattle.shared_line.specs.declared.rule.Setup.{Setup};
 ghost use Rattle.shared_line.specs.declared.rule.Entry.{Entry};
 ghost use Rattle.shared_line.specs.Phases.{Phases};
-ghost use Rattle.shared_line.specs.Answers.{IsSeatOfNode, HasNodes, Takes, Puts, MakesRequest, CountsRequest, PutsRequest, Looks, Rolls, LinksOn, HasLaid, HandsOver};
+ghost use Rattle.shared_line.specs.Answers.{IsSeatOfNode, HasNodes, Takes, Puts, MakesRequest, CountsRequest, LooksAtRest, PutsRequest, Looks, Rolls, LinksOn, HasLaid, HandsOver};
+ghost use Rattle.shared_line.specs.Ports.{looks_at_rest_in};
 ghost use Rattle.shared_line.specs.Turns.{SeesTurn};
 ghost use Rattle.shared_line.specs.Entries.{Contents, newcomers, AllRest, views_of};
 ghost use Rattle.shared_line.specs.Steps.{Alone, entry_of, Rests, Went, met, parked, Looked};
@@ -44,6 +45,14 @@ pub enum Asked {
 pub struct Requested {
     pub answer: Asked,
     pub mark: u64,
+    pub steps: u64,
+}
+
+/// What a look at a node at rest finds: whether its last request is clear, the state that its port is left in, and how many word steps it took.
+#[derive(Clone, Copy)]
+pub struct Rested {
+    pub clear: bool,
+    pub state: PortState,
     pub steps: u64,
 }
 
@@ -198,6 +207,20 @@ pub trait Discipline<K: Keep>: Ruled<K> {
         ensures went { Went K.allows Self.phases.fresh seat.old seat.new result.steps }
         ensures request { MakesRequest Self.phases ground.now.key.terms.nodes result.mark state seat.old seat.new result.answer }
         ensures counted { CountsRequest Self.asks_in state result.answer result.steps };
+
+    /// Looks whether the last request is clear of a node that may ask, and asks nothing.
+    fn look_at_rest(
+        ground: &Ground<K, Self>,
+        seat: &mut LineSeat<Self::Own>,
+        node: u64,
+        state: PortState,
+    ) -> Rested
+        requires seat { IsSeatOfNode word_count ground.now.key.terms.nodes ground.now.table_id Self.phases.fresh node seat.old }
+        requires rests { (mark : ℕ) × Rests Self.phases state mark seat.old }
+        requires may_ask { IsTrue (states.may_ask state) }
+        ensures went { Went K.allows Self.phases.fresh seat.old seat.new result.steps }
+        ensures looks { LooksAtRest Self.phases state seat.old seat.new result.state result.clear }
+        ensures counted { looks_at_rest_in state result.steps };
 
     /// Looks whether the request has come to its turn.
     fn look(

@@ -16,12 +16,12 @@ ghost use Rattle.ticket_line.specs.Laws.{first_cells, first_slot, enough, holder
 use crate::release::{release, renew};
 use crate::rule::{Ground, Ticket, TicketSeat};
 use crate::slots::{put, take, unlay};
-use crate::steps::{draw, load, roll};
+use crate::steps::{draw, load, load_node, roll};
 use crate::words::{cell_word, first_words, is_granted_half, slot_count, ticket_after};
-use array_line::cell_count;
+use array_line::{cell_count, is_freed};
 use atomic_table::Closed;
 use qolb_model::{Keep, PortState};
-use shared_line::{Asked, Discipline, LocalCopy, Parcel, Released, Requested, ToWake};
+use shared_line::{Asked, Discipline, LocalCopy, Parcel, Released, Requested, Rested, ToWake};
 use std::alloc::{AllocError, Global};
 
 impl<K: Keep> Discipline<K> for Ticket {
@@ -100,6 +100,28 @@ impl<K: Keep> Discipline<K> for Ticket {
             answer,
             mark: ticket,
             steps: renewing + 2,
+        }
+    }
+
+    /// The last request of a node is clear, unless it was withdrawn and is not passed yet.
+    #[inline]
+    fn look_at_rest(
+        ground: &Ground<K>,
+        seat: &mut TicketSeat,
+        node: u64,
+        state: PortState,
+    ) -> Rested {
+        if state != PortState::Rolled {
+            return Rested {
+                clear: true,
+                state,
+                steps: 0,
+            };
+        }
+        Rested {
+            clear: is_freed(load_node(ground, seat, node)),
+            state,
+            steps: 1,
         }
     }
 

@@ -13,6 +13,8 @@ pub(super) enum Did {
     Link(Enq),
     Poll(Poll),
     Withdraw(Out),
+    /// Whether its last request is clear.
+    Clear(bool),
     Release,
     Shut,
     /// Byte 0 is written.
@@ -35,6 +37,7 @@ where
         Did::Ask(_) => row.ask(node).map(Did::Ask),
         Did::Poll(_) => row.poll(node).map(Did::Poll),
         Did::Withdraw(_) => row.withdraw(node).map(Did::Withdraw),
+        Did::Clear(_) => row.is_clear(node).map(Did::Clear),
         Did::TurnsLeft(_) => row.turns_left(node).map(Did::TurnsLeft),
         Did::State(_) => row.state(node).map(Did::State),
         Did::Steps(_) => row.steps(node).map(Did::Steps),

@@ -10,15 +10,18 @@ use std::process::Abort;
 use std::test::Fail;
 
 /// Node 2 links after the release.
-static LATE: [(u64, Did); 9] = [
+static LATE: [(u64, Did); 12] = [
     (1, Did::Ask(Enq::Granted)),
     (1, Did::Write(0xab)),
     (2, Did::Prepend(Prep::Linking)),
     (1, Did::Release),
     (1, Did::State(PortState::Left)),
+    (1, Did::Clear(false)),
     (1, Did::Ask(Enq::Busy)),
     (2, Did::Link(Enq::Granted)),
     (2, Did::Sees(0xab)),
+    (1, Did::Clear(true)),
+    (1, Did::State(PortState::Idle)),
     (1, Did::Ask(Enq::Queued)),
 ];
 

@@ -9,7 +9,7 @@ use std::process::Abort;
 use std::test::Fail;
 
 /// What two words say.
-static SAID: [(&str, &str, Did); 18] = [
+static SAID: [(&str, &str, Did); 20] = [
     ("enq", "granted", Did::Ask(Enq::Granted)),
     ("enq", "queued", Did::Ask(Enq::Queued)),
     ("enq", "busy", Did::Ask(Enq::Busy)),
@@ -20,6 +20,8 @@ static SAID: [(&str, &str, Did); 18] = [
     ("out", "granted", Did::Withdraw(Out::Granted)),
     ("out", "withdrawn", Did::Withdraw(Out::Withdrawn)),
     ("out", "closed", Did::Withdraw(Out::Closed)),
+    ("clear", "yes", Did::Clear(true)),
+    ("clear", "no", Did::Clear(false)),
     ("deq", "done", Did::Release),
     ("shut", "done", Did::Shut),
     ("is", "idle", Did::State(PortState::Idle)),
@@ -98,7 +100,7 @@ type Script = (
     Option<u8>,
 );
 
-static SCRIPTS: [Script; 7] = [
+static SCRIPTS: [Script; 8] = [
     // a node is busy until the release that passes it
     (
         3,
@@ -106,6 +108,15 @@ static SCRIPTS: [Script; 7] = [
         "2 steps 0; 1 enq granted; 2 enq queued; 3 enq queued; 2 out withdrawn; 2 enq busy; 1 deq done; 2 enq queued; 3 poll granted; 3 deq done; 2 poll granted",
         "2 deq done",
         Some(FinishError::Unquiet(2)),
+        Some(0),
+    ),
+    // whoever withdrew is not clear until the release that passes it, which one step finds; all others that may ask are clear at no step
+    (
+        3,
+        None,
+        "1 clear yes; 1 enq granted; 2 enq queued; 3 enq queued; 2 out withdrawn; 2 clear no; 2 steps 1; 2 enq busy; 1 deq done; 1 clear yes; 1 steps 0; 2 clear yes; 2 steps 1; 2 enq queued; 3 poll granted; 3 shut done; 3 clear yes; 2 poll closed; 2 clear yes; 2 is shut",
+        "",
+        None,
         Some(0),
     ),
     // a node withdraws after the release that came to it

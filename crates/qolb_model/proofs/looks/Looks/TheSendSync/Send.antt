@@ -1,5 +1,5 @@
 -- It owns nothing, so it may go to another thread.
-use denote.Param.Send.{IsSend, owning_send, sendable}
+use denote.Param.Send.{IsSend, owning_send}
 use Rattle.qolb_model.specs.contracts.looks.Looks.{the_row, the_type}
 
 pub send : IsSend the_row

@@ -1,8 +1,8 @@
 -- It makes the value with no bytes, and says that its count is one more.
-use Rattle.std.proofs.Common.{ℕ, ◌+◌, List, [], ◌∷◌, ◌++◌, refl}
+use Rattle.std.proofs.Common.{◌+◌, [], ◌∷◌, refl}
 use Rattle.std.proofs.raw_atomic.Walks.{proved}
 use base.Fml.{ftrue}
-use types.Kit.{‵, raw, ◌⊛◌, ◌$◌, ◌∵◌, !, qed, move, keep, drop, split, join, fjoin, suffices, group, done}
+use types.Kit.{‵, raw, ◌⊛◌, ◌$◌, ◌∵◌, !, qed, move, keep, split, fjoin, suffices, done}
 use types.Part.{agg}
 use types.Run.{enter, returns, no_more}
 use types.ByLocal.{alloc_all, free_all, pass_all, look_at, sets}
