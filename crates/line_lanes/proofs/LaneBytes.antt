@@ -4,6 +4,7 @@ use Rattle.std.specs.Prelude.{slice_index}
 use Rattle.std.proofs.lemmas.Bool.{cases_order}
 use Rattle.std.proofs.lemmas.List.{ext_get_or, get_or-take, get_or-drop, length-take, length-drop, length-append, get_or_append_left, get_or-append_right}
 use Rattle.std.proofs.lemmas.Simd.{get_or_narrower, below_from_Fits, Each1-get_or}
+use Rattle.std.specs.Int.{to_le_bytes}
 use lib.Lanes.{number_l, digits_l, Each1}
 use Rattle.line_lanes.specs.Lane.{lane_of, with_lane_of}
 
@@ -112,3 +113,7 @@ lane-with_lane_other line k value j long within small lane_within other =
         ∙ with_lane-at line k value (8 * j + i) long within small (omega arith)
         ∙ ap (λ b. if b then value / 256 ^ ((8 * j + i) % 8) % 256 else slice_index line (8 * j + i)) (ne_eqb ((8 * j + i) / 8) k lane)
         ∙ sym (lane_byte line j i h)
+
+-- the bytes of a number of 64 bits, lowest first
+pub low_first : (value : ℕ) → to_le_bytes w64 value ≡ digits_l 256 8 value
+low_first value = grind (arith)

@@ -1,9 +1,11 @@
 ghost use Rattle.std.specs.Prelude.{◌≡◌, ℕ, ◌+◌, ◌*◌, ◌/◌, ◌%◌, ◌^◌, ◌<◌, ◌≤◌, ◌↔◌, ◌==◌, length, slice_index, if◌then◌else◌, IsTrue, IsNone, IfSome};
 ghost use Rattle.std.specs.Simd.Lanes.{number_l};
 ghost use Rattle.line_lanes.specs.Lane.{lane_of, with_lane_of, lanes_of, lanes_total, lane_sums, OverflowsAtSomeLane};
+ghost use Rattle.line_lanes.specs.Mask.{placed_mask};
 
 use crate::half::{halves, joined};
-use crate::line::Line64;
+use crate::line::{Line64, Mask};
+use crate::write::{run_of_bits, write_at};
 use std::simd::{u8x8, u8x32, u64x1, u64x4};
 
 /// The lane of each byte of the low half.
@@ -37,6 +39,19 @@ pub fn with_lane(line: &Line64, k: usize, value: u64) -> Line64
         replaced(low, u8x32::from_array(LOW_LANES), k as u8, value),
         replaced(high, u8x32::from_array(HIGH_LANES), k as u8, value),
     )
+}
+
+/// Puts `value` into lane `k`, and gives the mask of that lane.
+///
+/// It stores eight bytes, where a masked write by `merge` stores all 64.
+#[inline]
+pub fn set_lane(line: &mut Line64, k: usize, value: u64) -> Mask
+    requires { k < 8 }
+    ensures line { line.new.bytes ≡ with_lane_of line.old.bytes k value }
+    ensures mask { result.0 ≡ placed_mask (8 * k) 8 }
+{
+    write_at(&mut line.bytes, 8 * k, &value.to_le_bytes());
+    Mask(run_of_bits(8 * k, 8))
 }
 
 /// The sum of the eight lanes, which always fits.

@@ -8,6 +8,6 @@ mod line;
 mod write;
 
 pub use compare::{agrees, changed};
-pub use lanes::{add_lanes, lane, lane_sum, with_lane};
+pub use lanes::{add_lanes, lane, lane_sum, set_lane, with_lane};
 pub use line::{Line64, Mask};
 pub use write::{merge, placed};

@@ -83,7 +83,7 @@ fn blend(old: u8x32, new: u8x32, mask: u8x32) -> u8x32
 }
 
 /// Writes the bytes over the line's from place `off` on.
-fn write_at(line: &mut [u8], off: usize, bytes: &[u8])
+pub(crate) fn write_at(line: &mut [u8], off: usize, bytes: &[u8])
     requires { off + length bytes.now ≤ length line.old }
     ensures { line.new ≡ take off line.old ++ (bytes.now ++ drop (off + length bytes.now) line.old) }
 {
@@ -92,7 +92,7 @@ fn write_at(line: &mut [u8], off: usize, bytes: &[u8])
 }
 
 /// The mask of `len` places from `off` on.
-fn run_of_bits(off: usize, len: usize) -> u64
+pub(crate) fn run_of_bits(off: usize, len: usize) -> u64
     requires { off + len ≤ 64 }
     ensures { result ≡ placed_mask off len }
 {

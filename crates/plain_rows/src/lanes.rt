@@ -1,7 +1,7 @@
 //! Masks, lanes, and bytes that are placed.
 use crate::rows::{expect, line_with};
 use line_lanes::{
-    Line64, Mask, add_lanes, agrees, changed, lane, lane_sum, merge, placed, with_lane,
+    Line64, Mask, add_lanes, agrees, changed, lane, lane_sum, merge, placed, set_lane, with_lane,
 };
 
 #[test]
@@ -69,6 +69,21 @@ fn lanes_are_little_endian(rt: HostRuntime) {
     expect(&rt, "258 in the fifth", with_lane(&zero, 4, 258), written);
     expect(&rt, "cleared", with_lane(&counted(), 0, 0), zero);
     expect(&rt, "the sum", lane_sum(&full), 147573952589676412920);
+}
+
+#[test]
+fn a_lane_is_set(rt: HostRuntime) {
+    let mut line = counted();
+    let mask = set_lane(&mut line, 7, 258);
+    expect(&rt, "the last lane's mask", mask, Mask(0xff << 56));
+    expect(&rt, "258 in the last", lane(&line, 7), 258);
+    let written = [counted(), line_with(&[(56, 2), (57, 1)])];
+    expect(
+        &rt,
+        "the others stay",
+        Some(line),
+        add_lanes(&written[0], &written[1]),
+    );
 }
 
 #[test]
