@@ -3,4 +3,3 @@ pub mod AsBox
 pub mod Handles
 pub mod Filling
 pub mod Opened
-pub mod LaneWrites

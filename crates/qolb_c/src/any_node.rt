@@ -7,9 +7,8 @@ ghost use Rattle.qolb_c.specs.declared.any_node.AnyNode.{AnyNode};
 
 use crate::answer::Answer;
 use crate::kinds::{List, Ring, Ticket};
-use crate::lanes::for_lane;
 use crate::node::{Node, Shown};
-use line_lanes::{Line64, Mask, lane, placed};
+use line_lanes::{Line64, Mask, lane};
 use qolb_model::{Free, PortState};
 
 /// How many lanes a line has.
@@ -199,16 +198,7 @@ impl AnyNode {
         if k >= LANES {
             return Answer::Misuse;
         }
-        let Some((mask, _)) = placed(8 * k as usize, &[0; 8]) else {
-            return Answer::Misuse;
-        };
-        match self.bytes() {
-            Some(line) => {
-                let line = for_lane(*line, k, value);
-                self.write(mask, &line)
-            }
-            None => Answer::Misuse,
-        }
+        of_any!(self, node => Answer::of_done(node.write_lane(k as usize, value)))
     }
 
     /// The holder writes the bytes of the mask.

@@ -16,7 +16,6 @@ mod answer;
 mod any_node;
 mod handle;
 mod kinds;
-mod lanes;
 mod node;
 mod opening;
 

@@ -1,6 +1,8 @@
 //! A node of a line that several share, for any kind of line.
-ghost use Rattle.std.specs.Prelude.{◌≡◌, ◌≢◌, ℕ, ◌+◌, ◌<◌, ◌≤◌, true, false, Some, MatchResult};
+ghost use Rattle.std.specs.Prelude.{◌≡◌, ◌≢◌, ℕ, ◌+◌, ◌*◌, ◌<◌, ◌≤◌, true, false, Some, MatchResult};
 ghost use Rattle.std.specs.Arc.{arc_value};
+ghost use Rattle.line_lanes.specs.Lane.{with_lane_of};
+ghost use Rattle.line_lanes.specs.Mask.{placed_mask};
 ghost use Rattle.qolb_model.specs.Calls.{Enqueues, Prepends, LinksUp, Polls, Withdraws, LooksIfClear, Releases, TellEachOther};
 ghost use Rattle.qolb_model.specs.Leases.{turns_left};
 ghost use Rattle.qolb_model.specs.OneOwner.{turn_after};
@@ -205,6 +207,24 @@ impl<Q: Discipline<Free>> Node<LineFor<Q>> {
             return Err(Misuse);
         }
         Ok(self.line.withdraw(&mut self.port))
+    }
+
+    /// The holder writes lane `k`.
+    ///
+    /// # Errors
+    ///
+    /// `Misuse` where the node does not hold the line.
+    pub fn write_lane(&mut self, k: usize, value: u64) -> Result<(), Misuse>
+        requires { k < 8 }
+        ensures line { self.new.line ≡ self.old.line }
+        ensures view { self.new.port.view ≡ self.old.port.view }
+        ensures turn { MatchResult result (λ _. (self.old.port.view.state ≡ PortState.Holding) × (self.new.port.turn ≡ turn_after self.old.port.turn (placed_mask (8 * k) 8) (with_lane_of self.old.port.turn.bytes.bytes k value))) (λ _. (self.old.port.view.state ≢ PortState.Holding) × (self.new ≡ self.old)) }
+    {
+        if self.state() != PortState::Holding {
+            return Err(Misuse);
+        }
+        LineFor::<Q>::write_lane(&mut self.port, k, value);
+        Ok(())
     }
 
     /// Releases the line, and closes it if `shut`.

@@ -1,12 +1,16 @@
 //! A line over a table.
-ghost use Rattle.std.specs.Prelude.{◌≡◌, ◌<◌, ◌≤◌};
+ghost use Rattle.std.specs.Prelude.{◌≡◌, ◌*◌, ◌<◌, ◌≤◌};
+ghost use Rattle.line_lanes.specs.Lane.{with_lane_of};
+ghost use Rattle.line_lanes.specs.Mask.{placed_mask};
+ghost use Rattle.qolb_model.specs.OneOwner.{turn_after};
 ghost use Rattle.qolb_model.specs.declared.terms.TheConstants.{MOST_NODES};
 
 use crate::port::Port;
 use crate::queue::Discipline;
 use crate::rule::{Ground, LineTable};
 use crate::sleeping::{Sleepers, Waking};
-use qolb_model::Keep;
+use line_lanes::{Mask, set_lane};
+use qolb_model::{Keep, PortState};
 use std::marker::PhantomData;
 
 /// How many words a line's table has, and by which number the calls find them: those of its queue, for so many nodes.
@@ -48,5 +52,19 @@ impl<K: Keep, Q: Discipline<K>, W: Waking> Line<K, Q, W> {
         ensures { result ≡ port.now.counters.steps }
     {
         port.steps
+    }
+
+    /// The holder writes lane `k` of the line: `write` by the mask of that lane, as a store of eight bytes.
+    #[inline(always)]
+    pub fn write_lane(port: &mut Port<Q, W>, k: usize, value: u64)
+        requires state { port.old.view.state ≡ PortState.Holding }
+        requires lane { k < 8 }
+        ensures view { port.new.view ≡ port.old.view }
+        ensures turn { port.new.turn ≡ turn_after port.old.turn (placed_mask (8 * k) 8) (with_lane_of port.old.turn.bytes.bytes k value) }
+        ensures counters { port.new.counters ≡ port.old.counters }
+        ensures table { port.new.table ≡ port.old.table }
+    {
+        let mask = set_lane(&mut port.parcel.bytes, k, value);
+        port.parcel.mask = Mask(port.parcel.mask.0 | mask.0);
     }
 }
