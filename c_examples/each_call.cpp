@@ -124,6 +124,7 @@ constexpr int G = static_cast<int>(qolb::Got::granted), C = static_cast<int>(qol
 
 const std::vector<Row> rows = {
     {"enqolb", [](Line &l) { return l.node.enqolb(); }, {NO, GRANTED, NO, NO, NO, BUSY, BUSY, CLOSED}, {EMPTY, HOLDS, LINK, QUEUED, HOLDS, LEFT, ROLLED, SHUT}},
+    {"clear", [](Line &l) { return l.node.clear(); }, {NO, DONE, NO, NO, NO, BUSY, BUSY, DONE}, STAYS},
     {"poll", [](Line &l) { return l.node.poll(); }, {NO, NO, NO, QOLB_WAITING, NO, NO, NO, NO}, STAYS},
     {"wait", [](Line &l) { return l.node.wait(3); }, {NO, NO, NO, QOLB_WAITING, NO, NO, NO, NO}, STAYS},
     {"wait for no poll", [](Line &l) { return l.node.wait(0); }, {NO, NO, NO, NO, NO, NO, NO, NO}, STAYS},
@@ -156,9 +157,21 @@ const std::vector<Row> rows = {
     {"a move onto itself", [](Line &l) { qolb::Node &same = l.node; l.node = std::move(same); return static_cast<int>(DONE); }, {DONE, DONE, DONE, DONE, DONE, DONE, DONE, DONE}, STAYS},
 };
 
-// The first half of asking is a list's alone.
-const Row prepends = {"prepend", [](Line &l) { return l.node.prepend(); }, {NO, GRANTED, NO, NO, NO, BUSY, BUSY, CLOSED}, {EMPTY, HOLDS, LINK, QUEUED, HOLDS, LEFT, ROLLED, SHUT}};
-const Row no_prepends = {"prepend", [](Line &l) { return l.node.prepend(); }, {NO, NO, NO, NO, NO, NO, NO, NO}, STAYS};
+// Which rows a line of this kind has besides: the first half of asking is a list's alone, and so is the state in which a node stands that is busy no more.
+struct Of {
+    Row prepend, clear;
+};
+
+int is_clear_then(Line &line) { return line.goes_on(), line.node.clear(); }
+
+const Of of_list = {
+    {"prepend", [](Line &l) { return l.node.prepend(); }, {NO, GRANTED, NO, NO, NO, BUSY, BUSY, CLOSED}, {EMPTY, HOLDS, LINK, QUEUED, HOLDS, LEFT, ROLLED, SHUT}},
+    {"clear, where the line has gone on", is_clear_then, {NO, DONE, NO, NO, NO, DONE, DONE, DONE}, {EMPTY, IDLE, LINK, QUEUED, HOLDS, IDLE, IDLE, SHUT}},
+};
+const Of of_others = {
+    {"prepend", [](Line &l) { return l.node.prepend(); }, {NO, NO, NO, NO, NO, NO, NO, NO}, STAYS},
+    {"clear, where the line has gone on", is_clear_then, {NO, DONE, NO, NO, NO, NO, DONE, DONE}, STAYS},
+};
 
 bool holds(const Row &row, qolb_kind kind, std::size_t k) {
     if (kind != QOLB_LIST && (every_state[k] == LINK || every_state[k] == LEFT)) return true; // states of a list alone
@@ -194,7 +207,7 @@ bool rounds_up(qolb_kind kind) {
 
 // What a ticket line of two nodes keeps: four cells of 256 bytes, the line, two nodes, and a gap behind each of five blocks.
 bool tells_memory() {
-    constexpr std::uint64_t keeps = 4 * 256 + 112 + 2 * 152 + 5 * 128;
+    constexpr std::uint64_t keeps = 4 * 256 + 112 + 2 * 168 + 5 * 128;
     return qolb::memory(QOLB_TICKET, 2) == keeps && qolb::memory(QOLB_TICKET, 0) == 0 && qolb::memory(QOLB_TICKET, 201) == 0;
 }
 
@@ -207,7 +220,8 @@ int main() {
         for (std::size_t k = 0; k < states; k++) {
             for (const Row &row : rows)
                 if (!holds(row, kind, k)) return 1;
-            if (!holds(kind == QOLB_LIST ? prepends : no_prepends, kind, k)) return 1;
+            const Of &more = kind == QOLB_LIST ? of_list : of_others;
+            if (!holds(more.prepend, kind, k) || !holds(more.clear, kind, k)) return 1;
         }
         if (!rounds_up(kind)) return std::puts("a part of a nanosecond"), 1;
     }

@@ -95,8 +95,9 @@ const STAYS: [State; 7] = STATES;
 const NO: &str = "Misuse";
 
 #[rustfmt::skip]
-const ROWS: [Row; 24] = [
+const ROWS: [Row; 25] = [
     ("enqolb", |l| told(l.node.enqolb()), ["Granted", NO, NO, NO, "Busy", "Busy", "Closed"], [Holding, Linking, Queued, Holding, Left, Rolled, Shut]),
+    ("clear", |l| told(l.node.clear()), ["Done", NO, NO, NO, "Busy", "Busy", "Done"], STAYS),
     ("poll", |l| told(l.node.poll()), [NO, NO, "Waiting", NO, NO, NO, NO], STAYS),
     ("wait", |l| told(l.node.wait(3)), [NO, NO, "Waiting", NO, NO, NO, NO], STAYS),
     ("wait for no poll", |l| told(l.node.wait(0)), [NO; 7], STAYS),
@@ -122,10 +123,25 @@ const ROWS: [Row; 24] = [
     ("a move", |l| { let Line { node, .. } = l; let boxed = Box::new(node); format!("{:?}", boxed.state()) }, ["Idle", "Linking", "Queued", "Holding", "Left", "Rolled", "Shut"], STAYS),
 ];
 
-/// The first half of asking is a list's alone.
 fn prepends(line: &mut Line) -> String {
     told(line.node.prepend())
 }
+
+/// If the node was busy it is not any more.
+fn is_clear_then(line: &mut Line) -> String {
+    let _ = line.third.link();
+    line.third.deqolb();
+    line.first.deqolb();
+    told(line.node.clear())
+}
+
+/// The first half of asking is a list's alone, and so is the state in which a node stands that is busy no more.
+#[rustfmt::skip]
+const OF_LIST: [Row; 2] = [
+    ("prepend", prepends, ["Granted", NO, NO, NO, "Busy", "Busy", "Closed"], [Holding, Linking, Queued, Holding, Left, Rolled, Shut]),
+    ("clear, where the line has gone on", is_clear_then, ["Done", NO, NO, NO, "Done", "Done", "Done"], [Idle, Linking, Queued, Holding, Idle, Idle, Shut]),
+];
+const OF_OTHERS: [Row; 2] = [("prepend", prepends, [NO; 7], STAYS), ("clear, where the line has gone on", is_clear_then, ["Done", NO, NO, NO, NO, "Done", "Done"], STAYS)];
 
 fn holds(kind: Kind, state: State, row: &Row, column: usize) {
     let (name, call, tells, then) = row;
@@ -149,14 +165,10 @@ fn each_call(kind: Kind) {
         if kind != Kind::List && matches!(state, Linking | Left) {
             continue;
         }
-        for row in &ROWS {
+        let more = if kind == Kind::List { &OF_LIST } else { &OF_OTHERS };
+        for row in ROWS.iter().chain(more) {
             holds(kind, state, row, column);
         }
-        let halves: Row = match kind {
-            Kind::List => ("prepend", prepends, ["Granted", NO, NO, NO, "Busy", "Busy", "Closed"], [Holding, Linking, Queued, Holding, Left, Rolled, Shut]),
-            _ => ("prepend", prepends, [NO; 7], STAYS),
-        };
-        holds(kind, state, &halves, column);
         closes(kind, state);
     }
 }
@@ -213,7 +225,7 @@ fn says() {
 
 /// What a list of three nodes keeps: 256 bytes and 128 for each node, the line, three nodes, and a gap behind each of six blocks.
 fn tells_memory() {
-    assert_eq!(qolb::memory(Kind::List, 3), Some(256 + 3 * 128 + 112 + 3 * 152 + 6 * 128));
+    assert_eq!(qolb::memory(Kind::List, 3), Some(256 + 3 * 128 + 112 + 3 * 168 + 6 * 128));
     assert_eq!((qolb::memory(Kind::List, 0), qolb::memory(Kind::List, 201)), (None, None));
 }
 

@@ -82,6 +82,7 @@ static void *by_lent_node(void *argument) {
 }
 
 static int refuses_to_move(qolb_node *lent) {
+    WANT(qolb_clear(lent), QOLB_MISUSE);
     WANT(qolb_enqolb(lent), QOLB_MISUSE);
     WANT(qolb_poll(lent), QOLB_MISUSE);
     WANT(qolb_wait(lent, 1), QOLB_MISUSE);

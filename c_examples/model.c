@@ -121,6 +121,14 @@ static uint32_t links(unsigned n) {
     return comes(n);
 }
 
+/* A list's node that is not busy stands as one that has not asked. */
+static uint32_t clears(unsigned n) {
+    if (!may_ask(n)) return QOLB_MISUSE;
+    if (model.node[n].busy) return QOLB_BUSY;
+    if (model.kind == QOLB_LIST && model.node[n].state != QOLB_STATE_SHUT) model.node[n].state = QOLB_STATE_IDLE;
+    return QOLB_DONE;
+}
+
 static uint32_t polls(unsigned n) {
     if (model.node[n].state != QOLB_STATE_QUEUED) return QOLB_MISUSE;
     return has_turn(n) ? comes(n) : (uint32_t)QOLB_WAITING;
@@ -207,7 +215,7 @@ static void ask_somehow(unsigned n) {
 
 static void call(unsigned n) {
     uint64_t some = draw(3);
-    switch (draw(12)) {
+    switch (draw(13)) {
     case 0:
     case 1:
     case 2: ask_somehow(n); break;
@@ -225,6 +233,7 @@ static void call(unsigned n) {
         if (draw(40) == 0) SAME(qolb_shut(&handle[n]), n, releases(n, 1));
         if (draw(60) == 0) SAME(qolb_close(&handle[n]), n, closes(n));
         break;
+    case 11: SAME(qolb_clear(&handle[n]), n, clears(n)); break;
     default: reads_and_writes(n);
     }
     int there = model.node[n].state != QOLB_STATE_EMPTY;

@@ -75,7 +75,8 @@ static int calls_take_none(uint32_t kind) {
     if (qolb_enqolb(two) != QOLB_QUEUED || qolb_poll(two) != QOLB_WAITING || qolb_wait(two, 3) != QOLB_WAITING) return puts("does not wait"), 1;
     if (qolb_number(two) != 2 || qolb_label(two) != 1 || qolb_state(two) != QOLB_STATE_QUEUED) return puts("not node 2"), 1;
     if (qolb_memory(kind, 2) == 0) return puts("no memory is told"), 1;
-    if (qolb_withdraw(two) != QOLB_WITHDRAWN || qolb_enqolb(two) != QOLB_BUSY || qolb_deqolb(one) != QOLB_DONE) return puts("not passed"), 1;
+    if (qolb_withdraw(two) != QOLB_WITHDRAWN || qolb_clear(two) != QOLB_BUSY || qolb_enqolb(two) != QOLB_BUSY) return puts("not busy"), 1;
+    if (qolb_deqolb(one) != QOLB_DONE || qolb_clear(two) != QOLB_DONE || qolb_clear(one) != QOLB_DONE) return puts("not passed"), 1;
     if (kind == QOLB_LIST) {
         if (qolb_prepend(two) != QOLB_GRANTED || qolb_prepend(one) != QOLB_LINKING || qolb_link(one) != QOLB_QUEUED) return puts("not linked"), 1;
     } else {
@@ -101,7 +102,9 @@ static int puts_the_same_back(uint32_t kind) {
     same = same && SAME(qolb_write_proved_(one, 1, &bytes)) && SAME(qolb_write_lane_proved_(one, 1, 7)) && SAME(qolb_read_proved_(one, &bytes));
     same = same && SAME(qolb_read_lane_proved_(one, 1, &lane)) && SAME(qolb_number_proved_(one)) && SAME(qolb_label_proved_(one));
     same = same && SAME(qolb_enqolb_proved_(two)) && SAME(qolb_poll_proved_(two)) && SAME(qolb_wait_proved_(two, 3)) && SAME(qolb_withdraw_proved_(two));
-    same = same && SAME(qolb_enqolb_proved_(two)) && SAME(qolb_deqolb_proved_(one)) && SAME(qolb_prepend_proved_(one)) && SAME(qolb_prepend_proved_(two));
+    same = same && SAME(qolb_clear_proved_(two)) && SAME(qolb_clear_proved_(one)) && SAME(qolb_waits_at_proved_(one)) && SAME(qolb_enqolb_proved_(two));
+    same = same && SAME(qolb_deqolb_proved_(one)) && SAME(qolb_went_to_proved_(one)) && SAME(qolb_went_ahead_proved_(one));
+    same = same && SAME(qolb_prepend_proved_(one)) && SAME(qolb_prepend_proved_(two));
     same = same && SAME(qolb_link_proved_(two)) && SAME(qolb_shut_proved_(one)) && SAME(qolb_poll_proved_(two)) && SAME(qolb_enqolb_proved_(one));
 #undef SAME
     if (!same) return puts("another node was put back"), 1;

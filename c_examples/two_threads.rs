@@ -166,5 +166,5 @@ fn main() {
         guards(kind);
         waiter_is_dropped(kind);
     }
-    assert_eq!(qolb::version(), 10500);
+    assert_eq!(qolb::version(), 10600);
 }

@@ -9,7 +9,7 @@
 #include <pthread.h>
 #endif
 
-struct bell qolb_lock_bells_[BELLS], qolb_line_bells_[BELLS];
+struct bell qolb_bells_[BELLS];
 
 uint64_t qolb_now_(void) {
     struct timespec time;

@@ -1,17 +1,20 @@
 /* Bells, at which those sleep who wait for a lock or for a node's turn, and the clock of their time limits. Of the library's own files.
  *
- * Who is about to sleep adds itself to the bell's sleepers, reads the bell's word, looks once more at what it waits for, and sleeps while the word is
- * that. Who has something to tell does it first, and then looks at the sleepers. Each step is sequentially consistent, but for one (leave_hall, in
- * lock.c), so one of the two sees the other. tools/bells.py goes through all orders of these steps, and through those of protocols that differ by one;
- * tools/seats.py runs these files themselves, on a model of the processor's memory.
+ * Each place at which a node of a line waits has a bell, and so has the door of each lock, for those that want a seat. Who is about to sleep adds itself to
+ * the bell's sleepers, and to the count of all that the same calls may wake; it reads the bell's word, looks once more at what it waits for, and sleeps while
+ * the word is that. Who has something to tell does it first, then looks at that count, and where it is not 0 at the sleepers of those bells alone at which
+ * somebody waits for what it tells. Each step is sequentially consistent, but for those of leave_hall, in lock.c; so one of the two sees the other.
+ * tools/bells.py goes through all orders of these steps, and through those of protocols that differ by one; tools/seats.py runs these files themselves,
+ * on a model of the processor's memory.
  *
  * The bells lie in the library and not in what is opened. So who rings touches nothing that the next holder may have freed; and all that call one
  * library ring the same bells, in whatever language, from the program or from what it opened at run time. */
 #ifndef QOLB_BELLS_H
 #define QOLB_BELLS_H
 
+#include "gaps.h"
+#include "proved.h"
 #include <stdatomic.h>
-#include <stdint.h>
 
 #define HIDDEN __attribute__((visibility("hidden")))
 #define FOR_EVER UINT64_MAX
@@ -19,7 +22,7 @@
 /* How often a waiter looks, with a pause between two looks, and how often it then gives the processor away, before it sleeps. */
 enum { LOOKS = 64, YIELDS = 8 };
 /* So many bytes apart two things share no cache line, nor a pair of them that is fetched together. */
-enum { BELLS = 256, APART = 128 };
+enum { APART = 128 };
 
 /* ---- Time, and sleeping at a word ---- */
 
@@ -46,18 +49,42 @@ HIDDEN void qolb_wake_at_(atomic_uint *word, int most);
 
 /* ---- Bells ---- */
 
+/* A power of two, above the places of any line: those of ticket lines and rings are 256, and those of a list 201. */
+enum { BELLS = 1024 };
+/* How many words lie between two places of a line, in each kind. Where that is wrong, places share bells. */
+enum { PLACE_WORDS = 16 };
+
 struct bell {
     _Alignas(APART) atomic_uint sleepers, word;
 };
 
-/* Those of locks, and those of lines. */
-extern HIDDEN struct bell qolb_lock_bells_[BELLS], qolb_line_bells_[BELLS];
+extern HIDDEN struct bell qolb_bells_[BELLS];
+
+/* The bell of those that wait at this word of the node's line. No two places of a line share one. Those of two lines may: then they wake each other's
+ * waiters for nothing. */
+static inline struct bell *bell_at(const qolb_node *node, uint64_t word) { return &qolb_bells_[(*first_bell_of(node) + word / PLACE_WORDS) % BELLS]; }
 
 /* Wakes all that sleep at the bell. */
 HIDDEN void qolb_toll_(struct bell *bell);
 
 static inline void ring(struct bell *bell) {
     if (atomic_load(&bell->sleepers)) qolb_toll_(bell);
+}
+
+/* The bells of the one to whom a node has let its line go, and of the one behind that one, which is woken a turn ahead: so it has the other's turn to wake
+ * up in. Where there is none, a bell at which nobody of the line sleeps. */
+struct next {
+    struct bell *holder, *ahead;
+};
+
+static inline struct next next_of(qolb_node *node) {
+    struct next next = {bell_at(node, qolb_went_to_proved_(node)), bell_at(node, qolb_went_ahead_proved_(node))};
+    return next;
+}
+
+static inline void ring_for(struct next next) {
+    ring(next.holder);
+    ring(next.ahead);
 }
 
 #endif

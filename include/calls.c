@@ -5,7 +5,6 @@
  * takes of memory beside its table. */
 #define _GNU_SOURCE
 #include "bells.h"
-#include "proved.h"
 #include <sched.h>
 
 /* Nanoseconds for which a node sleeps at most that is busy: nobody rings for it. */
@@ -16,18 +15,30 @@ enum { NAP = 200000 };
  * A proved call takes the node out of its handle, and puts the same one back. So it gets a copy, on the stack, and the caller's handle is only read. Else
  * threads whose handles lie side by side, as qolb_open writes them, would all write to one cache line. */
 
+/* ---- Opening ---- */
+
+/* The first bells of lines that are opened one after another lie far apart: the next is behind this one by the golden part of all bells. */
+enum { NEXT_BELLS = 633 };
+
+uint32_t qolb_open(uint32_t kind, uint64_t label, uint64_t nodes, uint64_t lease, const qolb_bytes *opening, qolb_node *out, size_t handles) {
+    static atomic_uint drawn;
+    uint32_t got = qolb_open_proved_(kind, label, nodes, lease, opening, out, handles);
+    if (got != QOLB_DONE) return got;
+    uint32_t bell = atomic_fetch_add(&drawn, NEXT_BELLS);
+    for (uint64_t k = 0; k < nodes; k++) *first_bell_of(&out[k]) = bell;
+    return got;
+}
+
 /* ---- Letting a line go ---- */
 
-/* How many sleep at bells of lines, in all. A release looks here, and no further while there are none. */
+/* How many sleep at bells by a node of their own, for any line. A release looks here, and no further while there are none. */
 static struct {
     _Alignas(APART) atomic_uint sleepers;
 } anywhere;
 
-/* All nodes of a line share a label; lines of one label share a bell too, and then wake each other's waiters for nothing. */
-static struct bell *bell_of(qolb_node *node) { return &qolb_line_bells_[qolb_label_proved_(node) * 0x9e3779b97f4a7c15 >> 32 & (BELLS - 1)]; }
-
+/* Of a call that was misuse, there may be no node. */
 __attribute__((noinline)) static uint32_t rung(qolb_node *node, uint32_t got) {
-    ring(bell_of(node));
+    if (got != QOLB_MISUSE) ring_for(next_of(node));
     return got;
 }
 
@@ -58,6 +69,12 @@ uint32_t qolb_wait(qolb_node *node, uint64_t polls) {
     return told(&copy, qolb_wait_proved_(&copy, polls));
 }
 
+uint32_t qolb_clear(qolb_node *node) {
+    if (qolb_is_lent_(node)) return QOLB_MISUSE;
+    qolb_node copy = *node;
+    return qolb_clear_proved_(&copy);
+}
+
 uint32_t qolb_close(qolb_node *node) { return qolb_is_lent_(node) ? (uint32_t)QOLB_MISUSE : qolb_close_proved_(node); }
 
 /* ---- Waiting for a turn ---- */
@@ -72,8 +89,9 @@ static uint32_t look_a_while(qolb_node *node, const struct limit *limit) {
     return got;
 }
 
+/* Where the node waits does not change until it is granted the line. */
 static uint32_t sleep_at_bell(qolb_node *node, const struct limit *limit) {
-    struct bell *bell = bell_of(node);
+    struct bell *bell = bell_at(node, qolb_waits_at_proved_(node));
     atomic_fetch_add(&bell->sleepers, 1);
     atomic_fetch_add(&anywhere.sleepers, 1);
     unsigned word = atomic_load(&bell->word);
@@ -181,15 +199,8 @@ SAYS(uint32_t, qolb_state)
 
 /* ---- Memory ----
  *
- * What an open line keeps, as its blocks are asked for. The proved part tells how much its table takes, whose words are one block and whose slots are
- * another. The other blocks are always of these sizes, as c_examples/memory.c counts. Behind each block is a gap (gaps.c). */
-enum {
-    TABLE_BLOCKS = 2,
-    LINE_BYTES = 112, /* of the block with the line, which all nodes share, and the count of those that do */
-    NODE_BYTES = 152, /* of the block of each node, to which its handle points */
-    GAP_BYTES = QOLB_NODE_ALIGN
-};
-
+ * What an open line keeps, as its blocks are asked for (gaps.h). The proved part tells how much its table takes. The other blocks are always of the same
+ * sizes, as c_examples/memory.c counts. Behind each block is a gap. */
 uint64_t qolb_memory(uint32_t kind, uint64_t nodes) {
     uint64_t table = qolb_memory_proved_(kind, nodes);
     if (table == 0) return 0;

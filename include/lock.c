@@ -1,11 +1,10 @@
 /* The lock for threads that come and go, and its conditions (qolb.h, LOCKS). Tested, not proved; each step on the line is a proved call.
  *
  * A lock has a hall: a line, and for each of its nodes a seat. A thread that enters takes a free seat, asks with its node, and waits for its turn; it
- * gives the seat back when it leaves. All who wait for a turn or for a seat of a lock sleep at one bell (bells.h), which is rung whenever a seat is
- * given back. */
+ * gives the seat back when it leaves. Who has a seat sleeps at the bell of the place where its node waits (bells.h), which is rung for it alone. Who has
+ * none sleeps at the bell of the lock's door, which is rung whenever a seat is given back. */
 #define _GNU_SOURCE
 #include "bells.h"
-#include "proved.h"
 #include <sched.h>
 #include <stdlib.h>
 #ifdef __linux__
@@ -13,7 +12,7 @@
 #include <unistd.h>
 #endif
 
-enum { GUARDS = 64, MOST_SEATS = 200 };
+enum { DOORS = 256, GUARDS = 64, MOST_SEATS = 200 };
 
 /* In a program that can be opened at run time by the GNU C library there is room for so few bytes; others may have none. */
 #ifdef __GLIBC__
@@ -35,11 +34,19 @@ struct seat {
     atomic_uint state;
 };
 
+/* What those ring who have left: so it lies apart from the hall, which may be freed by then. A few locks may share one. Who looks at the count and finds
+ * nobody rings no bell of the lock. */
+struct door {
+    _Alignas(APART) atomic_uint sleepers; /* for the lock, at any bell */
+    struct bell bell;                     /* of those that want a seat */
+};
+
+static struct door doors[DOORS];
 static atomic_uint opened_halls;
 
 struct hall {
     _Alignas(QOLB_NODE_ALIGN) void *block; /* what malloc gave */
-    struct bell *bell;
+    struct door *door;
     unsigned seats;
     qolb_node lent;
     /* What the holder writes. */
@@ -82,7 +89,7 @@ static struct hall *made_of(qolb_node *nodes, unsigned seats) {
     if (!block) return NULL;
     struct hall *hall = (struct hall *)(((uintptr_t)block + QOLB_NODE_ALIGN - 1) / QOLB_NODE_ALIGN * QOLB_NODE_ALIGN);
     hall->block = block;
-    hall->bell = &qolb_lock_bells_[atomic_fetch_add(&opened_halls, 1) % BELLS];
+    hall->door = &doors[atomic_fetch_add(&opened_halls, 1) % DOORS];
     hall->seats = seats;
     hall->lent.own = (void *)((uintptr_t)hall | 1);
     atomic_init(&hall->holder, 0);
@@ -126,11 +133,16 @@ static uint32_t hall_opened(qolb_lock *lock, struct hall **hall) {
     return QOLB_DONE;
 }
 
-/* The last step on the hall of who has no more to do there. */
-static inline void give_back(struct hall *hall, struct seat *seat) {
-    struct bell *bell = hall->bell;
+/* The last step on the hall of who was late, tried, or was told that the lock is shut: that one has passed this on, as its node tells until the seat is
+ * free. */
+static void give_back(struct hall *hall, struct seat *seat, uint32_t got) {
+    struct door *door = hall->door;
+    struct next next = {NULL, NULL};
+    int passed_on = got == QOLB_CLOSED;
+    if (passed_on) next = next_of(&seat->node);
     atomic_exchange(&seat->state, FREE);
-    ring(bell);
+    if (passed_on) ring_for(next);
+    ring(&door->bell);
 }
 
 /* ---- Entering ---- */
@@ -186,13 +198,23 @@ static uint32_t look_a_while(struct asking *me) {
     return got;
 }
 
+static struct bell *bell_of(struct hall *hall, struct seat *seat) {
+    return seat ? bell_at(&seat->node, qolb_waits_at_proved_(&seat->node)) : &hall->door->bell;
+}
+
+/* Who gets a seat as it looks waits at another bell from then on, and does not sleep at the door's. */
 static uint32_t sleep_at_bell(struct asking *me, const struct limit *limit) {
-    struct bell *bell = me->hall->bell;
+    struct door *door = me->hall->door;
+    struct seat *seat = me->seat;
+    struct bell *bell = bell_of(me->hall, seat);
     atomic_fetch_add(&bell->sleepers, 1);
+    atomic_fetch_add(&door->sleepers, 1);
     unsigned word = atomic_load(&bell->word);
     uint32_t got = look(me);
-    uint64_t time = got == QOLB_WAITING && (me->seat || !me->met) ? left(limit) : 0;
+    int stays = me->seat == seat && (seat || !me->met);
+    uint64_t time = got == QOLB_WAITING && stays ? left(limit) : 0;
     if (time) qolb_sleep_at_(&bell->word, word, time);
+    atomic_fetch_sub(&door->sleepers, 1);
     atomic_fetch_sub(&bell->sleepers, 1);
     return got;
 }
@@ -229,7 +251,7 @@ static inline uint32_t settle(struct asking *me, uint32_t got) {
         hall->held_by = me->seat;
         atomic_store_explicit(&hall->holder, own_number(), memory_order_release);
     } else if (me->seat) {
-        give_back(hall, me->seat);
+        give_back(hall, me->seat, got);
     }
     return got;
 }
@@ -278,18 +300,26 @@ uint32_t qolb_lock_try(qolb_lock *lock) {
 
 /* ---- Leaving ---- */
 
+/* Of a holder that has let the line go while threads of the lock sleep: rings for whom its node tells, and where somebody wants a seat. */
+__attribute__((noinline)) static void free_and_ring(struct door *door, struct seat *seat) {
+    struct next next = next_of(&seat->node);
+    atomic_store_explicit(&seat->state, FREE, memory_order_release);
+    ring_for(next);
+    ring(&door->bell);
+}
+
 /* The holder releases the line, or shuts it. Once the seat is free the hall may be freed by another.
  *
  * A release steps on the line's words by instructions that let no load pass a store before them. So who looks for a seat sees that this one is about to
  * be free, and does not sleep; or it has been counted, and the bell is rung. The seat's last store needs no such instruction. */
 static inline void leave_hall(struct hall *hall, uint32_t (*release)(qolb_node *)) {
     struct seat *seat = hall->held_by;
-    struct bell *bell = hall->bell;
+    struct door *door = hall->door;
     atomic_store_explicit(&hall->holder, 0, memory_order_release);
     atomic_store_explicit(&seat->state, LEAVING, memory_order_release);
     release(&seat->node);
-    atomic_store_explicit(&seat->state, FREE, memory_order_release);
-    ring(bell);
+    if (atomic_load(&door->sleepers)) free_and_ring(door, seat);
+    else atomic_store_explicit(&seat->state, FREE, memory_order_release);
 }
 
 uint32_t qolb_lock_leave(qolb_lock *lock) {
@@ -331,7 +361,7 @@ uint32_t qolb_lock_close(qolb_lock *lock) {
         alone = 0;
     }
     if (!alone) {
-        ring(hall->bell);
+        ring(&hall->door->bell);
         return QOLB_MISUSE;
     }
     __atomic_store_n(&lock->own, NULL, __ATOMIC_SEQ_CST);

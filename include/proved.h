@@ -4,6 +4,7 @@
 
 #include "qolb.h"
 
+uint32_t qolb_open_proved_(uint32_t kind, uint64_t label, uint64_t nodes, uint64_t lease, const qolb_bytes *opening, qolb_node *out, size_t handles);
 uint32_t qolb_enqolb_proved_(qolb_node *node);
 uint32_t qolb_poll_proved_(qolb_node *node);
 uint32_t qolb_wait_proved_(qolb_node *node, uint64_t polls);
@@ -15,6 +16,7 @@ uint32_t qolb_write_proved_(qolb_node *node, uint64_t mask, const qolb_bytes *by
 uint32_t qolb_read_lane_proved_(qolb_node *node, uint64_t lane, uint64_t *out);
 uint32_t qolb_write_lane_proved_(qolb_node *node, uint64_t lane, uint64_t value);
 uint64_t qolb_turns_left_proved_(qolb_node *node);
+uint32_t qolb_clear_proved_(qolb_node *node);
 uint32_t qolb_deqolb_proved_(qolb_node *node);
 uint32_t qolb_shut_proved_(qolb_node *node);
 uint32_t qolb_close_proved_(qolb_node *node);
@@ -23,6 +25,15 @@ uint64_t qolb_label_proved_(qolb_node *node);
 uint32_t qolb_state_proved_(qolb_node *node);
 uint64_t qolb_memory_proved_(uint32_t kind, uint64_t nodes);
 uint32_t qolb_version_proved_(void);
+
+/* Numbers of words of the node's line, at which nodes wait. They name a place and nothing more: nobody looks at the word.
+ *
+ * Where the node waits that asks; the same from its request until it is granted. */
+uint64_t qolb_waits_at_proved_(qolb_node *node);
+/* Where the one waits to whom the node last let the line go, by a release or as it was told that the line is closed; and where the one behind that one
+ * waits. The first is proved, the second is not. Where there is none, a number at which nobody waits. */
+uint64_t qolb_went_to_proved_(qolb_node *node);
+uint64_t qolb_went_ahead_proved_(qolb_node *node);
 
 /* A lent node is a handle whose lowest bit is set: with it off, it is the address of a lock's hall. No node of the library's lies at an odd address.
  * The node by which the calling thread holds that lock; NULL where it does not. */

@@ -77,8 +77,7 @@
  * predecessor, successor: the nodes whose requests stand right before a node's own in the queue, and right behind.
  * withdrawn: a request that its node took back. It is passed when the line comes to it.
  * busy: a node whose last request is not cleared away yet, and which so may not ask again (BUSY, below).
- * label: a number of the caller's own, which qolb_label gives back. Give each line another: waiters of lines of one label wake each other for nothing, and
- * the thread sanitizer takes such lines for one.
+ * label: a number of the caller's own, which qolb_label gives back. Lines may have the same; the thread sanitizer takes such lines for one.
  *
  * KINDS
  *
@@ -128,11 +127,14 @@
  * Linux by a futex, and elsewhere for 200 us at a time) until the line is let go; then they look anew. A thread that waits for a lock does the same.
  * One that waits at a condition sleeps at once.
  *
- * All that wait for a line sleep at one bell, as all that wait for a lock do. Whatever lets the line go rings it: qolb_deqolb, qolb_shut, and every call
- * that answers CLOSED. So each release wakes all that sleep there, and those whose turn has not come look and sleep again. Lines of one label share a
- * bell, and so do a few of different labels: they wake each other's waiters for nothing.
+ * Whatever lets a line go wakes at most two that sleep: the one to whom the line goes, and the one behind it, which so has the other's turn to wake up
+ * in. That one looks, and sleeps again if its turn has not come. The others sleep on. Such calls are qolb_deqolb, qolb_shut, and every call that answers
+ * CLOSED. Each waiter sleeps at a bell that is chosen by its line and its place in the queue. Some lines share bells, whatever their labels, and then may
+ * wake each other's waiters for nothing.
  *
- * No bell is rung for a node that is busy. It asks again 8 times, and gives the processor away between, and then asks every 200 us.
+ * Leaving a lock does the same, and wakes all that wait for a seat.
+ *
+ * Nobody wakes the thread of a node that is busy. It asks again 8 times, and gives the processor away between, and then asks every 200 us.
  *
  * When the line comes to a node, it is that node's, whether it has looked or not: all who stand behind it wait until it has woken up and had its turn.
  *
@@ -147,10 +149,11 @@
  * A request that is withdrawn stays in the queue until the line comes to it, and until then its node is busy. A release of another node passes it
  * and clears it. A node of a list may besides be busy after its own release: where its successor has asked and has not linked yet, and until it
  * has, which is the last step of that node's qolb_enqolb. So ask again later. It can last as long as those before the withdrawn request keep the
- * line; if one never releases it, for ever. qolb_acquire and qolb_acquire_within ask again by themselves.
+ * line; if one never releases it, for ever. qolb_acquire and qolb_acquire_within ask again by themselves. qolb_clear tells whether a node is busy, and
+ * asks nothing.
  *
  * While its node is busy a thread stands in no queue. So one that is handed a node which was late may be overtaken: all who ask by other nodes before
- * that one is clear come first. If threads take nodes from a pool, let them take one that was not late, where there is one.
+ * that one is clear come first. If threads take nodes from a pool, let them take one of which qolb_clear says DONE, where there is one.
  *
  * THREADS THAT END
  *
@@ -173,7 +176,7 @@
  *
  *     struct worker { _Alignas(QOLB_NODE_ALIGN) qolb_node node; long count; };
  *
- * A call that lets a line go looks at one word more, and calls the system only where a thread sleeps that waits for a line.
+ * A call that lets a line go looks at one word more, and calls the system only where one sleeps whom it may have to wake.
  *
  * No call but qolb_open, qolb_close, qolb_lock_open, qolb_lock_close and the first use of a lock uses the heap.
  *
@@ -199,7 +202,7 @@
 /* The version of this header. QOLB_VERSION is one number, 10000 for each major version, 100 for each minor one; qolb_version() is that of the
  * library that the program runs with. */
 #define QOLB_VERSION_MAJOR 1
-#define QOLB_VERSION_MINOR 5
+#define QOLB_VERSION_MINOR 6
 #define QOLB_VERSION_PATCH 0
 #define QOLB_VERSION (QOLB_VERSION_MAJOR * 10000 + QOLB_VERSION_MINOR * 100 + QOLB_VERSION_PATCH)
 
@@ -304,6 +307,10 @@ uint32_t qolb_acquire(qolb_node *node) QOLB_LOOK;
  * CLOSED, LATE. Else MISUSE.
  * After LATE the node is withdrawn: it has no turn to come, and may ask again, but may be busy at first. It looks at least once. */
 uint32_t qolb_acquire_within(qolb_node *node, uint64_t nanoseconds) QOLB_LOOK;
+
+/* Whether the node is busy. It looks, and asks nothing. Where the node may ask: DONE, and it is not busy until it asks; or BUSY, until a call of another
+ * node clears it. Else MISUSE. DONE leaves a list's node that was LEFT or ROLLED in the state IDLE, and every other node in its state. */
+uint32_t qolb_clear(qolb_node *node);
 
 /* Takes the request back, unless it has come to its turn. In the state QUEUED: WITHDRAWN, GRANTED, CLOSED. Else MISUSE. */
 uint32_t qolb_withdraw(qolb_node *node) QOLB_LOOK;

@@ -107,6 +107,7 @@ class Node {
     ~Node() { let_go(); }
 
     QOLB_NODISCARD qolb_answer enqolb() { return answer(qolb_enqolb(&node_)); }
+    QOLB_NODISCARD qolb_answer clear() { return answer(qolb_clear(&node_)); }
     QOLB_NODISCARD qolb_answer poll() { return answer(qolb_poll(&node_)); }
     QOLB_NODISCARD qolb_answer wait(std::uint64_t polls) { return answer(qolb_wait(&node_, polls)); }
     QOLB_NODISCARD qolb_answer withdraw() { return answer(qolb_withdraw(&node_)); }

@@ -161,6 +161,7 @@ unsafe extern "C" {
     fn qolb_open(kind: u32, label: u64, nodes: u64, lease: u64, opening: &Bytes, out: *mut Handle, handles: usize) -> u32;
     safe fn qolb_memory(kind: u32, nodes: u64) -> u64;
     fn qolb_enqolb(node: &mut Handle) -> u32;
+    fn qolb_clear(node: &mut Handle) -> u32;
     fn qolb_poll(node: &mut Handle) -> u32;
     fn qolb_wait(node: &mut Handle, polls: u64) -> u32;
     fn qolb_acquire(node: &mut Handle) -> u32;
@@ -206,8 +207,8 @@ pub struct Node(UnsafeCell<Handle>);
 // SAFETY: the library has it proved that a handle may go to another thread. No call takes a `&Node`, so nothing is shared.
 unsafe impl Send for Node {}
 
-/// Opens a line, which closes at the turn that is the lease's last, if it has one. Its nodes come in their order. Give each line a label of its own:
-/// waiters of lines of one label wake each other for nothing.
+/// Opens a line, which closes at the turn that is the lease's last, if it has one. Its nodes come in their order. The label is a number of the caller's
+/// own, which `Node::label` gives back.
 pub fn open(kind: Kind, label: u64, nodes: u64, lease: Option<u64>, opening: &Bytes) -> Result<Vec<Node>, Answer> {
     let mut handles: Vec<Handle> = (0..200).map(|_| Handle { own: null_mut() }).collect();
     // 2^64 - 1 stands for no lease; as a lease it is never used up.
@@ -244,6 +245,12 @@ impl Node {
     #[must_use]
     pub fn enqolb(&mut self) -> Answer {
         told(unsafe { qolb_enqolb(self.0.get_mut()) })
+    }
+
+    /// Whether the node is busy, so that it would not be queued if it asked: `Done`, `Busy`; `Misuse` where it waits or holds. It asks nothing.
+    #[must_use]
+    pub fn clear(&mut self) -> Answer {
+        told(unsafe { qolb_clear(self.0.get_mut()) })
     }
 
     #[must_use]

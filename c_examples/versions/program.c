@@ -1,5 +1,5 @@
 /* A program that is linked with the library of one release, and runs with that of another. With -DCALLS_OF_1_1 it makes calls that came with 1.1, and so
- * with -DCALLS_OF_1_3, -DCALLS_OF_1_4 and -DCALLS_OF_1_5. */
+ * with -DCALLS_OF_1_3 to -DCALLS_OF_1_6. */
 #include <qolb.h>
 #include <stdio.h>
 
@@ -22,6 +22,10 @@ int main(void) {
 #endif
 #ifdef CALLS_OF_1_5
     if (qolb_memory(QOLB_RING, 1) == 0 || qolb_memory(QOLB_RING, 0) != 0 || qolb_version() < 10500) return 8;
+#endif
+#ifdef CALLS_OF_1_6
+    if (qolb_clear(&node) != QOLB_MISUSE || qolb_deqolb(&node) != QOLB_DONE || qolb_clear(&node) != QOLB_DONE) return 9;
+    if (qolb_enqolb(&node) != QOLB_GRANTED || qolb_version() < 10600) return 10;
 #endif
     if (qolb_deqolb(&node) != QOLB_DONE || qolb_close(&node) != QOLB_DONE) return 4;
     puts("ends");

@@ -1,0 +1,18 @@
+/* The blocks that an open line keeps of the heap, and what lies in the gaps behind them (gaps.c). Of the library's own files. */
+#ifndef QOLB_GAPS_H
+#define QOLB_GAPS_H
+
+#include "qolb.h"
+
+enum {
+    TABLE_BLOCKS = 2, /* the words, and the slots */
+    LINE_BYTES = 112, /* of the block with the line, which all nodes share, and the count of those that do */
+    NODE_BYTES = 168, /* of the block of each node, to which its handle points */
+    GAP_BYTES = QOLB_NODE_ALIGN
+};
+
+/* Where each node has a number that is drawn when its line is opened, the same for all nodes of the line (bell_at, in bells.h). Nothing in the handle or
+ * in the proved part has room for it. It lies in the middle of the gap: where NODE_BYTES is wrong it spoils nothing until c_examples/memory.c says so. */
+static inline uint32_t *first_bell_of(const qolb_node *node) { return (uint32_t *)((char *)node->own + NODE_BYTES + GAP_BYTES / 2); }
+
+#endif
