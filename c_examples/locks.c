@@ -237,6 +237,39 @@ static int in_order(uint32_t kind) {
     return 0;
 }
 
+/* Who leaves wakes the next holder and the one behind it, and all others sleep on: so each sleeps twice at most, and perhaps where the system has it
+ * wait. If each that leaves woke all, the last would sleep twelve times. */
+static void *has_a_long_turn(void *argument) {
+    struct helper *me = argument;
+    about_to_wait(&me->number);
+    long before = used().sleeps;
+    MUST(qolb_lock_enter(me->lock), QOLB_GRANTED);
+    me->self = (int)(used().sleeps - before);
+    usleep(20000); /* in which those that were woken sleep again */
+    MUST(qolb_lock_leave(me->lock), QOLB_DONE);
+    return NULL;
+}
+
+static int others_sleep_on(uint32_t kind) {
+    enum { THREADS = 12, MOST_SLEEPS = 5 };
+    static qolb_lock lock = QOLB_LOCK_INIT(1 + THREADS);
+    struct helper threads[THREADS] = {{0}};
+    lock.kind = kind;
+    WANT(qolb_lock_enter(&lock), QOLB_GRANTED);
+    for (int k = 0; k < THREADS; k++) {
+        threads[k].lock = &lock;
+        start(&threads[k], has_a_long_turn);
+        until_asleep(&threads[k].number);
+    }
+    WANT(qolb_lock_leave(&lock), QOLB_DONE);
+    for (int k = 0; k < THREADS; k++) {
+        pthread_join(threads[k].id, NULL);
+        WANT(threads[k].self >= 1 && threads[k].self <= MOST_SLEEPS, 1);
+    }
+    WANT(qolb_lock_close(&lock), QOLB_DONE);
+    return 0;
+}
+
 /* More threads than seats: each is served, also where every seat is busy for a while, and a late one for want of a seat is late. */
 static int without_a_seat(uint32_t kind) {
     enum { THREADS = 6 };
@@ -634,7 +667,8 @@ static int freed_by_the_last(uint32_t kind) {
 }
 
 static int of_kind(uint32_t kind) {
-    if (of_the_holder(kind) || in_order(kind) || without_a_seat(kind) || shut_tells_all(kind) || told_in_order(kind) || freed_by_the_last(kind)) return 1;
+    if (of_the_holder(kind) || in_order(kind) || others_sleep_on(kind) || without_a_seat(kind)) return 1;
+    if (shut_tells_all(kind) || told_in_order(kind) || freed_by_the_last(kind)) return 1;
     static const unsigned uses_of[][2] = {{2, 1}, {2, 2}, {8, 3}, {8, 20}, {32, 5}, {32, 32}, {200, 200}, {200, 16}};
     for (size_t k = 0; k < sizeof uses_of / sizeof uses_of[0]; k++)
         for (int shut = 0; shut < 2; shut++)

@@ -1,8 +1,8 @@
 /* How who waits rests between looks, with a node, for a lock and at a condition, by a clock that the program moves on: how often it asks and looks,
  * how often it gives the processor away, how long it sleeps, and when it is late; what it answers where the line comes, or is closed, between the last
- * look and the withdrawal; and which calls wake those that sleep.
- * Linked with --wrap for clock_gettime, nanosleep, sched_yield, syscall and for the proved calls that ask, look and withdraw. Prints nothing but what
- * went wrong. */
+ * look and the withdrawal; and which calls wake those that sleep, and whom.
+ * Linked with --wrap for clock_gettime, nanosleep, sched_yield, syscall and for the proved calls that ask, look, withdraw and name the next holder. Prints
+ * nothing but what went wrong. */
 #define _GNU_SOURCE
 #include <qolb.h>
 #include <stdarg.h>
@@ -26,8 +26,13 @@ enum { US = 1000, MS = 1000000 };
 #define NEVER UINT64_MAX
 
 /* The time, in nanoseconds; and since `begins` how often the clock was asked, the rests and how long the longest sleep may have lasted, how often the
- * node asked and looked and how long it spun, how often sleepers were woken, and what nobody may do who waits. */
-static uint64_t now, clocks, yields, sleeps, longest, asks, spins, spun, looks, wakes, wrong;
+ * node asked and looked and how long it spun, how often it was asked for the next holder, how often sleepers were woken, and what nobody may do who
+ * waits. */
+static uint64_t now, clocks, yields, sleeps, longest, asks, spins, spun, looks, names, wakes, wrong;
+
+/* The words of the first sleeps and wakes since then, in their order. */
+enum { NOTED = 8 };
+static const void *slept_at[NOTED], *woken_at[NOTED];
 
 /* What happens where the clock is asked at this time or later, where the processor is given away for so many times, during so many sleeps, or where a
  * request is about to be withdrawn. It happens once. */
@@ -41,6 +46,7 @@ uint32_t __real_qolb_enqolb_proved_(qolb_node *node);
 uint32_t __real_qolb_wait_proved_(qolb_node *node, uint64_t polls);
 uint32_t __real_qolb_poll_proved_(qolb_node *node);
 uint32_t __real_qolb_withdraw_proved_(qolb_node *node);
+uint64_t __real_qolb_went_to_proved_(qolb_node *node);
 long __real_syscall(long number, ...);
 
 static void happens(void) {
@@ -89,8 +95,10 @@ long __wrap_syscall(long number, ...) {
     const struct timespec *most = va_arg(rest, const struct timespec *);
     va_end(rest);
     if (what == 128 /* FUTEX_WAIT_PRIVATE */) {
+        if (sleeps < NOTED) slept_at[sleeps] = word;
         if (atomic_load(word) == value) sleep_for(most);
     } else if (what == 129 /* FUTEX_WAKE_PRIVATE */) {
+        if (wakes < NOTED) woken_at[wakes] = word;
         wakes++;
     } else {
         wrong++;
@@ -119,8 +127,13 @@ uint32_t __wrap_qolb_withdraw_proved_(qolb_node *node) {
     return __real_qolb_withdraw_proved_(node);
 }
 
+uint64_t __wrap_qolb_went_to_proved_(qolb_node *node) {
+    names++;
+    return __real_qolb_went_to_proved_(node);
+}
+
 static void begins(void (*does)(void)) {
-    clocks = yields = sleeps = longest = asks = spins = spun = looks = wakes = 0;
+    clocks = yields = sleeps = longest = asks = spins = spun = looks = names = wakes = 0;
     event.does = does;
     event.at = NEVER;
     event.at_yield = event.at_sleep = 0;
@@ -232,7 +245,7 @@ static int at_once(qolb_node *n) {
     WANT(qolb_try(&n[1]), QOLB_BUSY);
     WANT(asks, 3);
     WANT(qolb_deqolb(&n[0]), QOLB_DONE);
-    WANT(spins + looks + yields + sleeps + wakes, 0);
+    WANT(spins + looks + yields + sleeps + names + wakes, 0);
     return 0;
 }
 
@@ -286,7 +299,7 @@ static int withdraws_late(uint32_t kind, int is_shut) {
 static qolb_node *teller;
 static uint32_t (*tells)(qolb_node *node);
 static uint32_t was_told;
-static uint64_t woke;
+static uint64_t woke, named;
 
 static uint32_t waits(qolb_node *node) { return qolb_wait(node, 1); }
 static uint32_t acquires(qolb_node *node) { return qolb_acquire(node); }
@@ -294,11 +307,11 @@ static uint32_t acquires_within(qolb_node *node) { return qolb_acquire_within(no
 
 /* While one sleeps: the teller makes its call, before which its line may be shut. */
 static void is_told(void) {
-    uint64_t before;
     if (holder) shuts();
-    before = wakes;
+    uint64_t woken = wakes, asked = names;
     was_told = tells(teller);
-    woke = wakes - before;
+    woke = wakes - woken;
+    named = names - asked;
 }
 
 /* The second node stands before one that sleeps, and looks, withdraws or links only after the line was shut. */
@@ -320,8 +333,8 @@ static int passes_on(uint32_t kind, uint32_t (*call)(qolb_node *node), int links
     return 0;
 }
 
-/* Who asks where the line is closed is told at once, and may have passed that on to one that stands behind it. Here nobody does, and one that sleeps at
- * the same bell, by another line of that label, is woken for nothing. */
+/* Who asks where the line is closed is told at once, and may have passed that on to one that stands behind it: so it looks for whom. Here nobody does, and
+ * one that sleeps for another line of that label is not woken. */
 static int asks_a_closed_one(uint32_t kind, uint32_t (*call)(qolb_node *node)) {
     qolb_bytes zeros = {{0}};
     qolb_node n[2] = {{0}}, closed = {0};
@@ -337,27 +350,119 @@ static int asks_a_closed_one(uint32_t kind, uint32_t (*call)(qolb_node *node)) {
     event.at_sleep = 1;
     WANT(qolb_acquire_within(&n[1], MS), QOLB_LATE);
     WANT(was_told, QOLB_CLOSED);
-    WANT(woke, 1);
-    WANT(sleeps, 2);
+    WANT(named, 1);
+    WANT(woke, 0);
     WANT(qolb_deqolb(&n[0]), QOLB_DONE);
     for (int k = 0; k < 2; k++) WANT(qolb_close(&n[k]), QOLB_DONE);
     WANT(qolb_close(&closed), QOLB_DONE);
     return 0;
 }
 
+/* What is misuse lets nothing go, and wakes nobody: of an empty handle, and of a node that does not hold the line. */
+static int misuse_wakes_nobody(uint32_t kind, uint32_t (*call)(qolb_node *node)) {
+    qolb_bytes zeros = {{0}};
+    qolb_node n[3] = {{0}}, empty = {0};
+    WANT(qolb_open(kind, 1, 3, QOLB_NO_LEASE, &zeros, n, 3), QOLB_DONE);
+    WANT(qolb_acquire(&n[2]), QOLB_GRANTED);
+    WANT(qolb_deqolb(&n[2]), QOLB_DONE);
+    WANT(qolb_acquire(&n[0]), QOLB_GRANTED);
+    holder = NULL;
+    tells = call;
+    for (int k = 0; k < 2; k++) {
+        teller = k ? &n[2] : &empty;
+        begins(is_told);
+        event.at_sleep = 1;
+        WANT(qolb_acquire_within(&n[1], MS), QOLB_LATE);
+        WANT(was_told, QOLB_MISUSE);
+        WANT(woke, 0);
+        if (!k) WANT(qolb_deqolb(&n[0]), QOLB_DONE);
+        if (!k) WANT(qolb_acquire(&n[0]), QOLB_GRANTED);
+    }
+    WANT(qolb_deqolb(&n[0]), QOLB_DONE);
+    for (int k = 0; k < 3; k++) WANT(qolb_close(&n[k]), QOLB_DONE);
+    return 0;
+}
+
 static int each_passes_on(uint32_t kind) {
     if (passes_on(kind, qolb_poll, 0) || passes_on(kind, waits, 0) || passes_on(kind, qolb_withdraw, 0)) return 1;
+    if (misuse_wakes_nobody(kind, qolb_deqolb) || misuse_wakes_nobody(kind, qolb_shut)) return 1;
     if (asks_a_closed_one(kind, qolb_enqolb) || asks_a_closed_one(kind, acquires) || asks_a_closed_one(kind, acquires_within)) return 1;
     return kind == QOLB_LIST && (passes_on(kind, qolb_link, 1) || asks_a_closed_one(kind, qolb_prepend));
 }
-
-/* ---- For a lock, and at a condition ---- */
 
 static qolb_lock *held;
 
 static void leaves(void) {
     if (qolb_lock_leave(held) != QOLB_DONE) wrong++;
 }
+
+/* ---- Whom a release wakes: the next holder, and the one behind it ---- */
+
+enum { SLEEPERS = 3 };
+static qolb_node *nodes;
+static uint32_t (*waits_as)(unsigned k);
+static void (*lets_go)(void);
+
+/* The first waits as long as it takes; the others are late, as their sleeps end while it sleeps. */
+static uint32_t acquires_as(unsigned k) { return k ? qolb_acquire_within(&nodes[k], 20 * MS) : qolb_acquire(&nodes[0]); }
+static uint32_t enters_as(unsigned k) { return k ? qolb_lock_enter_within(held, 20 * MS) : qolb_lock_enter(held); }
+
+/* While one sleeps the next waits and sleeps too, and while the last does the line is let go. */
+static void next_sleeps(void) {
+    unsigned k = (unsigned)sleeps;
+    if (k == SLEEPERS) {
+        lets_go();
+        return;
+    }
+    event.does = next_sleeps;
+    event.at_sleep = k + 1;
+    if (waits_as(k) != QOLB_LATE) wrong++;
+}
+
+/* Three sleep, each at a word of its own, and so many of them are woken, in their order. */
+static int wakes_so_many(uint32_t (*as)(unsigned k), void (*by)(void), unsigned many) {
+    waits_as = as;
+    lets_go = by;
+    begins(next_sleeps);
+    event.at_sleep = 1;
+    WANT(as(0), QOLB_GRANTED);
+    WANT(slept_at[0] != slept_at[1] && slept_at[1] != slept_at[2] && slept_at[2] != slept_at[0], 1);
+    WANT(wakes, many);
+    for (unsigned k = 0; k < many; k++) WANT(woken_at[k] == slept_at[k], 1);
+    return 0;
+}
+
+/* Also where it passes a request that was withdrawn. */
+static int wakes_two(uint32_t kind, int passes) {
+    qolb_bytes zeros = {{0}};
+    qolb_node n[2 + SLEEPERS] = {{0}};
+    WANT(qolb_open(kind, 1, 2 + SLEEPERS, QOLB_NO_LEASE, &zeros, n, 2 + SLEEPERS), QOLB_DONE);
+    WANT(qolb_acquire(&n[0]), QOLB_GRANTED);
+    if (passes) WANT(qolb_try(&n[1]), QOLB_BUSY);
+    holder = &n[0];
+    nodes = &n[2];
+    if (wakes_so_many(acquires_as, releases, 2)) return 1;
+    WANT(qolb_deqolb(&n[2]), QOLB_DONE);
+    for (int k = 0; k < 2 + SLEEPERS; k++) WANT(qolb_close(&n[k]), QOLB_DONE);
+    return 0;
+}
+
+/* Who leaves a lock wakes besides who wants a seat: where there are so few seats, the last of the three. */
+static int leaving_wakes(uint32_t kind, uint32_t seats) {
+    qolb_lock lock = {NULL, kind, seats};
+    WANT(qolb_lock_enter(&lock), QOLB_GRANTED);
+    held = &lock;
+    if (wakes_so_many(enters_as, leaves, seats == SLEEPERS ? 3 : 2)) return 1;
+    WANT(qolb_lock_leave(&lock), QOLB_DONE);
+    WANT(qolb_lock_close(&lock), QOLB_DONE);
+    return 0;
+}
+
+static int wakes_whom_it_should(uint32_t kind) {
+    return wakes_two(kind, 0) || wakes_two(kind, 1) || leaving_wakes(kind, SLEEPERS + 1) || leaving_wakes(kind, SLEEPERS);
+}
+
+/* ---- For a lock, and at a condition ---- */
 
 /* In vain for 20 ms, for a turn and for want of a seat; it looks as with a node. */
 static int late_for_lock(qolb_lock *lock, unsigned has_seat) {
@@ -445,7 +550,8 @@ int main(void) {
     alarm(60); /* who never looks at the clock, or never rests, does not end */
     now = 5000000000;
     for (uint32_t kind = QOLB_RING; kind <= QOLB_TICKET; kind++)
-        if (rests(kind) || withdraws_late(kind, 0) || withdraws_late(kind, 1) || each_passes_on(kind) || lock_rests(kind) || woken_for_nothing(kind))
+        if (rests(kind) || withdraws_late(kind, 0) || withdraws_late(kind, 1) || each_passes_on(kind) || wakes_whom_it_should(kind) ||
+            lock_rests(kind) || woken_for_nothing(kind))
             return 1;
     WANT(wrong, 0);
     return 0;

@@ -85,6 +85,42 @@ static int takes_no_processor(uint32_t kind) {
     return 0;
 }
 
+/* ---- A release wakes the next holder and the one behind it, and all others sleep on ---- */
+
+static void *has_a_long_turn(void *argument) {
+    struct waiter *me = argument;
+    about_to_wait(&me->number);
+    struct used before = used();
+    me->got = qolb_acquire(&me->node);
+    me->used.sleeps = used().sleeps - before.sleeps;
+    usleep(20000); /* in which those that were woken sleep again */
+    MUST(qolb_deqolb(&me->node), QOLB_DONE);
+    return NULL;
+}
+
+/* So each sleeps twice at most, and perhaps where the system has it wait. If each release woke all, the last would sleep twelve times. */
+static int others_sleep_on(uint32_t kind) {
+    enum { WAITERS = 12, MOST_SLEEPS = 5 };
+    static struct waiter waiters[WAITERS];
+    qolb_node n[WAITERS + 1];
+    WANT(opens(kind, 0, WAITERS + 1, QOLB_NO_LEASE, n), 1);
+    WANT(qolb_acquire(&n[WAITERS]), QOLB_GRANTED);
+    for (int k = 0; k < WAITERS; k++) {
+        waiters[k] = (struct waiter){.node = qolb_move(&n[k])};
+        WANT(pthread_create(&waiters[k].id, NULL, has_a_long_turn, &waiters[k]), 0);
+        until_asleep(&waiters[k].number);
+    }
+    WANT(qolb_deqolb(&n[WAITERS]), QOLB_DONE);
+    for (int k = 0; k < WAITERS; k++) {
+        pthread_join(waiters[k].id, NULL);
+        WANT(waiters[k].got, QOLB_GRANTED);
+        WANT(waiters[k].used.sleeps >= 1 && waiters[k].used.sleeps <= MOST_SLEEPS, 1);
+        WANT(qolb_close(&waiters[k].node), QOLB_DONE);
+    }
+    WANT(qolb_close(&n[WAITERS]), QOLB_DONE);
+    return 0;
+}
+
 /* ---- Every call that lets the line go wakes who sleeps ---- */
 
 static uint32_t waits_once(qolb_node *node) { return qolb_wait(node, 1); }
@@ -297,7 +333,7 @@ static int much_use(uint32_t kind, int threads, enum ends ends) {
 
 static int of_kind(uint32_t kind) {
     static const int threads[] = {2, 8, 32, MOST};
-    if (takes_no_processor(kind) || each_call_wakes(kind) || time_out_races_with_grant(kind)) return 1;
+    if (takes_no_processor(kind) || others_sleep_on(kind) || each_call_wakes(kind) || time_out_races_with_grant(kind)) return 1;
     for (size_t k = 0; k < sizeof threads / sizeof threads[0]; k++)
         if (much_use(kind, threads[k], BY_ROUNDS) || much_use(kind, threads[k], BY_SHUT) || much_use(kind, threads[k], BY_LEASE)) return 1;
     return 0;
