@@ -45,8 +45,8 @@
  *
  *     bucket->lock = (qolb_lock)QOLB_LOCK_INIT(64);        // in C++ qolb_lock QOLB_LOCK_INIT(64)
  *
- * From its first use until qolb_lock_close a lock keeps its line's memory, whatever it guards: with 8 seats 8.4 kilobytes of heap, 5.6 if it is a
- * list and 37 if it is a ring; with 64 seats 60, 36 and 60. Where there are many locks, as one for each bucket of a table, take few seats:
+ * From its first use until qolb_lock_close a lock keeps its line's memory, whatever it guards: with 8 seats 8.5 kilobytes of heap, 5.7 if it is a
+ * list and 37 if it is a ring; with 64 seats 61, 37 and 61. Where there are many locks, as one for each bucket of a table, take few seats:
  * QOLB_LOCK_INIT_OF(QOLB_LIST, 8). A lock that is never used takes nothing.
  *
  * A lock has a seat for each of its line's nodes. A thread that enters takes a free seat and asks at once, so those that have a seat are served first
@@ -93,9 +93,9 @@
  * Bytes of heap that an open line keeps, with what glibc's malloc adds to its blocks. qolb_memory tells them without that, for any number of nodes:
  *
  *     nodes                 1         2         8        64       200
- *     ticket line       1,312     2,104     6,856    51,208   122,072
- *     list              1,184     1,592     4,040    26,888    82,376
- *     ring             33,696    33,976    35,656    51,352    89,416
+ *     ticket line       1,328     2,136     6,984    52,232   125,272
+ *     list              1,200     1,624     4,168    27,912    85,576
+ *     ring             33,712    34,008    35,784    52,376    92,616
  *
  * WHAT YOU MUST KEEP
  *

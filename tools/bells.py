@@ -2,22 +2,25 @@
 """Goes through all orders of the steps by which threads wait, sleep at a bell, and ring it: those of a lock (include/lock.c), and those that have a node
 each (include/calls.c).
 
-tools/bells.py [--most]     (a minute of a processor; --most adds scenes of four threads)
+tools/bells.py [--most]     (two minutes of a processor; --most adds scenes of four threads)
 
-Of a lock: a thread takes a free seat and asks; it looks, adds itself to the bell's sleepers, reads the bell's word, looks once more, and sleeps while the
-word is what it read, unless it has no seat and met one that is about to be free. Who leaves, is late or is told that the line is closed gives its seat
-back, and then rings: it looks at the sleepers, adds to the word and wakes all. Who leaves says first that its seat is about to be free; that it is free
-the others may see before it looks at the sleepers, or after. All other steps are sequentially consistent: any thread may be next, and all see the step.
-In the scenes below threads wait for turns and for seats, are late, and shut the line.
+Each place at which somebody waits has a bell. Who is about to sleep adds itself to the sleepers of its place's bell and to those in all, reads the bell's
+word, looks once more, and sleeps while the word is what it read. Who lets the line go is told by that step who is the next holder and who stands behind
+it. Then it looks at the sleepers in all. Where there are some it rings for the two: it looks at the sleepers of a bell, and where there are some adds to the
+bell's word and wakes all that sleep there. All steps are sequentially consistent, but for one: any thread may be next, and all see the step.
 
-With nodes: a thread asks, unless its node is busy; it looks, adds itself to the bell's sleepers and to those at any bell, reads the word, looks once more
-and sleeps. Who releases the line or shuts it, and who is told that it is closed and so passes that on, looks at the sleepers at any bell, and where
-there are some at those of its own, adds to the word and wakes all. A thread of an older program looks on, and sleeps nowhere. In the scenes threads are
-late, withdraw, come again while they are busy, and shut the line.
+With nodes: a thread asks, unless its node is busy, looks and sleeps. Who releases the line or shuts it rings, and so does who is told that it is closed
+and so passes that on. A thread of an older program looks on, and sleeps nowhere. In the scenes threads are late, withdraw, come again while they are busy,
+and shut the line.
+
+Of a lock: a thread takes a free seat and asks, and then waits at its seat's place. One that finds no seat waits at the door, and does not sleep if it met a
+seat that is about to be free, or got a seat as it looked. Who leaves says first that its seat is about to be free, and rings, and also at the door; that its
+seat is free the others may see as late as before its next step that adds to a word. Who is late gives its seat back and then rings at the door; who is told
+that the line is closed rings for the next two as well. In the scenes threads wait for turns and for seats, are late, and shut the line.
 
 The right protocol must lose nobody: no order may end with a thread that sleeps while nobody else has a step to do (that its time is over does not
-count). Each protocol that differs by one fault must lose a thread in some scene, or this program does not see what it is for; and three of each kind
-that differ by what is not needed must lose nobody. It ends with 1 at the first of these that is not so.
+count). Each protocol that differs by one fault must lose a thread in some scene, or this program does not see what it is for; and those that differ by
+what is not needed must lose nobody. It ends with 1 at the first of these that is not so.
 """
 
 import sys
@@ -25,47 +28,50 @@ from collections import namedtuple
 
 FREE, TAKEN, LEAVING = "free", "taken", "leaving"
 
-FAULTS = {
+BOTH_FAULTS = {
     "the sleeper does not count itself": "no count",
+    "it counts itself at its bell alone": "no count in all",
+    "it counts itself in all alone": "no count at its bell",
     "no second look": "no second look",
     "the second look comes before the count": "look, count, read",
     "the word is read behind the second look": "count, look, read",
     "nothing is added to the word": "no addition",
     "nobody is woken": "no wake",
     "the wake comes before the addition": "wake first",
-    "the sleepers are looked at before the line is let go": "early look at sleepers",
+    "the sleepers in all are looked at before the line is let go": "early look",
+    "the sleeper sleeps at another's bell": "wrong bell",
+    "who lets go rings at its own place": "rings for itself",
+    "who lets go rings for the one behind the next holder alone": "ahead alone",
+}
+BOTH_HARMLESS = {
+    "the sleeper does not take itself off": "no subtraction",
+    "bells are rung whether any sleeps or not": "rings always",
+    "nobody is woken a turn ahead": "nobody ahead",
+    "all places have one bell": "one bell",
+}
+FAULTS = BOTH_FAULTS | {
     "a thread sleeps though a seat is about to be free": "sleeps at leaving",
     "nobody says that a seat is about to be free": "no leaving",
+    "who leaves does not ring at the door": "no ring at the door",
+    "who is told that the line is closed rings at the door alone": "told, and rings at the door",
 }
-HARMLESS = {
-    "the sleeper does not take itself off": "no subtraction",
-    "the bell is rung whether any sleeps or not": "rings always",
-    "who is late rings no bell": "late without a ring", # while its seat is busy, one before it in the queue will ring
+HARMLESS = BOTH_HARMLESS | {
+    "who is late rings no bell": "late without a ring",  # while its seat is busy, one before it in the queue will ring
+    "who gets a seat as it looks sleeps at the door": "sleeps at the door",  # and is woken whenever a thread leaves
 }
-
-NODE_FAULTS = {
-    "the sleeper does not count itself": "no count",
-    "it counts itself at its own bell alone": "no count at any",
-    "it counts itself at any bell alone": "no count at its own",
-    "no second look": "no second look",
-    "the second look comes before the count": "look, count, read",
-    "the word is read behind the second look": "count, look, read",
-    "nothing is added to the word": "no addition",
-    "nobody is woken": "no wake",
-    "the wake comes before the addition": "wake first",
-    "the sleepers at any bell are looked at before the line is let go": "early look",
+NODE_FAULTS = BOTH_FAULTS | {
     "who is told that the line is closed rings no bell": "told without a ring",
     "who releases rings no bell": "released without a ring",
 }
-NODE_HARMLESS = {
-    "the sleeper does not take itself off": "no subtraction",
-    "the bell is rung whether any sleeps or not": "rings always",
-    "who is late rings the bell": "late with a ring",
-}
+NODE_HARMLESS = BOTH_HARMLESS
 
-# What all share: the requests in their order, each with its thread and whether it is withdrawn; and a thread's own. A node is its thread's seat.
-World = namedtuple("World", "queue closed seats busy sleepers anywhere word threads")
-Thread = namedtuple("Thread", "at seat read met sees rounds limited", defaults=(None, 0, False, 0, 1, False))
+# What all share: the requests in their order, each with its thread and, where it is withdrawn, its seat; and a thread's own. A node is its thread's seat.
+# The place of a seat has its number; the door is behind the last seat. Each place has its sleepers; `all` are the sleepers in all. Of a bell's word nobody
+# wants to know more than whether it is still what a sleeper read, so that is kept with the sleeper.
+World = namedtuple("World", "queue closed seats busy sleepers all threads")
+# Where the thread is; its seat; the place at which it is about to sleep, and whether that one's word is still what it read; whether it met a seat that is
+# about to be free; what it saw of the sleepers in all; whom it has to ring for; a seat that it has freed, which no other sees yet.
+Thread = namedtuple("Thread", "at seat place same met sees rings late rounds limited", defaults=(None, None, False, False, 0, (), None, 1, False))
 # Threads, of which the first holds the line; seats; whose time is limited; whether the first shuts; who enters twice.
 Scene = namedtuple("Scene", "name threads seats limited shuts twice", defaults=((), False, ()))
 
@@ -117,34 +123,22 @@ def put(values, at, value):
 def opened(scene):
     threads = [Thread(("top",) if k else ("turn",), None if k else 0, rounds=1 + (k in scene.twice), limited=k in scene.limited) for k in range(scene.threads)]
     seats = (TAKEN,) + (FREE,) * (scene.seats - 1)
-    return World(((0, False),), False, seats, (False,) * scene.seats, 0, 0, 0, tuple(threads))
+    none = (0,) * (scene.seats + 1)
+    return World(((0, None),), False, seats, (False,) * scene.seats, none, 0, tuple(threads))
 
 
 def opened_with_nodes(scene):
     threads = [Thread(("ask",) if k else ("turn",), k, rounds=1 + (k in scene.twice), limited=k in scene.limited) for k in range(scene.threads)]
-    return World(((0, False),), False, (), (False,) * scene.threads, 0, 0, 0, tuple(threads))
+    none = (0,) * scene.threads
+    return World(((0, None),), False, (), (False,) * scene.threads, none, 0, tuple(threads))
 
 
 def moved(world, k, at, **changes):
     return world._replace(threads=put(world.threads, k, world.threads[k]._replace(at=at, **changes)))
 
 
-def passed_on(world):
-    """The first request has ended: the line goes on, over those that were withdrawn, whose seats are busy no more."""
-    queue, busy = world.queue[1:], world.busy
-    while queue and queue[0][1] is not False:
-        busy = put(busy, queue[0][1], False)
-        queue = queue[1:]
-    return world._replace(queue=queue, busy=busy)
-
-
 def has_turn(world, k):
-    return world.queue and world.queue[0] == (k, False)
-
-
-def came(world, k):
-    """What a look gives whose thread has come to its turn: where it goes on, and the world after it."""
-    return ("give", passed_on(world)) if world.closed else ("turn", world)
+    return world.queue and world.queue[0] == (k, None)
 
 
 class Steps:
@@ -156,7 +150,9 @@ class Steps:
     def steps(self, world, k):
         """The worlds after one step of this thread."""
         it = world.threads[k]
-        return getattr(self, it.at[0])(world, k, it, *it.at[1:])
+        if it.late is not None:
+            yield self.seen(world, k)
+        yield from getattr(self, it.at[0])(world, k, it, *it.at[1:])
 
     def asleep(self, world, k, it):
         return ()
@@ -164,70 +160,171 @@ class Steps:
     def done(self, world, k, it):
         return ()
 
+    def seen(self, world, k):
+        """All that the thread has stored is seen."""
+        seat = world.threads[k].late
+        return world if seat is None else moved(world._replace(seats=put(world.seats, seat, FREE)), k, world.threads[k].at, late=None)
+
+    # ---- The line ----
+
+    def passed_on(self, world, k, rings):
+        """The thread's request, the first, has ended: the line goes on, over those that were withdrawn, whose seats are busy no more. The thread is told for whom
+        to ring, and where else it has to."""
+        queue, busy, own = world.queue[1:], world.busy, world.threads[k].seat
+        while queue and queue[0][1] is not None:
+            busy = put(busy, queue[0][1], False)
+            queue = queue[1:]
+        two = [world.threads[n].seat if gone is None else gone for n, gone in queue[:2]]
+        if self.fault == "rings for itself":
+            two = [own]
+        if self.fault == "ahead alone":
+            two = two[1:]
+        if self.fault == "nobody ahead":
+            two = two[:1]
+        return moved(world._replace(queue=queue, busy=busy), k, world.threads[k].at, rings=tuple(two) + rings)
+
     def withdrawn(self, world, k, it):
         """The thread's request stays in the queue, and its seat is busy until it is passed."""
-        queue = tuple((n, it.seat if n == k and gone is False else gone) for n, gone in world.queue)
+        queue = tuple((n, it.seat if n == k and gone is None else gone) for n, gone in world.queue)
         return world._replace(queue=queue, busy=put(world.busy, it.seat, True))
 
-    def toll(self, world, k, it, then=""):
-        after = world if self.fault == "no addition" else world._replace(word=world.word + 1)
-        yield moved(after, k, ("wake", "")) if then else self.ended(after, k)
+    # ---- Sleeping ----
 
-    def wake(self, world, k, it, then=""):
-        if self.fault != "no wake":
-            world = world._replace(threads=tuple(t._replace(at=self.WOKEN) if t.at == ("asleep",) else t for t in world.threads))
-        yield moved(world, k, ("toll", "")) if then else self.ended(world, k)
+    def bell(self, place):
+        return 0 if self.fault == "one bell" else place
 
-    def rings(self, world, k):
-        return moved(world, k, ("wake", "toll") if self.fault == "wake first" else ("toll", "wake"))
+    def lies_down(self, world, k, place):
+        """The thread is about to sleep at this place."""
+        if self.fault == "wrong bell":
+            place = (place + 1) % len(world.sleepers)
+        first = ("look", "second") if self.fault == "look, count, read" else ("add",)
+        return moved(world, k, first, place=self.bell(place))
 
-    def ended(self, world, k):
-        rounds = world.threads[k].rounds - 1
-        return moved(world, k, self.BEGINS if rounds else ("done",), rounds=rounds, read=0, met=False, sees=0)
+    def add(self, world, k, it):
+        counts = self.fault not in ("no count", "no count at its bell")
+        many = 1 if self.fault == "no subtraction" else world.sleepers[it.place] + 1
+        yield moved(world._replace(sleepers=put(world.sleepers, it.place, many)) if counts else world, k, ("add_to_all",))
+
+    def add_to_all(self, world, k, it):
+        counts = self.fault not in ("no count", "no count in all")
+        many = 1 if self.fault == "no subtraction" else world.all + 1
+        yield moved(world._replace(all=many) if counts else world, k, ("look", "second") if self.fault == "count, look, read" else ("read",))
+
+    def read(self, world, k, it):
+        looked = self.fault in ("no second look", "look, count, read", "count, look, read")
+        yield moved(world, k, ("sleep",) if looked else ("look", "second"), same=True)
+
+    def after_second_look(self, world, k):
+        return moved(world, k, {"look, count, read": ("add",), "count, look, read": ("read",)}.get(self.fault, ("sleep",)))
+
+    def sleep(self, world, k, it):
+        yield moved(world, k, ("asleep",) if it.same else ("take_off_all", self.AGAIN), same=False)
+
+    def gets_up(self, world, k, at):
+        """The thread does not sleep, and goes on there."""
+        if self.fault == "look, count, read":
+            return moved(world, k, (at,), place=None)
+        return moved(world, k, ("take_off_all", at), same=False)
+
+    def take_off_all(self, world, k, it, at):
+        counts = self.fault not in ("no count", "no count in all", "no subtraction")
+        yield moved(world._replace(all=world.all - 1) if counts else world, k, ("take_off", at))
+
+    def take_off(self, world, k, it, at):
+        counts = self.fault not in ("no count", "no count at its bell", "no subtraction")
+        sleepers = put(world.sleepers, it.place, world.sleepers[it.place] - 1) if counts else world.sleepers
+        yield moved(world._replace(sleepers=sleepers), k, (at,), place=None)
 
     def times_out(self, world):
         for k, it in enumerate(world.threads):
             if it.limited and it.at == ("asleep",):
-                yield moved(world, k, self.WOKEN)
+                yield moved(world, k, ("take_off_all", self.AGAIN))
+
+    # ---- Ringing ----
+
+    def gate(self, world, k, it):
+        """Whether anybody sleeps, who has let the line go."""
+        sees = it.sees if self.fault == "early look" else world.all
+        nobody = sees == 0 and self.fault != "rings always"
+        yield self.goes(moved(world, k, it.at, sees=0, **({"rings": ()} if nobody else {})), k)
+
+    def ring(self, world, k, it):
+        """For the next of those for whom it has to."""
+        if not it.rings:
+            yield self.ended(world, k)
+        elif world.sleepers[self.bell(it.rings[0])] or self.fault == "rings always":
+            yield moved(world, k, ("wake", "toll") if self.fault == "wake first" else ("toll", "wake"))
+        else:
+            yield moved(world, k, ("ring",), rings=it.rings[1:])
+
+    def then(self, world, k, it, then):
+        return moved(world, k, (then, "")) if then else moved(world, k, ("ring",), rings=it.rings[1:])
+
+    def toll(self, world, k, it, then):
+        world, bell = self.seen(world, k), self.bell(it.rings[0])
+        if self.fault != "no addition":
+            world = world._replace(threads=tuple(t._replace(same=False) if t.place == bell else t for t in world.threads))
+        yield self.then(world, k, it, then)
+
+    def wake(self, world, k, it, then):
+        world, bell = self.seen(world, k), self.bell(it.rings[0])
+        if self.fault != "no wake":
+            woken = (t._replace(at=("take_off_all", self.AGAIN)) if t.at == ("asleep",) and t.place == bell else t for t in world.threads)
+            world = world._replace(threads=tuple(woken))
+        yield self.then(world, k, it, then)
+
+    def ended(self, world, k):
+        rounds = world.threads[k].rounds - 1
+        return moved(world, k, self.BEGINS if rounds else ("done",), rounds=rounds, met=False, sees=0, rings=())
 
 
 class OfLock(Steps):
     """Of a thread that uses a lock."""
 
-    BEGINS, WOKEN = ("top",), ("sub", "top")
+    BEGINS, AGAIN = ("top",), "top"
+
+    def door(self):
+        return self.scene.seats
 
     def top(self, world, k, it):
-        yield moved(world, k, ("look", "first"))
+        yield moved(self.seen(world, k), k, ("look", "first"))
         if it.limited:
-            yield from self.gives_up(world, k, it)
+            yield from self.gives_up(self.seen(world, k), k, it)
 
     def gives_up(self, world, k, it):
         if it.seat is None:
             yield moved(world, k, ("done",))
         elif has_turn(world, k):
-            at, after = came(world, k)
-            yield moved(after, k, (at,))
+            yield self.found(world, k, "first")
         else:
-            yield moved(self.withdrawn(world, k, it), k, ("give", "late"))
+            rings = () if self.fault == "late without a ring" else (self.door(),)
+            yield moved(self.withdrawn(world, k, it), k, ("give",), rings=rings)
+
+    def found(self, world, k, which):
+        """The thread has come to its turn: it has the line, or it is told that it is closed and has passed that on."""
+        at = "turn"
+        if world.closed:
+            at, world = "give", self.passed_on(world, k, (self.door(),))
+            if self.fault == "told, and rings at the door":
+                world = moved(world, k, world.threads[k].at, rings=(self.door(),))
+        return self.gets_up(world, k, at) if which == "second" else moved(world, k, (at,))
 
     def look(self, world, k, it, which):
         if it.seat is None:
             yield moved(world, k, ("scan", 0, which), met=False)
         elif has_turn(world, k):
-            at, after = came(world, k)
-            yield moved(after, k, ("sub", at) if which == "second" else (at,))
+            yield self.found(world, k, which)
         else:
-            yield moved(world, k, self.after_look(which))
-
-    def after_look(self, which):
-        if which == "second":
-            return {"look, count, read": ("add",), "count, look, read": ("read",)}.get(self.fault, ("sleep",))
-        return ("look", "second") if self.fault == "look, count, read" else ("add",)
+            yield self.after_second_look(world, k) if which == "second" else self.lies_down(world, k, it.seat)
 
     def scan(self, world, k, it, seat, which):
         if seat == self.scene.seats:
             awake = it.met and which == "second" and self.fault != "sleeps at leaving"
-            yield moved(world, k, ("sub", "top") if awake else self.after_look(which), met=False)
+            world = moved(world, k, it.at, met=False)
+            if awake:
+                yield self.gets_up(world, k, "top")
+            else:
+                yield self.after_second_look(world, k) if which == "second" else self.lies_down(world, k, self.door())
         elif world.seats[seat] == FREE:
             yield moved(world._replace(seats=put(world.seats, seat, TAKEN)), k, ("ask", seat, which))
         else:
@@ -237,155 +334,86 @@ class OfLock(Steps):
         if world.busy[seat]:
             yield moved(world, k, ("go_on", seat, which))
             return
-        after = world._replace(queue=world.queue + ((k, False),))
-        at = self.after_look(which)
+        after = moved(world._replace(queue=world.queue + ((k, None),)), k, it.at, seat=seat, met=False)
         if len(after.queue) == 1:
-            found, after = came(after, k)
-            at = ("sub", found) if which == "second" else (found,)
-        yield moved(after, k, at, seat=seat, met=False)
+            yield self.found(after, k, which)
+        elif which == "first":
+            yield self.lies_down(after, k, seat)
+        else:
+            yield self.after_second_look(after, k) if self.fault == "sleeps at the door" else self.gets_up(after, k, "top")
 
     def go_on(self, world, k, it, seat, which):
         yield moved(world._replace(seats=put(world.seats, seat, FREE)), k, ("scan", seat + 1, which))
 
-    def add(self, world, k, it):
-        after = world if self.fault == "no count" else world._replace(sleepers=world.sleepers + 1)
-        if self.fault == "no subtraction":
-            after = world._replace(sleepers=1)
-        yield moved(after, k, ("look", "second") if self.fault == "count, look, read" else ("read",))
-
-    def read(self, world, k, it):
-        looked = self.fault in ("no second look", "look, count, read", "count, look, read")
-        yield moved(world, k, ("sleep",) if looked else ("look", "second"), read=world.word)
-
-    def sleep(self, world, k, it):
-        yield moved(world, k, ("asleep",) if world.word == it.read else ("sub", "top"))
-
-    def sub(self, world, k, it, at):
-        if self.fault == "look, count, read" and at != "top":
-            yield moved(world, k, (at,))
-            return
-        less = self.fault not in ("no subtraction", "no count")
-        yield moved(world._replace(sleepers=world.sleepers - 1) if less else world, k, (at,), read=0)
-
     def turn(self, world, k, it):
-        sees = world.sleepers if self.fault == "early look at sleepers" else 0
         state = TAKEN if self.fault == "no leaving" else LEAVING
-        yield moved(world._replace(seats=put(world.seats, it.seat, state)), k, ("let_go",), sees=sees)
+        yield moved(world._replace(seats=put(world.seats, it.seat, state)), k, ("let_go",), sees=world.all if self.fault == "early look" else 0)
 
     def let_go(self, world, k, it):
         closes = self.scene.shuts and k == 0
-        yield moved(passed_on(world._replace(closed=world.closed or closes)), k, ("give", "left"))
+        door = () if self.fault == "no ring at the door" else (self.door(),)
+        yield moved(self.passed_on(world._replace(closed=world.closed or closes), k, door), k, ("gate",))
 
-    def given_back(self, world, k, at):
-        return moved(world._replace(seats=put(world.seats, world.threads[k].seat, FREE)), k, at, seat=None)
+    def goes(self, world, k):
+        """It has left: its seat is free, which the others see now or later."""
+        return moved(world, k, ("ring",), late=world.threads[k].seat, seat=None)
 
-    def give(self, world, k, it, why=""):
-        """The seat is free, and then a look at the sleepers; who left may look first."""
-        if why == "late" and self.fault == "late without a ring":
-            yield self.ended(self.given_back(world, k, it.at), k)
-            return
-        yield self.given_back(world, k, ("ring", why))
-        if why == "left":
-            sees = it.sees if self.fault == "early look at sleepers" else world.sleepers
-            yield moved(world, k, ("give_late",), sees=sees)
-
-    def give_late(self, world, k, it):
-        yield self.looked(self.given_back(world, k, it.at), k, it.sees)
-
-    def ring(self, world, k, it, why=""):
-        yield self.looked(world, k, it.sees if self.fault == "early look at sleepers" and why == "left" else world.sleepers)
-
-    def looked(self, world, k, sees):
-        return self.ended(world, k) if sees == 0 and self.fault != "rings always" else self.rings(world, k)
+    def give(self, world, k, it):
+        yield moved(world._replace(seats=put(world.seats, it.seat, FREE)), k, ("ring",), seat=None)
 
 
 class OfNodes(Steps):
     """Of a thread that has a node."""
 
-    BEGINS, WOKEN = ("ask",), ("less", "look")
+    BEGINS, AGAIN = ("ask",), "look"
 
     def ask(self, world, k, it):
         """A busy node asks again and again: it has a step to do once it is busy no more, or its time is over."""
         if not world.busy[k]:
-            after = world._replace(queue=world.queue + ((k, False),))
-            yield self.found(after, k, ()) if has_turn(after, k) else moved(after, k, ("looks_on",) if k in self.scene.older else ("look",))
+            after = world._replace(queue=world.queue + ((k, None),))
+            yield self.found(after, k, "first") if has_turn(after, k) else moved(after, k, ("looks_on",) if k in self.scene.older else ("look",))
         elif it.limited:
             yield self.ended(world, k)
 
-    def found(self, world, k, first):
-        """What a thread does whose turn has come, after these steps."""
-        at, after = came(world, k)
-        return moved(after, k, (*first, "turn" if at == "turn" else "told"))
+    def found(self, world, k, which):
+        """The thread has come to its turn: it has the line, or it is told that it is closed and has passed that on."""
+        at = "turn"
+        if world.closed:
+            at, world = "told", self.passed_on(world, k, ())
+        return self.gets_up(world, k, at) if which == "second" else moved(world, k, (at,))
 
     def looks_on(self, world, k, it):
         if has_turn(world, k):
-            yield self.found(world, k, ())
+            yield self.found(world, k, "first")
         elif it.limited:
             yield self.gives_up(world, k, it)
 
-    def look(self, world, k, it):
+    def look(self, world, k, it, which="first"):
         if has_turn(world, k):
-            yield self.found(world, k, ())
-            return
-        yield moved(world, k, ("second",) if self.fault == "look, count, read" else ("add",))
-        if it.limited:
-            yield self.gives_up(world, k, it)
+            yield self.found(world, k, which)
+        elif which == "second":
+            yield self.after_second_look(world, k)
+        else:
+            yield self.lies_down(world, k, k)
+            if it.limited:
+                yield self.gives_up(world, k, it)
 
     def gives_up(self, world, k, it):
-        after = self.withdrawn(world, k, it)
-        return moved(after, k, ("ring",)) if self.fault == "late with a ring" else self.ended(after, k)
-
-    def add(self, world, k, it):
-        counts = self.fault not in ("no count", "no count at its own")
-        many = 1 if self.fault == "no subtraction" else world.sleepers + 1
-        yield moved(world._replace(sleepers=many) if counts else world, k, ("add_anywhere",))
-
-    def add_anywhere(self, world, k, it):
-        counts = self.fault not in ("no count", "no count at any")
-        many = 1 if self.fault == "no subtraction" else world.anywhere + 1
-        after = world._replace(anywhere=many) if counts else world
-        yield moved(after, k, ("second",) if self.fault == "count, look, read" else ("read",))
-
-    def read(self, world, k, it):
-        looked = self.fault in ("no second look", "look, count, read", "count, look, read")
-        yield moved(world, k, ("sleep",) if looked else ("second",), read=world.word)
-
-    def second(self, world, k, it):
-        counted = self.fault != "look, count, read"
-        if has_turn(world, k):
-            yield self.found(world, k, ("less",) if counted else ())
-        else:
-            yield moved(world, k, {"look, count, read": ("add",), "count, look, read": ("read",)}.get(self.fault, ("sleep",)))
-
-    def sleep(self, world, k, it):
-        yield moved(world, k, ("asleep",) if world.word == it.read else self.WOKEN)
-
-    def less(self, world, k, it, at):
-        counts = self.fault not in ("no count", "no count at any", "no subtraction")
-        yield moved(world._replace(anywhere=world.anywhere - 1) if counts else world, k, ("less_here", at))
-
-    def less_here(self, world, k, it, at):
-        counts = self.fault not in ("no count", "no count at its own", "no subtraction")
-        yield moved(world._replace(sleepers=world.sleepers - 1) if counts else world, k, (at,), read=0)
+        return self.ended(self.withdrawn(world, k, it), k)
 
     def turn(self, world, k, it):
-        yield moved(world, k, ("let_go",), sees=world.anywhere if self.fault == "early look" else 0)
+        yield moved(world, k, ("let_go",), sees=world.all if self.fault == "early look" else 0)
 
     def let_go(self, world, k, it):
         closes = self.scene.shuts and k == 0
-        after = passed_on(world._replace(closed=world.closed or closes))
-        yield self.ended(after, k) if self.fault == "released without a ring" else moved(after, k, ("ring",))
+        after = self.passed_on(world._replace(closed=world.closed or closes), k, ())
+        yield self.ended(after, k) if self.fault == "released without a ring" else moved(after, k, ("gate",))
 
     def told(self, world, k, it):
-        """It has passed on that the line is closed."""
-        yield self.ended(world, k) if self.fault == "told without a ring" else moved(world, k, ("ring",), sees=world.anywhere)
+        yield self.ended(world, k) if self.fault == "told without a ring" else moved(world, k, ("gate",), sees=world.all)
 
-    def ring(self, world, k, it):
-        sees = it.sees if self.fault == "early look" else world.anywhere
-        yield moved(world, k, ("ring_here",)) if sees or self.fault == "rings always" else self.ended(world, k)
-
-    def ring_here(self, world, k, it):
-        yield self.rings(world, k) if world.sleepers or self.fault == "rings always" else self.ended(world, k)
+    def goes(self, world, k):
+        return moved(world, k, ("ring",))
 
 
 def loses(scene, fault=None):

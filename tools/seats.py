@@ -27,23 +27,35 @@ SOURCES = {name: (ROOT / "include" / name).read_text() for name in ("lock.c", "c
 RENAMED = [f"-D{name}=model_{short}" for name, short in (("malloc", "malloc"), ("free", "free"), ("syscall", "syscall"), ("sched_yield", "yield"), ("clock_gettime", "clock"))]
 
 LEAVING = "    atomic_store_explicit(&seat->state, LEAVING, memory_order_release);\n"
-FREED = "    atomic_store_explicit(&seat->state, FREE, memory_order_release);\n    ring(bell);\n"
+FREED = "atomic_store_explicit(&seat->state, FREE, memory_order_release);\n"
+LEAVES = f"    if (atomic_load(&door->sleepers)) free_and_ring(door, seat);\n    else {FREED}"
+RINGS = f"    struct next next = next_of(&seat->node);\n    {FREED}    ring_for(next);\n    ring(&door->bell);\n"
 LOOK = "    unsigned word = atomic_load(&bell->word);\n    uint32_t got = look(me);\n"
 COUNT = "    atomic_fetch_add(&bell->sleepers, 1);\n"
+IN_ALL = "    atomic_fetch_add(&door->sleepers, 1);\n"
 ANYWHERE = "    atomic_fetch_add(&anywhere.sleepers, 1);\n"
 NODE_LOOK = "    unsigned word = atomic_load(&bell->word);\n    uint32_t got = qolb_poll_proved_(node);\n"
+NEXT = "    ring(next.holder);\n    ring(next.ahead);\n"
 FAULTS = {
     "nobody says that a seat is about to be free": (LEAVING, ""),
-    "a thread sleeps though it met such a seat": ("(me->seat || !me->met)", "1"),
-    "who leaves rings no bell": (FREED, FREED.replace("    ring(bell);\n", "")),
-    "a seat is freed by a relaxed store": (FREED, FREED.replace("_release", "_relaxed")),
-    "the bell is found after the seat is free": (FREED, FREED.replace("bell", "hall->bell")),
-    "who is told that it is closed frees its seat by a plain store": ("    atomic_exchange(&seat->state, FREE);\n    ring", "    atomic_store_explicit(&seat->state, FREE, memory_order_release);\n    ring"),
-    "the sleeper does not count itself": (COUNT + LOOK, LOOK),
+    "a thread sleeps though it met such a seat": ("(seat || !me->met)", "1"),
+    "who leaves rings no bell": (LEAVES, f"    {FREED}"),
+    "who leaves does not ring at the door": (RINGS, RINGS.replace("    ring(&door->bell);\n", "")),
+    "who leaves rings at the door alone": (RINGS, RINGS.replace("    ring_for(next);\n", "")),
+    "a seat is freed by a relaxed store where nobody sleeps": (LEAVES, LEAVES.replace("_release", "_relaxed")),
+    "a seat is freed by a relaxed store where somebody sleeps": (RINGS, RINGS.replace("_release", "_relaxed")),
+    "who leaves looks at the door after the seat is free": (LEAVES, f"    {FREED}    if (atomic_load(&hall->door->sleepers)) free_and_ring(door, seat);\n"),
+    "who leaves asks for whom to ring after the seat is free": (RINGS, f"    {FREED}    ring_for(next_of(&seat->node));\n    ring(&door->bell);\n"),
+    "who is told that it is closed frees its seat by a plain store": ("    atomic_exchange(&seat->state, FREE);\n", f"    {FREED}"),
+    "who is told that it is closed rings at the door alone": ("    if (passed_on) ring_for(next);\n", ""),
+    "the sleeper does not count itself at its bell": (COUNT + IN_ALL, IN_ALL),
+    "the sleeper does not count itself in all": (COUNT + IN_ALL, COUNT),
     "the word is read after the second look": (LOOK, "".join(reversed(LOOK.splitlines(True)))),
     "there is no second look": (LOOK, LOOK.replace("look(me)", "QOLB_WAITING")),
     "nothing is added to the word": ("    atomic_fetch_add(&bell->word, 1);\n", ""),
     "one alone is woken": ("qolb_wake_at_(&bell->word, INT32_MAX)", "qolb_wake_at_(&bell->word, 1)"),
+    "the one behind the next holder is rung for alone": (NEXT, NEXT.replace("    ring(next.holder);\n", "")),
+    "who lets go rings at its own place": ("qolb_went_to_proved_(node)", "qolb_waits_at_proved_(node)"),
     "a seat is taken without a look at whether it is free": ("state != FREE || !atomic_compare_exchange_strong(&seat->state, &state, TAKEN)", "atomic_exchange(&seat->state, TAKEN) == LEAVING"),
     "the hall is found by a relaxed load": ("__atomic_load_n(&lock->own, __ATOMIC_ACQUIRE)", "__atomic_load_n(&lock->own, __ATOMIC_RELAXED)"),
     "who is late keeps its seat": ("    } else if (me->seat) {\n", "    } else if (me->seat && got != QOLB_LATE) {\n"),

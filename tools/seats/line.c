@@ -1,13 +1,16 @@
 /* A line in place of the proved one. Each of its calls takes one step, and that of a list that asks takes two; it lets all stores before it be seen,
  * if it changes a word of the line. */
 #include "explorer.h"
-#include <qolb.h>
+#include <gaps.h>
+#include <proved.h>
 
-enum { REQUESTS = 64 };
-struct node { struct line *line; enum { IDLE, QUEUED, HOLDING } state; int in_use, request, passed; };
+enum { REQUESTS = 64, CELLS = 8, PLACE = 16 };
+struct node { struct line *line; enum { IDLE, QUEUED, HOLDING } state; int in_use, request; uint64_t went_to, went_ahead; };
+struct block { _Alignas(128) struct node node; char more[NODE_BYTES - sizeof(struct node) + GAP_BYTES]; };
 struct line {
-    struct node node[8];
-    int links, closed, head, tail, is_gone[REQUESTS], is_linking[REQUESTS + 1];
+    struct block block[8];
+    int links, closed, head, tail, is_gone[REQUESTS], is_linking[REQUESTS + 2];
+    struct node *of[REQUESTS];
     struct clock clock;
 };
 
@@ -22,9 +25,19 @@ static struct node *begin(qolb_node *node, unsigned state) {
 
 static uint32_t end(struct node *it, uint32_t answer) { return it->in_use = 0, answer; }
 
-static void pass_on(struct line *line) {
+/* Where the one waits whose request it is: in a list at a word of its node's, and else at its request's cell. In a list nobody is known that has not linked. */
+static uint64_t place_of(const struct line *line, int request) {
+    if (!line->links) return (uint64_t)(request % CELLS * PLACE + PLACE / 2);
+    if (request >= line->tail || line->is_linking[request]) return 0;
+    return (uint64_t)((struct block *)line->of[request] - line->block + 1) * PLACE;
+}
+
+static void pass_on(struct node *from) {
+    struct line *line = from->line;
     releases(&line->clock);
     do line->head++; while (line->is_gone[line->head]);
+    from->went_to = place_of(line, line->head);
+    from->went_ahead = place_of(line, line->head + 1);
 }
 
 /* What a look finds. A closed line is passed on. */
@@ -32,7 +45,7 @@ static uint32_t found(struct node *it) {
     if (it->line->head != it->request) return end(it, QOLB_WAITING);
     acquires(&it->line->clock);
     it->state = it->line->closed ? IDLE : HOLDING;
-    if (it->line->closed) show_all(), pass_on(it->line);
+    if (it->line->closed) show_all(), pass_on(it);
     return end(it, it->line->closed ? QOLB_CLOSED : QOLB_GRANTED);
 }
 
@@ -44,6 +57,7 @@ uint32_t qolb_enqolb_proved_(qolb_node *node) {
     show_all();
     MUST(line->tail + 1 < REQUESTS);
     it->request = line->tail++;
+    line->of[it->request] = it;
     line->is_linking[it->request] = line->links;
     if (line->links && line->head != it->request) step(0);
     line->is_linking[it->request] = 0;
@@ -69,7 +83,7 @@ static uint32_t let_go(qolb_node *node, int closes) {
     struct node *it = begin(node, HOLDING);
     show_all();
     it->line->closed |= closes, it->state = IDLE;
-    pass_on(it->line);
+    pass_on(it);
     return end(it, QOLB_DONE);
 }
 
@@ -78,21 +92,34 @@ uint32_t qolb_shut_proved_(qolb_node *node) { return let_go(node, 1); }
 
 uint32_t qolb_close_proved_(qolb_node *node) { return end(begin(node, IDLE), QOLB_DONE); }
 
-uint32_t qolb_open(uint32_t kind, uint64_t label, uint64_t nodes, uint64_t lease, const qolb_bytes *opening, qolb_node *out, size_t handles) {
+/* These read the node alone, and are no step. */
+static struct node *asked(qolb_node *node) {
+    touch(node, 8, PLAIN_WRITE);
+    struct node *it = node->own;
+    must(it && !it->in_use, "a node is asked that another thread calls");
+    return it;
+}
+
+uint64_t qolb_waits_at_proved_(qolb_node *node) { struct node *it = asked(node); return place_of(it->line, it->request); }
+uint64_t qolb_went_to_proved_(qolb_node *node) { return asked(node)->went_to; }
+uint64_t qolb_went_ahead_proved_(qolb_node *node) { return asked(node)->went_ahead; }
+
+uint32_t qolb_open_proved_(uint32_t kind, uint64_t label, uint64_t nodes, uint64_t lease, const qolb_bytes *opening, qolb_node *out, size_t handles) {
     struct line *line = model_malloc(sizeof *line);
     (void)label, (void)lease, (void)opening;
     MUST(nodes <= 8 && nodes <= handles);
     memset(line, 0, sizeof *line);
     line->links = kind == QOLB_LIST;
     for (uint64_t k = 0; k < nodes; k++) {
-        line->node[k] = (struct node){line, IDLE, 0, -1, 0};
+        line->block[k].node = (struct node){line, IDLE, 0, -1, UINT64_MAX, UINT64_MAX};
         touch(&out[k], 8, PLAIN_WRITE);
-        out[k].own = &line->node[k];
+        out[k].own = &line->block[k].node;
     }
     return QOLB_DONE;
 }
 
-/* Asking in halves, reading, writing and the memory of a line are in no scene. All lines have one label. */
+/* Asking in halves or whether a node is busy, reading, writing and the memory of a line are in no scene. All lines have one label. */
+uint32_t qolb_clear_proved_(qolb_node *node) { return (void)node, MUST(0), 0; }
 uint32_t qolb_prepend_proved_(qolb_node *node) { return (void)node, MUST(0), 0; }
 uint32_t qolb_link_proved_(qolb_node *node) { return (void)node, MUST(0), 0; }
 uint32_t qolb_read_proved_(qolb_node *node, qolb_bytes *out) { return (void)node, (void)out, MUST(0), 0; }

@@ -177,7 +177,7 @@ const struct scene scenes[] = {
 void set_up(const struct scene *scene) {
     static const qolb_bytes zeros;
     qolb_node nodes[THREADS] = {{0}};
-    memset(qolb_lock_bells_, 0, sizeof qolb_lock_bells_), memset(qolb_line_bells_, 0, sizeof qolb_line_bells_);
+    memset(qolb_bells_, 0, sizeof qolb_bells_), memset(doors, 0, sizeof doors);
     memset(guards, 0, sizeof guards), memset(&it, 0, sizeof it);
     opened_halls = 0;
     self = 0, last_seat = 0;
