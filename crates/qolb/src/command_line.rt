@@ -27,7 +27,7 @@ const ABOUT: &str =
 
 /// What `--version` says after the name: the version, the kit that proved these sources, and the kinds of lines. `tools/sources` compares the
 /// first two.
-const VERSION: &str = "1.5.0
+const VERSION: &str = "1.6.0
 sources proved by rattle-kit-13f logic dac8208d650f15bf
 kinds of lines: plain, ring, link, ticket";
 

@@ -228,7 +228,7 @@ static NOT_TAKEN: [(&[&str], &str); 31] = [
     (&["--help"], "\n  4  a failed read or write: "),
     (&["replay", "--help"], "--kind"),
     (&["--help"], "-V, --version"),
-    (&["-V"], "qolb 1.5.0\n"),
+    (&["-V"], "qolb 1.6.0\n"),
     (&["replay", "--version"], "--version"),
 ];
 
@@ -278,7 +278,7 @@ fn refuses_command_lines(rt: HostRuntime) -> Result<(), Fail> {
 
 /// What `--version` says.
 const VERSION: &str =
-    "qolb 1.5.0\nsources proved by rattle-kit-13f logic dac8208d650f15bf\nkinds of lines: plain, ring, link, ticket\n";
+    "qolb 1.6.0\nsources proved by rattle-kit-13f logic dac8208d650f15bf\nkinds of lines: plain, ring, link, ticket\n";
 
 #[test]
 fn tells_its_version(rt: HostRuntime) -> Result<(), Fail> {
