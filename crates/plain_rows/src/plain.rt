@@ -14,6 +14,8 @@ enum Did {
     Enq(Enq),
     Poll(Poll),
     Out(Out),
+    /// Whether the node's last request is clear.
+    Clear(bool),
     Deq,
     Shut,
     /// The bytes 0 and 1 are written.
@@ -34,6 +36,9 @@ fn done(line: &mut PlainLine, nodes: u64, node: u64, call: Did) -> Did
     match (call, state) {
         (Did::Enq(_), _) if state.may_ask() && 1 <= node && node <= nodes => {
             Did::Enq(line.enqolb(node))
+        }
+        (Did::Clear(_), _) if state.may_ask() && 1 <= node && node <= nodes => {
+            Did::Clear(line.is_clear(node))
         }
         (Did::Poll(_), PortState::Queued) => Did::Poll(line.poll(node)),
         (Did::Out(_), PortState::Queued) => Did::Out(line.withdraw(node)),
@@ -102,16 +107,20 @@ fn next_holder_sees_what_was_written(rt: HostRuntime) -> Result<(), Fail> {
     expect_run(&rt, 2, None, HAND_OVER.as_slice())
 }
 
-/// A node withdraws, is busy until the release that passes it, and asks again.
-static WITHDRAWAL: [(u64, Did); 10] = [
+/// A node withdraws, is not clear and so busy until the release that passes it, and asks again.
+static WITHDRAWAL: [(u64, Did); 14] = [
+    (1, Did::Clear(true)),
     (1, Did::Enq(Enq::Granted)),
     (2, Did::Enq(Enq::Queued)),
     (3, Did::Enq(Enq::Queued)),
     (2, Did::Out(Out::Withdrawn)),
     (2, Did::State(PortState::Rolled)),
+    (2, Did::Clear(false)),
     (2, Did::Enq(Enq::Busy)),
     (1, Did::Deq),
+    (1, Did::Clear(true)),
     (3, Did::Poll(Poll::Granted)),
+    (2, Did::Clear(true)),
     (2, Did::State(PortState::Idle)),
     (2, Did::Enq(Enq::Queued)),
 ];
@@ -122,12 +131,14 @@ fn withdrawn_node_is_passed(rt: HostRuntime) -> Result<(), Fail> {
 }
 
 /// A node closes the line before another one that waits.
-static CLOSING: [(u64, Did); 6] = [
+static CLOSING: [(u64, Did); 8] = [
     (1, Did::Enq(Enq::Granted)),
     (2, Did::Enq(Enq::Queued)),
     (1, Did::Shut),
     (2, Did::Poll(Poll::Closed)),
     (1, Did::State(PortState::Shut)),
+    (1, Did::Clear(true)),
+    (2, Did::Clear(true)),
     (1, Did::Enq(Enq::Closed)),
 ];
 
