@@ -486,6 +486,11 @@ static int lock_rests(uint32_t kind) {
     WANT(qolb_lock_enter(&narrow), QOLB_GRANTED);
     if (late_for_lock(&lock, 1) || late_for_lock(&narrow, 0)) return 1;
     WANT(qolb_lock_leave(&narrow), QOLB_DONE);
+    /* Where nobody sleeps, who leaves does not ask for whom to ring. */
+    begins(NULL);
+    WANT(qolb_lock_enter(&narrow), QOLB_GRANTED);
+    WANT(qolb_lock_leave(&narrow), QOLB_DONE);
+    WANT(names + yields + sleeps + wakes, 0);
     /* As long as it takes, by the seat that is not busy. */
     held = &lock;
     begins(leaves);

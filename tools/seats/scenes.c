@@ -31,6 +31,8 @@ static void is_late(int self) {
     leave();
 }
 
+static void one_is_late(int self) { is_late(self == 1); }
+
 static void is_late_and_comes_again(int self) { is_late(self), enters(self); }
 
 static void tries(int self) {
@@ -153,6 +155,7 @@ const struct scene scenes[] = {
     {"two want two seats twice, and link", enters_twice, QOLB_LIST, 2, 2, BEFORE},
     {"two want the only seat twice", enters_twice, QOLB_TICKET, 1, 2, BEFORE},
     {"two are late", is_late, QOLB_TICKET, 2, 3, BEFORE},
+    {"three want the only seat, and one is late", one_is_late, QOLB_TICKET, 1, 3, BEFORE},
     {"one is late and comes again", is_late_and_comes_again, QOLB_TICKET, 2, 2, BEFORE},
     {"one tries", tries, QOLB_TICKET, 2, 3, BEFORE},
     {"one shuts", shuts, QOLB_TICKET, 3, 3, BEFORE},
