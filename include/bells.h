@@ -1,11 +1,11 @@
 /* Bells, at which those sleep who wait for a lock or for a node's turn, and the clock of their time limits. Of the library's own files.
  *
  * Each place at which a node of a line waits has a bell, and so has the door of each lock, for those that want a seat. Who is about to sleep adds itself to
- * the bell's sleepers, and to the count of all that the same calls may wake; it reads the bell's word, looks once more at what it waits for, and sleeps while
- * the word is that. Who has something to tell does it first, then looks at that count, and where it is not 0 at the sleepers of those bells alone at which
- * somebody waits for what it tells. Each step is sequentially consistent, but for those of leave_hall, in lock.c; so one of the two sees the other.
- * tools/bells.py goes through all orders of these steps, and through those of protocols that differ by one; tools/seats.py runs these files themselves,
- * on a model of the processor's memory.
+ * the bell's sleepers, and to a count of more: of all that sleep for its lock, or of all with nodes of their own. It reads the bell's word, looks once more
+ * at what it waits for, and sleeps while the word is that. Who has something to tell does it first, and then looks at that count; where there are some, it
+ * looks at the sleepers of the few bells at which it has to ring. Each step is sequentially consistent, but for those of leave_hall, in lock.c. So one of
+ * the two sees the other. tools/bells.py goes through all orders of these steps, and through those of protocols that differ by one; tools/seats.py runs
+ * these files themselves, on a model of the processor's memory.
  *
  * The bells lie in the library and not in what is opened. So who rings touches nothing that the next holder may have freed; and all that call one
  * library ring the same bells, in whatever language, from the program or from what it opened at run time. */
@@ -49,7 +49,7 @@ HIDDEN void qolb_wake_at_(atomic_uint *word, int most);
 
 /* ---- Bells ---- */
 
-/* A power of two, above the places of any line: those of ticket lines and rings are 256, and those of a list 201. */
+/* A power of two, and more than a line has places: 256, or in a list 201. */
 enum { BELLS = 1024 };
 /* How many words lie between two places of a line, in each kind. Where that is wrong, places share bells. */
 enum { PLACE_WORDS = 16 };
@@ -71,8 +71,8 @@ static inline void ring(struct bell *bell) {
     if (atomic_load(&bell->sleepers)) qolb_toll_(bell);
 }
 
-/* The bells of the one to whom a node has let its line go, and of the one behind that one, which is woken a turn ahead: so it has the other's turn to wake
- * up in. Where there is none, a bell at which nobody of the line sleeps. */
+/* Where those sleep whom a node has to wake that has let its line go: the one to whom it went, and the one behind that one, which so has the other's turn
+ * to wake up in. Where there is none, a bell at which nobody of the line sleeps. */
 struct next {
     struct bell *holder, *ahead;
 };

@@ -34,8 +34,8 @@ struct seat {
     atomic_uint state;
 };
 
-/* What those ring who have left: so it lies apart from the hall, which may be freed by then. A few locks may share one. Who looks at the count and finds
- * nobody rings no bell of the lock. */
+/* What is still looked at by those who have left: it lies apart from the hall, which may be freed by then. Who leaves and finds nobody counted here rings
+ * no bell. A few locks may share one, and then ring for nothing. */
 struct door {
     _Alignas(APART) atomic_uint sleepers; /* for the lock, at any bell */
     struct bell bell;                     /* of those that want a seat */
