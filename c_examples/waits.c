@@ -39,9 +39,9 @@ static uint32_t acquires(qolb_node *node, int how) {
 
 static void *waits(void *argument) {
     struct waiter *me = argument;
-    about_to_wait(&me->number);
     double since = seconds(CLOCK_MONOTONIC);
     struct used before = used();
+    about_to_wait(&me->number);
     me->got = acquires(&me->node, me->how);
     me->ended = seconds(CLOCK_MONOTONIC);
     struct used after = used();
@@ -66,7 +66,12 @@ static int takes_no_processor(uint32_t kind) {
     WANT(opens(kind, 1, WAITERS + 1, QOLB_NO_LEASE, n), 1);
     WANT(qolb_acquire(&n[WAITERS]), QOLB_GRANTED);
     for (int k = BUSY; k < WAITERS; k++) WANT(qolb_try(&n[k]), QOLB_BUSY);
-    for (int k = 0; k < WAITERS; k++) start(&waiters[k], &n[k], hows[k]);
+    for (int k = 0; k < WAITERS; k++) {
+        if (hows[k] == A_SECOND) continue;
+        start(&waiters[k], &n[k], hows[k]);
+        while (!atomic_load(&waiters[k].number)) sched_yield();
+    }
+    start(&waiters[2], &n[2], A_SECOND); /* the last, so that all wait longer */
     pthread_join(waiters[2].id, NULL);
     usleep(100000);
     double released = seconds(CLOCK_MONOTONIC);
