@@ -358,6 +358,48 @@ static int asks_a_closed_one(uint32_t kind, uint32_t (*call)(qolb_node *node)) {
     return 0;
 }
 
+static qolb_node *other;
+
+static void shuts_other(void) {
+    if (qolb_shut(other) != QOLB_DONE) wrong++;
+}
+
+/* The line is closed as the node's time is over; or while it is busy. */
+static uint32_t is_told_as_it_gives_up(qolb_node *node) {
+    event.does = shuts_other;
+    event.at_withdrawal = 1;
+    return qolb_acquire_within(node, MS);
+}
+
+static uint32_t is_told_after_being_busy(qolb_node *node) {
+    if (qolb_try(node) != QOLB_BUSY) wrong++;
+    event.does = shuts_other;
+    event.at_yield = yields + 3;
+    return qolb_acquire(node);
+}
+
+/* Who is told so late looks for whom it has passed that on to, as the one did that shut the line. */
+static int is_told_late(uint32_t kind, uint32_t (*call)(qolb_node *node)) {
+    qolb_bytes zeros = {{0}};
+    qolb_node n[2] = {{0}}, closed[2] = {{0}};
+    WANT(qolb_open(kind, 1, 2, QOLB_NO_LEASE, &zeros, n, 2), QOLB_DONE);
+    WANT(qolb_open(kind, 1, 2, QOLB_NO_LEASE, &zeros, closed, 2), QOLB_DONE);
+    WANT(qolb_acquire(&closed[0]), QOLB_GRANTED);
+    WANT(qolb_acquire(&n[0]), QOLB_GRANTED);
+    holder = NULL;
+    other = &closed[0];
+    teller = &closed[1];
+    tells = call;
+    begins(is_told);
+    event.at_sleep = 1;
+    WANT(qolb_acquire_within(&n[1], MS), QOLB_LATE);
+    WANT(was_told, QOLB_CLOSED);
+    WANT(named, 2);
+    WANT(qolb_deqolb(&n[0]), QOLB_DONE);
+    for (int k = 0; k < 2; k++) WANT(qolb_close(&n[k]) + qolb_close(&closed[k]), QOLB_DONE);
+    return 0;
+}
+
 /* What is misuse lets nothing go, and wakes nobody: of an empty handle, and of a node that does not hold the line. */
 static int misuse_wakes_nobody(uint32_t kind, uint32_t (*call)(qolb_node *node)) {
     qolb_bytes zeros = {{0}};
@@ -387,6 +429,7 @@ static int each_passes_on(uint32_t kind) {
     if (passes_on(kind, qolb_poll, 0) || passes_on(kind, waits, 0) || passes_on(kind, qolb_withdraw, 0)) return 1;
     if (misuse_wakes_nobody(kind, qolb_deqolb) || misuse_wakes_nobody(kind, qolb_shut)) return 1;
     if (asks_a_closed_one(kind, qolb_enqolb) || asks_a_closed_one(kind, acquires) || asks_a_closed_one(kind, acquires_within)) return 1;
+    if (is_told_late(kind, is_told_as_it_gives_up) || is_told_late(kind, is_told_after_being_busy)) return 1;
     return kind == QOLB_LIST && (passes_on(kind, qolb_link, 1) || asks_a_closed_one(kind, qolb_prepend));
 }
 
@@ -420,12 +463,12 @@ static void next_sleeps(void) {
 }
 
 /* Three sleep, each at a word of its own, and so many of them are woken, in their order. */
-static int wakes_so_many(uint32_t (*as)(unsigned k), void (*by)(void), unsigned many) {
+static int wakes_so_many(uint32_t (*as)(unsigned k), void (*by)(void), unsigned many, uint32_t then) {
     waits_as = as;
     lets_go = by;
     begins(next_sleeps);
     event.at_sleep = 1;
-    WANT(as(0), QOLB_GRANTED);
+    WANT(as(0), then);
     WANT(slept_at[0] != slept_at[1] && slept_at[1] != slept_at[2] && slept_at[2] != slept_at[0], 1);
     WANT(wakes, many);
     for (unsigned k = 0; k < many; k++) WANT(woken_at[k] == slept_at[k], 1);
@@ -441,9 +484,77 @@ static int wakes_two(uint32_t kind, int passes) {
     if (passes) WANT(qolb_try(&n[1]), QOLB_BUSY);
     holder = &n[0];
     nodes = &n[2];
-    if (wakes_so_many(acquires_as, releases, 2)) return 1;
+    if (wakes_so_many(acquires_as, releases, 2, QOLB_GRANTED)) return 1;
     WANT(qolb_deqolb(&n[2]), QOLB_DONE);
     for (int k = 0; k < 2 + SLEEPERS; k++) WANT(qolb_close(&n[k]), QOLB_DONE);
+    return 0;
+}
+
+static void shuts_and_is_told(void) {
+    shuts();
+    wakes = 0;
+    if (qolb_poll(other) != QOLB_CLOSED) wrong++;
+}
+
+/* So does who closes the line, and who stands behind that one, awake, and passes the closing on. */
+static int closing_wakes_two(uint32_t kind, int passes_on) {
+    qolb_bytes zeros = {{0}};
+    qolb_node n[2 + SLEEPERS] = {{0}};
+    WANT(qolb_open(kind, 1, 2 + SLEEPERS, QOLB_NO_LEASE, &zeros, n, 2 + SLEEPERS), QOLB_DONE);
+    WANT(qolb_acquire(&n[0]), QOLB_GRANTED);
+    if (passes_on) WANT(qolb_enqolb(&n[1]), QOLB_QUEUED);
+    holder = &n[0];
+    other = &n[1];
+    nodes = &n[2];
+    if (wakes_so_many(acquires_as, passes_on ? shuts_and_is_told : shuts, 2, QOLB_CLOSED)) return 1;
+    for (int k = 0; k < 2 + SLEEPERS; k++) WANT(qolb_close(&n[k]), QOLB_DONE);
+    return 0;
+}
+
+/* Where the next holder is awake, though it has slept at that bell before, the one behind it is woken alone. */
+static int wakes_behind_one_awake(uint32_t kind) {
+    qolb_bytes zeros = {{0}};
+    qolb_node n[3] = {{0}};
+    WANT(qolb_open(kind, 1, 3, QOLB_NO_LEASE, &zeros, n, 3), QOLB_DONE);
+    WANT(qolb_acquire(&n[0]), QOLB_GRANTED);
+    WANT(qolb_acquire_within(&n[1], MS), QOLB_LATE);
+    WANT(qolb_deqolb(&n[0]), QOLB_DONE);
+    WANT(qolb_acquire(&n[0]), QOLB_GRANTED);
+    WANT(qolb_enqolb(&n[1]), QOLB_QUEUED);
+    holder = &n[0];
+    begins(releases);
+    event.at_sleep = 1;
+    WANT(qolb_acquire_within(&n[2], MS), QOLB_LATE);
+    WANT(wakes, 1);
+    WANT(woken_at[0] == slept_at[0], 1);
+    WANT(qolb_poll(&n[1]), QOLB_GRANTED);
+    WANT(qolb_deqolb(&n[1]), QOLB_DONE);
+    for (int k = 0; k < 3; k++) WANT(qolb_close(&n[k]), QOLB_DONE);
+    return 0;
+}
+
+/* No two places of a line share a bell, however many nodes it has; nor do the same places of two lines that are opened one after the other. */
+static int each_has_its_bell(uint32_t kind) {
+    enum { MOST = 200 };
+    qolb_bytes zeros = {{0}};
+    static qolb_node n[MOST], next[2];
+    static const void *bells[MOST];
+    WANT(qolb_open(kind, 1, MOST, QOLB_NO_LEASE, &zeros, n, MOST), QOLB_DONE);
+    WANT(qolb_open(kind, 1, 2, QOLB_NO_LEASE, &zeros, next, 2), QOLB_DONE);
+    WANT(qolb_acquire(&n[0]), QOLB_GRANTED);
+    WANT(qolb_acquire(&next[0]), QOLB_GRANTED);
+    for (int k = 1; k < MOST; k++) {
+        begins(NULL);
+        WANT(qolb_acquire_within(&n[k], MS), QOLB_LATE);
+        bells[k] = slept_at[0];
+        for (int j = 1; j < k; j++) WANT(bells[j] != bells[k], 1);
+    }
+    begins(NULL);
+    WANT(qolb_acquire_within(&next[1], MS), QOLB_LATE);
+    WANT(slept_at[0] != bells[1], 1);
+    WANT(qolb_deqolb(&n[0]) + qolb_deqolb(&next[0]), QOLB_DONE);
+    for (int k = 0; k < MOST; k++) WANT(qolb_close(&n[k]), QOLB_DONE);
+    for (int k = 0; k < 2; k++) WANT(qolb_close(&next[k]), QOLB_DONE);
     return 0;
 }
 
@@ -452,14 +563,16 @@ static int leaving_wakes(uint32_t kind, uint32_t seats) {
     qolb_lock lock = {NULL, kind, seats};
     WANT(qolb_lock_enter(&lock), QOLB_GRANTED);
     held = &lock;
-    if (wakes_so_many(enters_as, leaves, seats == SLEEPERS ? 3 : 2)) return 1;
+    if (wakes_so_many(enters_as, leaves, seats == SLEEPERS ? 3 : 2, QOLB_GRANTED)) return 1;
     WANT(qolb_lock_leave(&lock), QOLB_DONE);
     WANT(qolb_lock_close(&lock), QOLB_DONE);
     return 0;
 }
 
 static int wakes_whom_it_should(uint32_t kind) {
-    return wakes_two(kind, 0) || wakes_two(kind, 1) || leaving_wakes(kind, SLEEPERS + 1) || leaving_wakes(kind, SLEEPERS);
+    if (wakes_two(kind, 0) || wakes_two(kind, 1) || closing_wakes_two(kind, 0) || closing_wakes_two(kind, 1)) return 1;
+    if (wakes_behind_one_awake(kind) || each_has_its_bell(kind)) return 1;
+    return leaving_wakes(kind, SLEEPERS + 1) || leaving_wakes(kind, SLEEPERS);
 }
 
 /* ---- For a lock, and at a condition ---- */
@@ -476,6 +589,23 @@ static int late_for_lock(qolb_lock *lock, unsigned has_seat) {
     WANT(asks, has_seat);
     WANT(spun, has_seat ? 64 : 0);
     WANT(looks, has_seat ? 8 + 1 : 0);
+    return 0;
+}
+
+static void shuts_lock(void) {
+    if (qolb_lock_shut(held) != QOLB_DONE) wrong++;
+}
+
+/* The time is over, and the lock comes, or is shut, before the request is taken back. */
+static int lock_at_the_end(uint32_t kind, int is_shut) {
+    qolb_lock lock = {NULL, kind, 2};
+    WANT(qolb_lock_enter(&lock), QOLB_GRANTED);
+    held = &lock;
+    begins(is_shut ? shuts_lock : leaves);
+    event.at_withdrawal = 1;
+    WANT(qolb_lock_enter_within(&lock, MS), is_shut ? QOLB_CLOSED : QOLB_GRANTED);
+    if (!is_shut) WANT(qolb_lock_leave(&lock), QOLB_DONE);
+    WANT(qolb_lock_close(&lock), QOLB_DONE);
     return 0;
 }
 
@@ -556,7 +686,7 @@ int main(void) {
     now = 5000000000;
     for (uint32_t kind = QOLB_RING; kind <= QOLB_TICKET; kind++)
         if (rests(kind) || withdraws_late(kind, 0) || withdraws_late(kind, 1) || each_passes_on(kind) || wakes_whom_it_should(kind) ||
-            lock_rests(kind) || woken_for_nothing(kind))
+            lock_rests(kind) || lock_at_the_end(kind, 0) || lock_at_the_end(kind, 1) || woken_for_nothing(kind))
             return 1;
     WANT(wrong, 0);
     return 0;
