@@ -2,14 +2,14 @@
 
 use line_lanes::Line64;
 use qolb_model::{Enq, Free, LineSync, OpenLine, Poll, Terms};
-use shared_line::{Discipline, Line, SleepersElsewhere};
+use shared_line::{Discipline, Line, NO_WORD, SleepersElsewhere};
 use std::alloc::Global;
 
 /// A line whose waiters sleep elsewhere.
 type Told<Q> = Line<Free, Q, SleepersElsewhere>;
 
 /// Node 1 has the line, and nodes 2 and 3 stand behind it. Node 1 releases, node 2 closes the line, and node 3 is told so. Whether each names the
-/// word of the one behind it, node 1 also that of the one ahead of its turn, and node 3 no word of theirs.
+/// word of the one behind it, node 1 also that of the one ahead of its turn, and node 3 no word of theirs; before its first turn node 1 names none.
 pub(super) fn each_names_the_next<Q: Discipline<Free>>(alloc: Global) -> Option<bool> {
     let terms = Terms {
         nodes: 3,
@@ -20,6 +20,7 @@ pub(super) fn each_names_the_next<Q: Discipline<Free>>(alloc: Global) -> Option<
     let mut three = ports.pop()?;
     let mut two = ports.pop()?;
     let mut one = ports.pop()?;
+    let never = line.went_to(&one);
     let Enq::Granted = line.enqolb(&mut one) else {
         return None;
     };
@@ -44,5 +45,5 @@ pub(super) fn each_names_the_next<Q: Discipline<Free>>(alloc: Global) -> Option<
         line.went_to(&two),
     ];
     let end = line.went_to(&three);
-    Some(told == [next, last, last] && end != next && end != last)
+    Some(told == [next, last, last] && end != next && end != last && never == NO_WORD)
 }
