@@ -126,15 +126,15 @@ fn a_ticket_line_answers_each_call(rt: HostRuntime) -> Result<(), Fail> {
 #[test]
 fn a_line_tells_to_whom_it_went(rt: HostRuntime) {
     assert_eq!(rt;
-        elsewhere::each_names_the_next::<Ring>(rt.alloc()),
+        elsewhere::each_names_the_next::<elsewhere::Told<Ring>>(rt.alloc()),
         Some(true)
     );
     assert_eq!(rt;
-        elsewhere::each_names_the_next::<Links>(rt.alloc()),
+        elsewhere::each_names_the_next::<elsewhere::Told<Links>>(rt.alloc()),
         Some(true)
     );
     assert_eq!(rt;
-        elsewhere::each_names_the_next::<Ticket>(rt.alloc()),
+        elsewhere::each_names_the_next::<elsewhere::Told<Ticket>>(rt.alloc()),
         Some(true)
     );
 }

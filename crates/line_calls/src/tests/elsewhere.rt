@@ -1,22 +1,53 @@
 //! Waiters that sleep elsewhere: a line tells at which word each waits, and to whom it went.
 
 use line_lanes::Line64;
-use qolb_model::{Enq, Free, LineSync, OpenLine, Poll, Terms};
-use shared_line::{Discipline, Line, NO_WORD, SleepersElsewhere};
+use qolb_model::{Enq, Free, OpenLine, Poll, Terms};
+use shared_line::{Discipline, Line, NO_WORD, Port, SleepersElsewhere};
 use std::alloc::Global;
 
 /// A line whose waiters sleep elsewhere.
-type Told<Q> = Line<Free, Q, SleepersElsewhere>;
+pub(super) type Told<Q> = Line<Free, Q, SleepersElsewhere>;
+
+/// A line that tells by numbers where its waiters wait.
+pub trait Tells: OpenLine<Free> {
+    /// The word at which the port's node waits.
+    fn waits_at(&self, port: &Self::Port) -> usize
+        requires { Self.belongs self.now port.now };
+
+    /// The word of the one to whom the port let the line go.
+    fn went_to(&self, port: &Self::Port) -> usize;
+
+    /// The word of the waiter behind that one.
+    fn went_ahead(&self, port: &Self::Port) -> usize;
+}
+
+impl<Q: Discipline<Free>> Tells for Told<Q> {
+    fn waits_at(&self, port: &Port<Q, SleepersElsewhere>) -> usize {
+        Told::<Q>::waits_at(self, port)
+    }
+
+    fn went_to(&self, port: &Port<Q, SleepersElsewhere>) -> usize {
+        Told::<Q>::went_to(self, port)
+    }
+
+    fn went_ahead(&self, port: &Port<Q, SleepersElsewhere>) -> usize {
+        Told::<Q>::went_ahead(self, port)
+    }
+}
 
 /// Node 1 has the line, and nodes 2 and 3 stand behind it. Node 1 releases, node 2 closes the line, and node 3 is told so. Whether each names the
 /// word of the one behind it, node 1 also that of the one ahead of its turn, and node 3 no word of theirs; before its first turn node 1 names none.
-pub(super) fn each_names_the_next<Q: Discipline<Free>>(alloc: Global) -> Option<bool> {
+pub(super) fn each_names_the_next<L: Tells + Drop>(alloc: Global) -> Option<bool>
+where
+    L::Port: Drop,
+{
     let terms = Terms {
         nodes: 3,
         opening: Line64::zero(),
         lease: None,
     };
-    let (line, mut ports) = Told::<Q>::open_with(alloc, 0, terms).ok()?;
+    let (line, ports) = L::open_with(alloc, 0, terms).ok()?;
+    let mut ports = ports;
     let mut three = ports.pop()?;
     let mut two = ports.pop()?;
     let mut one = ports.pop()?;
