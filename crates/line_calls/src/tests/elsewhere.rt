@@ -1,4 +1,6 @@
 //! Waiters that sleep elsewhere: a line tells at which word each waits, and to whom it went.
+ghost use Rattle.std.specs.Prelude.{IfSome, IsTrue};
+ghost use Rattle.qolb_model.specs.PortStates.{may_ask};
 
 use line_lanes::Line64;
 use qolb_model::{Enq, Free, OpenLine, Poll, Terms};
@@ -35,11 +37,13 @@ impl<Q: Discipline<Free>> Tells for Told<Q> {
     }
 }
 
-/// Node 1 has the line, and nodes 2 and 3 stand behind it. Node 1 releases, node 2 closes the line, and node 3 is told so. Whether each names the
-/// word of the one behind it, node 1 also that of the one ahead of its turn, and node 3 no word of theirs; before its first turn node 1 names none.
-pub(super) fn each_names_the_next<L: Tells + Drop>(alloc: Global) -> Option<bool>
+/// A new line of three nodes, and its ports.
+fn open_three<L: OpenLine<Free> + Drop>(alloc: Global) -> Option<(L, L::Port, L::Port, L::Port)>
 where
     L::Port: Drop,
+    ensures one { IfSome result (λ r. L.belongs r.0 r.1 × IsTrue (may_ask (L.view r.1).state)) }
+    ensures two { IfSome result (λ r. L.belongs r.0 r.2 × IsTrue (may_ask (L.view r.2).state)) }
+    ensures three { IfSome result (λ r. L.belongs r.0 r.3 × IsTrue (may_ask (L.view r.3).state)) }
 {
     let terms = Terms {
         nodes: 3,
@@ -48,9 +52,19 @@ where
     };
     let (line, ports) = L::open_with(alloc, 0, terms).ok()?;
     let mut ports = ports;
-    let mut three = ports.pop()?;
-    let mut two = ports.pop()?;
-    let mut one = ports.pop()?;
+    let three = ports.pop()?;
+    let two = ports.pop()?;
+    let one = ports.pop()?;
+    Some((line, one, two, three))
+}
+
+/// Node 1 has the line, and nodes 2 and 3 stand behind it. Node 1 releases, node 2 closes the line, and node 3 is told so. Whether each names the
+/// word of the one behind it, node 1 also that of the one ahead of its turn, and node 3 no word of theirs; before its first turn node 1 names none.
+pub(super) fn each_names_the_next<L: Tells + Drop>(alloc: Global) -> Option<bool>
+where
+    L::Port: Drop,
+{
+    let (line, mut one, mut two, mut three) = open_three::<L>(alloc)?;
     let never = line.went_to(&one);
     let Enq::Granted = line.enqolb(&mut one) else {
         return None;
