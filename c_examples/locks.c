@@ -251,7 +251,7 @@ static void *has_a_long_turn(void *argument) {
 }
 
 static int others_sleep_on(uint32_t kind) {
-    enum { THREADS = 12, MOST_SLEEPS = 5 };
+    enum { THREADS = 12, MOST_SLEEPS = 8 };
     static qolb_lock lock = QOLB_LOCK_INIT(1 + THREADS);
     struct helper threads[THREADS] = {{0}};
     lock.kind = kind;

@@ -105,7 +105,7 @@ static void *has_a_long_turn(void *argument) {
 
 /* So each sleeps twice at most, and perhaps where the system has it wait. If each release woke all, the last would sleep twelve times. */
 static int others_sleep_on(uint32_t kind) {
-    enum { WAITERS = 12, MOST_SLEEPS = 5 };
+    enum { WAITERS = 12, MOST_SLEEPS = 8 };
     static struct waiter waiters[WAITERS];
     qolb_node n[WAITERS + 1];
     WANT(opens(kind, 0, WAITERS + 1, QOLB_NO_LEASE, n), 1);
